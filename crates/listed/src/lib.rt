@@ -1,0 +1,67 @@
+//! A list that contracts see as the list of its items.
+#![tactic(auto)]
+
+ghost use Rattle.std.specs.Prelude.{◌≡◌, length};
+
+use std::marker::Model;
+
+/// A `Vec` that contracts see as the list of its items, without its room. A type that a definition speaks of has
+/// its lists so, since two vectors with the same items may differ in their room.
+#[derive(Drop)]
+pub struct Listed<T> {
+    items: Vec<T>,
+}
+
+impl<T> Model for Listed<T> {
+    ghost use Rattle.std.specs.Prelude.{List};
+
+    ghost Value = { List T };
+
+    ghost view = { λ l. l.items.items };
+}
+
+impl<T> Listed<T> {
+    /// Takes no memory.
+    pub fn from_vec(items: Vec<T>) -> Listed<T>
+        ensures { result ≡ items.items }
+    {
+        Listed { items }
+    }
+
+    /// Takes no memory.
+    pub fn into_vec(self) -> Vec<T>
+        ensures { result.items ≡ self }
+    {
+        self.items
+    }
+
+    /// The items, in order.
+    pub fn as_slice(&self) -> &[T]
+        ensures { result.now ≡ self.now }
+    {
+        self.items.as_slice()
+    }
+
+    /// How many items there are.
+    pub fn len(&self) -> usize
+        ensures { result ≡ length self.now }
+    {
+        self.items.len()
+    }
+}
+
+#[cfg(test)]
+mod tests {
+    use super::*;
+    use std::test::Fail;
+
+    #[test]
+    fn lists_of_lists_keep_their_items(rt: HostRuntime) -> Result<(), Fail> {
+        let inner = Listed::from_vec(vec![in rt.alloc(); 1u8, 2]?);
+        let outer = Listed::from_vec(vec![in rt.alloc(); inner]?);
+        assert_eq!(rt; outer.len(), 1);
+        assert_eq!(rt; outer.as_slice()[0].as_slice(), [1, 2].as_slice());
+        assert_eq!(rt; outer.into_vec().len(), 1);
+        Ok(())
+    }
+}
