@@ -1,0 +1,97 @@
+//! Sequences of 32 bits that wrap, after FreeBSD's `smr_seq_t`: the low halves of a clock's hands.
+//!
+//! A hand is a number of 64 bits that only rises, and a word of the clock has room for its low half
+//! alone. `Seq` is such a half. It is compared as FreeBSD compares it, and `Seq::read` finds the hand
+//! that it is the half of, near a hand that is known whole. No call takes memory.
+#![tactic(auto)]
+
+ghost use Rattle.std.specs.Prelude.{◌≡◌, ◌-ℤ◌, ◌↔◌, ℕ, ◌<◌, ◌≤◌, pos, min, IsTrue, IfSome, IfNone};
+ghost use Rattle.smr_seq.specs.Order.{delta, AreHandsOf, IsAtOrBefore, IsBefore, IsDelta};
+ghost use Rattle.smr_seq.specs.Reading.{low, IsReading, reading};
+
+pub mod laws;
+
+/// Half of the circle of 2^32 sequences.
+///
+/// The two laws of `laws` hold below this distance, and neither holds at it:
+///
+/// 1. A hand less than this below a known hand is read back from its low half.
+/// 2. Two hands that differ by less than this are ordered as their low halves are. At exactly this
+///    distance each of two sequences is before the other.
+const HALF_CIRCLE: u32 = 1 << 31;
+
+/// The low half of a hand of the clock, as FreeBSD's `smr_seq_t`.
+///
+/// A sequence has no place in an order of all sequences, so it has neither `Ord` nor `<`: `lt` and
+/// `leq` go round the circle.
+#[derive(Clone, Copy, Debug, PartialEq, Eq, Hash)]
+pub struct Seq {
+    pub raw: u32,
+}
+
+impl Seq {
+    /// The low half of `hand`.
+    pub fn low(hand: u64) -> Self
+        ensures { result.raw ≡ low hand }
+    {
+        Seq {
+            raw: (hand % (1 << 32)) as u32,
+        }
+    }
+
+    /// The wrapping difference `self - other` as a signed number, FreeBSD's `SMR_SEQ_DELTA`.
+    pub fn delta(self, other: Self) -> i32
+        ensures congruent { IsDelta self.raw other.raw result }
+        ensures value { result ≡ delta self.raw other.raw }
+        ensures of_hands { (x y : ℕ) → AreHandsOf self.raw other.raw x y → result ≡ pos x -ℤ pos y }
+    {
+        self.raw.wrapping_sub(other.raw).cast_signed()
+    }
+
+    /// Whether `self` is before `other`: the difference is below 0, FreeBSD's `SMR_SEQ_LT`.
+    pub fn lt(self, other: Self) -> bool
+        ensures before { IsTrue result ↔ IsBefore self.raw other.raw }
+        ensures of_hands { (x y : ℕ) → AreHandsOf self.raw other.raw x y → (IsTrue result ↔ (x < y)) }
+    {
+        self.delta(other) < 0
+    }
+
+    /// Whether `self` is `other` or before it: the difference is 0 or below, FreeBSD's `SMR_SEQ_LEQ`.
+    pub fn leq(self, other: Self) -> bool
+        ensures at_or_before { IsTrue result ↔ IsAtOrBefore self.raw other.raw }
+        ensures of_hands { (x y : ℕ) → AreHandsOf self.raw other.raw x y → (IsTrue result ↔ (x ≤ y)) }
+    {
+        self.delta(other) <= 0
+    }
+
+    /// `other` where it is before `self`, else `self`.
+    pub fn least(self, other: Self) -> Self
+        ensures other_before { IsBefore other.raw self.raw → result ≡ other }
+        ensures else_own { ¬ IsBefore other.raw self.raw → result ≡ self }
+        ensures of_hands { (x y : ℕ) → AreHandsOf self.raw other.raw x y → result.raw ≡ low (min x y) }
+    {
+        if other.lt(self) { other } else { self }
+    }
+
+    /// The reading of `self` near `near`: the number up to `near`, less than 2^31 below it, whose low
+    /// half is `self`. None exactly where there is none. The rule is this library's own.
+    #[tactic(auto, unfolding(crate::specs::Reading::reading))]
+    pub fn read(self, near: u64) -> Option<u64>
+        ensures value { result ≡ reading self.raw near }
+
+        // None stands exactly where there is no reading.
+        ensures found { IfSome result (λ x. IsReading self.raw near x) }
+        ensures all { (x : ℕ) → IsReading self.raw near x → result ≡ Some x }
+        ensures none { IfNone result ((x : ℕ) → ¬ IsReading self.raw near x) }
+    {
+        let back = Self::low(near).raw.wrapping_sub(self.raw);
+        if back < HALF_CIRCLE {
+            near.checked_sub(u64::from(back))
+        } else {
+            None
+        }
+    }
+}
+
+#[cfg(test)]
+mod tests;
