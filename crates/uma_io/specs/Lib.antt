@@ -1,0 +1,6 @@
+pub mod Faults
+pub mod MemSink
+pub mod MemSource
+pub mod Reading
+pub mod Sink
+pub mod Source

@@ -1,0 +1,66 @@
+ghost use Rattle.std.specs.Prelude.{◌≡◌, ◌<◌, ◌≤◌, if◌then◌else◌, length, is_ok, IfOk, OnErr};
+ghost use Rattle.uma_io.specs.Faults.{Rose, raised};
+
+use crate::failed::Failed;
+use crate::sink::Sink;
+use std::io::Write;
+use std::marker::Model;
+
+/// A sink into a writer of the standard library. It tells nothing of its bytes.
+///
+/// Each `Err` of the writer is a fault, also one that only says that a signal interrupted the call, and
+/// so is a write that takes nothing of a piece that isn't empty. It never flushes: give it a writer that
+/// keeps nothing back.
+#[derive(Drop)]
+pub struct StdSink<W> {
+    writer: W,
+    faults: u64,
+}
+
+// Contracts see the count of faults.
+impl<W> Model for StdSink<W> {
+    ghost use Rattle.std.specs.Prelude.{ℕ};
+
+    ghost Value = { ℕ };
+
+    ghost view = { λ s. s.faults };
+}
+
+impl<W: Write> StdSink<W> {
+    /// A sink into the writer, with no fault yet.
+    pub fn new(writer: W) -> StdSink<W>
+        ensures { result ≡ 0 }
+    {
+        StdSink { writer, faults: 0 }
+    }
+}
+
+impl<W: Write> Sink for StdSink<W> {
+    ghost use Rattle.std.specs.Prelude.{None};
+
+    ghost bytes_held = { λ _. None };
+
+    ghost fault_count = { λ s. s };
+
+    fn write(&mut self, piece: &[u8]) -> Result<usize, Failed>
+        ensures within { IfOk result (λ n. n ≤ length piece.now) }
+        ensures some { IfOk result (λ n. 0 < length piece.now → 0 < n) }
+        ensures rose { OnErr result (Rose self.old self.new) }
+        ensures never_falls { self.old ≤ self.new }
+
+        // Exactly an `Err` of the writer, or a write that takes nothing, raises the count, by one.
+        ensures counts { self.new ≡ (if is_ok result then self.old else raised self.old) }
+    {
+        match self.writer.write(piece) {
+            Ok(taken) if taken > 0 || piece.is_empty() => Ok(taken),
+            _ => {
+                self.faults = self.faults.saturating_add(1);
+                Err(Failed)
+            }
+        }
+    }
+
+    fn faults(&self) -> u64 {
+        self.faults
+    }
+}
