@@ -1,0 +1,46 @@
+use Rattle.std.proofs.Common.{◌≡◌, [], Some, sym, ap, ◌∙◌, arith}
+use Rattle.atomic_table.specs.Table.{Me}
+use Rattle.deed_book.specs.declared.book_rule.View.{View}
+use Rattle.deed_book.specs.Views.{book_view}
+use Rattle.deed_book.proofs.BookSteps.{accepting_allowed, putting_home_allowed, accepted}
+use Rattle.deed_book.proofs.register.Register.accept.Goals as goal
+
+pub join_seat-requires : goal.join_seat-requires
+join_seat-requires c =
+    let register = c.args.self.now in (
+      register.one_table,
+      c.requires ∙ register.one_table,
+      ap (λ (m : Me (Unit {0}) View). m.1) c.args.deed.knows,
+      omega (arith, register.one_word),
+      accepting_allowed _ _ _ _ register.first_seat,
+    )
+
+pub load-requires : goal.load-requires
+load-requires c =
+    let register = c.args.self.now in
+    let joined = c.join_seat.ensures in
+    let deed : c.join_seat.new.seat.me.0.deed ≡ Some (c.args.deed.no, c.args.deed.zone) =
+    ap (λ (m : Me (Unit {0}) View). m.0.deed) joined.2 ∙ ap (λ (m : Me (Unit {0}) View). m.0.deed) c.args.deed.knows in
+    let empty : c.join_seat.new.seat.me.1 ≡ [] = ap (λ (m : Me (Unit {0}) View). m.1) joined.2 ∙ ap (λ (m : Me (Unit {0}) View). m.1) register.between_calls in (
+      joined.0 ∙ register.one_table,
+      omega (arith, register.one_word),
+      putting_home_allowed _ _ _ (c.args.deed.no, c.args.deed.zone) (joined.1 ∙ register.first_seat) deed empty,
+    )
+
+pub invariant_of-self-clause-between_calls : goal.invariant_of-self-clause-between_calls
+invariant_of-self-clause-between_calls c =
+    let register = c.args.self.now in
+    let told = accepted register.seat.me.0.zones (c.args.deed.no, c.args.deed.zone) _ _ _ _ register.between_calls c.args.deed.knows c.join_seat.ensures.2 c.load.ensures.2 in
+    let again : Me (Unit {0}) View → Me (Unit {0}) View = λ m. (book_view m.0.zones, []) in
+    told.1 ∙ ap again (sym told.1)
+
+pub returns-clause-was_outside : goal.returns-clause-was_outside
+returns-clause-was_outside c =
+    let register = c.args.self.now in
+    (accepted register.seat.me.0.zones (c.args.deed.no, c.args.deed.zone) _ _ _ _ register.between_calls c.args.deed.knows c.join_seat.ensures.2 c.load.ensures.2).0
+
+pub returns-clause-zones : goal.returns-clause-zones
+returns-clause-zones c =
+    let register = c.args.self.now in
+    let told = accepted register.seat.me.0.zones (c.args.deed.no, c.args.deed.zone) _ _ _ _ register.between_calls c.args.deed.knows c.join_seat.ensures.2 c.load.ensures.2 in
+    ap (λ (m : Me (Unit {0}) View). m.0.zones) told.1

@@ -1,0 +1,23 @@
+-- Own: what contracts see of a book.
+use Rattle.std.specs.Prelude.{◌≡◌, ◌<◌, ◌≤◌, ◌⊎◌, ℕ, List, Option}
+use Rattle.atomic_table.specs.Seated.{TableId}
+use Rattle.deed_book.specs.declared.book.Book.{Book}
+use Rattle.deed_book.specs.declared.refused.BookRefused.{BookRefused}
+use Rattle.deed_book.specs.declared.refused.BookRefused.TheVariants.{Numbers, Memory}
+
+-- which book it is: no two books have one table
+abbrev pub book_table : Book → TableId
+book_table book = book.register.seat.table_id
+
+-- for each number the zone of its deed, or None where the number is at home
+abbrev pub zones_of : Book → List (Option ℕ)
+zones_of book = book.zones.items
+
+-- no book has this count of numbers
+abbrev pub IsOutOfRange : ℕ → Type 0
+IsOutOfRange numbers = (numbers < 1) ⊎ (262144 < numbers)
+
+-- why a book of so many numbers is refused: for the count, which is named, or else for memory
+abbrev pub Refuses : ℕ → BookRefused → Type 0
+Refuses numbers (Numbers named) = (named ≡ numbers) × IsOutOfRange numbers
+Refuses numbers Memory = (1 ≤ numbers) × (numbers ≤ 262144)

@@ -1,0 +1,9 @@
+pub mod Views
+pub mod BookLaw
+pub mod Register
+pub mod Book
+pub mod Deed
+pub mod FailViews
+pub mod FailBookLaw
+pub mod FailBook
+pub mod FailShare

@@ -1,0 +1,80 @@
+ghost use Rattle.std.specs.Prelude.{◌≡◌, ◌<◌, ◌↔◌, IsTrue, IfOk, IfErr, Ok, Err, Some, None, slice_set, replicate};
+
+use crate::deed::Deed;
+use crate::refused::BookRefused;
+use crate::register::Register;
+use std::alloc::{AllocError, Global};
+
+/// The most numbers that a book can have.
+const MOST_NUMBERS: u32 = 262_144;
+
+/// Which of the numbers below a fixed count are outside, each with the zone that it was issued to.
+#[derive(Drop)]
+pub struct Book {
+    // For each number the zone of its deed, or None where it is at home.
+    zones: Vec<Option<u8>>,
+    register: Register,
+    ghost registered: { zones.items ≡ register.seat.me.0.zones },
+}
+
+fn all_home(alloc: Global, numbers: u32) -> Result<Vec<Option<u8>>, AllocError>
+    ensures { IfOk result (λ zones. zones.items ≡ replicate numbers None) }
+{
+    vec![in alloc; None; numbers as usize]
+}
+
+impl Book {
+    ghost use Rattle.deed_book.specs.BookLaw.{IsHome, IsOutside};
+    ghost use Rattle.deed_book.specs.Book.{book_table, zones_of, IsOutOfRange, Refuses};
+    ghost use Rattle.deed_book.specs.Deed.{deed_table, no_of, zone_of};
+
+    /// A book of the numbers below `numbers`, which is 1 to 262,144. All of them are at home.
+    pub fn new(alloc: Global, numbers: u32) -> Result<Book, BookRefused>
+        ensures ok { IfOk result (λ book. zones_of book ≡ replicate numbers None) }
+        ensures out_of_range { IsOutOfRange numbers → result ≡ Err (BookRefused.Numbers numbers) }
+        ensures err { IfErr result (Refuses numbers) }
+    {
+        if numbers == 0 || numbers > MOST_NUMBERS {
+            return Err(BookRefused::Numbers { numbers });
+        }
+        let zones = all_home(alloc, numbers)?;
+        let register = Register::new(alloc, numbers)?;
+        Ok(Book { zones, register })
+    }
+
+    /// Issues the deed of a number that is at home to a zone.
+    #[tactic(auto, using(std::proofs::lemmas::Option::slice_get_within))]
+    pub fn issue(&mut self, no: u32, zone: u8) -> Deed
+        requires home { IsHome (zones_of self.old) no }
+        requires zone { zone < 8 }
+        ensures deed { (no_of result ≡ no) × (zone_of result ≡ zone) }
+        ensures book { zones_of self.new ≡ slice_set (zones_of self.old) no (Some zone) }
+        ensures table { book_table self.new ≡ book_table self.old }
+        ensures deed_table { deed_table result ≡ book_table self.old }
+    {
+        let deed = self.register.issue(no, zone);
+        self.zones[no as usize] = Some(zone);
+        deed
+    }
+
+    /// Takes a deed back, and answers its number and zone. The number was outside with this zone, and is at home again.
+    #[tactic(auto, using(std::proofs::lemmas::Option::slice_get_within))]
+    pub fn accept(&mut self, deed: Deed) -> (u32, u8)
+        requires { deed_table deed ≡ book_table self.old }
+        ensures deed { (result.0 ≡ no_of deed) × (result.1 ≡ zone_of deed) }
+        ensures was_outside { IsOutside (zones_of self.old) result }
+        ensures book { zones_of self.new ≡ slice_set (zones_of self.old) result.0 None }
+        ensures table { book_table self.new ≡ book_table self.old }
+    {
+        let (no, zone) = self.register.accept(deed);
+        self.zones[no as usize] = None;
+        (no, zone)
+    }
+
+    /// Whether a number is at home. One that isn't below the count of numbers is not.
+    pub fn is_home(&self, no: u32) -> bool
+        ensures { IsTrue result ↔ IsHome (zones_of self.now) no }
+    {
+        matches!(self.zones.get(no as usize), Some(None))
+    }
+}

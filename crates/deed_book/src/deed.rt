@@ -1,0 +1,33 @@
+ghost use Rattle.std.specs.Prelude.{◌≡◌, []};
+ghost use Rattle.deed_book.specs.Views.{deed_view};
+
+use crate::book_rule::View;
+use atomic_table::Seat;
+
+/// The one token of a number that is outside. It is a seat of its book's table, which no code can copy or make up; it
+/// may cross threads. The number of a deed that is dropped stays outside for good.
+#[derive(Drop)]
+pub struct Deed {
+    pub(crate) no: u32,
+    pub(crate) zone: u8,
+    pub(crate) seat: Seat<(), View>,
+    ghost knows: { seat.me ≡ (deed_view (no, zone), []) },
+}
+
+impl Deed {
+    ghost use Rattle.deed_book.specs.Deed.{no_of, zone_of};
+
+    /// The number, which is below its book's count of numbers.
+    pub fn no(&self) -> u32
+        ensures { result ≡ no_of self.now }
+    {
+        self.no
+    }
+
+    /// The zone, below 8, that the number was issued to.
+    pub fn zone(&self) -> u8
+        ensures { result ≡ zone_of self.now }
+    {
+        self.zone
+    }
+}

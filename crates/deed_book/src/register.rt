@@ -1,0 +1,73 @@
+ghost use Rattle.std.specs.Prelude.{◌≡◌, ◌/◌, ◌%◌, ◌<◌, []};
+ghost use Rattle.deed_book.specs.Views.{book_view};
+
+use crate::book_rule::{Accepting, BookRule, Naming, PuttingHome, Splitting, View};
+use crate::deed::Deed;
+use atomic_table::{Seat, Table};
+use std::alloc::{AllocError, Global};
+
+// The table of a book with the book's own seat, by whose steps deeds go out and come back. Contracts alone see which
+// numbers are outside.
+#[derive(Drop)]
+pub struct Register {
+    table: Table<(), View, u32, BookRule, Global>,
+    seat: Seat<(), View>,
+    ghost one_word: { table.shared.table_id.words ≡ 1 },
+    ghost one_table: { seat.table_id ≡ table.shared.table_id },
+    ghost first_seat: { seat.id ≡ 0 },
+    ghost between_calls: { seat.me ≡ (book_view seat.me.0.zones, []) },
+}
+
+// The word that names a number and a zone.
+fn spelled(no: u32, zone: u8) -> u64
+    requires { zone < 8 }
+    ensures { (result / 8 ≡ no) × (result % 8 ≡ zone) }
+{
+    8 * u64::from(no) + u64::from(zone)
+}
+
+impl Register {
+    ghost use Rattle.std.specs.Prelude.{None, Some, IfOk, replicate, slice_set};
+    ghost use Rattle.deed_book.specs.BookLaw.{IsHome, IsOutside};
+    ghost use Rattle.deed_book.specs.Register.{register_table, register_zones};
+    ghost use Rattle.deed_book.specs.Deed.{deed_table, no_of, zone_of};
+
+    // All numbers below `numbers` are at home.
+    pub fn new(alloc: Global, numbers: u32) -> Result<Register, AllocError>
+        ensures { IfOk result (λ register. register_zones register ≡ replicate numbers None) }
+    {
+        let (table, seat) = Table::of_words(alloc, &[0], &numbers)?;
+        Ok(Register { table, seat })
+    }
+
+    // Names a number that is at home, with a zone, and splits its deed off.
+    pub fn issue(&mut self, no: u32, zone: u8) -> Deed
+        requires home { IsHome (register_zones self.old) no }
+        requires zone { zone < 8 }
+        ensures deed { (no_of result ≡ no) × (zone_of result ≡ zone) }
+        ensures zones { register_zones self.new ≡ slice_set (register_zones self.old) no (Some zone) }
+        ensures table { register_table self.new ≡ register_table self.old }
+        ensures deed_table { deed_table result ≡ register_table self.old }
+    {
+        let table = &self.table;
+        let shared = &table.shared;
+        shared.store::<Naming>(&mut self.seat, 0, spelled(no, zone));
+        let seat = shared.split_seat::<Splitting>(&mut self.seat);
+        Deed { no, zone, seat }
+    }
+
+    // Joins a deed in. A load then shows that its number was outside, and puts it home.
+    pub fn accept(&mut self, deed: Deed) -> (u32, u8)
+        requires { deed_table deed ≡ register_table self.old }
+        ensures deed { (result.0 ≡ no_of deed) × (result.1 ≡ zone_of deed) }
+        ensures was_outside { IsOutside (register_zones self.old) result }
+        ensures zones { register_zones self.new ≡ slice_set (register_zones self.old) result.0 None }
+        ensures table { register_table self.new ≡ register_table self.old }
+    {
+        let Deed { no, zone, seat } = deed;
+        let table = &self.table;
+        table.shared.join_seat::<Accepting>(&mut self.seat, seat);
+        table.shared.load::<PuttingHome>(&mut self.seat, 0);
+        (no, zone)
+    }
+}

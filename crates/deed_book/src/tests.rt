@@ -1,0 +1,2 @@
+mod deeds;
+mod fails;
