@@ -1,0 +1,5 @@
+pub mod Ledger
+pub mod LedgerSteps
+pub mod Line
+pub mod Name
+pub mod ReportText

@@ -1,0 +1,124 @@
+//! The line of a zone, summed up from its seats' ledgers.
+ghost use Rattle.std.specs.Prelude.{◌≡◌};
+ghost use Rattle.zone_stats.specs.Line.{zone_line, total_allocs, total_fails, total_frees, total_cross};
+
+use crate::{SeatLedger, ZoneLine, ZoneName};
+
+/// The line of a zone whose seats counted these ledgers. Of its items `out` are outside the keg, and in the keg
+/// `keg_free` are free; a secondary zone passes 0, since its keg's free items are its primary zone's. USED is 0 where the
+/// frees are more than the allocs, and FREE is 0 where USED is more than there are items.
+pub fn sum(
+    name: ZoneName,
+    size: u32,
+    limit: u64,
+    ledgers: &[SeatLedger],
+    out: u64,
+    keg_free: u64,
+) -> ZoneLine
+    ensures { result ≡ zone_line name size limit ledgers.now out keg_free }
+{
+    let req = allocs(ledgers);
+    let used = req.saturating_sub(frees(ledgers));
+    let items = u128::from(keg_free) + u128::from(out);
+    ZoneLine {
+        name,
+        size,
+        limit,
+        used,
+        free: items.saturating_sub(used),
+        req,
+        fail: fails(ledgers),
+        xdomain: cross(ledgers),
+    }
+}
+
+/// Requests that got an item.
+fn allocs(ledgers: &[SeatLedger]) -> u128
+    ensures { result ≡ total_allocs ledgers.now }
+{
+    let mut total = 0;
+    for ledger in ledgers {
+        total += u128::from(ledger.allocs);
+    }
+    total
+}
+
+/// Requests that were refused.
+fn fails(ledgers: &[SeatLedger]) -> u128
+    ensures { result ≡ total_fails ledgers.now }
+{
+    let mut total = 0;
+    for ledger in ledgers {
+        total += u128::from(ledger.fails);
+    }
+    total
+}
+
+/// Items that were freed.
+fn frees(ledgers: &[SeatLedger]) -> u128
+    ensures { result ≡ total_frees ledgers.now }
+{
+    let mut total = 0;
+    for ledger in ledgers {
+        total += u128::from(ledger.frees);
+    }
+    total
+}
+
+/// Freed items of another domain than the seat's.
+fn cross(ledgers: &[SeatLedger]) -> u128
+    ensures { result ≡ total_cross ledgers.now }
+{
+    let mut total = 0;
+    for ledger in ledgers {
+        total += u128::from(ledger.cross);
+    }
+    total
+}
+
+#[cfg(test)]
+mod tests {
+    use super::*;
+    use crate::Refusal;
+    use std::test::Fail;
+
+    const SERVED: SeatLedger = SeatLedger {
+        requests: 3,
+        allocs: 3,
+        fails: 0,
+        turned: 0,
+        frees: 1,
+        cross: 0,
+        last: None,
+    };
+
+    const REFUSED: SeatLedger = SeatLedger {
+        requests: 1,
+        allocs: 0,
+        fails: 1,
+        turned: 1,
+        frees: 4,
+        cross: 2,
+        last: Some(Refusal::AtLimit { out: 4, limit: 4 }),
+    };
+
+    #[test]
+    fn a_line_adds_up_the_seats_and_stops_at_0(rt: HostRuntime) -> Result<(), Fail> {
+        let name = ZoneName::new(b"box").ok_or("no name")?;
+        let cases: [(&[SeatLedger], u64, u64, [u128; 5]); 4] = [
+            (&[], 0, 0, [0, 0, 0, 0, 0]),
+            (&[SERVED], 2, 14, [2, 14, 3, 0, 0]),
+            (&[SERVED, REFUSED], 2, 14, [0, 16, 3, 1, 2]),
+            (&[SERVED], 1, 0, [2, 0, 3, 0, 0]),
+        ];
+        for (ledgers, out, keg_free, expected) in cases {
+            let line = sum(name.copied(), 256, 7, ledgers, out, keg_free);
+            assert_eq!(rt; (&line.name, line.size, line.limit), (&name, 256, 7));
+            assert_eq!(rt;
+                [line.used, line.free, line.req, line.fail, line.xdomain],
+                expected
+            );
+        }
+        Ok(())
+    }
+}
