@@ -1,0 +1,5 @@
+pub mod Kept
+pub mod Places
+pub mod Refused
+pub mod Room
+pub mod Taking
