@@ -1,0 +1,8 @@
+pub mod CanonicalText
+pub mod Limits
+pub mod Lines
+pub mod Narrow
+pub mod NarrowReading
+pub mod Number
+pub mod Reading
+pub mod Valid

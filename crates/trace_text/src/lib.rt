@@ -1,0 +1,23 @@
+//! Traces of a zone allocator as text and as values.
+//!
+//! A trace is a header and rounds of operations for each worker. `Trace` is the value, and the specs give
+//! its canonical text, what makes it valid, and which slots its lines fill and empty.
+#![tactic(auto)]
+
+mod between;
+mod head;
+mod narrow;
+mod number;
+mod op;
+mod refused;
+mod round;
+mod trace;
+
+pub use between::{Between, Betweens};
+pub use head::{ClockHead, Head, NamesHead, ZoneHead, ZoneHeads, ZoneKind};
+pub use narrow::{one_narrow_reading, parse_narrow};
+pub use number::parse_number;
+pub use op::{Op, OpList, OpLists};
+pub use refused::{ParseRefused, TraceKind, TraceRefused};
+pub use round::{Round, Rounds};
+pub use trace::Trace;

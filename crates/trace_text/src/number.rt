@@ -1,0 +1,55 @@
+ghost use Rattle.std.specs.Prelude.{ℕ, IfSome, IfNone};
+ghost use Rattle.trace_text.specs.Number.{IsNumber};
+
+use std::str::from_utf8;
+
+/// The number that the text spells: decimal digits without a sign, without a leading zero other than in `0`, at most
+/// 2^64 - 1. It goes once over the text and takes no memory.
+pub fn parse_number(text: &[u8]) -> Option<u64>
+    ensures some { IfSome result (IsNumber text.now) }
+    ensures none { IfNone result ((n : ℕ) → IsNumber text.now n → ⊥) }
+{
+    let &[first, ..] = text else {
+        return None;
+    };
+    // `parse` takes a plus, and zeros in front.
+    if first == b'+' {
+        return None;
+    }
+    if first == b'0' && text.len() > 1 {
+        return None;
+    }
+    match from_utf8(text) {
+        Ok(text) => text.parse().ok(),
+        Err(_) => None,
+    }
+}
+
+#[cfg(test)]
+mod tests {
+    use super::*;
+
+    #[test]
+    fn numbers_are_decimals_below_two_to_the_sixty_four(rt: HostRuntime) {
+        let texts = [
+            ("0", Some(0)),
+            ("9", Some(9)),
+            ("10", Some(10)),
+            ("18446744073709551615", Some(18446744073709551615)),
+            ("18446744073709551616", None),
+            ("", None),
+            ("00", None),
+            ("07", None),
+            ("+7", None),
+            ("-7", None),
+            (" 7", None),
+            ("7 ", None),
+            ("7a", None),
+            ("0x7", None),
+        ];
+        for (text, number) in texts {
+            assert_eq!(rt; parse_number(text.as_bytes()), number, "{text}");
+        }
+        assert_eq!(rt; parse_number(&[b'1', 0xff]), None);
+    }
+}
