@@ -1,0 +1,3 @@
+pub mod KeyedGuard
+pub mod KeyedLock
+pub mod Protocol

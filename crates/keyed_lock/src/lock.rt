@@ -1,0 +1,217 @@
+ghost use Rattle.std.specs.Prelude.{◌≡◌, [], ◌∷◌, Some, IfOk, IfErr, IfSome, IsTrue, ◌↔◌};
+ghost use Rattle.std.specs.Mem.Slots.{slots_len, IsFull};
+ghost use Rattle.keyed_lock.specs.Protocol.{Holds, HoldsGap, WordIsUnlocked, IsHomeValue};
+
+use crate::guard::KeyedGuard;
+use crate::protocol::{CONTENDED, LOCKED, Look, Protocol, SLOT, Take, UNLOCKED, Unlock, WORD};
+use crate::rule::LockRule;
+use atomic_table::{Closed, Refused, Seat, Table};
+use std::alloc::Global;
+use std::sync::Wait;
+
+/// A value that one thread at a time may hold, under a key that contracts can name.
+///
+/// **The law of a lock**, over a word that says whether it is unlocked, locked or contended, and a slot for the value:
+///
+/// 1. The key is the one that the lock was made with.
+/// 2. While the word says unlocked, the value is in the slot, and keeps the rule for the key.
+/// 3. A step that finds the word unlocked leaves it locked or contended, and takes the value out of the slot. A step
+///    that finds anything else takes nothing. So one holder at a time has the value.
+/// 4. The holder puts a value that keeps the rule back into the slot first, and makes the word unlocked after that.
+/// 5. A thread sleeps only while the word says contended, and whoever unlocks a contended word wakes one sleeper. A
+///    thread that slept takes the lock as contended, so that the next unlock wakes the next sleeper.
+///
+/// Parts 1 to 4 are proved. Part 5 is progress, which no contract speaks of. The word and its states are those of the
+/// second mutex of Drepper's "Futexes are tricky", and of the standard library's lock on Linux.
+///
+/// A lock takes two allocations. Each lock and unlock moves the value out and in, so box a large one. There is no
+/// poison, and no fairness: a thread that comes may take the lock before one that was woken.
+///
+/// A value that is not `Drop` comes back by `into_inner`, unless its guard was forgotten. The lock is `Drop` where its
+/// value is, and it may be shared among threads where its value may be sent to them. Generic code that shares it writes
+/// the bound `P: LockRule<T, K> + Send + Sync`.
+pub struct KeyedLock<T, K, P: LockRule<T, K>> {
+    table: Table<Option<T>, K, K, Protocol<P>, Global>,
+    ghost one_word: { table.shared.table_id.words ≡ 1 },
+    ghost one_slot: { table.shared.table_id.slots ≡ 1 },
+}
+
+impl<T, K, P: LockRule<T, K>> KeyedLock<T, K, P> {
+    ghost use Rattle.keyed_lock.specs.KeyedLock.{lock_key};
+    ghost use Rattle.keyed_lock.specs.KeyedGuard.{guard_key};
+
+    /// An unlocked lock with this value and this key. Only want of memory refuses it, and the value comes back.
+    pub fn new(alloc: Global, value: T, key: &K) -> Result<KeyedLock<T, K, P>, T>
+        requires { P.keeps key.now value }
+        ensures ok { IfOk result (λ lock. lock_key lock ≡ key.now) }
+        ensures err { IfErr result (λ refused. refused ≡ value) }
+    {
+        match Table::new(alloc, &[UNLOCKED], one_slot(alloc, value)?, key) {
+            Ok((table, _seat)) => Ok(KeyedLock { table }),
+            Err(Refused { slots }) => Err(only_value(slots)),
+        }
+    }
+
+    /// Waits until it has the lock. It waits for ever if the thread itself holds the lock, or if a guard was forgotten.
+    pub fn lock<'a, R: Wait>(&'a self, rt: &R) -> KeyedGuard<'a, T, K, P>
+        ensures same_key { guard_key result ≡ lock_key self.now }
+        ensures kept { P.keeps (lock_key self.now) result.value }
+    {
+        if let Some(guard) = self.try_lock() {
+            return guard;
+        }
+        for _ in rt.forever() {
+            let (found, seat) = self.table.shared.swap_new_seat::<Take<P>>(WORD, CONTENDED);
+            if found == UNLOCKED {
+                return self.take_out(seat);
+            }
+            self.table.shared.park(rt, WORD, CONTENDED as u32);
+        }
+        unreachable!()
+    }
+
+    /// Takes the lock if nobody holds it, and waits for nobody. `None` says that somebody held it at some moment of the
+    /// call, which no clause can say, since it is gone when the caller reads the answer.
+    pub fn try_lock<'a>(&'a self) -> Option<KeyedGuard<'a, T, K, P>>
+        ensures same_key { IfSome result (λ guard. guard_key guard ≡ lock_key self.now) }
+        ensures kept { IfSome result (λ guard. P.keeps (lock_key self.now) guard.value) }
+    {
+        let shared = &self.table.shared;
+        // A look first: a lock that is held stays in the holder's cache.
+        let (seen, mut seat) = shared.load_new_seat::<Look>(WORD);
+        if seen != UNLOCKED {
+            return None;
+        }
+        let found = shared.compare_exchange::<Take<P>>(&mut seat, WORD, UNLOCKED, LOCKED);
+        if found != UNLOCKED {
+            return None;
+        }
+        Some(self.take_out(seat))
+    }
+
+    /// The value, by value. Nobody can hold the lock but a guard that was forgotten, and then it waits for ever: what
+    /// was forgotten cannot come back.
+    pub fn into_inner<R: Wait>(self, rt: &R) -> T
+        ensures { P.keeps (lock_key self) result }
+    {
+        let closed = self.close();
+        if is_unlocked(&closed) {
+            return home_value(closed);
+        }
+        for _ in rt.forever() {}
+        unreachable!()
+    }
+
+    /// The guard of a seat that has taken the value.
+    fn take_out<'a>(&'a self, mut seat: Seat<Option<T>, K>) -> KeyedGuard<'a, T, K, P>
+        requires ours { seat.table_id ≡ self.now.table.shared.table_id }
+        requires key { seat.me.0 ≡ lock_key self.now }
+        requires holds { Holds P.keeps seat.me }
+        ensures same_key { guard_key result ≡ lock_key self.now }
+        ensures kept { P.keeps (lock_key self.now) result.value }
+    {
+        let taken = self.table.shared.exchange(&mut seat, SLOT, None);
+        let Some(value) = taken else { unreachable!() };
+        KeyedGuard {
+            lock: self,
+            seat,
+            value,
+        }
+    }
+
+    /// Puts the value into the slot, while the lock is still held.
+    pub(crate) fn put_back(&self, seat: &mut Seat<Option<T>, K>, value: T)
+        requires ours { seat.old.table_id ≡ self.now.table.shared.table_id }
+        requires gap { HoldsGap (lock_key self.now) seat.old.me }
+        ensures ours { seat.new.table_id ≡ seat.old.table_id }
+        ensures put { seat.new.me ≡ (lock_key self.now, (SLOT, Some value) ∷ []) }
+    {
+        let gap = self.table.shared.exchange(seat, SLOT, Some(value));
+        let None = gap else { unreachable!() };
+    }
+
+    /// Lets the lock go, once the slot has a value that keeps the rule, and wakes a thread that sleeps.
+    pub(crate) fn unlock(&self, seat: &mut Seat<Option<T>, K>)
+        requires ours { seat.old.table_id ≡ self.now.table.shared.table_id }
+        requires key { seat.old.me.0 ≡ lock_key self.now }
+        requires holds { Holds P.keeps seat.old.me }
+    {
+        let found = self.table.shared.swap::<Unlock>(seat, WORD, UNLOCKED);
+        if found == CONTENDED {
+            self.table.shared.wake_one(WORD);
+        }
+    }
+
+    /// The word and the slot, which no thread shares any more.
+    fn close(self) -> Closed<Option<T>, Global>
+        ensures word { slots_len result.words ≡ 1 }
+        ensures slot { slots_len result.slots ≡ 1 }
+        ensures full { IsFull result.words × IsFull result.slots }
+        ensures home { WordIsUnlocked result → (value : T) × IsHomeValue result value }
+        ensures kept { (value : T) → WordIsUnlocked result → IsHomeValue result value → P.keeps (lock_key self) value }
+    {
+        let KeyedLock { table } = self;
+        table.close()
+    }
+}
+
+impl<T: Drop, K, P: LockRule<T, K>> Drop for KeyedLock<T, K, P> {
+    fn drop(self) {
+        let KeyedLock { table } = self;
+        drop(table);
+    }
+}
+
+/// The slot of a new lock. Where there is no memory, the value comes back.
+fn one_slot<T>(alloc: Global, value: T) -> Result<Vec<Option<T>>, T>
+    ensures ok { IfOk result (λ slots. slots.items ≡ Some value ∷ []) }
+    ensures err { IfErr result (λ refused. refused ≡ value) }
+{
+    let mut slots = Vec::new(alloc);
+    match slots.push(Some(value)) {
+        Ok(()) => Ok(slots),
+        Err(refused) => {
+            slots.destroy_empty();
+            let Some(value) = refused.value else {
+                unreachable!()
+            };
+            Err(value)
+        }
+    }
+}
+
+/// The value of slots that made no lock.
+fn only_value<T>(mut slots: Vec<Option<T>>) -> T
+    requires { (value : T) × (slots.items ≡ Some value ∷ []) }
+    ensures { slots.items ≡ Some result ∷ [] }
+{
+    let Some(Some(value)) = slots.pop() else {
+        unreachable!()
+    };
+    slots.destroy_empty();
+    value
+}
+
+/// Whether nobody held the lock when it was closed.
+fn is_unlocked<T>(closed: &Closed<Option<T>, Global>) -> bool
+    requires word { slots_len closed.now.words ≡ 1 }
+    requires full { IsFull closed.now.words }
+    ensures { IsTrue result ↔ WordIsUnlocked closed.now }
+{
+    closed.word(WORD) == UNLOCKED
+}
+
+/// The value of a lock that nobody held when it was closed.
+fn home_value<T>(mut closed: Closed<Option<T>, Global>) -> T
+    requires slot { slots_len closed.slots ≡ 1 }
+    requires full { IsFull closed.slots }
+    requires unlocked { WordIsUnlocked closed }
+    requires home { WordIsUnlocked closed → (value : T) × IsHomeValue closed value }
+    ensures { IsHomeValue closed result }
+{
+    let Some(value) = closed.take(SLOT) else {
+        unreachable!()
+    };
+    closed.free();
+    value
+}
