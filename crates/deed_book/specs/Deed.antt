@@ -1,6 +1,6 @@
 -- Own: what contracts see of a deed.
 use Rattle.std.specs.Prelude.{ℕ}
-use Rattle.atomic_table.specs.Seated.{TableId}
+pub use Rattle.atomic_table.specs.Seated.{TableId}
 use Rattle.deed_book.specs.declared.deed.Deed.{Deed}
 
 -- which book it is of

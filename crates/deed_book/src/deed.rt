@@ -1,4 +1,4 @@
-ghost use Rattle.std.specs.Prelude.{◌≡◌, []};
+ghost use Rattle.std.specs.Prelude.{◌≡◌, ◌<◌, []};
 ghost use Rattle.deed_book.specs.Views.{deed_view};
 
 use crate::book_rule::View;
@@ -11,6 +11,7 @@ pub struct Deed {
     pub(crate) no: u32,
     pub(crate) zone: u8,
     pub(crate) seat: Seat<(), View>,
+    pub ghost zone_in_range: { zone < 8 },
     ghost knows: { seat.me ≡ (deed_view (no, zone), []) },
 }
 
