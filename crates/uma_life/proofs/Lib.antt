@@ -1,0 +1,4 @@
+mod Same
+mod Words
+mod Passing
+mod Tallies

@@ -1,0 +1,25 @@
+-- Two items with one body, domain and ticket are one item: what their types know of the body has at most one proof.
+use Rattle.std.proofs.Common.{◌≡◌}
+use Rattle.std.proofs.Props.{props}
+use std.HLevel.{prop→path_p}
+use Rattle.uma_life.specs.declared.body_phase.BodyPhase.TheVariants.{Kept}
+use Rattle.uma_life.specs.declared.stored.Stored.{Stored}
+use Rattle.uma_life.specs.declared.cached.Cached.{Cached}
+use Rattle.uma_life.specs.Trail.{IsAt}
+use Rattle.uma_life.specs.Hook.{base_phase}
+use Rattle.deed_book.specs.Deed.{no_of, zone_of}
+
+pub stored_same : {T : Type 0} {g : _} (a b : Stored T g) → a.body ≡ b.body → a.domain ≡ b.domain → a ≡ b
+stored_same {g = g} a b body domain = λ i. record {
+  body = body i;
+  domain = domain i;
+  kept = prop→path_p (λ j. IsAt Kept (g.life (body j))) (Prim.hlevel props) a.kept b.kept i;
+}
+
+pub cached_same : {T : Type 0} {g : _} (a b : Cached T g) → a.body ≡ b.body → a.ticket ≡ b.ticket → a ≡ b
+cached_same {g = g} a b body ticket = λ i. record {
+  body = body i;
+  ticket = ticket i;
+  numbered = prop→path_p (λ j. (g.life (body j)).no ≡ no_of (ticket j).deed) (Prim.hlevel props) a.numbered b.numbered i;
+  at = prop→path_p (λ j. IsAt (base_phase (zone_of (ticket j).deed)) (g.life (body j))) (Prim.hlevel props) a.at b.at i;
+}

@@ -1,0 +1,9 @@
+pub mod Life
+pub mod Hook
+pub mod Trail
+pub mod Word
+pub mod Bring
+pub mod Stored
+pub mod Ticket
+pub mod Cached
+pub mod Live

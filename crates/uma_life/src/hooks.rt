@@ -1,0 +1,83 @@
+ghost use Rattle.std.specs.Prelude.{◌≡◌, ◌⊎◌, ℕ, Option, Some, None, IfOk, IfErr};
+ghost use Rattle.uma_life.specs.Life.{raw_life};
+ghost use Rattle.uma_life.specs.Hook.{
+  KegInit,
+  ZoneInit,
+  Ctor,
+  Dtor,
+  ZoneFini,
+  KegFini,
+  MayPass,
+  after,
+  IsCode,
+};
+ghost use Rattle.uma_life.specs.declared.body_phase.BodyPhase.TheVariants.{Raw, Gone};
+
+use crate::body::Body;
+use crate::tally::Tally;
+use deed_book::Memory;
+use std::alloc::Global;
+use std::sync::Wait;
+
+/// The hooks of a zone, and what makes and unmakes bodies.
+///
+/// 1. Each hook goes from one phase to one phase, raises its one count by one, from 2^64 - 1 to 0, and changes no other
+///    count and not the number.
+/// 2. `keg_init`, `zone_init` and `ctor` may refuse, by the implementation's own meaning of refusal, with a code from 1
+///    to 255. Then they change nothing.
+/// 3. `raw` and `bury` alone may wait.
+pub trait Hooks<T: Body>: Drop {
+    /// The code with which `keg_init`, in zone 0, or `zone_init` refuses a body.
+    ghost refuses_init: { Self → T → ℕ → Option ℕ };
+
+    /// The code with which `ctor` refuses a body in a zone with an argument.
+    ghost refuses_ctor: { Self → T → ℕ → ℕ → Option ℕ };
+
+    /// Makes the body of a number, which passed no hook.
+    fn raw<R: Wait>(&self, rt: &R, alloc: Global, no: u32) -> Result<T, Memory>
+        ensures { IfOk result (λ body. T.life body ≡ raw_life no) };
+
+    /// Runs when the item's slab is brought in.
+    fn keg_init(&self, body: &mut T) -> Result<(), u8>
+        requires { MayPass KegInit (T.life body.old) }
+        ensures passed { IfOk result (λ _. T.life body.new ≡ after KegInit (T.life body.old)) }
+        ensures accepts { IfOk result (λ _. refuses_init self.now body.old 0 ≡ None) }
+        ensures refuses { IfErr result (λ code. (refuses_init self.now body.old 0 ≡ Some code) × IsCode code) }
+        ensures unchanged { IfErr result (λ _. body.new ≡ body.old) };
+
+    /// Runs when the item enters a secondary zone, which is 1 to 7.
+    fn zone_init(&self, zone: u8, body: &mut T) -> Result<(), u8>
+        requires { MayPass (ZoneInit zone) (T.life body.old) }
+        ensures passed { IfOk result (λ _. T.life body.new ≡ after (ZoneInit zone) (T.life body.old)) }
+        ensures accepts { IfOk result (λ _. refuses_init self.now body.old zone ≡ None) }
+        ensures refuses { IfErr result (λ code. (refuses_init self.now body.old zone ≡ Some code) × IsCode code) }
+        ensures unchanged { IfErr result (λ _. body.new ≡ body.old) };
+
+    /// Runs on an allocation in a zone below 8, with the argument of the request.
+    fn ctor(&self, zone: u8, body: &mut T, arg: u64) -> Result<(), u8>
+        requires { MayPass (Ctor zone) (T.life body.old) }
+        ensures passed { IfOk result (λ _. T.life body.new ≡ after (Ctor zone) (T.life body.old)) }
+        ensures accepts { IfOk result (λ _. refuses_ctor self.now body.old zone arg ≡ None) }
+        ensures refuses { IfErr result (λ code. (refuses_ctor self.now body.old zone arg ≡ Some code) × IsCode code) }
+        ensures unchanged { IfErr result (λ _. body.new ≡ body.old) };
+
+    /// Runs once for each allocation that was freed, in its zone.
+    fn dtor(&self, zone: u8, body: &mut T)
+        requires { MayPass (Dtor zone) (T.life body.old) }
+        ensures { T.life body.new ≡ after (Dtor zone) (T.life body.old) };
+
+    /// Runs when the item leaves a secondary zone, which is 1 to 7.
+    fn zone_fini(&self, zone: u8, body: &mut T)
+        requires { MayPass (ZoneFini zone) (T.life body.old) }
+        ensures { T.life body.new ≡ after (ZoneFini zone) (T.life body.old) };
+
+    /// Runs when the item's slab is given up.
+    fn keg_fini(&self, body: &mut T)
+        requires { MayPass KegFini (T.life body.old) }
+        ensures { T.life body.new ≡ after KegFini (T.life body.old) };
+
+    /// Ends a body, and answers its tally. It passed no hook, or all.
+    fn bury<R: Wait>(&self, rt: &R, body: T) -> Tally
+        requires { ((T.life body).phase ≡ Raw) ⊎ ((T.life body).phase ≡ Gone) }
+        ensures { result ≡ (T.life body).tally };
+}

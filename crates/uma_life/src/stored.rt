@@ -1,0 +1,115 @@
+ghost use Rattle.std.specs.Prelude.{◌≡◌, ◌≢◌, ◌⊎◌, Some, None, IfOk, IfErr, IsOkAnd};
+ghost use Rattle.deed_book.specs.Deed.{no_of, zone_of};
+ghost use Rattle.uma_life.specs.Life.{raw_life};
+ghost use Rattle.uma_life.specs.Hook.{KegInit, ZoneInit, KegFini, after, IsCode};
+ghost use Rattle.uma_life.specs.Trail.{IsAt, OnTrail};
+ghost use Rattle.uma_life.specs.declared.body_phase.BodyPhase.TheVariants.{Kept, Gone};
+
+use crate::body::Body;
+use crate::cached::Cached;
+use crate::hooks::Hooks;
+use crate::refused::BringRefused;
+use crate::tally::Tally;
+use crate::ticket::Ticket;
+use deed_book::Deed;
+use std::alloc::Global;
+use std::sync::Wait;
+
+/// An item in its keg.
+#[derive(Drop)]
+pub struct Stored<T: Body> {
+    pub(crate) body: T,
+    pub(crate) domain: u8,
+    pub ghost kept: { IsAt Kept (T.life body) },
+}
+
+impl<T: Body> Stored<T> {
+    ghost use Rattle.uma_life.specs.Stored.{stored_body, stored_no, stored_domain};
+
+    pub fn no(&self) -> u32
+        ensures { result ≡ stored_no self.now }
+    {
+        self.body.no()
+    }
+
+    pub fn domain(&self) -> u8
+        ensures { result ≡ stored_domain self.now }
+    {
+        self.domain
+    }
+
+    pub fn body(&self) -> &T
+        ensures body { result.now ≡ stored_body self.now }
+        ensures kept { IsAt Kept (T.life result.now) }
+    {
+        &self.body
+    }
+}
+
+impl<T: Body> Stored<T> {
+    ghost use Rattle.uma_life.specs.Stored.{stored_body, stored_no, stored_domain};
+    ghost use Rattle.uma_life.specs.Bring.{RefusesToBring};
+    ghost use Rattle.uma_life.specs.Ticket.{ticket_deed, ticket_domain};
+    ghost use Rattle.uma_life.specs.Cached.{cached_body, cached_ticket};
+
+    /// Makes an item of a keg: its body, after `keg_init`. Where that refuses the raw body was buried.
+    pub fn bring<K: Hooks<T>, R: Wait>(
+        rt: &R,
+        alloc: Global,
+        hooks: &K,
+        no: u32,
+        domain: u8,
+    ) -> Result<Stored<T>, BringRefused>
+        ensures number { IfOk result (λ item. stored_no item ≡ no) }
+        ensures domain { IfOk result (λ item. stored_domain item ≡ domain) }
+        ensures brought { IfOk result (λ item. T.life (stored_body item) ≡ after KegInit (raw_life no)) }
+        ensures accepted { IfOk result (λ _. (raw : T) × (T.life raw ≡ raw_life no) × (K.refuses_init hooks.now raw 0 ≡ None)) }
+        ensures refused { IfErr result (RefusesToBring (λ code. (raw : T) × (T.life raw ≡ raw_life no) × (K.refuses_init hooks.now raw 0 ≡ Some code))) }
+    {
+        let mut body = hooks.raw(rt, alloc, no)?;
+        if let Err(code) = hooks.keg_init(&mut body) {
+            hooks.bury(rt, body);
+            return Err(BringRefused::Init { code });
+        }
+        Ok(Stored { body, domain })
+    }
+
+    /// Lends the item to the zone of a deed of its number. It passes `zone_init`, but for zone 0. Where that refuses
+    /// the item and the deed are back, with the code.
+    pub fn lend<K: Hooks<T>>(
+        self,
+        hooks: &K,
+        deed: Deed,
+    ) -> Result<Cached<T>, (Stored<T>, Deed, u8)>
+        requires { no_of deed ≡ stored_no self }
+        ensures deed { IfOk result (λ item. ticket_deed (cached_ticket item) ≡ deed) }
+        ensures domain { IfOk result (λ item. ticket_domain (cached_ticket item) ≡ stored_domain self) }
+        ensures primary { zone_of deed ≡ 0 → IsOkAnd result (λ item. cached_body item ≡ stored_body self) }
+        ensures entered { zone_of deed ≢ 0 → IfOk result (λ item. T.life (cached_body item) ≡ after (ZoneInit (zone_of deed)) (T.life (stored_body self))) }
+        ensures accepted { zone_of deed ≢ 0 → IfOk result (λ _. K.refuses_init hooks.now (stored_body self) (zone_of deed) ≡ None) }
+        ensures refused { IfErr result (λ (item, back, code). (zone_of deed ≢ 0) × (K.refuses_init hooks.now (stored_body self) (zone_of deed) ≡ Some code) × IsCode code) }
+        ensures unchanged { IfErr result (λ (item, back, code). (item ≡ self) × (back ≡ deed)) }
+    {
+        let Stored { mut body, domain } = self;
+        if deed.zone() != 0
+            && let Err(code) = hooks.zone_init(deed.zone(), &mut body)
+        {
+            return Err((Stored { body, domain }, deed, code));
+        }
+        let ticket = Ticket::of(deed, domain);
+        Ok(Cached { body, ticket })
+    }
+
+    /// Ends the item: it passes `keg_fini`, and its body is buried. Answers the tally of its whole life.
+    pub fn end<K: Hooks<T>, R: Wait>(self, rt: &R, hooks: &K) -> Tally
+        ensures finished { result ≡ (after KegFini (T.life (stored_body self))).tally }
+        ensures whole { OnTrail Gone result }
+    {
+        let Stored {
+            mut body,
+            domain: _,
+        } = self;
+        hooks.keg_fini(&mut body);
+        hooks.bury(rt, body)
+    }
+}

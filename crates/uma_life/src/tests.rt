@@ -1,0 +1,3 @@
+mod counted;
+mod items;
+mod words;

@@ -1,0 +1,47 @@
+ghost use Rattle.std.specs.Prelude.{◌≡◌, ◌<◌};
+ghost use Rattle.deed_book.specs.Deed.{no_of, zone_of};
+
+use deed_book::Deed;
+
+/// What an item outside its keg has beside its body: its deed, and the memory domain of its slab.
+#[derive(Drop)]
+pub struct Ticket {
+    deed: Deed,
+    domain: u8,
+}
+
+impl Ticket {
+    ghost use Rattle.uma_life.specs.Ticket.{ticket_deed, ticket_no, ticket_zone, ticket_domain};
+
+    pub fn of(deed: Deed, domain: u8) -> Ticket
+        ensures { (ticket_deed result ≡ deed) × (ticket_domain result ≡ domain) }
+    {
+        Ticket { deed, domain }
+    }
+
+    /// The ticket's deed and domain. `of` makes the same ticket of them.
+    pub fn into_deed(self) -> (Deed, u8)
+        ensures { (result.0 ≡ ticket_deed self) × (result.1 ≡ ticket_domain self) }
+    {
+        (self.deed, self.domain)
+    }
+
+    pub fn no(&self) -> u32
+        ensures { result ≡ ticket_no self.now }
+    {
+        self.deed.no()
+    }
+
+    pub fn zone(&self) -> u8
+        ensures kept { result ≡ ticket_zone self.now }
+        ensures in_range { result < 8 }
+    {
+        self.deed.zone()
+    }
+
+    pub fn domain(&self) -> u8
+        ensures { result ≡ ticket_domain self.now }
+    {
+        self.domain
+    }
+}
