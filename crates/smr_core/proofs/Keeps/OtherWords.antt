@@ -1,0 +1,64 @@
+-- A word behind the seats' words may change: the law reads none of them.
+use Rattle.std.proofs.Common.{◌≡◌, ℕ, ◌+◌, ◌-◌, ◌^◌, ◌<◌, ◌≤◌, List, length, set, sym, refl, ap, subst, subst₂, ◌∙◌, arith, Option, Some, None, length-set, get_or-set_other}
+use lib.ListN.{get_elem?}
+use mathlib.Core.Option.{some}
+use Rattle.smr_core.specs.declared.about.About.{About}
+use Rattle.smr_core.specs.declared.holder.Holder.{Holder}
+use Rattle.smr_core.specs.declared.phase.Phase.TheVariants as phase
+use Rattle.smr_core.specs.ClockState.{IsOdd, IsSeatWord, place_after_seats, write_place, read_place, seat_place, write_hand, read_hand, seat_word, word_of, seats_of}
+use Rattle.smr_core.specs.ClockLaw.{HandsFit, ClockLaw, Later}
+use Rattle.smr_core.specs.ClockMoves.{OtherWordKeeps}
+use Rattle.smr_core.proofs.PlaceLemmas.{at_map}
+use Rattle.smr_core.proofs.KindLemmas.{in_phase}
+use Rattle.smr_core.proofs.MoveLemmas.{fits_still}
+
+some_of : {o : Option ℕ} {s : ℕ} → o ≡ Some s → some o ≡ some (Some s)
+some_of e = ap (λ (x : Option ℕ). some x) e
+
+module _ (a : About) (i v : ℕ) (ws : List ℕ) (behind : place_after_seats a ≤ i) where
+  write_still : write_hand (set ws i v) ≡ write_hand ws
+  write_still = get_or-set_other ws i write_place v 0 (λ e. omega arith)
+
+  read_still : read_hand (set ws i v) ≡ read_hand ws
+  read_still = get_or-set_other ws i read_place v 0 (λ e. omega arith)
+
+  seat_still : (s : ℕ) → s < a.seats → seat_word (set ws i v) s ≡ seat_word ws s
+  seat_still s known = get_or-set_other ws i (seat_place s) v 0 (λ e. omega arith)
+
+  hands_still : HandsFit a ws → HandsFit a (set ws i v)
+  hands_still f =
+      record {
+        places = subst (λ (n : ℕ). place_after_seats a ≤ n) (sym (length-set ws i v)) f.places;
+        odd_write = subst IsOdd (sym write_still) f.odd_write;
+        odd_read = subst IsOdd (sym read_still) f.odd_read;
+        from_start = subst (λ (n : ℕ). a.start ≤ n) (sym read_still) f.from_start;
+        in_order = subst₂ (λ (m n : ℕ). m ≤ n) (sym read_still) (sym write_still) f.in_order;
+        in_range = subst (λ (n : ℕ). n < 2 ^ 63) (sym write_still) f.in_range;
+        within_window = subst₂ (λ (m n : ℕ). n - m ≤ a.window) (sym read_still) (sym write_still) f.within_window;
+      }
+
+  own_still : (hs : List Holder) → ClockLaw a ws hs → (j : ℕ) (h : Holder) (o : Option ℕ) → get_elem? hs j ≡ some h → h.seat ≡ o → word_of (set ws i v) o ≡ word_of ws o
+  own_still hs law j h None at e = refl
+  own_still hs law j h (Some s) at e =
+      seat_still s (law.workers.known j s (at_map (λ (x : Holder). x.seat) hs j h at ∙ some_of e))
+
+pub other_word-keeps : OtherWordKeeps
+other_word-keeps a i v ws hs behind law =
+    let w : write_hand (set ws i v) ≡ write_hand ws = write_still a i v ws behind in
+    let r : read_hand (set ws i v) ≡ read_hand ws = read_still a i v ws behind in
+    record {
+      law = record {
+        numbers = law.numbers;
+        hands = hands_still a i v ws behind law.hands;
+        holders = λ j h at.
+            fits_still a ws (set ws i v) h (law.holders j h at) (own_still a i v ws behind hs law j h h.seat at refl) (omega arith) (omega arith)
+            (λ inside. subst (λ (n : ℕ). n ≤ h.mark) (sym r) (in_phase a ws h phase.Inside (law.holders j h at) inside).5);
+        workers = law.workers;
+        vacant = λ s known none. seat_still a i v ws behind s known ∙ law.vacant s known none;
+        seat_words = λ s known. subst IsSeatWord (sym (seat_still a i v ws behind s known)) (law.seat_words s known);
+        scans = law.scans;
+        balance = w ∙ law.balance;
+      };
+      write_not_lower = omega arith;
+      read_not_lower = omega arith;
+    }

@@ -1,0 +1,10 @@
+pub mod PlaceLemmas
+pub mod MoveLemmas
+pub mod KindLemmas
+pub mod Keeps
+pub mod CoreLemmas
+pub mod WorksLemmas
+pub mod OpeningLemmas
+pub mod RunLemmas
+pub mod ActorLemmas
+pub mod RunLaws

@@ -1,0 +1,11 @@
+-- The law holds where a core begins, since its numbers are in range.
+use Rattle.std.proofs.Common.{sym, subst}
+use Rattle.smr_core.specs.CoreState.{CoreLaw}
+use Rattle.smr_core.proofs.OpeningLemmas.{opening-law}
+use Rattle.smr_core.proofs.clock_core.Core.new.Goals as goal
+
+pub invariant_of-result : goal.invariant_of-result
+invariant_of-result c = subst CoreLaw (sym c.in_ok-works.ensures) (opening-law c.in_ok-about.about c.in_ok-about.ensures.in_range)
+
+pub returns-clause-law : goal.returns-clause-law
+returns-clause-law c = subst CoreLaw (sym c.in_ok-works.ensures) (opening-law c.in_ok-about.about c.in_ok-about.ensures.in_range)

@@ -1,0 +1,96 @@
+-- That each kind of step keeps the clock's law, from every state in which it holds, and that it holds where a clock begins.
+use Rattle.std.specs.Prelude.{◌≡◌, ℕ, ◌<◌, ◌≤◌, ◌⊎◌, List, [], ◌∷◌, ◌++◌, replicate, Some, IsSome, slice_set}
+use mathlib.Core.Option.{some}
+use lib.ListN.{get_elem?}
+use Rattle.smr_core.specs.declared.about.About.{About}
+use Rattle.smr_core.specs.declared.holder.Holder.{Holder}
+use Rattle.smr_core.specs.declared.phase.Phase.TheVariants as phase
+use Rattle.smr_core.specs.declared.task.Task.TheVariants as task
+use Rattle.smr_core.specs.ClockState.{IsInRange, place_after_seats, write_place, read_place, seat_place, seats_of, first_holder}
+use Rattle.smr_core.specs.ClockStep as clock
+use Rattle.smr_core.specs.ClockStep.{same, stored, exchanged}
+use Rattle.smr_core.specs.ClockLaw.{ClockLaw, HasNoWorker, Later, Keeps, KeepsSplit, KeepsJoin}
+
+-- A clock begins with both hands at the start, every seat's word 0 and one holder, which is no worker. Behind its words there may be others.
+abbrev pub BeginsLawful : Type 0
+BeginsLawful =
+    (a : About) (more : List ℕ) → IsInRange a → ClockLaw a (a.start ∷ a.start ∷ (replicate a.seats 0 ++ more)) (first_holder a ∷ [])
+
+-- a word behind the seats' words may change as it likes
+abbrev pub OtherWordKeeps : Type 0
+OtherWordKeeps =
+    (a : About) (i v : ℕ) (ws : List ℕ) (hs : List Holder) → place_after_seats a ≤ i → ClockLaw a ws hs → Later a ws (slice_set ws i v) hs
+
+-- ---- any holder may load a hand alone
+
+abbrev pub WriteLookKeeps : Type 0
+WriteLookKeeps = (a : About) (id : ℕ) (h : Holder) → Keeps a id h write_place same (clock.write_loaded a h)
+
+abbrev pub ReadLookKeeps : Type 0
+ReadLookKeeps = (a : About) (id : ℕ) (h : Holder) → Keeps a id h read_place same (clock.read_loaded h)
+
+-- ---- enter and exit
+
+abbrev pub EnterLoadKeeps : Type 0
+EnterLoadKeeps = (a : About) (id : ℕ) (h : Holder) → h.phase ≡ phase.Outside → Keeps a id h write_place same (clock.enter_loaded a h)
+
+abbrev pub EnterStoreKeeps : Type 0
+EnterStoreKeeps =
+    (a : About) (id : ℕ) (h : Holder) (s : ℕ) → h.seat ≡ Some s → h.phase ≡ phase.Loaded
+    → Keeps a id h (seat_place s) (stored (clock.entry_word h)) (λ found. clock.enter_stored h)
+
+abbrev pub EnterCheckKeeps : Type 0
+EnterCheckKeeps = (a : About) (id : ℕ) (h : Holder) → h.phase ≡ phase.Stored → Keeps a id h write_place same (clock.enter_checked a h)
+
+abbrev pub ClearKeeps : Type 0
+ClearKeeps =
+    (a : About) (id : ℕ) (h : Holder) (s : ℕ) → h.seat ≡ Some s → (h.phase ≡ phase.Inside) ⊎ (h.phase ≡ phase.Late)
+    → Keeps a id h (seat_place s) (stored 0) (λ found. clock.cleared h)
+
+-- ---- advance
+
+abbrev pub AdvanceReadKeeps : Type 0
+AdvanceReadKeeps = (a : About) (id : ℕ) (h : Holder) → IsSome h.seat → Keeps a id h read_place same (clock.advance_read h)
+
+abbrev pub AdvanceLoadKeeps : Type 0
+AdvanceLoadKeeps = (a : About) (id : ℕ) (h : Holder) → h.task ≡ task.AdvRead → Keeps a id h write_place same (clock.advance_loaded a h)
+
+abbrev pub AdvanceSwapKeeps : Type 0
+AdvanceSwapKeeps =
+    (a : About) (id : ℕ) (h : Holder) → h.task ≡ task.AdvLoaded → Keeps a id h write_place (exchanged h.write (clock.goal_of h)) (clock.advance_swapped h)
+
+-- ---- poll
+
+abbrev pub PollReadKeeps : Type 0
+PollReadKeeps = (a : About) (id : ℕ) (h : Holder) → Keeps a id h read_place same (clock.poll_read h)
+
+abbrev pub PollLoadKeeps : Type 0
+PollLoadKeeps = (a : About) (id : ℕ) (h : Holder) → h.task ≡ task.PollRead → Keeps a id h write_place same (clock.poll_loaded a h)
+
+abbrev pub PollEndKeeps : Type 0
+PollEndKeeps = (a : About) (id : ℕ) (h : Holder) → Keeps a id h write_place same (clock.poll_ended a h)
+
+abbrev pub PollScanKeeps : Type 0
+PollScanKeeps =
+    (a : About) (id : ℕ) (h : Holder) → h.task ≡ task.Scanning → h.scanned < a.seats → Keeps a id h (seat_place h.scanned) same (clock.poll_scanned h)
+
+abbrev pub PollSwapKeeps : Type 0
+PollSwapKeeps =
+    (a : About) (id : ℕ) (h : Holder) → h.task ≡ task.Scanning → h.scanned ≡ a.seats
+    → Keeps a id h read_place (exchanged h.read h.least) (clock.poll_swapped h)
+
+-- ---- notes, workers split off, and joins
+
+abbrev pub NoteKeeps : Type 0
+NoteKeeps = (a : About) (id : ℕ) (h : Holder) → KeepsSplit a id h (clock.note_of h)
+
+-- the worker of a seat that has none yet
+abbrev pub WorkerKeeps : Type 0
+WorkerKeeps =
+    (a : About) (id s : ℕ) (h : Holder) (ws : List ℕ) (hs : List Holder) → ClockLaw a ws hs → get_elem? hs id ≡ some h
+    → s < a.seats → HasNoWorker (seats_of hs) s → Later a ws ws (hs ++ clock.worker_of s h ∷ [])
+
+-- The holder that is taken in has no seat. It may be in a poll, which nobody goes on with.
+abbrev pub JoinKeeps : Type 0
+JoinKeeps =
+    (a : About) (id : ℕ) (h : Holder) (at : ℕ) (other : Holder) → (at ≡ id → ⊥) → other.phase ≡ phase.Note → KeepsJoin a id h at other (clock.joined h other)

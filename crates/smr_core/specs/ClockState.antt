@@ -1,0 +1,97 @@
+-- The state of the reclamation clock: the numbers it is made with, its words, and its holders.
+-- The hands and the seats' words are those of FreeBSD's smr(9), with whole hands of 64 bits in place of wrapping ones (own). What a holder knows is own.
+use Rattle.std.specs.Prelude.{◌≡◌, ℕ, ◌+◌, ◌%◌, ◌^◌, ◌<◌, ◌≤◌, List, map, slice_index, Option, Some, None}
+use Rattle.smr_core.specs.declared.about.About.{About}
+use Rattle.smr_core.specs.declared.holder.Holder.{Holder}
+use Rattle.smr_core.specs.declared.phase.Phase.TheVariants as phase
+use Rattle.smr_core.specs.declared.task.Task.TheVariants as task
+
+-- Both hands are odd. Sequences rise by 2, so 0 is no half of a hand and can stand for 'no section'.
+abbrev pub IsOdd : ℕ → Type 0
+IsOdd n = n % 2 ≡ 1
+
+-- the numbers that a clock may be made with
+pub record IsInRange (a : About) : Type 0 where
+  pub some_seat : 1 ≤ a.seats
+  pub few_seats : a.seats ≤ 64
+  pub odd_start : IsOdd a.start
+  pub low_start : a.start < 2 ^ 63
+  pub even_window : a.window % 2 ≡ 0
+  pub least_window : 4 ≤ a.window
+  pub greatest_window : a.window ≤ 2 ^ 30
+
+-- ---- the words: the write hand, the read hand, the word of each seat, and behind them words of which the clock knows nothing
+
+abbrev pub write_place : ℕ
+write_place = 0
+
+abbrev pub read_place : ℕ
+read_place = 1
+
+abbrev pub seat_place : ℕ → ℕ
+seat_place s = 2 + s
+
+-- the place of the first word after the seats' words
+abbrev pub place_after_seats : About → ℕ
+place_after_seats a = 2 + a.seats
+
+abbrev pub write_hand : List ℕ → ℕ
+write_hand ws = slice_index ws write_place
+
+abbrev pub read_hand : List ℕ → ℕ
+read_hand ws = slice_index ws read_place
+
+abbrev pub seat_word : List ℕ → ℕ → ℕ
+seat_word ws s = slice_index ws (seat_place s)
+
+-- the word of a holder: that of its seat, and 0 where it has none
+abbrev pub word_of : List ℕ → Option ℕ → ℕ
+word_of ws None = 0
+word_of ws (Some s) = seat_word ws s
+
+-- what a seat's word may be: 0, or the low half of an odd number
+pub record IsSeatWord (word : ℕ) : Type 0 where
+  pub narrow : word < 2 ^ 32
+  pub odd : 1 ≤ word → IsOdd word
+
+-- ---- the holders
+
+-- the seat of each holder, in their order
+abbrev pub seats_of : List Holder → List (Option ℕ)
+seats_of hs = map (λ h. h.seat) hs
+
+-- A holder that was taken in. It is always this one.
+abbrev pub spent : Holder
+spent =
+    record {
+      seat = None;
+      phase = phase.Absorbed;
+      loaded = 0;
+      mark = 0;
+      task = task.Idle;
+      read = 0;
+      write = 0;
+      scanned = 0;
+      least = 0;
+      seen = 0;
+      floor = 0;
+      advances = 0;
+    }
+
+-- The holder with which a clock begins, and from which its workers are split off. It knows where both hands begin.
+abbrev pub first_holder : About → Holder
+first_holder a = record spent { phase = phase.Note; seen = a.start; floor = a.start }
+
+-- ---- sections and goals
+
+-- the holder is in a section, whose entry mark is w
+abbrev pub IsInSection : Holder → ℕ → Type 0
+IsInSection h w = (h.phase ≡ phase.Inside) × (h.mark ≡ w)
+
+-- a section is before a goal where its entry mark is below it
+abbrev pub IsBefore : ℕ → ℕ → Type 0
+IsBefore w g = w < g
+
+-- a goal is expired where the read hand has come to it
+abbrev pub IsExpired : List ℕ → ℕ → Type 0
+IsExpired ws g = g ≤ read_hand ws

@@ -1,0 +1,160 @@
+-- What each step of the clock does to the word that it acts on and to the holder that takes it, as functions of the value that the step finds in that word.
+-- Enter, exit, advance and poll are those of FreeBSD's smr(9). The second load of an enter, the window and the one exchange of an advance are own.
+use Rattle.std.specs.Prelude.{ℕ, ◌+◌, ◌-◌, ◌^◌, ◌==◌, nat_lt, nat_le, min, max, if◌then◌else◌, Bool, Option, Some, None}
+use Rattle.smr_seq.specs.Reading.{low, reading}
+use Rattle.smr_core.specs.declared.about.About.{About}
+use Rattle.smr_core.specs.declared.holder.Holder.{Holder}
+use Rattle.smr_core.specs.declared.phase.Phase.TheVariants as phase
+use Rattle.smr_core.specs.declared.task.Task.TheVariants as task
+
+-- ---- what a word becomes of what was found in it
+
+-- a load leaves it
+abbrev pub same : ℕ → ℕ
+same found = found
+
+-- a store writes over it
+abbrev pub stored : ℕ → ℕ → ℕ
+stored value found = value
+
+-- a compare-exchange from old to new writes only where it finds old
+abbrev pub exchanged : ℕ → ℕ → ℕ → ℕ
+exchanged old new found = if found == old then new else found
+
+-- ---- what every load of a hand teaches
+
+-- Of the write hand: it is seen, and the read hand is at most the window below it.
+abbrev pub write_loaded : About → Holder → ℕ → Holder
+write_loaded a h found = record h { seen = max h.seen found; floor = max h.floor (found - a.window) }
+
+-- Of the read hand: it is at least what was found.
+abbrev pub read_loaded : Holder → ℕ → Holder
+read_loaded h found = record h { floor = max h.floor found }
+
+-- ---- enter and exit
+
+-- the first step of an enter, a load of the write hand
+abbrev pub enter_loaded : About → Holder → ℕ → Holder
+enter_loaded a h found = record (write_loaded a h found) { phase = phase.Loaded; loaded = found }
+
+-- the second step, a store in one's own word
+abbrev pub entry_word : Holder → ℕ
+entry_word h = low h.loaded
+
+abbrev pub enter_stored : Holder → Holder
+enter_stored h = record h { phase = phase.Stored }
+
+-- The write hand moved on by the window or more: an enter that finds this is too late.
+abbrev pub is_overtaken : About → ℕ → ℕ → Bool
+is_overtaken a loaded found = nat_le a.window (found - loaded)
+
+-- The third step, a load of the write hand again. What it finds is the entry mark.
+abbrev pub enter_checked : About → Holder → ℕ → Holder
+enter_checked a h found =
+    record (write_loaded a h found) {
+      phase = (if is_overtaken a h.loaded found then phase.Late else phase.Inside);
+      mark = found;
+    }
+
+-- exit, a store of 0 in one's own word
+abbrev pub cleared : Holder → Holder
+cleared h = record h { phase = phase.Outside }
+
+-- ---- advance
+
+-- a load of the read hand
+abbrev pub advance_read : Holder → ℕ → Holder
+advance_read h found = record (read_loaded h found) { task = task.AdvRead; read = found }
+
+-- two more than the write hand would be past the end of its range
+abbrev pub is_spent : ℕ → Bool
+is_spent write = nat_le (2 ^ 63) (write + 2)
+
+-- two more than the write hand would be above the read hand by more than the window
+abbrev pub is_too_far : About → ℕ → ℕ → Bool
+is_too_far a read write = nat_lt a.window (write + 2 - read)
+
+-- a load of the write hand after which the advance ends
+abbrev pub advance_ended : About → Holder → ℕ → Holder
+advance_ended a h found = record (write_loaded a h found) { task = task.Idle }
+
+-- A load of the write hand. The advance goes on only where there is room for two more.
+abbrev pub advance_loaded : About → Holder → ℕ → Holder
+advance_loaded a h found =
+    if is_spent found then advance_ended a h found else
+    if is_too_far a h.read found then advance_ended a h found else
+    record (write_loaded a h found) { task = task.AdvLoaded; write = found }
+
+-- A compare-exchange of the write hand, from what was loaded to two more. It moved the hand exactly where it found what was loaded.
+abbrev pub goal_of : Holder → ℕ
+goal_of h = h.write + 2
+
+abbrev pub advance_swapped : Holder → ℕ → Holder
+advance_swapped h found =
+    record h {
+      task = task.Idle;
+      seen = max h.seen (exchanged h.write (goal_of h) found);
+      advances = h.advances + (if found == h.write then 1 else 0);
+    }
+
+-- ---- poll
+
+-- a load of the read hand
+abbrev pub poll_read : Holder → ℕ → Holder
+poll_read h found = record (read_loaded h found) { task = task.PollRead; read = found }
+
+-- A load of the write hand. No word is loaded yet, and the least mark so far is the hand itself.
+abbrev pub poll_loaded : About → Holder → ℕ → Holder
+poll_loaded a h found = record (write_loaded a h found) { task = task.Scanning; write = found; scanned = 0; least = found }
+
+-- A load of the write hand that ends the poll, since the read hand that it has is not below the goal.
+abbrev pub poll_ended : About → Holder → ℕ → Holder
+poll_ended a h found = record (write_loaded a h found) { task = task.Idle }
+
+-- The least mark, with a seat's word that has this reading: an enter that is older than the read hand counts as one at the read hand.
+abbrev pub least_with : ℕ → ℕ → Option ℕ → ℕ
+least_with read least None = least
+least_with read least (Some entered) = min least (max entered read)
+
+-- The least mark after a seat's word was loaded. A word of 0, and one without a reading near the write hand loaded, count for nothing.
+abbrev pub least_after : ℕ → ℕ → ℕ → ℕ → ℕ
+least_after read write least word = if word == 0 then least else least_with read least (reading word write)
+
+-- a load of the next seat's word
+abbrev pub poll_scanned : Holder → ℕ → Holder
+poll_scanned h found = record h { scanned = h.scanned + 1; least = least_after h.read h.write h.least found }
+
+-- A compare-exchange of the read hand, from what was loaded to the least mark. What it leaves is the read hand last found.
+abbrev pub last_found : Holder → ℕ → ℕ
+last_found h found = exchanged h.read h.least found
+
+abbrev pub poll_swapped : Holder → ℕ → Holder
+poll_swapped h found = record h { task = task.Idle; floor = max h.floor (last_found h found) }
+
+-- ---- notes and seats
+
+-- The new holder that a note splits off. It knows what the other knows of the hands.
+abbrev pub note_of : Holder → Holder
+note_of h =
+    record {
+      seat = None;
+      phase = phase.Note;
+      loaded = 0;
+      mark = 0;
+      task = task.Idle;
+      read = 0;
+      write = 0;
+      scanned = 0;
+      least = 0;
+      seen = h.seen;
+      floor = h.floor;
+      advances = 0;
+    }
+
+-- the worker of the seat s, split off where a clock is made
+abbrev pub worker_of : ℕ → Holder → Holder
+worker_of s h = record (note_of h) { seat = Some s; phase = phase.Outside }
+
+-- a holder that takes in another
+abbrev pub joined : Holder → Holder → Holder
+joined h other = record h { seen = max h.seen other.seen; floor = max h.floor other.floor }

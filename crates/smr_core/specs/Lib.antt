@@ -1,0 +1,10 @@
+pub mod ClockState
+pub mod ClockStep
+pub mod ClockLaw
+pub mod ClockMoves
+pub mod Remembered
+pub mod CoreState
+pub mod CoreStep
+pub mod YesMeans
+pub mod Works
+pub mod Making

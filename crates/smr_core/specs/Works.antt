@@ -1,0 +1,6 @@
+-- The parts of a core, seen as its state.
+use Rattle.smr_core.specs.declared.works.Works.{Works}
+use Rattle.smr_core.specs.CoreState.{State}
+
+abbrev pub state_of : Works → State
+state_of w = record { about = w.about; words = w.words.items; actors = w.actors.items }

@@ -1,0 +1,82 @@
+ghost use Rattle.std.specs.Prelude.{◌≡◌, nat_lt, if◌then◌else◌, IfOk, IfErr, OnErr};
+ghost use Rattle.smr_core.specs.ClockState.{IsInRange, read_hand, write_hand, seat_word};
+ghost use Rattle.smr_core.specs.CoreState.{CoreLaw, opening};
+ghost use Rattle.smr_core.specs.CoreStep.{IsStep, Refuses};
+ghost use Rattle.smr_core.specs.Making.{RefusesNumbers};
+
+use crate::about::About;
+use crate::core_refused::CoreRefused;
+use crate::seen::Seen;
+use crate::step::Step;
+use crate::step_refused::StepRefused;
+use crate::works::{READ_PLACE, WRITE_PLACE, Works, seat_place};
+use std::alloc::Global;
+use std::marker::Model;
+
+/// The reclamation clock as plain data: one thread takes its steps one at a time, in any order.
+#[derive(Drop)]
+pub struct Core {
+    works: Works,
+}
+
+impl Model for Core {
+    ghost use Rattle.smr_core.specs.CoreState.{State, CoreLaw};
+
+    ghost Value = { State };
+
+    ghost use Rattle.smr_core.specs.Works.{state_of};
+
+    ghost view = { λ c. state_of c.works };
+
+    ghost invariant = { λ c. CoreLaw (state_of c.works) };
+}
+
+impl Core {
+    /// Both hands at `start`, every word 0, and a worker for each seat.
+    pub fn new(alloc: Global, seats: u32, start: u64, window: u64) -> Result<Self, CoreRefused>
+        ensures in_range { IfOk result (λ core. IsInRange (record { start = start; window = window; seats = seats })) }
+        ensures opened { IfOk result (λ core. core ≡ opening (record { start = start; window = window; seats = seats })) }
+        ensures law { IfOk result (λ core. CoreLaw core) }
+        ensures refused { IfErr result (RefusesNumbers (record { start = start; window = window; seats = seats })) }
+    {
+        let about = About::checked(seats, start, window)?;
+        let works = Works::open(alloc, about)?;
+        Ok(Core { works })
+    }
+
+    /// Takes one step, or refuses it. Only a note takes memory.
+    pub fn apply(&mut self, _alloc: Global, step: Step) -> Result<Seen, StepRefused>
+        ensures stepped { IfOk result (λ seen. IsStep self.old step seen self.new) }
+        ensures refused { IfErr result (λ refused. Refuses self.old step refused) }
+        ensures unchanged { OnErr result (self.new ≡ self.old) }
+        ensures law { CoreLaw self.new }
+    {
+        self.works.apply(step)
+    }
+
+    pub fn read_hand(&self) -> u64
+        ensures value { result ≡ read_hand self.now.words }
+        ensures law { CoreLaw self.now }
+    {
+        self.works.words[READ_PLACE]
+    }
+
+    pub fn write_hand(&self) -> u64
+        ensures value { result ≡ write_hand self.now.words }
+        ensures law { CoreLaw self.now }
+    {
+        self.works.words[WRITE_PLACE]
+    }
+
+    /// The word of a seat, and None for a number that is no seat.
+    pub fn word(&self, seat: u32) -> Option<u32>
+        ensures value { result ≡ (if nat_lt seat self.now.about.seats then Some (seat_word self.now.words seat) else None) }
+        ensures law { CoreLaw self.now }
+    {
+        if seat < self.works.about.seats {
+            Some(self.works.words[seat_place(seat)] as u32)
+        } else {
+            None
+        }
+    }
+}

@@ -1,0 +1,335 @@
+ghost use Rattle.std.specs.Prelude.{◌≡◌, ℕ, ◌+◌, ◌-◌, ◌^◌, ◌<◌, ◌≤◌, ◌↔◌, IsTrue, IsSome};
+ghost use Rattle.smr_core.specs.ClockState.{spent};
+ghost use Rattle.smr_core.specs.ClockStep as clock;
+ghost use Rattle.smr_core.specs.CoreStep.{IsIdleWorker, IsIdleNote, MayPoll};
+
+use crate::about::About;
+use crate::phase::Phase;
+use crate::task::Task;
+use smr_seq::Seq;
+
+/// What one holder of a clock knows: a worker, which has a seat, or a note.
+///
+/// A number counts only in the phases and tasks that name it.
+#[derive(Clone, Copy, Debug, PartialEq, Eq)]
+pub struct Holder {
+    /// A worker's seat.
+    pub seat: Option<u32>,
+    pub phase: Phase,
+    /// From Loaded on, the write hand that the enter loaded.
+    pub loaded: u64,
+    /// In Inside and Late, the write hand that the third step found. In Inside it is the entry mark.
+    pub mark: u64,
+    pub task: Task,
+    /// The read hand that the advance or poll loaded.
+    pub read: u64,
+    /// In AdvLoaded and Scanning, the write hand that the advance or poll loaded.
+    pub write: u64,
+    /// In Scanning, how many seats' words were loaded.
+    pub scanned: u32,
+    /// In Scanning, the least mark so far: to where the read hand may go.
+    pub least: u64,
+    /// The greatest write hand that it knows.
+    pub seen: u64,
+    /// The greatest number that it knows to be at or below the read hand.
+    pub floor: u64,
+    /// How often its exchange moved the write hand.
+    pub advances: u64,
+}
+
+/// What each step makes of the holder that takes it, from the value that the step found. The rules
+/// are those of FreeBSD's smr(9), where nothing else is said.
+impl Holder {
+    /// Whether it is a worker, which is a holder with a seat, in no advance or poll.
+    pub fn is_idle_worker(&self) -> bool
+        ensures { IsTrue result ↔ IsIdleWorker self.now }
+    {
+        self.seat.is_some() && self.task == Task::Idle
+    }
+
+    /// Whether it is a note in no poll.
+    pub fn is_idle_note(&self) -> bool
+        ensures { IsTrue result ↔ IsIdleNote self.now }
+    {
+        self.phase == Phase::Note && self.task == Task::Idle
+    }
+
+    /// Whether it may begin a poll, as a worker or a note that is in no advance or poll.
+    pub fn may_poll(&self) -> bool
+        ensures { IsTrue result ↔ MayPoll self.now }
+    {
+        (self.seat.is_some() || self.phase == Phase::Note) && self.task == Task::Idle
+    }
+
+    /// A holder that was taken in.
+    pub fn spent() -> Self
+        ensures { result ≡ spent }
+    {
+        Holder {
+            seat: None,
+            phase: Phase::Absorbed,
+            loaded: 0,
+            mark: 0,
+            task: Task::Idle,
+            read: 0,
+            write: 0,
+            scanned: 0,
+            least: 0,
+            seen: 0,
+            floor: 0,
+            advances: 0,
+        }
+    }
+
+    /// After any load of the write hand.
+    pub fn write_loaded(self, about: About, found: u64) -> Self
+        ensures { result ≡ clock.write_loaded about self found }
+    {
+        Holder {
+            seen: self.seen.max(found),
+            floor: self.floor.max(found.saturating_sub(about.window)),
+            ..self
+        }
+    }
+
+    /// After any load of the read hand.
+    pub fn read_loaded(self, found: u64) -> Self
+        ensures { result ≡ clock.read_loaded self found }
+    {
+        Holder {
+            floor: self.floor.max(found),
+            ..self
+        }
+    }
+
+    /// After the first step of an enter.
+    pub fn enter_loaded(self, about: About, found: u64) -> Self
+        ensures { result ≡ clock.enter_loaded about self found }
+    {
+        Holder {
+            phase: Phase::Loaded,
+            loaded: found,
+            ..self.write_loaded(about, found)
+        }
+    }
+
+    /// What the second step of an enter stores.
+    pub fn entry_word(&self) -> u64
+        ensures { result ≡ clock.entry_word self.now }
+    {
+        u64::from(Seq::low(self.loaded).raw)
+    }
+
+    /// After the second step of an enter.
+    pub fn enter_stored(self) -> Self
+        ensures { result ≡ clock.enter_stored self }
+    {
+        Holder {
+            phase: Phase::Stored,
+            ..self
+        }
+    }
+
+    /// Whether an enter that finds this hand at its third step is too late: own.
+    pub fn is_overtaken(&self, about: About, found: u64) -> bool
+        ensures { result ≡ clock.is_overtaken about self.now.loaded found }
+    {
+        about.window <= found.saturating_sub(self.loaded)
+    }
+
+    /// After the third step of an enter: own.
+    pub fn enter_checked(self, about: About, found: u64) -> Self
+        ensures { result ≡ clock.enter_checked about self found }
+    {
+        Holder {
+            phase: if self.is_overtaken(about, found) {
+                Phase::Late
+            } else {
+                Phase::Inside
+            },
+            mark: found,
+            ..self.write_loaded(about, found)
+        }
+    }
+
+    /// After an exit.
+    pub fn cleared(self) -> Self
+        ensures { result ≡ clock.cleared self }
+    {
+        Holder {
+            phase: Phase::Outside,
+            ..self
+        }
+    }
+
+    /// After an advance's load of the read hand.
+    pub fn advance_read(self, found: u64) -> Self
+        ensures { result ≡ clock.advance_read self found }
+    {
+        Holder {
+            task: Task::AdvRead,
+            read: found,
+            ..self.read_loaded(found)
+        }
+    }
+
+    /// Whether an advance that finds this write hand is too far above the read hand that it has: own.
+    pub fn is_too_far(&self, about: About, found: u64) -> bool
+        requires { found < 2 ^ 63 }
+        ensures { result ≡ clock.is_too_far about self.now.read found }
+    {
+        about.window < (found + 2).saturating_sub(self.read)
+    }
+
+    /// After an advance's load of the write hand, which ends it where there is no room for two more.
+    pub fn advance_loaded(self, about: About, found: u64) -> Self
+        requires { found < 2 ^ 63 }
+        ensures { result ≡ clock.advance_loaded about self found }
+    {
+        let known = self.write_loaded(about, found);
+        if is_spent(found) || self.is_too_far(about, found) {
+            Holder {
+                task: Task::Idle,
+                ..known
+            }
+        } else {
+            Holder {
+                task: Task::AdvLoaded,
+                write: found,
+                ..known
+            }
+        }
+    }
+
+    /// After an advance's exchange, whether or not it moved the write hand.
+    pub fn advance_swapped(self, found: u64) -> Self
+        requires write { self.write < 2 ^ 63 }
+        requires advances { self.advances < 2 ^ 63 }
+        ensures { result ≡ clock.advance_swapped self found }
+    {
+        let goal = self.write + 2;
+        let moved = found == self.write;
+        Holder {
+            task: Task::Idle,
+            seen: self.seen.max(exchanged(self.write, goal, found)),
+            advances: self.advances + if moved { 1 } else { 0 },
+            ..self
+        }
+    }
+
+    /// After a poll's load of the read hand.
+    pub fn poll_read(self, found: u64) -> Self
+        ensures { result ≡ clock.poll_read self found }
+    {
+        Holder {
+            task: Task::PollRead,
+            read: found,
+            ..self.read_loaded(found)
+        }
+    }
+
+    /// After a poll's load of the write hand, where it goes on.
+    pub fn poll_loaded(self, about: About, found: u64) -> Self
+        ensures { result ≡ clock.poll_loaded about self found }
+    {
+        Holder {
+            task: Task::Scanning,
+            write: found,
+            scanned: 0,
+            least: found,
+            ..self.write_loaded(about, found)
+        }
+    }
+
+    /// After a poll's load of the write hand, where it ends.
+    pub fn poll_ended(self, about: About, found: u64) -> Self
+        ensures { result ≡ clock.poll_ended about self found }
+    {
+        Holder {
+            task: Task::Idle,
+            ..self.write_loaded(about, found)
+        }
+    }
+
+    /// The least mark after a seat's word was loaded. An enter that is older than the poll's read
+    /// hand counts as one at the read hand; a word of 0 or without a reading counts for nothing.
+    pub fn least_after(&self, word: u32) -> u64
+        ensures { result ≡ clock.least_after self.now.read self.now.write self.now.least word }
+    {
+        if word == 0 {
+            return self.least;
+        }
+        match (Seq { raw: word }).read(self.write) {
+            Some(entered) => self.least.min(entered.max(self.read)),
+            None => self.least,
+        }
+    }
+
+    /// After a poll's load of a seat's word.
+    pub fn poll_scanned(self, word: u32) -> Self
+        requires { self.scanned < 2 ^ 31 }
+        ensures { result ≡ clock.poll_scanned self word }
+    {
+        Holder {
+            scanned: self.scanned + 1,
+            least: self.least_after(word),
+            ..self
+        }
+    }
+
+    /// The read hand last found by a poll's exchange that found this.
+    pub fn last_found(&self, found: u64) -> u64
+        ensures { result ≡ clock.last_found self.now found }
+    {
+        exchanged(self.read, self.least, found)
+    }
+
+    /// After a poll's exchange.
+    pub fn poll_swapped(self, found: u64) -> Self
+        ensures { result ≡ clock.poll_swapped self found }
+    {
+        Holder {
+            task: Task::Idle,
+            floor: self.floor.max(self.last_found(found)),
+            ..self
+        }
+    }
+
+    /// The note that it splits off, which knows what it knows of the hands: own.
+    pub fn note(&self) -> Self
+        ensures { result ≡ clock.note_of self.now }
+    {
+        Holder {
+            phase: Phase::Note,
+            seen: self.seen,
+            floor: self.floor,
+            ..Holder::spent()
+        }
+    }
+
+    /// After it has taken in another: own.
+    pub fn joined(self, other: &Holder) -> Self
+        ensures { result ≡ clock.joined self other.now }
+    {
+        Holder {
+            seen: self.seen.max(other.seen),
+            floor: self.floor.max(other.floor),
+            ..self
+        }
+    }
+}
+
+/// Whether two more than this write hand would be past the end of its range: own.
+pub fn is_spent(write: u64) -> bool
+    requires { write < 2 ^ 63 }
+    ensures { result ≡ clock.is_spent write }
+{
+    write + 2 >= 1 << 63
+}
+
+/// A word after a compare-exchange that found this.
+pub fn exchanged(old: u64, new: u64, found: u64) -> u64
+    ensures { result ≡ clock.exchanged old new found }
+{
+    if found == old { new } else { found }
+}

@@ -1,0 +1,56 @@
+//! The laws of the clock, each for all states and all runs. A call here does nothing: its contract is
+//! the law. The definitions are those that the contract of `Core::apply` cites.
+
+ghost use Rattle.smr_core.specs.ClockMoves.{BeginsLawful, OtherWordKeeps, WriteLookKeeps, ReadLookKeeps, EnterLoadKeeps, EnterStoreKeeps, EnterCheckKeeps, ClearKeeps, AdvanceReadKeeps, AdvanceLoadKeeps, AdvanceSwapKeeps, PollReadKeeps, PollLoadKeeps, PollEndKeeps, PollScanKeeps, PollSwapKeeps, NoteKeeps, WorkerKeeps, JoinKeeps};
+ghost use Rattle.smr_core.specs.YesMeans.{YesIsKnown, YesMeansExpired, YesIsExpired, GoalIsExpired, PollKeepsItsTag, HandsNeverFall, WindowIsKept, MarksAreKept, EntryIsTheThirdStep};
+
+/// The clock's law holds where a clock begins, and each kind of step keeps it from every state in
+/// which it holds, whoever takes the step. Neither hand is lower after any.
+pub fn steps_keep_the_law()
+    ensures begins { BeginsLawful }
+    ensures other_word { OtherWordKeeps }
+    ensures write_look { WriteLookKeeps }
+    ensures read_look { ReadLookKeeps }
+    ensures enter_load { EnterLoadKeeps }
+    ensures enter_store { EnterStoreKeeps }
+    ensures enter_check { EnterCheckKeeps }
+    ensures clear { ClearKeeps }
+    ensures advance_read { AdvanceReadKeeps }
+    ensures advance_load { AdvanceLoadKeeps }
+    ensures advance_swap { AdvanceSwapKeeps }
+    ensures poll_read { PollReadKeeps }
+    ensures poll_load { PollLoadKeeps }
+    ensures poll_end { PollEndKeeps }
+    ensures poll_scan { PollScanKeeps }
+    ensures poll_swap { PollSwapKeeps }
+    ensures note { NoteKeeps }
+    ensures worker { WorkerKeeps }
+    ensures join { JoinKeeps }
+{}
+
+/// What a poll's yes says, of one step: each number up to the write hand that the poll loaded, whose
+/// low half is the tag, is expired, and the holder that polled knows it.
+pub fn yes_of_one_step()
+    ensures known { YesIsKnown }
+    ensures expired { YesMeansExpired }
+{}
+
+/// What a poll's yes says, over every run from a new core. Let the poll's load find the write hand
+/// `l`. From the answer on, for ever, each number up to `l` with the tag as its low half is expired,
+/// and no open section is before it; so it is with each goal that an advance answered before that
+/// load. Of a number above `l`, and by a no, nothing is said: a tag is only the low half of a goal.
+pub fn yes_over_runs()
+    ensures expired { YesIsExpired }
+    ensures goals { GoalIsExpired }
+    ensures tag { PollKeepsItsTag }
+{}
+
+/// Over every run from a new core: neither hand falls, the window is never exceeded, each open
+/// section's entry mark is at least the read hand, and it is the write hand that the third step of
+/// its enter found.
+pub fn hands_and_marks_over_runs()
+    ensures hands { HandsNeverFall }
+    ensures window { WindowIsKept }
+    ensures marks { MarksAreKept }
+    ensures entry { EntryIsTheThirdStep }
+{}

@@ -1,0 +1,111 @@
+ghost use Rattle.std.specs.Prelude.{◌≡◌, ◌+◌, ◌^◌, ◌<◌, ◌≤◌, length, IfOk, IfErr, OnErr};
+ghost use Rattle.smr_core.specs.CoreState.{CoreLaw};
+ghost use Rattle.smr_core.specs.CoreStep.{IsStep, Refuses};
+ghost use Rattle.smr_core.specs.Works.{state_of};
+ghost use Rattle.smr_core.specs.declared.step.Step.{Step};
+
+use crate::actor::Actor;
+use crate::seen::Seen;
+use crate::step_refused::StepRefused;
+use crate::task::Task;
+use crate::works::{READ_PLACE, WRITE_PLACE, Works, seat_place};
+use smr_seq::Seq;
+
+/// The steps of a poll.
+impl Works {
+    /// The load of the read hand, by a worker or a note.
+    pub fn poll_read(&mut self, seat: u32, tag: u32) -> Result<Seen, StepRefused>
+        requires { CoreLaw (state_of self.old) }
+        ensures stepped { IfOk result (λ seen. IsStep (state_of self.old) (Step.PollRead seat tag) seen (state_of self.new)) }
+        ensures refused { IfErr result (λ refused. Refuses (state_of self.old) (Step.PollRead seat tag) refused) }
+        ensures unchanged { OnErr result (state_of self.new ≡ state_of self.old) }
+    {
+        let actor = self.actor(seat)?;
+        if !actor.holder.may_poll() {
+            return Err(actor.out_of_turn(seat));
+        }
+        let found = self.words[READ_PLACE];
+        let holder = actor.holder.poll_read(found);
+        self.actors[seat as usize] = Actor {
+            holder,
+            tag,
+            ..actor
+        };
+        Ok(Seen::Hand { value: found })
+    }
+
+    /// The load of the write hand, which ends the poll where its tag is known to be expired.
+    pub fn poll_load(&mut self, seat: u32) -> Result<Seen, StepRefused>
+        requires { CoreLaw (state_of self.old) }
+        ensures stepped { IfOk result (λ seen. IsStep (state_of self.old) (Step.PollLoad seat) seen (state_of self.new)) }
+        ensures refused { IfErr result (λ refused. Refuses (state_of self.old) (Step.PollLoad seat) refused) }
+        ensures unchanged { OnErr result (state_of self.new ≡ state_of self.old) }
+    {
+        let actor = self.actor(seat)?;
+        if actor.holder.task != Task::PollRead {
+            return Err(actor.out_of_turn(seat));
+        }
+        let read = actor.holder.read;
+        let found = self.words[WRITE_PLACE];
+        match (Seq { raw: actor.tag }).read(found) {
+            Some(reading) if read < reading => {
+                let holder = actor.holder.poll_loaded(self.about, found);
+                self.actors[seat as usize] = Actor {
+                    holder,
+                    reading,
+                    ..actor
+                };
+                Ok(Seen::Hand { value: found })
+            }
+            _ => {
+                let holder = actor.holder.poll_ended(self.about, found);
+                self.actors[seat as usize] = actor.with(holder);
+                Ok(Seen::Yes { read })
+            }
+        }
+    }
+
+    /// The load of the next seat's word.
+    pub fn poll_scan(&mut self, seat: u32) -> Result<Seen, StepRefused>
+        requires { CoreLaw (state_of self.old) }
+        ensures stepped { IfOk result (λ seen. IsStep (state_of self.old) (Step.PollScan seat) seen (state_of self.new)) }
+        ensures refused { IfErr result (λ refused. Refuses (state_of self.old) (Step.PollScan seat) refused) }
+        ensures unchanged { OnErr result (state_of self.new ≡ state_of self.old) }
+    {
+        let actor = self.actor(seat)?;
+        let scanned = actor.holder.scanned;
+        if actor.holder.task != Task::Scanning || scanned >= self.about.seats {
+            return Err(actor.out_of_turn(seat));
+        }
+        let word = self.words[seat_place(scanned)] as u32;
+        let holder = actor.holder.poll_scanned(word);
+        self.actors[seat as usize] = actor.with(holder);
+        Ok(Seen::Word {
+            seat: scanned,
+            word,
+            least: holder.least,
+        })
+    }
+
+    /// The exchange of the read hand, and the answer.
+    pub fn poll_swap(&mut self, seat: u32) -> Result<Seen, StepRefused>
+        requires { CoreLaw (state_of self.old) }
+        ensures stepped { IfOk result (λ seen. IsStep (state_of self.old) (Step.PollSwap seat) seen (state_of self.new)) }
+        ensures refused { IfErr result (λ refused. Refuses (state_of self.old) (Step.PollSwap seat) refused) }
+        ensures unchanged { OnErr result (state_of self.new ≡ state_of self.old) }
+    {
+        let actor = self.actor(seat)?;
+        if actor.holder.task != Task::Scanning || actor.holder.scanned != self.about.seats {
+            return Err(actor.out_of_turn(seat));
+        }
+        let found = self.words[READ_PLACE];
+        let read = actor.holder.last_found(found);
+        self.words[READ_PLACE] = read;
+        self.actors[seat as usize] = actor.with(actor.holder.poll_swapped(found));
+        if actor.reading <= read {
+            Ok(Seen::Yes { read })
+        } else {
+            Ok(Seen::No { read })
+        }
+    }
+}

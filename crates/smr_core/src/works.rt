@@ -1,0 +1,115 @@
+ghost use Rattle.std.specs.Prelude.{◌≡◌, ◌+◌, ◌<◌, ◌≤◌, length, ◌∷◌, replicate, IfOk, IfErr, OnOk, OnErr};
+ghost use Rattle.smr_core.specs.CoreState.{CoreLaw, IsActor, first_workers, opening};
+ghost use Rattle.smr_core.specs.CoreStep.{IsStep, Refuses};
+ghost use Rattle.smr_core.specs.Works.{state_of};
+
+use crate::about::About;
+use crate::actor::Actor;
+use crate::seen::Seen;
+use crate::step::Step;
+use crate::step_refused::StepRefused;
+use std::alloc::{AllocError, Global};
+
+/// Where the write hand is among the words.
+pub const WRITE_PLACE: usize = 0;
+
+/// Where the read hand is among the words.
+pub const READ_PLACE: usize = 1;
+
+/// Where the word of a seat is among the words.
+pub fn seat_place(seat: u32) -> usize
+    ensures { result ≡ 2 + seat }
+{
+    2 + seat as usize
+}
+
+/// The words before any step.
+#[tactic(auto, using(crate::proofs::OpeningLemmas::opening_words))]
+fn opening_words(alloc: Global, about: About) -> Result<Vec<u64>, AllocError>
+    requires { about.seats ≤ 64 }
+    ensures { IfOk result (λ words. words.items ≡ about.start ∷ about.start ∷ replicate about.seats 0) }
+{
+    let mut words = vec![in alloc; 0; seat_place(about.seats)]?;
+    words[WRITE_PLACE] = about.start;
+    words[READ_PLACE] = about.start;
+    Ok(words)
+}
+
+/// The actors before any step.
+#[tactic(auto, using(crate::proofs::OpeningLemmas::first_workers_more))]
+fn opening_actors(alloc: Global, about: About) -> Result<Vec<Actor>, AllocError>
+    ensures { IfOk result (λ actors. actors.items ≡ first_workers about about.seats) }
+{
+    let mut actors = Vec::new(alloc);
+    for seat in 0..about.seats {
+        actors.push(Actor::first(about, seat))?;
+    }
+    Ok(actors)
+}
+
+/// The parts of a core, whose methods take its steps, one each. The core's law is their condition,
+/// and `Core` keeps it.
+#[derive(Drop)]
+pub struct Works {
+    pub about: About,
+    pub words: Vec<u64>,
+    pub actors: Vec<Actor>,
+}
+
+impl Works {
+    /// Both hands at the start, every word 0, and a worker for each seat.
+    pub fn open(alloc: Global, about: About) -> Result<Self, AllocError>
+        requires { about.seats ≤ 64 }
+        ensures { IfOk result (λ works. state_of works ≡ opening about) }
+    {
+        Ok(Works {
+            about,
+            words: opening_words(alloc, about)?,
+            actors: opening_actors(alloc, about)?,
+        })
+    }
+
+    /// Takes one step, or refuses it.
+    pub fn apply(&mut self, step: Step) -> Result<Seen, StepRefused>
+        requires { CoreLaw (state_of self.old) }
+        ensures stepped { IfOk result (λ seen. IsStep (state_of self.old) step seen (state_of self.new)) }
+        ensures refused { IfErr result (λ refused. Refuses (state_of self.old) step refused) }
+        ensures unchanged { OnErr result (state_of self.new ≡ state_of self.old) }
+    {
+        match step {
+            Step::EnterLoad { seat } => self.enter_load(seat),
+            Step::EnterStore { seat } => self.enter_store(seat),
+            Step::EnterCheck { seat } => self.enter_check(seat),
+            Step::Clear { seat } => self.clear(seat),
+            Step::AdvanceRead { seat } => self.advance_read(seat),
+            Step::AdvanceLoad { seat } => self.advance_load(seat),
+            Step::AdvanceSwap { seat } => self.advance_swap(seat),
+            Step::PollRead { seat, tag } => self.poll_read(seat, tag),
+            Step::PollLoad { seat } => self.poll_load(seat),
+            Step::PollScan { seat } => self.poll_scan(seat),
+            Step::PollSwap { seat } => self.poll_swap(seat),
+            Step::Note { seat } => self.note(seat),
+            Step::Absorb { seat, note } => self.absorb(seat, note),
+        }
+    }
+
+    /// The actor of a number.
+    #[tactic(auto, using(crate::proofs::PlaceLemmas::at_index))]
+    pub fn actor(&self, number: u32) -> Result<Actor, StepRefused>
+        requires { CoreLaw (state_of self.now) }
+        ensures there { IfOk result (λ actor. IsActor (state_of self.now) number actor) }
+        ensures within { OnOk result (number < length self.now.actors.items) }
+        ensures missing { IfErr result (λ refused.
+            (refused ≡ StepRefused.NoSeat number (length self.now.actors.items)) × (length self.now.actors.items ≤ number)) }
+    {
+        let seats = self.actors.len() as u32;
+        if number < seats {
+            Ok(self.actors[number as usize])
+        } else {
+            Err(StepRefused::NoSeat {
+                seat: number,
+                seats,
+            })
+        }
+    }
+}
