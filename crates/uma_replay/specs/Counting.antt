@@ -1,0 +1,67 @@
+-- Counting over the lines of a trace (own).
+use Rattle.std.specs.Prelude.{ℕ, ◌+◌, List, [], ◌∷◌, ◌++◌, Bool, true, false, ◌&&◌, ◌==◌, nat_lt, None, if◌then◌else◌, slice_get, count_by, length}
+use Rattle.std.specs.List.{flat_map}
+use Rattle.std.specs.Option.{option_map_or}
+use Rattle.trace_text.specs.declared.head.Head.{Head}
+use Rattle.trace_text.specs.declared.head.NamesHead.{NamesHead}
+use Rattle.trace_text.specs.declared.head.ZoneHead.{ZoneHead}
+use Rattle.trace_text.specs.declared.head.ZoneKind.TheVariants.{Smr}
+use Rattle.trace_text.specs.declared.op.Op.{Op}
+use Rattle.trace_text.specs.declared.op.Op.TheVariants.{Alloc, Free, Bind}
+use Rattle.trace_text.specs.declared.round.Round.{Round}
+use Rattle.trace_text.specs.declared.trace.Trace.{Trace}
+use Rattle.trace_text.specs.Lines.{Line, Does}
+use Rattle.trace_text.specs.Reading.{held}
+
+-- the zone of the entries of a name cache: SMR, of size 64, without limit and reserve
+abbrev pub entry_zone : NamesHead → ZoneHead
+entry_zone n = record { name = n.name; parent = None; size = 64; slabs = n.slabs; bucket = n.bucket; limit = 0; reserve = 0; kind = Smr }
+
+-- the zones that a report speaks of: those of the zone lines in order, the names zone last
+abbrev pub report_zones : Head → List ZoneHead
+report_zones h = h.zones ++ option_map_or (λ n. entry_zone n ∷ []) h.names []
+
+-- what worker `w` does in all rounds, in order
+abbrev pub worker_ops : Trace → ℕ → List Op
+worker_ops t w = flat_map (λ (r : Round). option_map_or (λ ops. ops) (slice_get r.ops w) []) t.rounds
+
+-- a request of the zone at this place
+abbrev pub is_alloc_of : ℕ → Op → Bool
+is_alloc_of z (Alloc zone slot arg reserve) = zone == z
+is_alloc_of z op = false
+
+-- a request of the zone at this place with an argument above 0
+abbrev pub is_alloc_with_arg : ℕ → Op → Bool
+is_alloc_with_arg z (Alloc zone slot arg reserve) = (zone == z) && nat_lt 0 arg
+is_alloc_with_arg z op = false
+
+-- a request of the zone at this place with this argument
+abbrev pub is_alloc_with : ℕ → ℕ → Op → Bool
+is_alloc_with z code (Alloc zone slot arg reserve) = (zone == z) && (arg == code)
+is_alloc_with z code op = false
+
+abbrev pub is_bind : Op → Bool
+is_bind (Bind key value) = true
+is_bind op = false
+
+-- what counts as a request of the zone at this place: its allocs, and for the names zone the binds
+abbrev pub is_request_of : Head → ℕ → Op → Bool
+is_request_of h z op = if nat_lt z (length h.zones) then is_alloc_of z op else is_bind op
+
+-- how many requests of the zone at this place worker `w` makes
+abbrev pub request_count : Trace → ℕ → ℕ → ℕ
+request_count t w z = count_by (is_request_of t.head z) (worker_ops t w)
+
+-- how many of them have an argument above 0
+abbrev pub arg_count : Trace → ℕ → ℕ → ℕ
+arg_count t w z = count_by (is_alloc_with_arg z) (worker_ops t w)
+
+-- the line frees a slot that holds, in the reading of the text, what an alloc of zone `z` put in
+abbrev pub frees_of : ℕ → List Line → Line → Bool
+frees_of z before (Does w (Free slot)) = option_map_or (λ zone. zone == z) (held before w slot) false
+frees_of z before line = false
+
+-- how many of these lines do; they stand with the last one first
+abbrev pub free_count : ℕ → List Line → ℕ
+free_count z [] = 0
+free_count z (line ∷ earlier) = free_count z earlier + (if frees_of z earlier line then 1 else 0)

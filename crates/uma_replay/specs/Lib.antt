@@ -1,0 +1,4 @@
+pub mod Counting
+pub mod Fill
+pub mod Report
+pub mod Serial
