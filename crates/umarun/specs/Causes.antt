@@ -1,0 +1,18 @@
+-- The fault that a refusal of a layer below becomes.
+use Rattle.uma_io.specs.declared.reading.ReadRefused.{ReadRefused}
+use Rattle.uma_io.specs.declared.reading.ReadRefused.TheVariants as reading
+use Rattle.trace_text.specs.declared.refused.ParseRefused.{ParseRefused}
+use Rattle.trace_text.specs.declared.refused.ParseRefused.TheVariants as parsing
+use Rattle.umarun.specs.declared.fault.Fault.{Fault}
+use Rattle.umarun.specs.declared.fault.Fault.TheVariants as faults
+use Rattle.umarun.specs.Replaying.{unbuilt}
+
+-- too long an input is none that is built yet
+abbrev pub read_fault : ReadRefused → Fault
+read_fault reading.Fault = faults.Read
+read_fault (reading.TooLong most) = faults.Trace unbuilt
+read_fault reading.Memory = faults.Memory
+
+abbrev pub parse_fault : ParseRefused → Fault
+parse_fault (parsing.Trace refused) = faults.Trace refused
+parse_fault parsing.Memory = faults.Memory

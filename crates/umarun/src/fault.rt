@@ -1,0 +1,121 @@
+ghost use Rattle.std.specs.Prelude.{◌≡◌};
+
+use crate::finish::Status;
+use std::alloc::AllocError;
+use std::fmt;
+use trace_text::{ParseRefused, TraceKind, TraceRefused};
+use uma_io::ReadRefused;
+
+/// Why a run ended without doing what it was asked.
+#[derive(Clone, Copy, Debug, PartialEq, Eq)]
+pub enum Fault {
+    /// The words are no command.
+    Usage,
+    /// The input is refused at this line, for this reason.
+    Trace { refused: TraceRefused },
+    /// Reading the input failed.
+    Read,
+    /// Writing the output failed.
+    Write,
+    /// Memory was wanting.
+    Memory,
+}
+
+/// The refusal of a text that is none that is built yet.
+pub(crate) const UNBUILT: TraceRefused = TraceRefused {
+    line: 0,
+    kind: TraceKind::Unbuilt,
+};
+
+impl Fault {
+    ghost use Rattle.umarun.specs.Ending.{status_of};
+
+    /// The status that goes with this fault.
+    pub fn status(self) -> Status
+        ensures { result ≡ status_of self }
+    {
+        match self {
+            Fault::Usage => Status::Usage,
+            Fault::Trace { .. } => Status::Refused,
+            Fault::Read => Status::ReadFault,
+            Fault::Write => Status::WriteFault,
+            Fault::Memory => Status::Memory,
+        }
+    }
+}
+
+impl fmt::Display for Fault {
+    fn fmt<W: fmt::Write>(&self, f: &mut fmt::Formatter<W>) -> fmt::Result {
+        match self {
+            Fault::Usage => f.write_str(
+                "usage: umarun replay | steps | gen SEED WORKERS OPS | bulk SEED WORKERS OPS",
+            ),
+            Fault::Trace { refused } => write!(f, "{refused}"),
+            Fault::Read => f.write_str("reading failed"),
+            Fault::Write => f.write_str("writing failed"),
+            Fault::Memory => f.write_str("out of memory"),
+        }
+    }
+}
+
+impl From<ReadRefused> for Fault {
+    ghost use Rattle.std.specs.Prelude.{◌≡◌};
+    ghost use Rattle.umarun.specs.Causes.{read_fault};
+
+    ghost from_gives = { λ refused fault. fault ≡ read_fault refused };
+
+    fn from(refused: ReadRefused) -> Fault {
+        match refused {
+            ReadRefused::Fault => Fault::Read,
+            ReadRefused::TooLong { .. } => Fault::Trace { refused: UNBUILT },
+            ReadRefused::Memory => Fault::Memory,
+        }
+    }
+}
+
+impl From<ParseRefused> for Fault {
+    ghost use Rattle.std.specs.Prelude.{◌≡◌};
+    ghost use Rattle.umarun.specs.Causes.{parse_fault};
+
+    ghost from_gives = { λ refused fault. fault ≡ parse_fault refused };
+
+    fn from(refused: ParseRefused) -> Fault {
+        match refused {
+            ParseRefused::Trace { refused } => Fault::Trace { refused },
+            ParseRefused::Memory => Fault::Memory,
+        }
+    }
+}
+
+impl From<uma_replay::Memory> for Fault {
+    ghost use Rattle.std.specs.Prelude.{◌≡◌};
+    ghost use Rattle.umarun.specs.declared.fault.Fault.TheVariants.{Memory};
+
+    ghost from_gives = { λ _ fault. fault ≡ Memory };
+
+    fn from(_: uma_replay::Memory) -> Fault {
+        Fault::Memory
+    }
+}
+
+impl From<zone_stats::Memory> for Fault {
+    ghost use Rattle.std.specs.Prelude.{◌≡◌};
+    ghost use Rattle.umarun.specs.declared.fault.Fault.TheVariants.{Memory};
+
+    ghost from_gives = { λ _ fault. fault ≡ Memory };
+
+    fn from(_: zone_stats::Memory) -> Fault {
+        Fault::Memory
+    }
+}
+
+impl From<AllocError> for Fault {
+    ghost use Rattle.std.specs.Prelude.{◌≡◌};
+    ghost use Rattle.umarun.specs.declared.fault.Fault.TheVariants.{Memory};
+
+    ghost from_gives = { λ _ fault. fault ≡ Memory };
+
+    fn from(_: AllocError) -> Fault {
+        Fault::Memory
+    }
+}

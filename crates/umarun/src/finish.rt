@@ -1,0 +1,74 @@
+ghost use Rattle.std.specs.Prelude.{◌≡◌};
+
+use crate::fault::Fault;
+use zone_stats::Report;
+
+/// How a run ended, for the program's exit status.
+#[derive(Clone, Copy, Debug, PartialEq, Eq)]
+pub enum Status {
+    /// Exit status 0.
+    Good,
+    /// Exit status 2: the words are no command.
+    Usage,
+    /// Exit status 3: the input is refused.
+    Refused,
+    /// Exit status 4: reading failed.
+    ReadFault,
+    /// Exit status 5: writing failed.
+    WriteFault,
+    /// Exit status 6: memory was wanting.
+    Memory,
+}
+
+impl Status {
+    ghost use Rattle.umarun.specs.Ending.{exit_code};
+
+    /// The status by which the program ends.
+    pub fn exit_code(self) -> u8
+        ensures { result ≡ exit_code self }
+    {
+        match self {
+            Status::Good => 0,
+            Status::Usage => 2,
+            Status::Refused => 3,
+            Status::ReadFault => 4,
+            Status::WriteFault => 5,
+            Status::Memory => 6,
+        }
+    }
+}
+
+/// What a run leaves behind: its status, the fault that goes with it, and the report once the replay is done.
+#[derive(Drop)]
+pub struct Finish {
+    pub status: Status,
+    pub fault: Option<Fault>,
+    pub report: Option<Report>,
+}
+
+impl Finish {
+    ghost use Rattle.std.specs.Prelude.{Some, None};
+    ghost use Rattle.umarun.specs.Ending.{status_of, status_at};
+
+    /// A run that ended before its report was done.
+    pub(crate) fn refused(fault: Fault) -> Finish
+        ensures { result ≡ record { status = status_of fault; fault = Some fault; report = None } }
+    {
+        Finish {
+            status: fault.status(),
+            fault: Some(fault),
+            report: None,
+        }
+    }
+
+    /// A run that made its report.
+    pub(crate) fn reported(report: Report, fault: Option<Fault>) -> Finish
+        ensures { result ≡ record { status = status_at fault; fault = fault; report = Some report } }
+    {
+        Finish {
+            status: fault.map_or(Status::Good, |fault| fault.status()),
+            fault,
+            report: Some(report),
+        }
+    }
+}

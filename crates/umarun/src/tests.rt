@@ -1,0 +1,62 @@
+//! Tests on `run`, over memory.
+
+ghost use Rattle.std.specs.Prelude.{◌≤◌};
+
+mod faults;
+mod rows;
+mod texts;
+mod usage;
+
+use crate::finish::Finish;
+use crate::run::run;
+use std::alloc::Global;
+use std::test::Fail;
+use uma_io::{MemSink, MemSource};
+use uma_replay::FreeGate;
+
+/// The header of most rows.
+const HEADER: &str = "uma 1\nworkers 1\ndomains 1\n";
+
+/// How a source and a sink behave: how many bytes a read gives, and which calls fail, from 1.
+#[derive(Drop)]
+struct Outside {
+    each: usize,
+    failing_reads: Vec<u64>,
+    failing_writes: Vec<u64>,
+    ghost gives: { 1 ≤ each },
+}
+
+impl Outside {
+    /// Nothing fails.
+    fn fine(alloc: Global) -> Outside {
+        Outside {
+            each: 4096,
+            failing_reads: Vec::new(alloc),
+            failing_writes: Vec::new(alloc),
+        }
+    }
+}
+
+/// Runs with these words on this input, and answers the end and what was written.
+fn end_of(
+    alloc: Global,
+    words: &[&str],
+    input: &str,
+    outside: Outside,
+) -> Result<(Finish, String), Fail> {
+    let mut owned = Vec::new(alloc);
+    for word in words {
+        owned.push(String::from_str(alloc, word)?)?;
+    }
+    let bytes = Vec::from_slice(alloc, input.as_bytes())?;
+    let mut source = MemSource::new(bytes, outside.each, outside.failing_reads);
+    let mut sink = MemSink::new(alloc, 4096, outside.failing_writes)?;
+    let finish = run(&(), alloc, &owned, &mut source, &mut sink, &FreeGate);
+    let written = String::from_utf8_lossy(alloc, sink.bytes())?;
+    Ok((finish, written))
+}
+
+/// Replays this input, where nothing of the outside fails.
+fn replayed(alloc: Global, input: &str) -> Result<(Finish, String), Fail> {
+    end_of(alloc, &["replay"], input, Outside::fine(alloc))
+}
