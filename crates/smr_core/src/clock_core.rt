@@ -54,6 +54,7 @@ impl Core {
         self.works.apply(step)
     }
 
+    /// The read hand: odd, below 2^63.
     pub fn read_hand(&self) -> u64
         ensures value { result ≡ read_hand self.now.words }
         ensures law { CoreLaw self.now }
@@ -61,6 +62,7 @@ impl Core {
         self.works.words[READ_PLACE]
     }
 
+    /// The write hand: odd, below 2^63.
     pub fn write_hand(&self) -> u64
         ensures value { result ≡ write_hand self.now.words }
         ensures law { CoreLaw self.now }

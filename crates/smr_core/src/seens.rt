@@ -33,6 +33,7 @@ impl Seens {
         self.items
     }
 
+    /// What each step saw, in order.
     pub fn as_slice(&self) -> &[Seen]
         ensures { result.now ≡ self.now }
     {

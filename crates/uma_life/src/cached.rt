@@ -22,12 +22,14 @@ pub struct Cached<T: Body> {
 impl<T: Body> Cached<T> {
     ghost use Rattle.uma_life.specs.Cached.{cached_body, cached_no, cached_zone, cached_domain};
 
+    /// The item's number in its keg.
     pub fn no(&self) -> u32
         ensures { result ≡ cached_no self.now }
     {
         self.ticket.no()
     }
 
+    /// The zone of the keg that the item is in, 0 to 7; 0 is the primary one.
     pub fn zone(&self) -> u8
         ensures kept { result ≡ cached_zone self.now }
         ensures in_range { result < 8 }
@@ -35,12 +37,14 @@ impl<T: Body> Cached<T> {
         self.ticket.zone()
     }
 
+    /// The memory domain of the item's slab.
     pub fn domain(&self) -> u8
         ensures { result ≡ cached_domain self.now }
     {
         self.ticket.domain()
     }
 
+    /// The item's body, in the phase of this state.
     pub fn body(&self) -> &T
         ensures body { result.now ≡ cached_body self.now }
         ensures number { (T.life result.now).no ≡ cached_no self.now }

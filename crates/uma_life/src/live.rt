@@ -21,12 +21,14 @@ pub struct Live<T: Body> {
 impl<T: Body> Live<T> {
     ghost use Rattle.uma_life.specs.Live.{live_body, live_no, live_zone, live_domain};
 
+    /// The item's number in its keg.
     pub fn no(&self) -> u32
         ensures { result ≡ live_no self.now }
     {
         self.ticket.no()
     }
 
+    /// The zone of the keg that the item is in, 0 to 7; 0 is the primary one.
     pub fn zone(&self) -> u8
         ensures kept { result ≡ live_zone self.now }
         ensures in_range { result < 8 }
@@ -34,12 +36,14 @@ impl<T: Body> Live<T> {
         self.ticket.zone()
     }
 
+    /// The memory domain of the item's slab.
     pub fn domain(&self) -> u8
         ensures { result ≡ live_domain self.now }
     {
         self.ticket.domain()
     }
 
+    /// The item's body, in the phase of this state.
     pub fn body(&self) -> &T
         ensures body { result.now ≡ live_body self.now }
         ensures number { (T.life result.now).no ≡ live_no self.now }

@@ -26,18 +26,21 @@ pub struct Stored<T: Body> {
 impl<T: Body> Stored<T> {
     ghost use Rattle.uma_life.specs.Stored.{stored_body, stored_no, stored_domain};
 
+    /// The item's number in its keg.
     pub fn no(&self) -> u32
         ensures { result ≡ stored_no self.now }
     {
         self.body.no()
     }
 
+    /// The memory domain of the item's slab.
     pub fn domain(&self) -> u8
         ensures { result ≡ stored_domain self.now }
     {
         self.domain
     }
 
+    /// The item's body, in phase Kept.
     pub fn body(&self) -> &T
         ensures body { result.now ≡ stored_body self.now }
         ensures kept { IsAt Kept (T.life result.now) }

@@ -13,6 +13,7 @@ pub struct Ticket {
 impl Ticket {
     ghost use Rattle.uma_life.specs.Ticket.{ticket_deed, ticket_no, ticket_zone, ticket_domain};
 
+    /// A ticket of this deed, for an item whose slab is of this memory domain.
     pub fn of(deed: Deed, domain: u8) -> Ticket
         ensures { (ticket_deed result ≡ deed) × (ticket_domain result ≡ domain) }
     {
@@ -26,12 +27,14 @@ impl Ticket {
         (self.deed, self.domain)
     }
 
+    /// The item's number in its keg, that of the deed.
     pub fn no(&self) -> u32
         ensures { result ≡ ticket_no self.now }
     {
         self.deed.no()
     }
 
+    /// The deed's zone of the keg, 0 to 7; 0 is the primary one.
     pub fn zone(&self) -> u8
         ensures kept { result ≡ ticket_zone self.now }
         ensures in_range { result < 8 }
@@ -39,6 +42,7 @@ impl Ticket {
         self.deed.zone()
     }
 
+    /// The memory domain of the item's slab.
     pub fn domain(&self) -> u8
         ensures { result ≡ ticket_domain self.now }
     {

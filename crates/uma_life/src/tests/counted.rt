@@ -40,6 +40,7 @@ pub struct CountedHooks {
 }
 
 impl CountedHooks {
+    /// Hooks that refuse every `keg_init`, or none.
     pub fn new(refuses_keg_init: bool) -> CountedHooks {
         CountedHooks {
             refuses_keg_init,
@@ -47,6 +48,7 @@ impl CountedHooks {
         }
     }
 
+    /// How many bodies were buried.
     pub fn buried(&self) -> u64 {
         self.buried.load(Ordering::SeqCst)
     }
