@@ -1,0 +1,6 @@
+use Rattle.std.proofs.Common.{rules}
+use Rattle.smr_clock.proofs.Steps.{advance_loads}
+use Rattle.smr_clock.proofs.clock.Clock.load_write_hand.Goals as goal
+
+pub load-requires : goal.load-requires
+load-requires g c = (search rules, search rules, advance_loads _ g.H.Host.includes g.H.Host.frame _ _ _ _ (search rules) (search rules))

@@ -1,0 +1,13 @@
+pub mod Views
+pub mod Steps
+pub mod Clocked
+pub mod HostLaws
+pub mod Belongs
+pub mod Goals
+pub mod Sections
+pub mod Advances
+pub mod Notes
+pub mod Making
+pub mod Polls
+pub mod SafeReuse
+pub mod HostSteps

@@ -1,0 +1,46 @@
+-- How a clock begins.
+use Rattle.std.specs.Prelude.{◌≡◌, ℕ, List, [], ◌∷◌, ◌++◌, replicate, length, Some}
+use mathlib.Core.Option.{some}
+use lib.ListN.{get_elem?}
+use Rattle.atomic_table.specs.Seated.{TableId}
+use Rattle.smr_core.specs.ClockState.{IsInRange}
+use Rattle.smr_clock.specs.declared.setup.Setup.{Setup}
+use Rattle.smr_clock.specs.declared.view.View.{View}
+use Rattle.smr_clock.specs.declared.host.Host.{Ghosts}
+use Rattle.smr_clock.specs.declared.clock.Clock.{Clock}
+use Rattle.smr_clock.specs.declared.pass.Pass.{Pass}
+use Rattle.smr_clock.specs.Belongs.{IsOf, view}
+use Rattle.smr_clock.specs.Views.{first_view}
+use Rattle.smr_clock.specs.Steps.{worker_view}
+use Rattle.smr_clock.specs.HostLaws.{Rule}
+
+abbrev pub setup : ℕ → ℕ → ℕ → ℕ × ℕ → Setup
+setup seats start window plan = record { about = record { start = start; window = window; seats = seats }; plan = plan }
+
+-- both hands at the start, every seat's word 0, and the host's words
+abbrev pub first_words : Setup → List ℕ → List ℕ
+first_words a more = a.about.start ∷ a.about.start ∷ (replicate a.about.seats 0 ++ more)
+
+-- the host's rule holds where the clock begins, with one view
+abbrev pub Opens : {P : Type 0} → Rule P → Setup → P → List ℕ → Type 0
+Opens holds a first more = IsInRange a.about → holds a (first_words a more) (first_view a first ∷ [])
+
+-- the view of the first seat once it has made so many workers
+abbrev pub maker_view : {P : Type 0} → Setup → P → ℕ → View P
+maker_view a first count = record (first_view a first) { made = Some count }
+
+-- the view with which the worker of a seat begins: outside, and it knows where both hands began
+abbrev pub fresh_view : {P : Type 0} → (P → P) → Setup → P → ℕ → View P
+fresh_view copied a first seat = worker_view copied (maker_view a first seat)
+
+module _ {H P : Type 0} {g : Ghosts H P} where
+  -- one pass a seat, in order of number, each of this clock and fresh
+  pub record AreWorkers (clock : Clock H P) (copied : P → P) (first : P) (passes : List (Pass H P g)) : Type 0 where
+    pub one_each : length passes ≡ clock.setup.about.seats
+    pub here : (seat : ℕ) (pass : Pass H P g) → get_elem? passes seat ≡ some pass → IsOf clock pass
+    pub fresh : (seat : ℕ) (pass : Pass H P g) → get_elem? passes seat ≡ some pass → view pass ≡ fresh_view copied clock.setup first seat
+
+  -- the passes are of the table with this identity, and are the fresh workers of the seats from 0 on, in order
+  pub record AreSplitOff (table : TableId) (copied : P → P) (a : Setup) (first : P) (passes : List (Pass H P g)) : Type 0 where
+    pub here : (seat : ℕ) (pass : Pass H P g) → get_elem? passes seat ≡ some pass → pass.seat.table_id ≡ table
+    pub fresh : (seat : ℕ) (pass : Pass H P g) → get_elem? passes seat ≡ some pass → view pass ≡ fresh_view copied a first seat

@@ -1,0 +1,38 @@
+ghost use Rattle.std.specs.Prelude.{◌≡◌, [], true};
+ghost use Rattle.smr_core.specs.declared.phase.Phase.{Phase};
+
+use crate::host::Host;
+use crate::note::Note;
+use crate::view::View;
+use atomic_table::Seat;
+
+/// A seat for the host's own parts. To the clock it is a note.
+#[derive(Drop)]
+pub struct HostSeat<H: Host> {
+    pub(crate) seat: Seat<(), View<H::Part>>,
+    ghost no_slots: { seat.me.1 ≡ [] },
+    ghost is_note: { seat.me.0.holder.phase ≡ Phase.Note },
+}
+
+impl<H: Host> Note<H> {
+    ghost use Rattle.smr_clock.specs.Notes.{note_knows, seat_knows, note_table, seat_table};
+
+    /// The same seat of the table, as a seat of the host's.
+    pub fn into_host(self) -> HostSeat<H>
+        ensures view { seat_knows result ≡ note_knows self }
+        ensures table { seat_table result ≡ note_table self }
+    {
+        let Note { seat } = self;
+        HostSeat { seat }
+    }
+
+    /// The same seat of the table, as a note. Its host part is one that a note may have.
+    pub fn of_host(seat: HostSeat<H>) -> Self
+        requires may { H.may_note (seat_knows seat).host ≡ true }
+        ensures view { note_knows result ≡ seat_knows seat }
+        ensures table { note_table result ≡ seat_table seat }
+    {
+        let HostSeat { seat } = seat;
+        Note { seat }
+    }
+}

@@ -1,0 +1,18 @@
+//! What follows from the law of the running clock. A call here does nothing: its contract is the law.
+
+ghost use Rattle.smr_clock.specs.declared.setup.Setup.{Setup};
+ghost use Rattle.smr_clock.specs.HostLaws.{Includes};
+ghost use Rattle.smr_clock.specs.SafeReuse.{KnownIsOver};
+
+use crate::host::Host;
+
+/// The clock's law is part of every host's rule, so it holds at every moment of every clock.
+pub fn every_rule_has_the_law<H: Host>()
+    ensures { Includes H.holds }
+{}
+
+/// Safe reuse: from a poll's yes on, whose note knows a floor at or above the goal, the goal is expired
+/// at every later moment of that clock, and no open section is before it.
+pub fn no_section_is_before_a_known_goal<H: Host>()
+    ensures { (setup : Setup) → KnownIsOver H.Part setup }
+{}

@@ -1,0 +1,47 @@
+ghost use Rattle.std.specs.Prelude.{◌≡◌, IfOk};
+ghost use Rattle.smr_clock.specs.Belongs.{table_of, setup_of};
+
+use crate::clock::Clock;
+use crate::host::Host;
+use std::alloc::{AllocError, Global};
+use std::sync::Arc;
+
+/// No memory, or too many handles.
+#[derive(Clone, Copy, Debug, PartialEq, Eq)]
+pub struct Memory;
+
+impl From<AllocError> for Memory {
+    ghost from_gives = { λ _ _. Unit {0} };
+
+    fn from(_: AllocError) -> Self {
+        Memory
+    }
+}
+
+/// Handles, and what a clock was made with.
+impl<H: Host> Clock<H> {
+    /// A second handle of the same clock: every pass, note and seat of the one is one of the other.
+    pub fn share(&self, _alloc: Global) -> Result<Self, Memory>
+        ensures table { IfOk result (λ clock. table_of clock ≡ table_of self.now) }
+        ensures setup { IfOk result (λ clock. setup_of clock ≡ setup_of self.now) }
+    {
+        Ok(Clock {
+            table: Arc::try_clone(&self.table)?,
+            setup: self.setup,
+        })
+    }
+
+    /// The count of seats.
+    pub fn seats(&self) -> u32
+        ensures { result ≡ (setup_of self.now).about.seats }
+    {
+        self.setup.about.seats
+    }
+
+    /// The host's two numbers.
+    pub fn plan(&self) -> (u32, u32)
+        ensures { result ≡ (setup_of self.now).plan }
+    {
+        self.setup.plan
+    }
+}
