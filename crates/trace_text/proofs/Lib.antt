@@ -1,5 +1,4 @@
 mod WorkedRows
-pub mod Numbers
 pub mod NarrowFields
 pub mod NarrowLines
 pub mod NarrowOps

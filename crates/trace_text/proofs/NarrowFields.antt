@@ -17,9 +17,9 @@ use Rattle.std.proofs.lemmas.Slice.Eq.{bytes_eq-Decides}
 use Rattle.std.proofs.lemmas.Str.Parse.{not_in_digits}
 use Rattle.zone_stats.specs.Name.{IsName, is_name_character}
 use Rattle.trace_text.specs.Limits.{IsWithin}
-use Rattle.trace_text.specs.Number.{IsNumber}
+use Rattle.text_lines.specs.Number.{IsNumber}
 use Rattle.trace_text.specs.NarrowReading.{◌>>=◌, Gives, after_text, field_at, is_name, name_at, number_of, number_at}
-use Rattle.trace_text.proofs.Numbers.{own}
+use Rattle.text_lines.proofs.Numbers.{own}
 
 -- the value of a step that gave one
 pub bind_some : {A B : Type 0} (o : Option A) (f : A → Option B) (y : B) → (o >>= f) ≡ Some y → (x : A) × (o ≡ Some x) × (f x ≡ Some y)

@@ -16,8 +16,8 @@ use Rattle.trace_text.specs.declared.head.ZoneHead.{ZoneHead}
 use Rattle.trace_text.specs.declared.head.ZoneKind.{ZoneKind}
 use Rattle.trace_text.specs.declared.op.Op.{Op}
 use Rattle.trace_text.specs.declared.op.Op.TheVariants.{Alloc, Free, Enter, Exit, Bind, Unbind, Look, Trim, Drain, DrainSeat, Prealloc}
-use Rattle.trace_text.specs.declared.refused.ParseRefused.{ParseRefused}
-use Rattle.trace_text.specs.declared.refused.ParseRefused.TheVariants as refusals
+use Rattle.text_lines.specs.declared.refused.ParseRefused.{ParseRefused}
+use Rattle.text_lines.specs.declared.refused.ParseRefused.TheVariants as refusals
 use Rattle.trace_text.specs.declared.round.Round.{Round}
 use Rattle.trace_text.specs.declared.trace.Trace.{Trace}
 use Rattle.trace_text.specs.CanonicalText.{line, op_line, canonical_text}

@@ -3,6 +3,5 @@ pub mod Limits
 pub mod Lines
 pub mod Narrow
 pub mod NarrowReading
-pub mod Number
 pub mod Reading
 pub mod Valid

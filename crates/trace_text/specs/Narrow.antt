@@ -5,9 +5,9 @@ use Rattle.trace_text.specs.declared.head.ZoneHead.{ZoneHead}
 use Rattle.trace_text.specs.declared.head.ZoneKind.TheVariants.{Plain}
 use Rattle.trace_text.specs.declared.op.Op.{Op}
 use Rattle.trace_text.specs.declared.op.Op.TheVariants.{Alloc, Free}
-use Rattle.trace_text.specs.declared.refused.ParseRefused.{ParseRefused}
-use Rattle.trace_text.specs.declared.refused.ParseRefused.TheVariants as refusals
-use Rattle.trace_text.specs.declared.refused.TraceKind.TheVariants.{Unbuilt}
+use Rattle.text_lines.specs.declared.refused.ParseRefused.{ParseRefused}
+use Rattle.text_lines.specs.declared.refused.ParseRefused.TheVariants as refusals
+use Rattle.text_lines.specs.declared.refused.TraceKind.TheVariants.{Unbuilt}
 use Rattle.trace_text.specs.declared.round.Round.{Round}
 use Rattle.trace_text.specs.declared.trace.Trace.{Trace}
 use Rattle.trace_text.specs.CanonicalText.{canonical_text}

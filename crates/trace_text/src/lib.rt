@@ -7,17 +7,14 @@
 mod between;
 mod head;
 mod narrow;
-mod number;
 mod op;
-mod refused;
 mod round;
 mod trace;
 
 pub use between::{Between, Betweens};
 pub use head::{ClockHead, Head, NamesHead, ZoneHead, ZoneHeads, ZoneKind};
 pub use narrow::{one_narrow_reading, parse_narrow};
-pub use number::parse_number;
 pub use op::{Op, OpList, OpLists};
-pub use refused::{ParseRefused, TraceKind, TraceRefused};
 pub use round::{Round, Rounds};
+pub use text_lines::{ParseRefused, TraceKind, TraceRefused, parse_number};
 pub use trace::Trace;

@@ -1,8 +1,8 @@
 -- The fault that a refusal of a layer below becomes.
 use Rattle.uma_io.specs.declared.reading.ReadRefused.{ReadRefused}
 use Rattle.uma_io.specs.declared.reading.ReadRefused.TheVariants as reading
-use Rattle.trace_text.specs.declared.refused.ParseRefused.{ParseRefused}
-use Rattle.trace_text.specs.declared.refused.ParseRefused.TheVariants as parsing
+use Rattle.text_lines.specs.declared.refused.ParseRefused.{ParseRefused}
+use Rattle.text_lines.specs.declared.refused.ParseRefused.TheVariants as parsing
 use Rattle.umarun.specs.declared.fault.Fault.{Fault}
 use Rattle.umarun.specs.declared.fault.Fault.TheVariants as faults
 use Rattle.umarun.specs.Replaying.{unbuilt}

@@ -1,8 +1,8 @@
 -- What the command `replay` does with the bytes that it reads (own).
 use Rattle.std.specs.Prelude.{◌<◌, ◌≤◌, ◌⊎◌, ℕ, List, length}
 use Rattle.trace_text.specs.declared.trace.Trace.{Trace}
-use Rattle.trace_text.specs.declared.refused.TraceRefused.{TraceRefused}
-use Rattle.trace_text.specs.declared.refused.TraceKind.TheVariants.{Unbuilt}
+use Rattle.text_lines.specs.declared.refused.TraceRefused.{TraceRefused}
+use Rattle.text_lines.specs.declared.refused.TraceKind.TheVariants.{Unbuilt}
 use Rattle.trace_text.specs.Narrow.{IsNarrowText}
 use Rattle.uma_replay.specs.Fill.{FillsOnlyZone}
 use Rattle.uma_replay.specs.Report.{StandsFor, HasNoDetail}

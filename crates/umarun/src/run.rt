@@ -1,5 +1,5 @@
 ghost use Rattle.std.specs.Prelude.{◌≡◌, ◌≢◌, ◌↔◌, ◌⊎◌, ℕ, map, string_bytes, Some, IsSome, IsNone, IfSome, IfNone, IfOk, OnOk, IsErrOf, IsSomeAnd, IsTrue};
-ghost use Rattle.trace_text.specs.declared.refused.TraceRefused.{TraceRefused as Refused};
+ghost use Rattle.text_lines.specs.declared.refused.TraceRefused.{TraceRefused as Refused};
 ghost use Rattle.uma_io.specs.Faults.{Rose};
 ghost use Rattle.uma_io.specs.Sink.{Adds, AddsPart};
 ghost use Rattle.uma_io.specs.Source.{Exhausts};

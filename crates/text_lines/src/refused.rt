@@ -1,5 +1,6 @@
 ghost use Rattle.std.specs.Prelude.{◌≡◌};
-ghost use Rattle.trace_text.specs.declared.refused.ParseRefused.TheVariants.{Memory};
+ghost use Rattle.text_lines.specs.declared.refused.LineRefused.TheVariants as lines;
+ghost use Rattle.text_lines.specs.declared.refused.ParseRefused.TheVariants.{Memory};
 
 use std::alloc::{AllocError, AllocFailed};
 use std::error::Error;
@@ -8,6 +9,24 @@ use std::fmt;
 /// What is wrong with a line.
 #[derive(Clone, Copy, Debug, PartialEq, Eq)]
 pub enum TraceKind {
+    /// A byte that isn't allowed: neither a tab, nor from space to tilde, nor a line's end.
+    Bytes,
+    /// The first line that isn't skipped doesn't say what the text is.
+    Head,
+    /// A line after `end`.
+    After,
+    /// The first field is no word of the grammar.
+    Word,
+    /// The word may not stand here.
+    Place,
+    /// Too few fields, or too many.
+    Fields,
+    /// Not a number.
+    Number,
+    /// A number outside its range.
+    Range,
+    /// The line after the last one: there is no `end`.
+    NoEnd,
     /// The text is none that is built yet; it stands with line 0.
     Unbuilt,
 }
@@ -19,6 +38,13 @@ pub struct TraceRefused {
     pub kind: TraceKind,
 }
 
+/// Why a line wasn't taken in: what is wrong with it, or want of memory.
+#[derive(Clone, Copy, Debug, PartialEq, Eq)]
+pub enum LineRefused {
+    Kind { kind: TraceKind },
+    Memory,
+}
+
 /// Why a text wasn't read.
 #[derive(Clone, Copy, Debug, PartialEq, Eq)]
 pub enum ParseRefused {
@@ -26,9 +52,34 @@ pub enum ParseRefused {
     Memory,
 }
 
+impl From<TraceKind> for LineRefused {
+    ghost from_gives = { λ kind refused. refused ≡ lines.Kind kind };
+
+    fn from(kind: TraceKind) -> LineRefused {
+        LineRefused::Kind { kind }
+    }
+}
+
+impl<T: Drop> From<AllocFailed<T>> for LineRefused {
+    ghost from_gives = { λ _ refused. refused ≡ lines.Memory };
+
+    fn from(_failed: AllocFailed<T>) -> LineRefused {
+        LineRefused::Memory
+    }
+}
+
 impl fmt::Display for TraceKind {
     fn fmt<W: fmt::Write>(&self, f: &mut fmt::Formatter<W>) -> fmt::Result {
         f.write_str(match self {
+            TraceKind::Bytes => "bad byte",
+            TraceKind::Head => "bad first line",
+            TraceKind::After => "line after end",
+            TraceKind::Word => "unknown word",
+            TraceKind::Place => "out of place",
+            TraceKind::Fields => "wrong fields",
+            TraceKind::Number => "bad number",
+            TraceKind::Range => "out of range",
+            TraceKind::NoEnd => "no end",
             TraceKind::Unbuilt => "not built yet",
         })
     }

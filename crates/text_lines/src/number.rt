@@ -1,5 +1,5 @@
 ghost use Rattle.std.specs.Prelude.{ℕ, IfSome, IfNone};
-ghost use Rattle.trace_text.specs.Number.{IsNumber};
+ghost use Rattle.text_lines.specs.Number.{IsNumber};
 
 use std::str::from_utf8;
 

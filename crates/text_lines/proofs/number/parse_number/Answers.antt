@@ -1,6 +1,6 @@
 use Rattle.std.proofs.Common.{arith, inl, inr}
-use Rattle.trace_text.proofs.Numbers.{number_begins, number_is_utf8, parsed_is_number, number_is_parsed}
-use Rattle.trace_text.proofs.number.parse_number.Goals as goal
+use Rattle.text_lines.proofs.Numbers.{number_begins, number_is_utf8, parsed_is_number, number_is_parsed}
+use Rattle.text_lines.proofs.number.parse_number.Goals as goal
 
 pub returns-in_default-clause-none : goal.returns-in_default-clause-none
 returns-in_default-clause-none c = λ n is. let begins = number_begins c.args.text.now n is in omega (arith, begins.nonempty)

@@ -1,0 +1,16 @@
+//! The lines and fields of a text, what is wrong with the first bad one, and the number rule.
+//!
+//! A grammar of lines is a test of each line by the earlier ones. `read_lines` goes over a text by any of them.
+#![tactic(auto)]
+
+mod grammar;
+mod lines;
+mod number;
+mod reading;
+mod refused;
+
+pub use grammar::Grammar;
+pub use lines::next_field;
+pub use number::parse_number;
+pub use reading::read_lines;
+pub use refused::{LineRefused, ParseRefused, TraceKind, TraceRefused};
