@@ -6,5 +6,6 @@ pub mod CoreLemmas
 pub mod WorksLemmas
 pub mod OpeningLemmas
 pub mod RunLemmas
+pub mod TurnLemmas
 pub mod ActorLemmas
 pub mod RunLaws

@@ -5,6 +5,7 @@ pub mod ClockMoves
 pub mod Remembered
 pub mod CoreState
 pub mod CoreStep
+pub mod Turns
 pub mod YesMeans
 pub mod Works
 pub mod Making

@@ -54,6 +54,14 @@ impl Core {
         self.works.apply(step)
     }
 
+    /// How many seats there are, 1 to 64: the workers are the holders below that number.
+    pub fn seats(&self) -> u32
+        ensures value { result ≡ self.now.about.seats }
+        ensures law { CoreLaw self.now }
+    {
+        self.works.about.seats
+    }
+
     /// The read hand: odd, below 2^63.
     pub fn read_hand(&self) -> u64
         ensures value { result ≡ read_hand self.now.words }

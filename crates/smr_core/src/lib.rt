@@ -18,6 +18,8 @@ mod seens;
 mod step;
 mod step_refused;
 mod task;
+mod turn;
+mod turns;
 mod works;
 
 pub use about::About;
@@ -32,6 +34,7 @@ pub use seens::Seens;
 pub use step::Step;
 pub use step_refused::StepRefused;
 pub use task::Task;
+pub use turn::Turn;
 
 #[cfg(test)]
 mod tests;

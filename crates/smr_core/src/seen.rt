@@ -1,3 +1,6 @@
+ghost use Rattle.std.specs.Prelude.{◌≡◌};
+ghost use Rattle.smr_core.specs.Turns.{is_hand, is_late};
+
 /// What a step saw.
 #[derive(Clone, Copy, Debug, PartialEq, Eq)]
 pub enum Seen {
@@ -22,4 +25,20 @@ pub enum Seen {
     Word { seat: u32, word: u32, least: u64 },
     /// The number of the new holder.
     Holder { number: u32 },
+}
+
+impl Seen {
+    /// Whether the check of an enter found it late.
+    pub fn is_late(&self) -> bool
+        ensures { result ≡ is_late self.now }
+    {
+        matches!(self, Seen::Late { .. })
+    }
+
+    /// Whether a load found a hand, so that its operation goes on.
+    pub fn is_hand(&self) -> bool
+        ensures { result ≡ is_hand self.now }
+    {
+        matches!(self, Seen::Hand { .. })
+    }
 }

@@ -6,6 +6,7 @@ use std::test::Fail;
 mod making;
 mod refusals;
 mod schedules;
+mod turns;
 mod yes;
 
 /// Applies each step and compares what it saw.

@@ -1,0 +1,82 @@
+-- Turns: a step, or a whole operation, which is several steps until it ends (own). How many they are depends on what they see.
+use Rattle.std.specs.Prelude.{◌≡◌, ℕ, ◌+◌, List, [], ◌∷◌, ◌++◌, replicate, slice_get, Bool, true, false, if◌then◌else◌}
+use Rattle.std.specs.Option.{option_map_or}
+use Rattle.smr_core.specs.declared.about.About.{About}
+use Rattle.smr_core.specs.declared.actor.Actor.{Actor}
+use Rattle.smr_core.specs.declared.task.Task.TheVariants as task
+use Rattle.smr_core.specs.declared.step.Step.{Step}
+use Rattle.smr_core.specs.declared.step.Step.TheVariants.{EnterLoad, EnterStore, EnterCheck, Clear, AdvanceRead, AdvanceLoad, AdvanceSwap, PollRead, PollLoad, PollScan, PollSwap}
+use Rattle.smr_core.specs.declared.seen.Seen.{Seen}
+use Rattle.smr_core.specs.declared.seen.Seen.TheVariants as seen
+use Rattle.smr_core.specs.declared.step_refused.StepRefused.{StepRefused}
+use Rattle.smr_core.specs.declared.step_refused.StepRefused.TheVariants.{NoSeat, OutOfTurn, Crowded, Memory}
+use Rattle.smr_core.specs.declared.turn.Turn.{Turn}
+use Rattle.smr_core.specs.declared.turn.Turn.TheVariants.{One, Enter, Advance, Poll}
+use Rattle.smr_core.specs.CoreState.{State, IsActor}
+use Rattle.smr_core.specs.CoreStep.{Refuses, Run}
+
+-- the check of an enter saw that it is late
+abbrev pub is_late : Seen → Bool
+is_late (seen.Late loaded found) = true
+is_late saw = false
+
+-- a load saw a hand, so the operation goes on
+abbrev pub is_hand : Seen → Bool
+is_hand (seen.Hand value) = true
+is_hand saw = false
+
+-- what the step of this place in its operation saw, from 0, passes
+abbrev pub saw_at : ℕ → (Seen → Bool) → List Seen → Bool
+saw_at n passes sees = option_map_or passes (slice_get sees n) false
+
+-- The steps of a turn, where they see this: an enter clears its word where its third step finds it late, an advance exchanges only where its second step saw a hand,
+-- and a poll scans the words of all seats and exchanges only where its second step saw a hand.
+abbrev pub turn_steps : About → Turn → List Seen → List Step
+turn_steps a (One step) sees = step ∷ []
+turn_steps a (Enter n) sees = EnterLoad n ∷ EnterStore n ∷ EnterCheck n ∷ (if saw_at 2 is_late sees then Clear n ∷ [] else [])
+turn_steps a (Advance n) sees = AdvanceRead n ∷ AdvanceLoad n ∷ (if saw_at 1 is_hand sees then AdvanceSwap n ∷ [] else [])
+turn_steps a (Poll n tag) sees =
+    PollRead n tag ∷ PollLoad n ∷ (if saw_at 1 is_hand sees then replicate a.seats (PollScan n) ++ PollSwap n ∷ [] else [])
+
+-- From s the turn saw this, step by step, and led to s'.
+abbrev pub IsTurn : State → Turn → List Seen → State → Type 0
+IsTurn s turn sees s' = Run s (turn_steps s.about turn sees) sees s'
+
+-- the turns one after another, with what the steps of each saw
+abbrev pub TurnRun : State → List Turn → List (List Seen) → State → Type 0
+TurnRun s [] [] s' = s' ≡ s
+TurnRun s (turn ∷ turns) (sees ∷ rest) s' = (mid : State) × IsTurn s turn sees mid × TurnRun mid turns rest s'
+TurnRun s [] (sees ∷ rest) s' = ⊥
+TurnRun s (turn ∷ turns) [] s' = ⊥
+
+-- the step with which a turn begins
+abbrev pub first_step : Turn → Step
+first_step (One step) = step
+first_step (Enter n) = EnterLoad n
+first_step (Advance n) = AdvanceRead n
+first_step (Poll n tag) = PollRead n tag
+
+-- From s the turn is refused so: as its first step is. Want of memory may be that of the list of what its steps see, which is taken before any step.
+abbrev pub RefusesTurn : State → Turn → StepRefused → Type 0
+RefusesTurn s turn Memory = Unit {0}
+RefusesTurn s turn refused = Refuses s (first_step turn) refused
+
+-- at most so many steps
+abbrev pub most_steps : About → Turn → ℕ
+most_steps a (One step) = 1
+most_steps a (Enter n) = 4
+most_steps a (Advance n) = 3
+most_steps a (Poll n tag) = a.seats + 3
+
+-- ---- how the steps of an operation follow one another; no public clause cites these
+
+-- from s the step isn't refused
+abbrev pub IsSure : State → Step → Type 0
+IsSure s step = (refused : StepRefused) → Refuses s step refused → ⊥
+
+-- the holder n is in a poll that has loaded the words of k seats
+pub record Scans (s : State) (n k : ℕ) : Type 0 where
+  pub actor : Actor
+  pub there : IsActor s n actor
+  pub scanning : actor.holder.task ≡ task.Scanning
+  pub scanned : actor.holder.scanned ≡ k

@@ -1,0 +1,32 @@
+ghost use Rattle.std.specs.Prelude.{◌≡◌};
+ghost use Rattle.smr_core.specs.Turns.{first_step};
+
+use crate::step::Step;
+
+/// What a schedule does at once: a step, or a whole operation, which goes on until it ends.
+/// `seat` is the number of the holder that takes the steps.
+#[derive(Clone, Copy, Debug, PartialEq, Eq)]
+pub enum Turn {
+    One { step: Step },
+    /// Load, store and check, and the clear too where the check is late.
+    Enter { seat: u32 },
+    /// The loads of both hands, and the exchange where there is room for two more.
+    Advance { seat: u32 },
+    /// The loads of both hands, and where the tag isn't known to be expired then, each seat's word
+    /// and the exchange.
+    Poll { seat: u32, tag: u32 },
+}
+
+impl Turn {
+    /// The step with which it begins.
+    pub fn first_step(self) -> Step
+        ensures { result ≡ first_step self }
+    {
+        match self {
+            Turn::One { step } => step,
+            Turn::Enter { seat } => Step::EnterLoad { seat },
+            Turn::Advance { seat } => Step::AdvanceRead { seat },
+            Turn::Poll { seat, tag } => Step::PollRead { seat, tag },
+        }
+    }
+}

@@ -1,0 +1,142 @@
+ghost use Rattle.std.specs.Prelude.{◌≡◌, ◌+◌, ◌≤◌, [], IfOk, IfErr, OnErr, vec_len, vec_capacity};
+ghost use Rattle.smr_core.specs.CoreState.{CoreLaw};
+ghost use Rattle.smr_core.specs.CoreStep.{IsStep};
+ghost use Rattle.smr_core.specs.Turns.{IsSure, IsTurn, RefusesTurn, most_steps};
+ghost use Rattle.smr_core.specs.declared.step_refused.StepRefused.{StepRefused};
+ghost use Rattle.smr_core.specs.declared.turn.Turn.{Turn};
+
+use crate::clock_core::Core;
+use crate::seen::Seen;
+use crate::seens::Seens;
+use crate::step::Step;
+use crate::step_refused::StepRefused;
+use crate::turn::Turn;
+use std::alloc::Global;
+
+/// The turns of a core. The room for what the steps see is taken before the first step, and a turn
+/// whose first step is taken is done whole.
+impl Core {
+    /// Takes the steps of a turn, or refuses its first one. What each step saw stands in order.
+    pub fn turn(&mut self, alloc: Global, turn: Turn) -> Result<Seens, StepRefused>
+        ensures taken { IfOk result (λ sees. IsTurn self.old turn sees self.new) }
+        ensures refused { IfErr result (λ refused. RefusesTurn self.old turn refused) }
+        ensures unchanged { OnErr result (self.new ≡ self.old) }
+        ensures law { CoreLaw self.new }
+    {
+        match turn {
+            Turn::One { step } => self.one(alloc, step),
+            Turn::Enter { seat } => self.enter(alloc, seat),
+            Turn::Advance { seat } => self.advance(alloc, seat),
+            Turn::Poll { seat, tag } => self.poll(alloc, seat, tag),
+        }
+    }
+
+    /// The room for what the steps of a turn see, however it ends.
+    fn room(&self, alloc: Global, turn: Turn) -> Result<Vec<Seen>, StepRefused>
+        ensures empty { IfOk result (λ sees. sees.items ≡ []) }
+        ensures len { IfOk result (λ sees. vec_len sees ≡ 0) }
+        ensures room { IfOk result (λ sees. most_steps self.now.about turn ≤ vec_capacity sees) }
+        ensures refused { IfErr result (λ refused. refused ≡ StepRefused.Memory) }
+        ensures law { CoreLaw self.now }
+    {
+        let words = self.seats() as usize;
+        let steps = match turn {
+            Turn::One { .. } => 1,
+            Turn::Enter { .. } => 4,
+            Turn::Advance { .. } => 3,
+            Turn::Poll { .. } => words + 3,
+        };
+        match Vec::with_capacity(alloc, steps) {
+            Ok(sees) => Ok(sees),
+            Err(_) => Err(StepRefused::Memory),
+        }
+    }
+
+    /// Takes a step that isn't refused.
+    fn take(&mut self, alloc: Global, step: Step) -> Seen
+        requires { IsSure self.old step }
+        ensures stepped { IsStep self.old step result self.new }
+        ensures law { CoreLaw self.new }
+    {
+        match self.apply(alloc, step) {
+            Ok(seen) => seen,
+            Err(_) => unreachable!(),
+        }
+    }
+
+    fn one(&mut self, alloc: Global, step: Step) -> Result<Seens, StepRefused>
+        ensures taken { IfOk result (λ sees. IsTurn self.old (Turn.One step) sees self.new) }
+        ensures refused { IfErr result (λ refused. RefusesTurn self.old (Turn.One step) refused) }
+        ensures unchanged { OnErr result (self.new ≡ self.old) }
+        ensures law { CoreLaw self.new }
+    {
+        let mut sees = self.room(alloc, Turn::One { step })?;
+        let seen = self.apply(alloc, step)?;
+        sees.push_reserved(seen);
+        Ok(Seens::from_vec(sees))
+    }
+
+    fn enter(&mut self, alloc: Global, seat: u32) -> Result<Seens, StepRefused>
+        ensures taken { IfOk result (λ sees. IsTurn self.old (Turn.Enter seat) sees self.new) }
+        ensures refused { IfErr result (λ refused. RefusesTurn self.old (Turn.Enter seat) refused) }
+        ensures unchanged { OnErr result (self.new ≡ self.old) }
+        ensures law { CoreLaw self.new }
+    {
+        let mut sees = self.room(alloc, Turn::Enter { seat })?;
+        let loaded = self.apply(alloc, Step::EnterLoad { seat })?;
+        sees.push_reserved(loaded);
+        let stored = self.take(alloc, Step::EnterStore { seat });
+        sees.push_reserved(stored);
+        let checked = self.take(alloc, Step::EnterCheck { seat });
+        sees.push_reserved(checked);
+        if !checked.is_late() {
+            return Ok(Seens::from_vec(sees));
+        }
+        let cleared = self.take(alloc, Step::Clear { seat });
+        sees.push_reserved(cleared);
+        Ok(Seens::from_vec(sees))
+    }
+
+    fn advance(&mut self, alloc: Global, seat: u32) -> Result<Seens, StepRefused>
+        ensures taken { IfOk result (λ sees. IsTurn self.old (Turn.Advance seat) sees self.new) }
+        ensures refused { IfErr result (λ refused. RefusesTurn self.old (Turn.Advance seat) refused) }
+        ensures unchanged { OnErr result (self.new ≡ self.old) }
+        ensures law { CoreLaw self.new }
+    {
+        let mut sees = self.room(alloc, Turn::Advance { seat })?;
+        let read = self.apply(alloc, Step::AdvanceRead { seat })?;
+        sees.push_reserved(read);
+        let written = self.take(alloc, Step::AdvanceLoad { seat });
+        sees.push_reserved(written);
+        if !written.is_hand() {
+            return Ok(Seens::from_vec(sees));
+        }
+        let swapped = self.take(alloc, Step::AdvanceSwap { seat });
+        sees.push_reserved(swapped);
+        Ok(Seens::from_vec(sees))
+    }
+
+    fn poll(&mut self, alloc: Global, seat: u32, tag: u32) -> Result<Seens, StepRefused>
+        ensures taken { IfOk result (λ sees. IsTurn self.old (Turn.Poll seat tag) sees self.new) }
+        ensures refused { IfErr result (λ refused. RefusesTurn self.old (Turn.Poll seat tag) refused) }
+        ensures unchanged { OnErr result (self.new ≡ self.old) }
+        ensures law { CoreLaw self.new }
+    {
+        let seats = self.seats();
+        let mut sees = self.room(alloc, Turn::Poll { seat, tag })?;
+        let read = self.apply(alloc, Step::PollRead { seat, tag })?;
+        sees.push_reserved(read);
+        let loaded = self.take(alloc, Step::PollLoad { seat });
+        sees.push_reserved(loaded);
+        if !loaded.is_hand() {
+            return Ok(Seens::from_vec(sees));
+        }
+        for _ in 0..seats {
+            let word = self.take(alloc, Step::PollScan { seat });
+            sees.push_reserved(word);
+        }
+        let swapped = self.take(alloc, Step::PollSwap { seat });
+        sees.push_reserved(swapped);
+        Ok(Seens::from_vec(sees))
+    }
+}
