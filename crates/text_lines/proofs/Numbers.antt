@@ -1,15 +1,17 @@
 -- The number rule: what `parse` of std reads, but for a plus and leading zeros.
-use Rattle.std.proofs.Common.{◌≡◌, ◌≢◌, ℕ, ◌^◌, ◌<◌, ◌≤◌, List, [], ◌∷◌, length, get_or, Result, Ok, Err, refl, sym, ap, subst, ◌∙◌, inl, inr, arith}
-use Rattle.std.specs.Prelude.{IfSome, IfNone}
+use Rattle.std.proofs.Common.{◌≡◌, ◌≢◌, ℕ, ◌^◌, ◌<◌, ◌≤◌, List, [], ◌∷◌, length, get_or, Option, Some, None, cond, ltb, Bool, true, false, Result, Ok, Err, refl, sym, ap, subst, ◌∙◌, inl, inr, arith}
+use Rattle.std.specs.Prelude.{◌&&◌, IfSome, IfNone}
 use Rattle.std.specs.Fmt.{decimal}
 use Rattle.std.specs.Result.{result_ok}
-use Rattle.std.specs.Str.{IsUtf8}
+use Rattle.std.specs.Str.{IsUtf8, bytes_eq}
 use Rattle.std.specs.Str.Parse.{AllDigits, digits_value, ParsesUnsigned}
-use Rattle.std.proofs.lemmas.Bool.{cases_lt}
-use Rattle.std.proofs.lemmas.Fmt.{decimal_digit, decimal_nonempty, first_decimal, parse-decimal, decimal-digits_value, IsAscii-decimal}
+use Rattle.std.proofs.lemmas.Bool.{cases_lt, ltb-true, lt-ltb, and_parts}
+use Rattle.std.proofs.lemmas.Option.{cond_some}
+use Rattle.std.proofs.lemmas.Slice.Eq.{bytes_eq-Decides}
+use Rattle.std.proofs.lemmas.Fmt.{decimal_is_IsNumeral, decimal_digit, decimal_nonempty, first_decimal, parse-decimal, decimal-digits_value, IsAscii-decimal}
 use Rattle.std.proofs.lemmas.Str.{IsUtf8-from_ascii}
 use Rattle.std.proofs.lemmas.Str.Parse.{IsNumeralModel, numerals_by_value, tells_digits, parse_plain}
-use Rattle.text_lines.specs.Number.{IsNumber}
+use Rattle.text_lines.specs.Number.{IsNumber, number_of}
 
 pub own : IsNumeralModel (AllDigits 10) (digits_value 10)
 own = numerals_by_value (AllDigits 10) tells_digits
@@ -55,3 +57,30 @@ pub number_is_parsed : {E : Type 0} (text parsed : List ℕ) (r : Result ℕ E) 
 number_is_parsed text parsed (Ok n) same read = tt
 number_is_parsed {E} text parsed (Err e) same read = λ n is.
     let again : ◌≡◌ {A = Result ℕ E} (Err e) (Ok n) = parse-decimal 64 n parsed (Err e) is.fits is.fits (same ∙ is.digits) read in cc
+
+-- ---- the number as a function of its text
+
+IsNumber-from_number_of : (text : List ℕ) (n : ℕ) → number_of text ≡ Some n → IsNumber text n
+unfolding number_of
+IsNumber-from_number_of text n e =
+    let value : ℕ = digits_value 10 text in
+    let g = cond_some (ltb value (2 ^ 64) && bytes_eq text (decimal value)) value n e in
+    let both = and_parts (ltb value (2 ^ 64)) (bytes_eq text (decimal value)) g.0 in
+    let P : ℕ → Type 0 = λ k. IsNumber text k in
+    subst P g.1 (record { digits = (bytes_eq-Decides text (decimal value)).0 both.1; fits = ltb-true value (2 ^ 64) both.0 })
+
+number_of_again : (text : List ℕ) (n : ℕ) → IsNumber text n → number_of text ≡ Some n
+unfolding number_of
+number_of_again text n is =
+    let value : digits_value 10 text ≡ n = ap (λ (t : List ℕ). digits_value 10 t) is.digits ∙ (decimal_is_IsNumeral n is.fits).1 in
+    let same : bytes_eq text (decimal n) ≡ true = (bytes_eq-Decides text (decimal n)).1 is.digits in
+    rw (value, lt-ltb n (2 ^ 64) is.fits, same) refl
+
+not_some : (o : Option ℕ) → ((x : ℕ) → o ≡ Some x → ⊥) → o ≡ None
+not_some (Some x) h = absurd (h x refl)
+not_some None h = refl
+
+-- what reads every number, and nothing else, reads as `number_of` does
+pub number_of_is : (text : List ℕ) (r : Option ℕ) → IfSome r (IsNumber text) → IfNone r ((n : ℕ) → IsNumber text n → ⊥) → number_of text ≡ r
+number_of_is text (Some n) is none = number_of_again text n is
+number_of_is text None some none = not_some (number_of text) (λ n e. none n (IsNumber-from_number_of text n e))

@@ -1,3 +1,4 @@
+pub mod Fields
 pub mod Number
 pub mod Taking
 pub mod TextLines

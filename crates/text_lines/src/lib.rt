@@ -3,12 +3,14 @@
 //! A grammar of lines is a test of each line by the earlier ones. `read_lines` goes over a text by any of them.
 #![tactic(auto)]
 
+mod fields;
 mod grammar;
 mod lines;
 mod number;
 mod reading;
 mod refused;
 
+pub use fields::{is_head, no_field, number_in, number_within, one_field, ranged, three_fields, two_fields};
 pub use grammar::Grammar;
 pub use lines::next_field;
 pub use number::parse_number;

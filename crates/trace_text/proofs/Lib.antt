@@ -4,3 +4,4 @@ pub mod NarrowLines
 pub mod NarrowOps
 pub mod NarrowSlots
 pub mod NarrowTrace
+pub mod ScheduleFollowing

@@ -4,4 +4,6 @@ pub mod Lines
 pub mod Narrow
 pub mod NarrowReading
 pub mod Reading
+pub mod ScheduleGrammar
+pub mod ScheduleShown
 pub mod Valid

@@ -9,6 +9,8 @@ mod head;
 mod narrow;
 mod op;
 mod round;
+mod schedule;
+mod schedule_reading;
 mod trace;
 
 pub use between::{Between, Betweens};
@@ -16,5 +18,8 @@ pub use head::{ClockHead, Head, NamesHead, ZoneHead, ZoneHeads, ZoneKind};
 pub use narrow::{one_narrow_reading, parse_narrow};
 pub use op::{Op, OpList, OpLists};
 pub use round::{Round, Rounds};
+pub use schedule::{Schedule, TurnLine, TurnLines};
+pub use schedule_reading::parse_schedule;
+pub use smr_core::Turn;
 pub use text_lines::{ParseRefused, TraceKind, TraceRefused, parse_number};
 pub use trace::Trace;
