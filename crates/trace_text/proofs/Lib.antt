@@ -5,3 +5,4 @@ pub mod NarrowLines
 pub mod NarrowOps
 pub mod NarrowSlots
 pub mod NarrowTrace
+pub mod ScheduleLemmas

@@ -5,4 +5,5 @@ pub mod Narrow
 pub mod NarrowReading
 pub mod Number
 pub mod Reading
+pub mod ScheduleText
 pub mod Valid

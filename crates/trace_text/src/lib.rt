@@ -1,7 +1,10 @@
-//! Traces of a zone allocator as text and as values.
+//! Traces of a zone allocator and schedules of its clock, as text and as values.
 //!
 //! A trace is a header and rounds of operations for each worker. `Trace` is the value, and the specs give
 //! its canonical text, what makes it valid, and which slots its lines fill and empty.
+//!
+//! A schedule is the numbers of a reclamation clock and lines that take its steps. `schedule_text` is what
+//! it prints.
 #![tactic(auto)]
 
 mod between;
@@ -11,6 +14,9 @@ mod number;
 mod op;
 mod refused;
 mod round;
+mod schedule;
+mod schedule_output;
+mod schedule_refused;
 mod trace;
 
 pub use between::{Between, Betweens};
@@ -20,4 +26,8 @@ pub use number::parse_number;
 pub use op::{Op, OpList, OpLists};
 pub use refused::{ParseRefused, TraceKind, TraceRefused};
 pub use round::{Round, Rounds};
+pub use schedule::{Schedule, TurnLine, TurnLines};
+pub use schedule_output::schedule_text;
+pub use schedule_refused::ScheduleRefused;
+pub use smr_core::Turn;
 pub use trace::Trace;
