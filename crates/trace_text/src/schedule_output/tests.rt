@@ -1,3 +1,6 @@
+ghost use Rattle.std.specs.Prelude.{◌≡◌, IfOk};
+ghost use Rattle.trace_text.specs.ScheduleText.{about_of};
+
 use super::*;
 use crate::{Turn, TurnLines};
 use smr_core::{Phase, Step, StepRefused, Task};
@@ -10,7 +13,9 @@ fn schedule(
     start: u64,
     window: u64,
     turns: &[Turn],
-) -> Result<Schedule, AllocError> {
+) -> Result<Schedule, AllocError>
+    ensures { IfOk result (λ schedule. about_of schedule ≡ record { start = start; window = window; seats = seats }) }
+{
     let mut lines = Vec::new(alloc);
     let mut line = 3;
     for turn in turns {
