@@ -7,5 +7,6 @@ pub mod WorksLemmas
 pub mod OpeningLemmas
 pub mod RunLemmas
 pub mod TurnLemmas
+pub mod TurnLaws
 pub mod ActorLemmas
 pub mod RunLaws

@@ -27,7 +27,7 @@ use Rattle.smr_core.proofs.RunLemmas.{run-push}
 -- ---- what isn't refused
 
 -- a step of one actor, which is there and whose phase and task suit it
-sure_by : (s : State) (step : Step) (x : Actor) → IsActor s (taker step) x → Needs s.about step x.holder
+pub sure_by : (s : State) (step : Step) (x : Actor) → IsActor s (taker step) x → Needs s.about step x.holder
     → ((m : ℕ) → IsMissing s step m → (m ≡ taker step) × (length s.actors ≤ m))
     → ((at : ℕ) (h : Holder) → IsOutOfTurn s step at h → (at ≡ taker step) × (Needs s.about step h → ⊥))
     → (MayMakeNote s step → ⊥)

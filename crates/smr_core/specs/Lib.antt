@@ -6,6 +6,7 @@ pub mod Remembered
 pub mod CoreState
 pub mod CoreStep
 pub mod Turns
+pub mod TurnLaws
 pub mod YesMeans
 pub mod Works
 pub mod Making

@@ -2,6 +2,7 @@
 //! the law. The definitions are those that the contract of `Core::apply` cites.
 
 ghost use Rattle.smr_core.specs.ClockMoves.{BeginsLawful, OtherWordKeeps, WriteLookKeeps, ReadLookKeeps, EnterLoadKeeps, EnterStoreKeeps, EnterCheckKeeps, ClearKeeps, AdvanceReadKeeps, AdvanceLoadKeeps, AdvanceSwapKeeps, PollReadKeeps, PollLoadKeeps, PollEndKeeps, PollScanKeeps, PollSwapKeeps, NoteKeeps, WorkerKeeps, JoinKeeps};
+ghost use Rattle.smr_core.specs.TurnLaws.{TurnIsDetermined, TakenIsNotRefused};
 ghost use Rattle.smr_core.specs.YesMeans.{YesIsKnown, YesMeansExpired, YesIsExpired, GoalIsExpired, PollKeepsItsTag, HandsNeverFall, WindowIsKept, MarksAreKept, EntryIsTheThirdStep};
 
 /// The clock's law holds where a clock begins, and each kind of step keeps it from every state in
@@ -53,4 +54,11 @@ pub fn hands_and_marks_over_runs()
     ensures window { WindowIsKept }
     ensures marks { MarksAreKept }
     ensures entry { EntryIsTheThirdStep }
+{}
+
+/// From a state a turn sees one thing and leads to one state, and where it may be taken it is refused
+/// for want of memory at most.
+pub fn turns_are_determined()
+    ensures determined { TurnIsDetermined }
+    ensures not_refused { TakenIsNotRefused }
 {}

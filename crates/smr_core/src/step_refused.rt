@@ -1,5 +1,7 @@
 use crate::phase::Phase;
 use crate::task::Task;
+use std::error::Error;
+use std::fmt;
 
 /// Why a step was not taken.
 #[derive(Clone, Copy, Debug, PartialEq, Eq)]
@@ -12,3 +14,16 @@ pub enum StepRefused {
     Crowded { holders: u32 },
     Memory,
 }
+
+impl fmt::Display for StepRefused {
+    fn fmt<W: fmt::Write>(&self, f: &mut fmt::Formatter<W>) -> fmt::Result {
+        f.write_str(match self {
+            StepRefused::NoSeat { .. } => "no such seat",
+            StepRefused::OutOfTurn { .. } => "out of turn",
+            StepRefused::Crowded { .. } => "too many holders",
+            StepRefused::Memory => "out of memory",
+        })
+    }
+}
+
+impl Error for StepRefused {}

@@ -5,3 +5,4 @@ pub mod NarrowOps
 pub mod NarrowSlots
 pub mod NarrowTrace
 pub mod ScheduleFollowing
+pub mod ScheduleLemmas

@@ -16,7 +16,7 @@ use Rattle.trace_text.specs.declared.schedule_reading.word.PairWord.TheVariants 
 use Rattle.trace_text.specs.declared.schedule_reading.word.SeatWord.TheVariants as seats
 use Rattle.trace_text.specs.declared.schedule_reading.word.Word.{Word}
 use Rattle.trace_text.specs.declared.schedule_reading.word.Word.TheVariants as words
-use Rattle.trace_text.specs.ScheduleGrammar.{word_named, word_or_wrong, fits_place, placed, clock_in, seat_in, two_numbers_in, said_by, says, schedule_test, clock_of, turns_of, clock_after, seat_turn, pair_turn}
+use Rattle.trace_text.specs.ScheduleGrammar.{word_named, word_or_wrong, fits_place, placed, clock_in, seat_in, two_numbers_in, said_by, says, schedule_test, clock_of, turn_lines, clock_after, seat_turn, pair_turn}
 use Rattle.trace_text.specs.ScheduleShown.{Shows, Hears, is_last, is_begun}
 
 -- ---- the line `end` says that it is the last, and no other does

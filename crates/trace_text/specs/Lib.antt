@@ -6,4 +6,5 @@ pub mod NarrowReading
 pub mod Reading
 pub mod ScheduleGrammar
 pub mod ScheduleShown
+pub mod ScheduleText
 pub mod Valid

@@ -160,9 +160,9 @@ turns_in number (Ok (said.Does turn)) = record { line = number; turn = turn } �
 turns_in number line = []
 
 -- the lines among these that take steps, in order
-abbrev pub turns_of : List TextLine → List TurnLine
-turns_of [] = []
-turns_of (line ∷ before) = turns_of before ++ turns_in line.number (says (is_some (clock_of before)) line.fields)
+abbrev pub turn_lines : List TextLine → List TurnLine
+turn_lines [] = []
+turn_lines (line ∷ before) = turn_lines before ++ turns_in line.number (says (is_some (clock_of before)) line.fields)
 
 abbrev pub head_wrong : Bool → Option TraceKind
 head_wrong is = if is then None else Some kinds.Head
@@ -179,7 +179,7 @@ pub record IsScheduleText (bytes : List ℕ) (schedule : Schedule) : Type 0 wher
   pub spoke : List TextLine
   pub right : IsRightText schedule_test bytes spoke
   pub clock : clock_of spoke ≡ Some (record { start = schedule.start; window = schedule.window; seats = schedule.seats })
-  pub lines : schedule.lines ≡ turns_of spoke
+  pub lines : schedule.lines ≡ turn_lines spoke
 
 -- a schedule is valid where it has a text
 abbrev pub IsValidSchedule : Schedule → Type 0

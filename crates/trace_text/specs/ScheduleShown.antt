@@ -6,7 +6,7 @@ use Rattle.trace_text.specs.declared.schedule.Schedule.{Schedule}
 use Rattle.trace_text.specs.declared.schedule_reading.reader.ScheduleReader.{ScheduleReader}
 use Rattle.trace_text.specs.declared.schedule_reading.said.Said.{Said}
 use Rattle.trace_text.specs.declared.schedule_reading.said.Said.TheVariants as said
-use Rattle.trace_text.specs.ScheduleGrammar.{clock_of, turns_of, clock_after, turns_in}
+use Rattle.trace_text.specs.ScheduleGrammar.{clock_of, turn_lines, clock_after, turns_in}
 
 abbrev pub is_begun : List TextLine → Bool
 is_begun [] = false
@@ -16,7 +16,7 @@ is_begun (last ∷ before) = true
 pub record Shows (reader : ScheduleReader) (lines : List TextLine) : Type 0 where
   pub begun : reader.begun ≡ is_begun lines
   pub clock : reader.clock ≡ clock_of lines
-  pub turns : reader.turns.items ≡ turns_of lines
+  pub turns : reader.turns.items ≡ turn_lines lines
   pub ended : reader.ended ≡ is_ended lines
   pub clocked : reader.ended ≡ true → IsSome reader.clock
 

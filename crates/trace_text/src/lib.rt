@@ -1,7 +1,10 @@
-//! Traces of a zone allocator as text and as values.
+//! Traces of a zone allocator and schedules of its clock, as text and as values.
 //!
 //! A trace is a header and rounds of operations for each worker. `Trace` is the value, and the specs give
 //! its canonical text, what makes it valid, and which slots its lines fill and empty.
+//!
+//! A schedule is the numbers of a reclamation clock and lines that take its steps. `schedule_text` is what
+//! it prints.
 #![tactic(auto)]
 
 mod between;
@@ -10,7 +13,9 @@ mod narrow;
 mod op;
 mod round;
 mod schedule;
+mod schedule_output;
 mod schedule_reading;
+mod schedule_refused;
 mod trace;
 
 pub use between::{Between, Betweens};
@@ -19,7 +24,9 @@ pub use narrow::{one_narrow_reading, parse_narrow};
 pub use op::{Op, OpList, OpLists};
 pub use round::{Round, Rounds};
 pub use schedule::{Schedule, TurnLine, TurnLines};
+pub use schedule_output::schedule_text;
 pub use schedule_reading::parse_schedule;
+pub use schedule_refused::ScheduleRefused;
 pub use smr_core::Turn;
 pub use text_lines::{ParseRefused, TraceKind, TraceRefused, parse_number};
 pub use trace::Trace;

@@ -1,0 +1,21 @@
+-- The lines so far print the text, and the next one prints more or is refused.
+use Rattle.std.proofs.lemmas.Result.{err_from_is_err_and}
+use Rattle.smr_core.specs.CoreState.{opening}
+use Rattle.trace_text.specs.ScheduleText.{about_of}
+use Rattle.trace_text.proofs.ScheduleLemmas.{prints-more, refuses-schedule}
+use Rattle.trace_text.proofs.schedule_output.schedule_text.Goals as goal
+
+pub returns-in_err-print_line-clause-refused : goal.returns-in_err-print_line-clause-refused
+returns-in_err-print_line-clause-refused c =
+    let p = err_from_is_err_and c.from_residual-in_err-print_line.result c.from_residual-in_err-print_line.ensures.1 in
+    let below = rw c.as_slice-line-items.ensures at c.loop-line-test.true in
+    let refused = rw c.as_slice-line-items.ensures at c.in_err-print_line.ensures.refused in
+    rw (p.1, p.2)
+    (refuses-schedule c.args.schedule.now c.loop-line.line-index _ c.loop-line.core c.loop-line.text.items _ below c.loop-line.invariant refused)
+
+pub loop-line-preserved : goal.loop-line-preserved
+loop-line-preserved c =
+    let below = rw c.as_slice-line-items.ensures at c.loop-line-test.true in
+    let printed = rw c.as_slice-line-items.ensures at c.in_ok-print_line.ensures.printed in
+    prints-more (opening (about_of c.args.schedule.now)) c.loop-line.core c.print_line.new.core c.args.schedule.now.lines c.loop-line.line-index _
+    c.loop-line.text.items c.print_line.new.text.items below c.loop-line.invariant printed
