@@ -2,3 +2,4 @@ pub mod Counting
 pub mod Cutting
 pub mod Following
 pub mod Numbers
+pub mod OneVerdict

@@ -5,6 +5,7 @@
 
 mod fields;
 mod grammar;
+mod laws;
 mod lines;
 mod number;
 mod reading;
@@ -12,6 +13,7 @@ mod refused;
 
 pub use fields::{is_head, no_field, number_in, number_within, one_field, ranged, three_fields, two_fields};
 pub use grammar::Grammar;
+pub use laws::one_verdict;
 pub use lines::next_field;
 pub use number::parse_number;
 pub use reading::read_lines;

@@ -6,3 +6,4 @@ pub mod NarrowSlots
 pub mod NarrowTrace
 pub mod ScheduleFollowing
 pub mod ScheduleLemmas
+pub mod ScheduleRange

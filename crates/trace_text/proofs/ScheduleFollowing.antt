@@ -52,7 +52,7 @@ word_is_end first word is =
     is
 
 -- the value of a step that gave one
-bound : {A B : Type 0} (r : Result A TraceKind) (f : A → Result B TraceKind) (y : B) → (r >>= f) ≡ Ok y → (x : A) × (r ≡ Ok x) × (f x ≡ Ok y)
+pub bound : {A B : Type 0} (r : Result A TraceKind) (f : A → Result B TraceKind) (y : B) → (r >>= f) ≡ Ok y → (x : A) × (r ≡ Ok x) × (f x ≡ Ok y)
 bound (Ok x) f y e = (x, refl, e)
 bound (Err kind) f y e = absurd cc
 
@@ -91,7 +91,7 @@ said_last words.End (field ∷ rest) x e = absurd cc
 
 -- ---- a line taken in
 
-says_parts : (clocked : Bool) (first : List ℕ) (rest : List (List ℕ)) (x : Said) → says clocked (first ∷ rest) ≡ Ok x
+pub says_parts : (clocked : Bool) (first : List ℕ) (rest : List (List ℕ)) (x : Said) → says clocked (first ∷ rest) ≡ Ok x
     → (word : Word) × (word_named first ≡ Some word) × (fits_place clocked word ≡ true) × (said_by word rest ≡ Ok x)
 says_parts clocked first rest x e =
     let a = bound (word_or_wrong (word_named first)) (λ word. placed (fits_place clocked word) >>= λ fits. said_by word rest) x e in

@@ -25,7 +25,7 @@ pub use op::{Op, OpList, OpLists};
 pub use round::{Round, Rounds};
 pub use schedule::{Schedule, TurnLine, TurnLines};
 pub use schedule_output::schedule_text;
-pub use schedule_reading::parse_schedule;
+pub use schedule_reading::{one_schedule_reading, parse_schedule};
 pub use schedule_refused::ScheduleRefused;
 pub use smr_core::Turn;
 pub use text_lines::{ParseRefused, TraceKind, TraceRefused, parse_number};

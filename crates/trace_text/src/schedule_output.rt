@@ -4,6 +4,7 @@ ghost use Rattle.std.specs.List.{flat_map};
 ghost use Rattle.smr_core.specs.ClockState.{IsInRange};
 ghost use Rattle.smr_core.specs.CoreState.{opening};
 ghost use Rattle.trace_text.specs.CanonicalText.{line};
+ghost use Rattle.trace_text.specs.ScheduleGrammar.{IsValidSchedule};
 ghost use Rattle.trace_text.specs.ScheduleText.{seen_line, about_of, IsOutput, PrintsLine, RefusesSchedule, RefusesTurnLine, hands_line};
 
 use crate::{Schedule, ScheduleRefused, TurnLine};
@@ -13,7 +14,7 @@ use std::alloc::{AllocError, Global};
 /// What a schedule prints: the line of each step that its lines take, in order, and then the hands.
 /// Where a step is refused nothing is printed, and the first line that is refused is named.
 pub fn schedule_text(alloc: Global, schedule: &Schedule) -> Result<Vec<u8>, ScheduleRefused>
-    requires valid { IsInRange (about_of schedule.now) }
+    requires valid { IsValidSchedule schedule.now }
     ensures ok { IfOk result (λ text. IsOutput schedule.now text.items) }
     ensures refused { IfErr result (RefusesSchedule schedule.now) }
 {

@@ -1,11 +1,11 @@
 //! The reading of schedules.
-ghost use Rattle.std.specs.Prelude.{◌≡◌, ◌∷◌, [], IfOk, IsErrOf, IsSome};
+ghost use Rattle.std.specs.Prelude.{◌≡◌, ℕ, List, IfOk, IsErrOf};
 ghost use Rattle.text_lines.specs.TextLines.{IsRefusedAt};
 ghost use Rattle.text_lines.specs.declared.refused.TraceRefused.{TraceRefused as Refused};
+ghost use Rattle.trace_text.specs.declared.schedule.Schedule.{Schedule as ScheduleValue};
 ghost use Rattle.trace_text.specs.ScheduleGrammar.{schedule_test, IsScheduleText};
 
 use crate::{ParseRefused, Schedule};
-use listed::Listed;
 use reader::ScheduleReader;
 use std::alloc::Global;
 use text_lines::read_lines;
@@ -24,3 +24,9 @@ pub fn parse_schedule(alloc: Global, bytes: &[u8]) -> Result<Schedule, ParseRefu
     read_lines(&mut reader, bytes)?;
     Ok(reader.schedule())
 }
+
+/// Bytes are the text of one schedule at most.
+pub fn one_schedule_reading()
+    ensures { (bytes : List ℕ) (schedule other : ScheduleValue)
+        → IsScheduleText bytes schedule → IsScheduleText bytes other → schedule ≡ other }
+{}

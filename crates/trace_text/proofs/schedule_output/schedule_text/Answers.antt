@@ -3,6 +3,7 @@ use Rattle.std.proofs.lemmas.Result.{err_from_is_err_and}
 use Rattle.smr_core.specs.CoreState.{opening}
 use Rattle.trace_text.specs.ScheduleText.{about_of}
 use Rattle.trace_text.proofs.ScheduleLemmas.{prints-more, refuses-schedule}
+use Rattle.trace_text.proofs.ScheduleRange.{valid_in_range}
 use Rattle.trace_text.proofs.schedule_output.schedule_text.Goals as goal
 
 pub returns-in_err-print_line-clause-refused : goal.returns-in_err-print_line-clause-refused
@@ -19,3 +20,6 @@ loop-line-preserved c =
     let printed = rw c.as_slice-line-items.ensures at c.in_ok-print_line.ensures.printed in
     prints-more (opening (about_of c.args.schedule.now)) c.loop-line.core c.print_line.new.core c.args.schedule.now.lines c.loop-line.line-index _
     c.loop-line.text.items c.print_line.new.text.items below c.loop-line.invariant printed
+
+pub open-requires : goal.open-requires
+open-requires c = valid_in_range c.args.schedule.now c.requires.valid
