@@ -6,3 +6,4 @@ pub mod NarrowOps
 pub mod NarrowSlots
 pub mod NarrowTrace
 pub mod ScheduleLemmas
+pub mod ScheduleLaws

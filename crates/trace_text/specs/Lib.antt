@@ -6,4 +6,5 @@ pub mod NarrowReading
 pub mod Number
 pub mod Reading
 pub mod ScheduleText
+pub mod ScheduleLaws
 pub mod Valid
