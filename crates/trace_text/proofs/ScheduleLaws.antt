@@ -30,10 +30,12 @@ module _ (determined : TurnIsDetermined) where
 
   pub output-is-one : OutputIsOne
   output-is-one schedule a b p q =
-      let e = turn_run-one (opening (about_of schedule)) (turns_of schedule.lines) p.prints.sees q.prints.sees p.last q.last
+      let e = turn_run-one (opening (about_of schedule))
+      (turns_of schedule.lines) p.prints.sees q.prints.sees p.last q.last
       p.prints.run q.prints.run in
       p.text ∙ ap (λ (l : List ℕ). l ++ hands_line p.last) p.prints.text
-      ∙ ap (λ (sees : List (List Seen)). flat_map (λ (saw : List Seen). flat_map seen_line saw) sees ++ hands_line p.last) e.0
+      ∙ ap (λ (sees : List (List Seen)). flat_map (λ (saw : List Seen). flat_map seen_line saw) sees
+      ++ hands_line p.last) e.0
       ∙ ap (λ (s : State). flat_map (λ (saw : List Seen). flat_map seen_line saw) q.prints.sees ++ hands_line s) e.1
       ∙ ap (λ (l : List ℕ). l ++ hands_line q.last) (sym q.prints.text) ∙ sym q.text
 
@@ -47,7 +49,8 @@ module _ (determined : TurnIsDetermined) where
     taken s (x ∷ lines) zero l refused (saw ∷ xs) (y ∷ ys) last mid p there q r = absurd q
     taken s (x ∷ lines) zero l refused (saw ∷ xs) [] last mid p there q r =
         let same : x ≡ l = ap (λ (o : Option TurnLine). option_map_or (λ (z : TurnLine). z) o x) there in
-        let here : Refuses s (first_step l.turn) refused = subst (λ (z : State). Refuses z (first_step l.turn) refused) q r.step in
+        let here : Refuses s (first_step l.turn) refused =
+        subst (λ (z : State). Refuses z (first_step l.turn) refused) q r.step in
         not_refused s p.0 x.turn saw refused p.1 r.not_memory
         (subst (λ (z : TurnLine). Refuses s (first_step z.turn) refused) (sym same) here)
     taken s (x ∷ lines) (suc n) l refused [] ys last mid p there q r = absurd p
@@ -64,7 +67,8 @@ module _ (determined : TurnIsDetermined) where
 
 -- all lines print the text before the hands
 pub whole-output : (schedule : Schedule) (n : ℕ) (last : State) (printed text : List ℕ) → length schedule.lines ≤ n
-    → Prints (opening (about_of schedule)) (take n schedule.lines) printed last → text ≡ printed ++ hands_line last → IsOutput schedule text
+    → Prints (opening (about_of schedule)) (take n schedule.lines) printed last → text ≡ printed ++ hands_line last
+    → IsOutput schedule text
 whole-output schedule n last printed text all p e =
     record {
       last = last;

@@ -5,4 +5,5 @@ pub returns-clause-one : goal.returns-clause-one
 returns-clause-one c = output-is-one c.turns_are_determined.ensures.determined
 
 pub returns-clause-nothing : goal.returns-clause-nothing
-returns-clause-nothing c = refused-prints-nothing c.turns_are_determined.ensures.determined c.turns_are_determined.ensures.not_refused
+returns-clause-nothing c =
+    refused-prints-nothing c.turns_are_determined.ensures.determined c.turns_are_determined.ensures.not_refused
