@@ -7,3 +7,4 @@ pub mod NarrowTrace
 pub mod ScheduleFollowing
 pub mod ScheduleLemmas
 pub mod ScheduleRange
+pub mod ScheduleLaws

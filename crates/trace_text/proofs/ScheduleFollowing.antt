@@ -102,16 +102,17 @@ says_last : (clocked : Bool) (fields : List (List ℕ)) (x : Said) → says cloc
 says_last clocked [] x e = absurd cc
 says_last clocked (first ∷ rest) x e =
     let p = says_parts clocked first rest x e in
-    let last = said_last p.0 rest x p.3 in
-    (is_end_by first rest ∙ ap (λ b. ends_line b rest) (sym (word_is_end first p.0 p.1)) ∙ sym last,
-    λ yes'. clocked_by p.0 rest clocked (sym last ∙ yes') p.2) where
-  clocked_by : (word : Word) (rest : List (List ℕ)) (clocked : Bool) → ends_line (is_end_word word) rest ≡ true → fits_place clocked word ≡ true → clocked ≡ true
-  clocked_by words.Smr rest clocked l f = absurd cc
-  clocked_by words.Clock [] clocked l f = absurd cc
-  clocked_by words.Clock (field ∷ rest) clocked l f = absurd cc
-  clocked_by (words.Seat word) rest clocked l f = f
-  clocked_by (words.Pair word) rest clocked l f = f
-  clocked_by words.End rest clocked l f = f
+    let last = said_last p.0 rest x p.3 in (
+      is_end_by first rest ∙ ap (λ b. ends_line b rest) (sym (word_is_end first p.0 p.1)) ∙ sym last,
+      λ yes'. clocked_by p.0 rest clocked (sym last ∙ yes') p.2,
+    ) where
+      clocked_by : (word : Word) (rest : List (List ℕ)) (clocked : Bool) → ends_line (is_end_word word) rest ≡ true → fits_place clocked word ≡ true → clocked ≡ true
+      clocked_by words.Smr rest clocked l f = absurd cc
+      clocked_by words.Clock [] clocked l f = absurd cc
+      clocked_by words.Clock (field ∷ rest) clocked l f = absurd cc
+      clocked_by (words.Seat word) rest clocked l f = f
+      clocked_by (words.Pair word) rest clocked l f = f
+      clocked_by words.End rest clocked l f = f
 
 clock_kept : (x : Said) (clock : Option About) → is_last x ≡ true → clock_after (Ok x) clock ≡ clock
 clock_kept (said.Clock about) clock e = absurd cc
@@ -129,14 +130,16 @@ heard old new number fields x begun ended is hears (last ∷ before) shown =
     let says_it : says (is_some (clock_of (last ∷ before))) fields ≡ Ok x = ap (λ c. says (is_some c) fields) (sym shown.clock) ∙ is in
     let still : is_ended (last ∷ before) ≡ false = sym shown.ended ∙ ended in
     let ends = says_last (is_some old.clock) fields x is in
-    let now_ended : new.ended ≡ is_last x = hears.ended ∙ ap (λ b. b || is_last x) ended in
-    (rw (still, says_it) refl, record {
-      begun = hears.begun ∙ begun;
-      clock = hears.clock ∙ rw (says_it, shown.clock) refl;
-      turns = hears.turns ∙ rw (says_it, shown.turns) refl;
-      ended = now_ended ∙ sym ends.0;
-      clocked = λ last'. ap is_some (hears.clock ∙ clock_kept x old.clock (sym now_ended ∙ last')) ∙ ends.1 (sym now_ended ∙ last');
-    })
+    let now_ended : new.ended ≡ is_last x = hears.ended ∙ ap (λ b. b || is_last x) ended in (
+      rw (still, says_it) refl,
+      record {
+        begun = hears.begun ∙ begun;
+        clock = hears.clock ∙ rw (says_it, shown.clock) refl;
+        turns = hears.turns ∙ rw (says_it, shown.turns) refl;
+        ended = now_ended ∙ sym ends.0;
+        clocked = λ last'. ap is_some (hears.clock ∙ clock_kept x old.clock (sym now_ended ∙ last')) ∙ ends.1 (sym now_ended ∙ last');
+      },
+    )
 
 pub takes : (old new : ScheduleReader) (number : ℕ) (fields : List (List ℕ)) (x : Said) (r : Result (Unit {0}) LineRefused)
     → old.begun ≡ true → old.ended ≡ false → says (is_some old.clock) fields ≡ Ok x → OnOk r (Hears number x old new) → IfErr r (λ refused. refused ≡ refusals.Memory)

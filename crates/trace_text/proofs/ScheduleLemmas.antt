@@ -29,7 +29,8 @@ turn_run-push s mid s' (first ∷ turns) [] turn saw p q = absurd p
 text_of : List (List Seen) → List ℕ
 text_of sees = flat_map (λ (saw : List Seen). flat_map seen_line saw) sees
 
-text_of-push : (sees : List (List Seen)) (saw : List Seen) → text_of (sees ++ saw ∷ []) ≡ text_of sees ++ flat_map seen_line saw
+text_of-push : (sees : List (List Seen)) (saw : List Seen)
+    → text_of (sees ++ saw ∷ []) ≡ text_of sees ++ flat_map seen_line saw
 unfolding text_of
 text_of-push [] saw = append-nil (flat_map seen_line saw)
 text_of-push (first ∷ sees) saw =
@@ -46,19 +47,23 @@ prints-push s mid s' lines l before bytes p q =
     record {
       sees = p.sees ++ q.saw ∷ [];
       run =
-          subst (λ (turns : List Turn). TurnRun s turns (p.sees ++ q.saw ∷ []) s') (sym (map-append (λ (x : TurnLine). x.turn) lines (l ∷ [])))
+          subst (λ (turns : List Turn). TurnRun s turns (p.sees ++ q.saw ∷ []) s')
+          (sym (map-append (λ (x : TurnLine). x.turn) lines (l ∷ [])))
           (turn_run-push s mid s' (turns_of lines) p.sees l.turn q.saw p.run q.turn);
       text = q.text ∙ ap (λ (t : List ℕ). t ++ flat_map seen_line q.saw) p.text ∙ sym (text_of-push p.sees q.saw);
     }
 
 -- the first n lines, and then the next
-pub prints-more : (s mid s' : State) (lines : List TurnLine) (n : ℕ) (d : TurnLine) (before bytes : List ℕ) → n < length lines
-    → Prints s (take n lines) before mid → PrintsLine mid (get_or lines n d) before bytes s' → Prints s (take (n + 1) lines) bytes s'
+pub prints-more : (s mid s' : State) (lines : List TurnLine) (n : ℕ) (d : TurnLine) (before bytes : List ℕ)
+    → n < length lines
+    → Prints s (take n lines) before mid → PrintsLine mid (get_or lines n d) before bytes s'
+    → Prints s (take (n + 1) lines) bytes s'
 prints-more s mid s' lines n d before bytes below p q =
     subst (λ (l : List TurnLine). Prints s l bytes s') (sym (take_more lines n d below))
     (prints-push s mid s' (take n lines) (get_or lines n d) before bytes p q)
 
-pub prints-all : (s s' : State) (lines : List TurnLine) (n : ℕ) (bytes : List ℕ) → length lines ≤ n → Prints s (take n lines) bytes s' → Prints s lines bytes s'
+pub prints-all : (s s' : State) (lines : List TurnLine) (n : ℕ) (bytes : List ℕ) → length lines ≤ n
+    → Prints s (take n lines) bytes s' → Prints s lines bytes s'
 prints-all s s' lines n bytes h p = subst (λ (l : List TurnLine). Prints s l bytes s') (take_all n lines h) p
 
 slice_get-below : (l : List TurnLine) (n : ℕ) (d : TurnLine) → n < length l → slice_get l n ≡ Some (get_or l n d)
@@ -67,7 +72,8 @@ slice_get-below (x ∷ xs) zero d h = refl
 slice_get-below (x ∷ xs) (suc n) d h = slice_get-below xs n d (omega arith)
 
 pub refused-here : (schedule : Schedule) (n : ℕ) (d : TurnLine) (mid : State) (printed : List ℕ) (refused : StepRefused) → n < length schedule.lines
-    → Prints (opening (about_of schedule)) (take n schedule.lines) printed mid → RefusesLine mid (get_or schedule.lines n d) refused
+    → Prints (opening (about_of schedule)) (take n schedule.lines) printed mid
+    → RefusesLine mid (get_or schedule.lines n d) refused
     → RefusedAt schedule n (get_or schedule.lines n d) refused
 refused-here schedule n d mid printed refused below p q =
     record {
@@ -79,14 +85,16 @@ refused-here schedule n d mid printed refused below p q =
     }
 
 -- want of memory of the core is want of memory, and every other refusal is that of the line's first step
-pub refuses_line : (s : State) (l : TurnLine) (refused : StepRefused) → RefusesTurn s l.turn refused → RefusesTurnLine s l (refused_at l.line refused)
+pub refuses_line : (s : State) (l : TurnLine) (refused : StepRefused) → RefusesTurn s l.turn refused
+    → RefusesTurnLine s l (refused_at l.line refused)
 refuses_line s l refusals.Memory r = tt
 refuses_line s l (refusals.NoSeat missing count) r = (refl, record { step = r; not_memory = λ e. cc })
 refuses_line s l (refusals.OutOfTurn at in_phase in_task) r = (refl, record { step = r; not_memory = λ e. cc })
 refuses_line s l (refusals.Crowded count) r = (refl, record { step = r; not_memory = λ e. cc })
 
 -- words joined by one space, as one word and the others each after a space
-pub joined : (word : List ℕ) (numbers : List ℕ) → join_with_byte 32 (word ∷ map decimal numbers) ≡ word ++ flat_map (λ (n : ℕ). 32 ∷ decimal n) numbers
+pub joined : (word : List ℕ) (numbers : List ℕ)
+    → join_with_byte 32 (word ∷ map decimal numbers) ≡ word ++ flat_map (λ (n : ℕ). 32 ∷ decimal n) numbers
 joined word [] = sym (append-nil word)
 joined word (n ∷ numbers) = ap (λ (l : List ℕ). word ++ 32 ∷ l) (joined (decimal n) numbers)
 
@@ -100,7 +108,8 @@ line_appended old word numbers =
 
 -- a line that is refused after the lines before it
 pub refuses-schedule : (schedule : Schedule) (n : ℕ) (d : TurnLine) (mid : State) (printed : List ℕ) (refused : ScheduleRefused) → n < length schedule.lines
-    → Prints (opening (about_of schedule)) (take n schedule.lines) printed mid → RefusesTurnLine mid (get_or schedule.lines n d) refused
+    → Prints (opening (about_of schedule)) (take n schedule.lines) printed mid
+    → RefusesTurnLine mid (get_or schedule.lines n d) refused
     → RefusesSchedule schedule refused
 refuses-schedule schedule n d mid printed (schedule_refused.Step at refused) below p q =
     (n, (get_or schedule.lines n d, q.0, refused-here schedule n d mid printed refused below p q.1))

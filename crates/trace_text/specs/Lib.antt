@@ -7,4 +7,5 @@ pub mod Reading
 pub mod ScheduleGrammar
 pub mod ScheduleShown
 pub mod ScheduleText
+pub mod ScheduleLaws
 pub mod Valid

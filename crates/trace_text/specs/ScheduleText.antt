@@ -37,7 +37,8 @@ seen_line (TooFar read write) = line (codes "toofar" ∷ decimal read ∷ decima
 seen_line (Goal goal moved) = line (codes "goal" ∷ decimal goal ∷ moved_word moved ∷ [])
 seen_line (Yes read) = line (codes "yes" ∷ decimal read ∷ [])
 seen_line (No read) = line (codes "no" ∷ decimal read ∷ [])
-seen_line (Word seat word least) = line (codes "word" ∷ decimal seat ∷ decimal word ∷ codes "least" ∷ decimal least ∷ [])
+seen_line (Word seat word least) =
+    line (codes "word" ∷ decimal seat ∷ decimal word ∷ codes "least" ∷ decimal least ∷ [])
 seen_line (Holder number) = line (codes "holder" ∷ decimal number ∷ [])
 
 -- the line of `end`: the read hand and the write hand

@@ -5,6 +5,7 @@ ghost use Rattle.smr_core.specs.ClockState.{IsInRange};
 ghost use Rattle.smr_core.specs.CoreState.{opening};
 ghost use Rattle.trace_text.specs.CanonicalText.{line};
 ghost use Rattle.trace_text.specs.ScheduleGrammar.{IsValidSchedule};
+ghost use Rattle.trace_text.specs.ScheduleLaws.{NoneIsRefused};
 ghost use Rattle.trace_text.specs.ScheduleText.{seen_line, about_of, IsOutput, PrintsLine, RefusesSchedule, RefusesTurnLine, hands_line};
 
 use crate::{Schedule, ScheduleRefused, TurnLine};
@@ -17,6 +18,7 @@ pub fn schedule_text(alloc: Global, schedule: &Schedule) -> Result<Vec<u8>, Sche
     requires valid { IsValidSchedule schedule.now }
     ensures ok { IfOk result (λ text. IsOutput schedule.now text.items) }
     ensures refused { IfErr result (RefusesSchedule schedule.now) }
+    ensures none_refused { OnOk result (NoneIsRefused schedule.now) }
 {
     let mut core = open(alloc, schedule)?;
     let mut text = Vec::new(alloc);

@@ -6,7 +6,9 @@ ghost use Rattle.trace_text.specs.ScheduleGrammar.{said_by, says, number_of_32_b
 use crate::schedule_reading::word::Word;
 use crate::{TraceKind, Turn};
 use smr_core::{About, Step};
-use text_lines::{next_field, no_field, number_in, number_within, one_field, ranged, three_fields, two_fields};
+use text_lines::{
+    next_field, no_field, number_in, number_within, one_field, ranged, three_fields, two_fields,
+};
 
 /// The most seats of a clock.
 const MOST_SEATS: u64 = 64;
@@ -58,11 +60,15 @@ impl Said {
             }
             Word::Seat(word) => {
                 let seat = seat_in(rest)?;
-                Ok(Said::Does { turn: word.turn(seat) })
+                Ok(Said::Does {
+                    turn: word.turn(seat),
+                })
             }
             Word::Pair(word) => {
                 let (seat, second) = two_numbers_in(rest)?;
-                Ok(Said::Does { turn: word.turn(seat, second) })
+                Ok(Said::Does {
+                    turn: word.turn(seat, second),
+                })
             }
         }
     }
