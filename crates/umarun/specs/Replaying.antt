@@ -25,6 +25,10 @@ pub record Replays (report : Report) (bytes : List ℕ) : Type 0 where
 abbrev pub AreInput : List ℕ → Type 0
 AreInput bytes = (length bytes ≤ most_bytes) × ((t : Trace) × IsNarrowText bytes t)
 
+-- the bytes are no narrow text, though not too many
+abbrev pub AreUnbuilt : List ℕ → Type 0
+AreUnbuilt bytes = (length bytes ≤ most_bytes) × ((t : Trace) → IsNarrowText bytes t → ⊥)
+
 -- the bytes are too many, or no narrow text
 abbrev pub AreRefused : List ℕ → Type 0
 AreRefused bytes = (most_bytes < length bytes) ⊎ ((t : Trace) → IsNarrowText bytes t → ⊥)

@@ -1,9 +1,10 @@
 ghost use Rattle.std.specs.Prelude.{◌≡◌};
 
 use crate::finish::Status;
+use smr_core::StepRefused;
 use std::alloc::AllocError;
 use std::fmt;
-use trace_text::{ParseRefused, TraceKind, TraceRefused};
+use trace_text::{ParseRefused, ScheduleRefused, TraceRefused};
 use uma_io::ReadRefused;
 
 /// Why a run ended without doing what it was asked.
@@ -11,8 +12,12 @@ use uma_io::ReadRefused;
 pub enum Fault {
     /// The words are no command.
     Usage,
+    /// More than `most` bytes came.
+    TooLong { most: u64 },
     /// The input is refused at this line, for this reason.
     Trace { refused: TraceRefused },
+    /// The step of this line of a schedule is refused.
+    Step { line: u64, refused: StepRefused },
     /// Reading the input failed.
     Read,
     /// Writing the output failed.
@@ -20,12 +25,6 @@ pub enum Fault {
     /// Memory was wanting.
     Memory,
 }
-
-/// The refusal of a text that is none that is built yet.
-pub(crate) const UNBUILT: TraceRefused = TraceRefused {
-    line: 0,
-    kind: TraceKind::Unbuilt,
-};
 
 impl Fault {
     ghost use Rattle.umarun.specs.Ending.{status_of};
@@ -36,7 +35,7 @@ impl Fault {
     {
         match self {
             Fault::Usage => Status::Usage,
-            Fault::Trace { .. } => Status::Refused,
+            Fault::TooLong { .. } | Fault::Trace { .. } | Fault::Step { .. } => Status::Refused,
             Fault::Read => Status::ReadFault,
             Fault::Write => Status::WriteFault,
             Fault::Memory => Status::Memory,
@@ -50,7 +49,9 @@ impl fmt::Display for Fault {
             Fault::Usage => f.write_str(
                 "usage: umarun replay | steps | gen SEED WORKERS OPS | bulk SEED WORKERS OPS",
             ),
+            Fault::TooLong { most } => write!(f, "input longer than {most} bytes"),
             Fault::Trace { refused } => write!(f, "{refused}"),
+            Fault::Step { line, refused } => write!(f, "line {line}: {refused}"),
             Fault::Read => f.write_str("reading failed"),
             Fault::Write => f.write_str("writing failed"),
             Fault::Memory => f.write_str("out of memory"),
@@ -67,7 +68,7 @@ impl From<ReadRefused> for Fault {
     fn from(refused: ReadRefused) -> Fault {
         match refused {
             ReadRefused::Fault => Fault::Read,
-            ReadRefused::TooLong { .. } => Fault::Trace { refused: UNBUILT },
+            ReadRefused::TooLong { most } => Fault::TooLong { most },
             ReadRefused::Memory => Fault::Memory,
         }
     }
@@ -83,6 +84,20 @@ impl From<ParseRefused> for Fault {
         match refused {
             ParseRefused::Trace { refused } => Fault::Trace { refused },
             ParseRefused::Memory => Fault::Memory,
+        }
+    }
+}
+
+impl From<ScheduleRefused> for Fault {
+    ghost use Rattle.std.specs.Prelude.{◌≡◌};
+    ghost use Rattle.umarun.specs.Causes.{schedule_fault};
+
+    ghost from_gives = { λ refused fault. fault ≡ schedule_fault refused };
+
+    fn from(refused: ScheduleRefused) -> Fault {
+        match refused {
+            ScheduleRefused::Step { line, refused } => Fault::Step { line, refused },
+            ScheduleRefused::Memory => Fault::Memory,
         }
     }
 }

@@ -61,6 +61,17 @@ impl Finish {
         }
     }
 
+    /// A run that did what it was asked, and makes no report.
+    pub(crate) fn good() -> Finish
+        ensures { result ≡ record { status = status_at None; fault = None; report = None } }
+    {
+        Finish {
+            status: Status::Good,
+            fault: None,
+            report: None,
+        }
+    }
+
     /// A run that made its report.
     pub(crate) fn reported(report: Report, fault: Option<Fault>) -> Finish
         ensures { result ≡ record { status = status_at fault; fault = fault; report = Some report } }

@@ -1,9 +1,13 @@
-//! Replays a trace of allocations and frees, and prints a table in the manner of `vmstat -z`.
+//! Replays a trace of allocations and frees, and prints a table in the manner of `vmstat -z`; or plays a schedule of the
+//! reclamation clock, and prints what each step sees.
 #![tactic(auto)]
 
+mod command;
 mod fault;
 mod finish;
+mod replaying;
 mod run;
+mod stepping;
 
 use fault::Fault;
 use finish::Finish;

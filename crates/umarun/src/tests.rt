@@ -2,8 +2,10 @@
 
 ghost use Rattle.std.specs.Prelude.{◌≤◌};
 
+mod bad_schedules;
 mod faults;
 mod rows;
+mod schedules;
 mod texts;
 mod usage;
 
@@ -44,11 +46,21 @@ fn end_of(
     input: &str,
     outside: Outside,
 ) -> Result<(Finish, String), Fail> {
+    let bytes = Vec::from_slice(alloc, input.as_bytes())?;
+    end_of_bytes(alloc, words, bytes, outside)
+}
+
+/// The same on these bytes.
+fn end_of_bytes(
+    alloc: Global,
+    words: &[&str],
+    bytes: Vec<u8>,
+    outside: Outside,
+) -> Result<(Finish, String), Fail> {
     let mut owned = Vec::new(alloc);
     for word in words {
         owned.push(String::from_str(alloc, word)?)?;
     }
-    let bytes = Vec::from_slice(alloc, input.as_bytes())?;
     let mut source = MemSource::new(bytes, outside.each, outside.failing_reads);
     let mut sink = MemSink::new(alloc, 4096, outside.failing_writes)?;
     let finish = run(&(), alloc, &owned, &mut source, &mut sink, &FreeGate);

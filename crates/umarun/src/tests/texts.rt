@@ -1,7 +1,14 @@
 use super::*;
-use crate::fault::{Fault, UNBUILT};
+use crate::fault::Fault;
 use crate::finish::Status;
 use std::process::Abort;
+use trace_text::{TraceKind, TraceRefused};
+
+/// The one refusal of a trace so far.
+const UNBUILT: TraceRefused = TraceRefused {
+    line: 0,
+    kind: TraceKind::Unbuilt,
+};
 
 /// What `~` stands for at the front of a text below.
 const BOX: &str = "uma 1\nworkers 1\ndomains 1\nzone box 256 4 4 0 0 plain\n";

@@ -1,14 +1,16 @@
 use super::*;
 use crate::fault::Fault;
 use crate::finish::Status;
+use smr_core::StepRefused;
+use trace_text::{TraceKind, TraceRefused};
 
 #[test]
 fn words_that_are_no_command_are_usage(rt: HostRuntime) -> Result<(), Fail> {
     let rows: [&[&str]; 8] = [
         &[],
         &["replay", "x"],
-        &["steps"],
         &["steps", "1"],
+        &["steps", "steps"],
         &["gen", "7", "0", "5"],
         &["--help"],
         &["-replay"],
@@ -25,14 +27,27 @@ fn words_that_are_no_command_are_usage(rt: HostRuntime) -> Result<(), Fail> {
 
 #[test]
 fn each_fault_has_its_text_and_its_status(rt: HostRuntime) -> Result<(), Fail> {
-    let refused = crate::fault::UNBUILT;
+    let refused = TraceRefused {
+        line: 0,
+        kind: TraceKind::Unbuilt,
+    };
+    let step = Fault::Step {
+        line: 7,
+        refused: StepRefused::NoSeat { seat: 2, seats: 2 },
+    };
     let rows = [
         (
             Fault::Usage,
             2,
             "usage: umarun replay | steps | gen SEED WORKERS OPS | bulk SEED WORKERS OPS",
         ),
+        (
+            Fault::TooLong { most: 16_777_216 },
+            3,
+            "input longer than 16777216 bytes",
+        ),
         (Fault::Trace { refused }, 3, "line 0: not built yet"),
+        (step, 3, "line 7: no such seat"),
         (Fault::Read, 4, "reading failed"),
         (Fault::Write, 5, "writing failed"),
         (Fault::Memory, 6, "out of memory"),

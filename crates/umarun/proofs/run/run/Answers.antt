@@ -1,15 +1,38 @@
--- The text of which a front was written is that of the report.
-use Rattle.std.proofs.Common.{List, ℕ, sym, ◌∙◌, subst}
-use Rattle.std.specs.Prelude.{IsSomeAnd}
-use Rattle.uma_io.specs.Sink.{AddsPart}
+-- The text that was written is that of the report.
+use Rattle.std.proofs.Common.{◌≡◌, List, ℕ, Option, Some, None, Err, sym, ap, ◌∙◌, subst, inr}
+use Rattle.std.specs.Prelude.{IfSome, IfNone, IsSomeAnd, IsNone}
+use Rattle.uma_io.specs.Sink.{Adds, AddsPart}
 use Rattle.umarun.specs.declared.finish.Finish.{Finish}
+use Rattle.umarun.proofs.Outcomes.{none_refused, ends_by_memory}
 use Rattle.zone_stats.specs.ReportText.{report_text}
 use Rattle.umarun.proofs.run.run.Goals as goal
 
-pub returns-clause-part : goal.returns-clause-part
-returns-clause-part g c = λ is.
+pub returns-in-Ok-write_all-clause-replay_written : goal.returns-in-Ok-write_all-clause-replay_written
+returns-in-Ok-write_all-clause-replay_written g c =
     let held = g.K.Sink.bytes_held c.args.sink.now in
     let after = g.K.Sink.bytes_held c.write_all.new.sink in
-    let P : Finish → Type 0 = λ finish. IsSomeAnd finish.report (λ report. AddsPart held (report_text report) after) in
+    let P : Finish → Type 0 = λ finish. IfNone finish.fault (IfSome finish.report (λ report. Adds held (report_text report) after)) in
+    let Q : List ℕ → Type 0 = λ text. Adds held text after in
+    subst P (sym c.reported.ensures) (subst Q (c.deref.ensures.value ∙ c.in-Ok.ensures.text) c.in-Ok-write_all.ensures.written)
+
+pub returns-in-Some-Replay-clause-replay_part : goal.returns-in-Some-Replay-clause-replay_part
+returns-in-Some-Replay-clause-replay_part g c = λ is.
+    let held = g.K.Sink.bytes_held c.args.sink.now in
+    let after = g.K.Sink.bytes_held c.write_all.new.sink in
+    let P : Finish → Type 0 = λ finish. IfSome finish.report (λ report. AddsPart held (report_text report) after) in
     let Q : List ℕ → Type 0 = λ text. AddsPart held text after in
     subst P (sym c.reported-in-Err-write_all.ensures) (subst Q (c.deref.ensures.value ∙ c.in-Ok.ensures.text) c.in-Err-write_all.ensures.part)
+
+pub returns-in-Ok-write_all-clause-replay_refuses : goal.returns-in-Ok-write_all-clause-replay_refuses
+returns-in-Ok-write_all-clause-replay_refuses g c = λ refused. absurd (none_refused c.in-Ok.report (g.S.Source.bytes_left c.args.source.now) c.in-Ok.ensures.replays refused)
+
+pub returns-in-Some-Replay-clause-replay_refuses : goal.returns-in-Some-Replay-clause-replay_refuses
+returns-in-Some-Replay-clause-replay_refuses g c = λ refused. absurd (none_refused c.in-Ok.report (g.S.Source.bytes_left c.args.source.now) c.in-Ok.ensures.replays refused)
+
+pub returns-in-Err-steps-clause-steps_complete : goal.returns-in-Err-steps-clause-steps_complete
+returns-in-Err-steps-clause-steps_complete g c = λ is played unread unwritten.
+    let memory = ends_by_memory (g.S.Source.bytes_left c.args.source.now) c.in-Err-steps.fault c.played_or_refused.ensures.text c.played_or_refused.ensures.step
+    (λ most is. c.in-Err-steps.ensures.too_long most (ap Err is)) (λ refused is. c.in-Err-steps.ensures.refused refused (ap Err is))
+    (λ line refused is. c.in-Err-steps.ensures.step line refused (ap Err is)) (λ is. c.in-Err-steps.ensures.command (ap Err is)) (λ is. c.in-Err-steps.ensures.unwritten (ap Err is))
+    (λ is. unread (c.in-Err-steps.ensures.read (ap Err is))) played in
+    inr (ap (λ (finish : Finish). finish.fault) c.refused-in-Err-steps.ensures ∙ ap Some memory)

@@ -1,0 +1,11 @@
+-- A field of six bytes, each of which is known, is that text.
+use Rattle.std.proofs.Common.{rules, ◌≡◌, ℕ, ◌<◌, ◌≤◌, List, length, refl, arith}
+use Rattle.std.specs.Prelude.{codes}
+use Rattle.std.proofs.lemmas.Slice.Eq.{text_from_reads}
+use Rattle.umarun.specs.Ending.{command_named}
+use Rattle.umarun.proofs.command.Command.named.Goals as goal
+
+pub returns-in-replay : goal.returns-in-replay
+returns-in-replay c =
+    let is : c.args.word.now ≡ codes "replay" = text_from_reads c.args.word.now (codes "replay") (omega (arith, c.in-replay.len_at_least, c.in-replay.len_below)) (search rules) in
+    rw is refl
