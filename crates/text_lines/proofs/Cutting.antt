@@ -108,9 +108,9 @@ field_ends_at text start at e f =
     let from = fields_from text start e in
     let later : 0 < at = not_first at (position-Some is_blank (drop start text) at 0 f).1 from.1 in
     from.0 ∙ field_before_blank (drop start text) at f later where
-  not_first : (i : ℕ) → is_blank (get_or (drop start text) i 0) ≡ true → is_blank (get_or (drop start text) 0 0) ≡ false → 0 < i
-  not_first zero blank field = absurd cc
-  not_first (suc i) blank field = omega arith
+      not_first : (i : ℕ) → is_blank (get_or (drop start text) i 0) ≡ true → is_blank (get_or (drop start text) 0 0) ≡ false → 0 < i
+      not_first zero blank field = absurd cc
+      not_first (suc i) blank field = omega arith
 
 -- `part` is what stands from the first field on
 pub field_ends : (text part : List ℕ) (start at : ℕ) → part ≡ drop start text → position (λ b. not (is_blank b)) text ≡ Some start → position is_blank part ≡ Some at

@@ -66,10 +66,11 @@ all_lines test shows text rest number state f none = f.whole ∙ ap (λ (r : Lis
 pub ends : {S : Type 0} (test : Test) (shows : S → List TextLine → Type 0) (text rest : List ℕ) (number : ℕ) (state : S) (ended : Bool)
     → Follows test shows text rest number state → rest ≡ [] → ((earlier : List TextLine) → shows state earlier → ended ≡ is_ended earlier) → ended ≡ true
     → ShowsText test shows text state
-ends test shows text rest number state ended f none tells yes' =
-    (spoken f.earlier,
-    record { all = f.earlier; whole = all_lines test shows text rest number state f none; right = f.right; spoke_is = refl; ended = sym (tells (spoken f.earlier) f.shown) ∙ yes' },
-    f.shown)
+ends test shows text rest number state ended f none tells yes' = (
+  spoken f.earlier,
+  record { all = f.earlier; whole = all_lines test shows text rest number state f none; right = f.right; spoke_is = refl; ended = sym (tells (spoken f.earlier) f.shown) ∙ yes' },
+  f.shown,
+)
 
 misses_end_at : {S : Type 0} (test : Test) (shows : S → List TextLine → Type 0) (text rest : List ℕ) (number : ℕ) (state : S) (ended : Bool)
     → Follows test shows text rest number state → rest ≡ [] → ((earlier : List TextLine) → shows state earlier → ended ≡ is_ended earlier) → ended ≡ false

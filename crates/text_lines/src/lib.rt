@@ -11,7 +11,9 @@ mod number;
 mod reading;
 mod refused;
 
-pub use fields::{is_head, no_field, number_in, number_within, one_field, ranged, three_fields, two_fields};
+pub use fields::{
+    is_head, no_field, number_in, number_within, one_field, ranged, three_fields, two_fields,
+};
 pub use grammar::Grammar;
 pub use laws::one_verdict;
 pub use lines::next_field;

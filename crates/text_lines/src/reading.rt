@@ -29,7 +29,12 @@ pub fn read_lines<G: Grammar>(grammar: &mut G, text: &[u8]) -> Result<(), ParseR
     if grammar.is_ended() {
         Ok(())
     } else {
-        Err(at_line(number + 1, LineRefused::Kind { kind: TraceKind::NoEnd }))
+        Err(at_line(
+            number + 1,
+            LineRefused::Kind {
+                kind: TraceKind::NoEnd,
+            },
+        ))
     }
 }
 
