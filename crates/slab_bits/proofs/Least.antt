@@ -1,12 +1,12 @@
 -- The least member of a set, by its words.
-use Rattle.std.proofs.Common.{◌≡◌, ◌≢◌, ◌==◌, ℕ, ◌+◌, ◌-◌, ◌*◌, ◌/◌, ◌%◌, ◌^◌, ◌<◌, ◌≤◌, min, zero, suc, Bool, true, false, List, [], ◌∷◌, length, get_or, arith, refl, sym, ap, inl, inr, ◌∙◌}
+use Rattle.std.proofs.Common.{◌≡◌, ◌==◌, ℕ, ◌+◌, ◌-◌, ◌*◌, ◌/◌, ◌%◌, ◌^◌, ◌<◌, ◌≤◌, zero, suc, List, [], ◌∷◌, length, get_or, arith, refl, sym, ap, inl, inr, ◌∙◌}
 use Rattle.std.specs.Int.{bit_at, w64, trailing_zeros}
 use Rattle.std.specs.Int.RustNames.{bit_and}
 use Rattle.std.proofs.lemmas.Bool.{cases_lt, cases_eq}
 use Rattle.std.proofs.lemmas.Nat.Bits.{bit_at-zero, bit_at-lt, bit_at_and, bit_at-trailing_zeros, bit_at_mask_inside, bit_at_mask_below, ones_shl}
 use Rattle.std.proofs.lemmas.List.{get_or_past}
 use Rattle.slab_bits.specs.Members.{IsMember, IsNoMember, IsLeastFrom, HasNoneFrom}
-use Rattle.slab_bits.specs.Words.{is_set, places_of}
+use Rattle.slab_bits.specs.Words.{places_of}
 use Rattle.slab_bits.proofs.Words.{place_at}
 
 -- a place reads as the bit of its word
@@ -78,10 +78,10 @@ IsLeastFrom-rest words from some fit =
     let place = from / 64 * 64 + trailing_zeros w64 rest in
     let small : from % 64 ≤ 64 = omega arith in
     let at : from % 64 ≤ trailing_zeros w64 rest =
-        elim (cases_lt (trailing_zeros w64 rest) (from % 64)) [
-          | inl below ↦ absurd (let lost = lost_bit word (from % 64) (trailing_zeros w64 rest) small below in let set = lowest.1 in omega arith)
-          | inr above ↦ above
-        ] in
+    elim (cases_lt (trailing_zeros w64 rest) (from % 64)) [
+      | inl below ↦ absurd (let lost = lost_bit word (from % 64) (trailing_zeros w64 rest) small below in let set = lowest.1 in omega arith)
+      | inr above ↦ above
+    ] in
     let in_word : place / 64 ≡ from / 64 = omega (arith, low) in
     let bit : place % 64 ≡ trailing_zeros w64 rest = omega (arith, low) in
     record {

@@ -1,21 +1,13 @@
 -- What the words of a set say of its places.
-use Rattle.std.proofs.Common.{◌≡◌, ◌≢◌, ℕ, zero, suc, ◌+◌, ◌-◌, ◌*◌, ◌/◌, ◌%◌, ◌^◌, ◌<◌, ◌≤◌, ◌==◌, Bool, true, false, List, [], ◌∷◌, ◌++◌, map, length, get_or, set, arith, refl, sym, ap, inl, inr, ◌∙◌}
-use Rattle.std.specs.Int.{bit_at, bit_not, w64}
+use Rattle.std.proofs.Common.{◌≡◌, ◌≢◌, ℕ, suc, ◌-◌, ◌*◌, ◌/◌, ◌%◌, ◌^◌, ◌<◌, ◌==◌, Bool, true, false, List, [], ◌∷◌, length, get_or, set, arith, refl, sym, ap, inl, inr, ◌∙◌}
+use Rattle.std.specs.Int.{bit_not, w64}
 use Rattle.std.specs.Int.RustNames.{bit_or, bit_and}
 use Rattle.std.proofs.lemmas.Bool.{cases_lt, cases_eq}
-use Rattle.std.proofs.lemmas.List.{ext_get_or, get_or_append_left, get_or-append_right, get_or-set_same, get_or-set_other, get_or_past, length-append, length-set}
-use Rattle.std.proofs.lemmas.List.FromFn.{get_or-map-range_with_len, length-map-range_with_len}
+use Rattle.std.proofs.lemmas.List.{ext_get_or, get_or_append_left, get_or-append_right, get_or-set_same, get_or-set_other, length-append, length-set}
 use Rattle.std.proofs.lemmas.Nat.{or_lt, and_le_l}
 use Rattle.std.proofs.lemmas.Nat.Bits.{bit_at-zero, bit_at_set_same, bit_at_set_other, bit_at_clear_same, bit_at_clear_other}
+use Rattle.slab_bits.specs.Inverse.{word_at, length-word_places}
 use Rattle.slab_bits.specs.Words.{is_set, word_places, places_of, AreWords}
-
-pub word_at : (width word i : ℕ) → i < width → get_or (word_places width word) i false ≡ is_set word i
-unfolding word_places
-word_at width word i within = get_or-map-range_with_len (is_set word) 0 width i i false within (omega arith)
-
-pub length-word_places : (width word : ℕ) → length (word_places width word) ≡ width
-unfolding word_places
-length-word_places width word = length-map-range_with_len (is_set word) 0 width
 
 pub length-places_of : (words : List ℕ) → length (places_of words) ≡ 64 * length words
 unfolding places_of

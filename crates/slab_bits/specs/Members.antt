@@ -23,3 +23,7 @@ pub record IsLeastFrom (members : List Bool) (from place : ℕ) : Type 0 where
 pub record IsEmpty (members : List Bool) : Type 0 where
   pub places : length members ≡ 256
   pub none : (place : ℕ) → IsNoMember members place
+
+-- each place is a member of both or of neither
+abbrev pub HaveSame : List Bool → List Bool → Type 0
+HaveSame one other = (place : ℕ) → slice_index_or one place false ≡ slice_index_or other place false

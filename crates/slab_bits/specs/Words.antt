@@ -1,5 +1,6 @@
 -- How words hold a set of places: bit i of word k says whether place 64 * k + i is a member.
-use Rattle.std.specs.Prelude.{◌≡◌, ℕ, ◌^◌, ◌<◌, Bool, ◌==◌, List, [], ◌∷◌, ◌++◌, map, length, slice_index_or}
+use lib.Lanes.{mask_l}
+use Rattle.std.specs.Prelude.{◌≡◌, ℕ, zero, suc, ◌^◌, ◌<◌, Bool, ◌==◌, List, [], ◌∷◌, ◌++◌, map, take, drop, length, slice_index_or}
 use Rattle.std.specs.Int.{bit_at}
 use Rattle.std.specs.List.{range_with_len}
 
@@ -20,3 +21,8 @@ places_of (word ∷ words) = word_places 64 word ++ places_of words
 pub record AreWords (words : List ℕ) : Type 0 where
   pub four : length words ≡ 4
   pub fit : (k : ℕ) → slice_index_or words k 0 < 2 ^ 64
+
+-- the words that hold these places, so many of them
+unfoldable pub words_of : ℕ → List Bool → List ℕ
+words_of zero places = []
+words_of (suc n) places = mask_l (take 64 places) ∷ words_of n (drop 64 places)

@@ -1,5 +1,5 @@
-ghost use Rattle.std.specs.Prelude.{◌≡◌, ℕ, ◌+◌, ◌-◌, ◌*◌, ◌/◌, ◌%◌, ◌^◌, ◌<◌, ◌≤◌, ◌↔◌, true, false, length, slice_index_or, slice_set, replicate, count_by, sum_by, count_ones, min, All, IsNone, IsSome, IfSome, IfNone, ◌++◌};
-ghost use Rattle.slab_bits.specs.Members.{HasNoneFrom, IsLeastFrom, IsEmpty};
+ghost use Rattle.std.specs.Prelude.{◌≡◌, ℕ, ◌+◌, ◌-◌, ◌*◌, ◌/◌, ◌%◌, ◌^◌, ◌<◌, ◌≤◌, ◌↔◌, true, false, length, slice_index_or, slice_set, replicate, count_by, sum_by, count_ones, min, All, IsTrue, IfSome, IfNone, ◌++◌};
+ghost use Rattle.slab_bits.specs.Members.{HasNoneFrom, IsLeastFrom, IsEmpty, HaveSame};
 ghost use Rattle.slab_bits.specs.Words.{places_of};
 
 use std::marker::Model;
@@ -17,20 +17,25 @@ const WORDS: usize = 4;
 ///
 /// Contracts see it as a list of 256 truth values, which says of each place whether it is a member. No call takes
 /// memory.
-#[derive(Debug, Drop)]
+#[derive(Clone, Copy, Debug)]
 pub struct Bits {
     words: [u64; WORDS],
 }
 
 impl Model for Bits {
     ghost use Rattle.std.specs.Prelude.{List, Bool};
-    ghost use Rattle.slab_bits.specs.Words.{places_of, AreWords};
+    ghost use Rattle.slab_bits.specs.Words.{places_of, words_of, AreWords};
+    ghost use Rattle.slab_bits.specs.Inverse.{inside_back};
 
     ghost Value = { List Bool };
 
     ghost view = { λ b. places_of b.words };
 
     ghost invariant = { λ b. AreWords b.words };
+
+    ghost inverse = { λ places. record { words = words_of 4 places } };
+
+    ghost inverse_ok = { λ b are i. record { words = inside_back b.words are i } };
 }
 
 impl Bits {
@@ -38,9 +43,7 @@ impl Bits {
     pub fn empty() -> Bits
         ensures { IsEmpty result }
     {
-        Bits {
-            words: [0; WORDS],
-        }
+        Bits { words: [0; WORDS] }
     }
 
     /// The set of the places below `n`, which is at most 256.
@@ -99,6 +102,14 @@ impl Bits {
             count += word.count_ones();
         }
         count
+    }
+
+    /// Whether both have the same members, which is to be equal.
+    pub fn has_same(&self, other: &Bits) -> bool
+        ensures equal { IsTrue result ↔ (self.now ≡ other.now) }
+        ensures members { IsTrue result ↔ HaveSame self.now other.now }
+    {
+        self.words == other.words
     }
 
     /// The least member at or above `from`. None exactly where there is none.

@@ -1,4 +1,4 @@
-use Rattle.std.proofs.Common.{◌≤◌, ◌<◌, ◌^◌, length, get_or, arith}
+use Rattle.std.proofs.Common.{◌<◌, ◌^◌, get_or, arith}
 use Rattle.slab_bits.proofs.Least.{IsLeastFrom-word, HasNoneFrom-clear}
 use Rattle.slab_bits.proofs.bits.first_in.Goals as goal
 

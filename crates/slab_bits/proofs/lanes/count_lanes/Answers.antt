@@ -1,6 +1,6 @@
-use Rattle.std.proofs.Common.{◌≡◌, ℕ, ◌+◌, ◌-◌, ◌*◌, ◌/◌, ◌<◌, ◌≤◌, ◌%◌, ◌^◌, List, [], map, length, take, drop, get_or, sum_by, arith, refl, sym, ap, ◌∙◌}
+use Rattle.std.proofs.Common.{◌≡◌, ℕ, ◌+◌, ◌*◌, ◌/◌, ◌<◌, ◌≤◌, ◌%◌, ◌^◌, List, [], length, take, drop, get_or, sum_by, arith, refl, ap, ◌∙◌}
 use Rattle.std.specs.Int.RustNames.{count_ones}
-use lib.Lanes.{sum_l, zip2, fold_l}
+use lib.Lanes.{sum_l, fold_l}
 use Rattle.std.proofs.lemmas.List.{drop_all}
 use Rattle.slab_bits.proofs.WrappedSums.{wrapped, fold_wrapped, chunk_at, lanes_step, lanes_long, sum_of-ones}
 use Rattle.slab_bits.proofs.lanes.count_lanes.Goals as goal
@@ -13,7 +13,7 @@ loop-lanes-preserved c =
     let within : i < length words / 8 = omega (arith, front_len) in
     let room : 8 * (i + 1) ≤ length words = omega arith in
     let chunk : get_or c.as_chunks.result.0.now i [] ≡ take 8 (drop (8 * i) words) =
-        ap (λ (xs : List (List ℕ)). get_or xs i []) c.as_chunks.ensures.front ∙ chunk_at 8 (length words / 8) i words [] within in
+    ap (λ (xs : List (List ℕ)). get_or xs i []) c.as_chunks.ensures.front ∙ chunk_at 8 (length words / 8) i words [] within in
     record {
       lanes = rw chunk (lanes_long c.loop-lanes.counts words i c.loop-lanes.invariant.lanes room);
       counted = rw chunk (lanes_step c.loop-lanes.counts words i (sum_by count_ones words % 2 ^ 64) c.loop-lanes.invariant.lanes room c.loop-lanes.invariant.counted);

@@ -1,4 +1,4 @@
-use Rattle.std.proofs.Common.{◌≡◌, ◌≤◌, length, take, sum_by, arith, sym, ap, ◌∙◌}
+use Rattle.std.proofs.Common.{◌≤◌, length, sum_by, arith, sym, ap, ◌∙◌}
 use Rattle.std.specs.Int.RustNames.{count_ones}
 use Rattle.std.proofs.lemmas.List.{take_all}
 use Rattle.slab_bits.proofs.Counts.{count_of-words}

@@ -1,4 +1,4 @@
-use Rattle.std.proofs.Common.{◌≤◌, ◌<◌, ℕ, [], ◌∷◌, List, length, arith, refl}
+use Rattle.std.proofs.Common.{[], ◌∷◌, arith}
 use Rattle.slab_bits.proofs.Words.{length-places_of}
 use Rattle.slab_bits.proofs.Least.{HasNoneFrom-clear, AreClear-none}
 use Rattle.slab_bits.proofs.bits.Bits.empty.Goals as goal
