@@ -1,3 +1,4 @@
+pub mod Dropping
 pub mod Kept
 pub mod Places
 pub mod Refused

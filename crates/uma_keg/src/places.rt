@@ -2,7 +2,8 @@ ghost use Rattle.std.specs.Prelude.{◌≡◌, ◌≢◌, ℕ, ◌*◌, ◌/◌,
 ghost use Rattle.std.specs.Option.{option_or};
 ghost use Rattle.uma_keg.specs.Places.{place_at, domain_at, slab_count, free_count, out_count, IsFree, IsOut, IsSound, IsNew, Brings, Gives, CountsOneOut, CountsOneSlab};
 ghost use Rattle.uma_keg.specs.Refused.{IsItemSize, IsSlabCount, IsRefusedFor};
-ghost use Rattle.uma_keg.specs.Room.{is_absent, can_take, is_partly_used};
+ghost use Rattle.uma_keg.specs.Dropping.{Drops, IsWorn, HasNoneWhollyFree};
+ghost use Rattle.uma_keg.specs.Room.{is_absent, can_take, is_partly_used, is_wholly_free, IsLastThat, NonePassFrom};
 ghost use Rattle.uma_keg.specs.Taking.{Takes};
 
 use crate::counts::KegCounts;
@@ -23,6 +24,10 @@ const LEAST_SIZE: u32 = 8;
 
 /// The greatest number of slabs of a keg (own).
 const MOST_SLABS: u32 = 1024;
+
+/// Slabs are given up while at most this less `cap` were ever brought in, so that bringing one in never finds their
+/// count at its end (own).
+const MOST_MADE: u64 = 1 << 40;
 
 /// The slabs and free places of one keg, without the items themselves.
 ///
@@ -148,6 +153,26 @@ impl Places {
         self.free += 1;
     }
 
+    /// Gives up the wholly free slab of greatest index, and answers that index. None exactly where no slab is wholly
+    /// free, or more than `2^40 - cap` were ever brought in; nothing changes then.
+    pub fn drop_slab(&mut self) -> Option<u32>
+        ensures drops { IfSome result (λ index. Drops self.old index self.new) }
+        ensures counts { OnSome result (CountsOneSlab self.new self.old) }
+        ensures outs { OnSome result ((n : ℕ) → IsOut self.new n ↔ IsOut self.old n) }
+        ensures none_exactly { IsNone result ↔ (IsWorn self.old ⊎ HasNoneWhollyFree self.old) }
+        ensures unchanged { IfNone result (self.new ≡ self.old) }
+        ensures sound { IsSound self.new }
+    {
+        if self.made > MOST_MADE - self.cap as u64 {
+            return None;
+        }
+        let index = last_wholly_free(&self.rooms)?;
+        self.rooms[index].give_up();
+        self.slabs -= 1;
+        self.free -= self.per_slab as u64;
+        Some(index as u32)
+    }
+
     /// How the keg stands. The reserve is 0, and the rest are kept values.
     pub fn counts(&self) -> KegCounts
         ensures slabs { result.slabs ≡ slab_count self.now }
@@ -195,7 +220,7 @@ fn empty_rooms(alloc: Global, slabs: u32, places: u32) -> Result<Vec<Room>, Allo
 {
     let mut rooms = Vec::with_capacity(alloc, slabs as usize)?;
     for _ in 0..slabs {
-        rooms.push(Room::new(alloc, places as usize)?)?;
+        rooms.push(Room::new(places))?;
     }
     Ok(rooms)
 }
@@ -219,6 +244,19 @@ fn first_with_free(rooms: &[Room]) -> Option<usize>
     ensures { result ≡ position can_take rooms.now }
 {
     rooms.iter().position(|room| room.can_take())
+}
+
+/// The greatest index of a room whose slab is wholly free.
+fn last_wholly_free(rooms: &[Room]) -> Option<usize>
+    ensures last { IfSome result (IsLastThat is_wholly_free rooms.now) }
+    ensures none { IfNone result (NonePassFrom is_wholly_free rooms.now 0) }
+{
+    for index in (0..rooms.len()).rev() {
+        if rooms[index].is_wholly_free() {
+            return Some(index);
+        }
+    }
+    None
 }
 
 /// The index of a room to take from: the first whose slab is partly used, or else the first with a free place.

@@ -1,41 +1,40 @@
-ghost use Rattle.std.specs.Prelude.{◌≡◌, ℕ, ◌+◌, ◌<◌, ◌≤◌, Bool, true, false, None, Some, IsTrue, IfOk, length, slice_get, slice_set, slice_index_or, position, replicate};
+ghost use Rattle.std.specs.Prelude.{◌≡◌, ℕ, ◌+◌, ◌<◌, ◌≤◌, Bool, true, false, None, Some, IsTrue, take, length, slice_get, slice_set, slice_index_or, replicate};
 
-use std::alloc::{AllocError, Global};
+use slab_bits::Bits;
 use std::marker::Model;
 
-/// The room for the slab of one index, with one truth value a place, and beside them how many are marked as free. It
-/// has all its memory from the start.
+/// The room for the slab of one index, with the set of its free places. The places past the last are no members.
 #[derive(Debug, Drop)]
 pub(crate) struct Room {
     domain: Option<u8>,
-    free: Vec<bool>,
-    marked: u32,
+    free: Bits,
+    places: u32,
 }
 
 impl Model for Room {
-    ghost use Rattle.std.specs.Prelude.{◌≡◌, ◌≤◌, length};
-    ghost use Rattle.uma_keg.specs.Room.{RoomState, free_in};
+    ghost use Rattle.std.specs.Prelude.{take};
+    ghost use Rattle.uma_keg.specs.Room.{RoomState, IsRoom};
 
     ghost Value = { RoomState };
 
-    ghost view = { λ r. record { domain = r.domain; free = r.free.items } };
+    ghost view = { λ r. record { domain = r.domain; free = take r.places r.free } };
 
-    ghost invariant = { λ r. (r.marked ≡ free_in (record { domain = r.domain; free = r.free.items })) × (length r.free.items ≤ 256) };
+    ghost invariant = { λ r. IsRoom r.places r.free };
 }
 
 impl Room {
-    ghost use Rattle.uma_keg.specs.Room.{RoomState, can_take, is_partly_used};
+    ghost use Rattle.uma_keg.specs.Room.{RoomState, can_take, is_partly_used, is_wholly_free};
 
     /// Room for a slab of so many places, with none in.
-    pub fn new(alloc: Global, places: usize) -> Result<Room, AllocError>
+    pub fn new(places: u32) -> Room
         requires { places ≤ 256 }
-        ensures { IfOk result (λ r. r ≡ record { domain = None; free = replicate places false }) }
+        ensures { result ≡ record { domain = None; free = replicate places false } }
     {
-        Ok(Room {
+        Room {
             domain: None,
-            free: vec![in alloc; false; places]?,
-            marked: 0,
-        })
+            free: Bits::empty(),
+            places,
+        }
     }
 
     /// The domain of the slab.
@@ -49,14 +48,21 @@ impl Room {
     pub fn can_take(&self) -> bool
         ensures { result ≡ can_take self.now }
     {
-        self.domain.is_some() && 0 < self.marked
+        self.domain.is_some() && 0 < self.free.count()
     }
 
     /// Whether a slab is in that has a free place and a used one.
     pub fn is_partly_used(&self) -> bool
         ensures { result ≡ is_partly_used self.now }
     {
-        self.can_take() && (self.marked as usize) < self.free.len()
+        self.can_take() && self.free.count() < self.places
+    }
+
+    /// Whether a slab is in, all of whose places are free.
+    pub fn is_wholly_free(&self) -> bool
+        ensures { result ≡ is_wholly_free self.now }
+    {
+        self.domain.is_some() && self.free.count() == self.places
     }
 
     /// Brings in a slab, all of whose places are free.
@@ -64,8 +70,14 @@ impl Room {
         ensures { self.new ≡ record { domain = Some domain; free = replicate (length self.old.free) true } }
     {
         self.domain = Some(domain);
-        self.free.fill(true);
-        self.marked = self.free.len() as u32;
+        self.free = Bits::first_n(self.places);
+    }
+
+    /// Gives the slab up.
+    pub fn give_up(&mut self)
+        ensures { self.new ≡ record self.old { domain = None } }
+    {
+        self.domain = None;
     }
 
     /// Takes the least free place.
@@ -75,10 +87,9 @@ impl Room {
         ensures least { (place : ℕ) → place < result → slice_index_or self.old.free place false ≡ false }
         ensures used { self.new ≡ record self.old { free = slice_set self.old.free result false } }
     {
-        let place = least_free(&self.free).unwrap();
-        self.free[place] = false;
-        self.marked -= 1;
-        place as u32
+        let place = self.free.first().unwrap();
+        self.free.clear(place);
+        place
     }
 
     /// Marks a used place as free.
@@ -86,14 +97,6 @@ impl Room {
         requires { slice_get self.old.free place ≡ Some false }
         ensures { self.new ≡ record self.old { free = slice_set self.old.free place true } }
     {
-        self.free[place as usize] = true;
-        self.marked += 1;
+        self.free.set(place);
     }
-}
-
-/// The least place that is marked as free.
-fn least_free(places: &[bool]) -> Option<usize>
-    ensures { result ≡ position (λ free. free) places.now }
-{
-    places.iter().position(|free| *free)
 }

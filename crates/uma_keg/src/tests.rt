@@ -84,3 +84,76 @@ fn takes_from_a_partly_used_slab_first(rt: HostRuntime) -> Result<(), Fail> {
     assert_eq!(rt; places.take(), Some(0));
     Ok(())
 }
+
+#[test]
+fn drops_the_one_slab_where_it_is_wholly_free(rt: HostRuntime) -> Result<(), Fail> {
+    let mut places = Places::new(rt.alloc(), 4096, 1)?;
+    assert_eq!(rt; places.drop_slab(), None);
+    assert_eq!(rt; places.bring(0), Ok(0));
+    assert_eq!(rt; places.drop_slab(), Some(0));
+    assert_eq!(rt;
+        (
+            places.counts().slabs,
+            places.counts().free,
+            places.counts().made
+        ),
+        (0, 0, 1)
+    );
+    assert_eq!(rt; places.take(), None);
+    assert_eq!(rt; places.bring(5), Ok(0));
+    assert_eq!(rt; places.take(), Some(0));
+    assert_eq!(rt; places.drop_slab(), None);
+    Ok(())
+}
+
+/// Takes a number, gives up a slab, and gives the number back, which is out all along.
+fn drops_beside_what_is_out(places: &mut Places) -> Option<(u32, u32)> {
+    let taken = places.take()?;
+    let dropped = places.drop_slab()?;
+    places.give(taken);
+    Some((taken, dropped))
+}
+
+#[test]
+fn drops_the_second_of_two_slabs_and_keeps_the_used_one(rt: HostRuntime) -> Result<(), Fail> {
+    let mut places = Places::new(rt.alloc(), 2048, 2)?;
+    assert_eq!(rt; places.bring(3), Ok(0));
+    assert_eq!(rt; places.bring(4), Ok(1));
+    assert_eq!(rt; drops_beside_what_is_out(&mut places), Some((0, 1)));
+    assert_eq!(rt; (places.counts().slabs, places.counts().free), (1, 2));
+    assert_eq!(rt; places.drop_slab(), Some(0));
+    assert_eq!(rt; places.drop_slab(), None);
+    Ok(())
+}
+
+/// Gives up slabs until none is wholly free, and answers how many.
+fn drops_all(places: &mut Places) -> u32 {
+    for count in 0..1024 {
+        if places.drop_slab().is_none() {
+            return count;
+        }
+    }
+    1024
+}
+
+#[test]
+fn drops_the_greatest_of_many_slabs(rt: HostRuntime) -> Result<(), Fail> {
+    let mut places = Places::new(rt.alloc(), 4096, 1024)?;
+    for _ in 0..1024 {
+        places.bring(0)?;
+    }
+    assert_eq!(rt; places.drop_slab(), Some(1023));
+    assert_eq!(rt; places.drop_slab(), Some(1022));
+    assert_eq!(rt; places.take(), Some(0));
+    assert_eq!(rt; drops_all(&mut places), 1021);
+    assert_eq!(rt;
+        (
+            places.counts().slabs,
+            places.counts().free,
+            places.counts().made
+        ),
+        (1, 0, 1024)
+    );
+    assert_eq!(rt; places.bring(0), Ok(1));
+    Ok(())
+}

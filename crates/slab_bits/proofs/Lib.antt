@@ -1,0 +1,5 @@
+pub mod Counts
+pub mod FirstPlaces
+pub mod Least
+pub mod Words
+pub mod WrappedSums
