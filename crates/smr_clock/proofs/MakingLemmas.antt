@@ -5,6 +5,7 @@ use lib.ListN.{get_elem?}
 use Rattle.atomic_table.specs.Seated.{TableId}
 use Rattle.smr_core.specs.ClockState.{IsInRange}
 use Rattle.smr_core.proofs.OpeningLemmas.{begins-lawful}
+use Rattle.smr_core.proofs.Keeps.Memory.{begins-remembering}
 use Rattle.smr_core.proofs.PlaceLemmas.{at_push, at_end, at_longer}
 use Rattle.smr_clock.specs.declared.setup.Setup.{Setup}
 use Rattle.smr_clock.specs.declared.view.View.{View}
@@ -24,6 +25,7 @@ pub bare_opens : (a : Setup) (more : List ℕ) → IsInRange a.about → Clocked
 bare_opens a more r =
     record {
       law = begins-lawful a.about more r;
+      memory = begins-remembering a.about;
       setups = λ id v there alive. ap (λ (x : View (Unit {0})). x.setup) (sym (only (first_view a tt) v id there));
       makers = λ maker count first made id s there. let e : None ≡ Some s = only None (Some s) id there in absurd (cc);
     }

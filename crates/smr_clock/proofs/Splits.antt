@@ -9,21 +9,25 @@ use Rattle.smr_core.specs.declared.phase.Phase.TheVariants as phase
 use Rattle.smr_core.specs.ClockState.{seats_of, spent}
 use Rattle.smr_core.specs.ClockStep as clock
 use Rattle.smr_core.specs.ClockLaw.{ClockLaw, HasNoWorker, Later}
+use Rattle.smr_core.specs.Remembered.{RememberedLaw, nothing_remembered}
+use Rattle.smr_core.specs.Remembered.{View as Plain}
 use Rattle.smr_core.proofs.PlaceLemmas.{at_set, set_again, map_set, at_push, set_else, place_within}
 use Rattle.smr_core.proofs.KindLemmas.{seat_in_phase}
 use Rattle.smr_core.proofs.Keeps.Splits.{note-keeps, worker-keeps}
 use Rattle.smr_core.proofs.Keeps.Joins.{join-keeps}
+use Rattle.smr_core.proofs.Keeps.Memory.{note-remembers, worker-remembers, join-remembers}
 use Rattle.smr_clock.specs.declared.setup.Setup.{Setup}
 use Rattle.smr_clock.specs.declared.view.View.{View}
-use Rattle.smr_clock.specs.Views.{holders_of, seats_in, hosts_of, spent_view}
+use Rattle.smr_clock.specs.Views.{remembered, plain, plain_views, holders_of, seats_in, hosts_of, spent_view}
 use Rattle.smr_clock.specs.Steps.{note_view, count_made, one_more_made, worker_view, joined_view}
 use Rattle.smr_clock.specs.Clocked.{CountsMade, Clocked}
 use Rattle.smr_clock.specs.HostLaws.{Rule, Includes, SplitLaw, JoinLaw}
-use Rattle.smr_clock.proofs.Kept.{holders_set, holder_there, seats_kept, hosts_kept}
+use Rattle.smr_clock.proofs.Kept.{law_plain, holders_set, holder_there, plain_set, plain_there, seats_kept, hosts_kept}
 
 -- what a split changes of the seat that is split, and what it gives to the new one
 record Parts {P : Type 0} (copied : P → P) (v left right : View P) : Type 0 where
   pub holder : left.holder ≡ v.holder
+  pub memory : left.memory ≡ v.memory
   pub host : left.host ≡ v.host
   pub setup : left.setup ≡ v.setup
   pub new_setup : right.setup ≡ v.setup
@@ -40,6 +44,13 @@ module _ {P : Type 0} (copied : P → P) (vs : List (View P)) (id : ℕ) (v left
       (holders_set right.setup vs id v left ∙ ap (λ (h : Holder). set (holders_of vs) id h) e
       ∙ set_again (holders_of vs) id v.holder (holder_there right.setup vs id v left at))
 
+  plain_split : get_elem? vs id ≡ some v → plain left ≡ plain v → plain_views (set vs id left ++ right ∷ []) ≡ plain_views vs ++ plain right ∷ []
+  plain_split at e =
+      map-append (λ (x : View P). plain x) (set vs id left) (right ∷ [])
+      ∙ ap (λ (l : List Plain). l ++ plain right ∷ [])
+      (plain_set right.setup vs id v left ∙ ap (λ (x : Plain). set (plain_views vs) id x) e
+      ∙ set_again (plain_views vs) id (plain v) (plain_there right.setup vs id v left at))
+
   seats_split : get_elem? vs id ≡ some v → left.holder ≡ v.holder → seats_in (set vs id left ++ right ∷ []) ≡ seats_in vs ++ right.holder.seat ∷ []
   seats_split at e = ap seats_of (holders_split at e) ∙ map-append (λ (h : Holder). h.seat) (holders_of vs) (right.holder ∷ [])
 
@@ -50,10 +61,12 @@ module _ {P : Type 0} (copied : P → P) (vs : List (View P)) (id : ℕ) (v left
       ∙ ap (λ (q : P). hosts_of vs ++ q ∷ []) p.new_host
 
   clocked_split : (a : Setup) (ws : List ℕ) → Clocked a ws vs → get_elem? vs id ≡ some v → v.setup ≡ a → Parts copied v left right
-      → Later a.about ws ws (holders_of vs ++ right.holder ∷ []) → CountsMade (set vs id left ++ right ∷ []) → Clocked a ws (set vs id left ++ right ∷ [])
-  clocked_split a ws c at own p later made =
+      → Later a.about ws ws (holders_of vs ++ right.holder ∷ []) → RememberedLaw a.about (plain_views vs ++ plain right ∷ [])
+      → CountsMade (set vs id left ++ right ∷ []) → Clocked a ws (set vs id left ++ right ∷ [])
+  clocked_split a ws c at own p later memory made =
       record {
         law = subst (λ (l : List Holder). ClockLaw a.about ws l) (sym (holders_split at p.holder)) later.law;
+        memory = subst (λ (l : List Plain). RememberedLaw a.about l) (sym (plain_split at (λ i. (p.holder i, remembered (p.memory i))))) memory;
         setups = λ j w there alive.
             ⊎_elim
             (λ (old : get_elem? (set vs id left) j ≡ some w). ⊎_elim (λ t. subst (λ (x : View P). x.setup ≡ a) t.1 (p.setup ∙ own)) (λ t. c.setups j w t.1 alive) (at_set vs id j left w old))
@@ -103,13 +116,13 @@ module _ {P : Type 0} (copied : P → P) (vs : List (View P)) (id : ℕ) (v : Vi
 
 module _ {P : Type 0} (holds : Rule P) (includes : Includes holds) (copied : P → P) (split : SplitLaw holds copied) where
   split_kept : (a : Setup) (ws : List ℕ) (vs : List (View P)) (id : ℕ) (v left right : View P) → holds a ws vs → get_elem? vs id ≡ some v → v.setup ≡ a
-      → Parts copied v left right → Later a.about ws ws (holders_of vs ++ right.holder ∷ []) → CountsMade (set vs id left ++ right ∷ [])
-      → holds a ws (set vs id left ++ right ∷ [])
-  split_kept a ws vs id v left right held at own p later made =
+      → Parts copied v left right → Later a.about ws ws (holders_of vs ++ right.holder ∷ []) → RememberedLaw a.about (plain_views vs ++ plain right ∷ [])
+      → CountsMade (set vs id left ++ right ∷ []) → holds a ws (set vs id left ++ right ∷ [])
+  split_kept a ws vs id v left right held at own p later memory made =
       split a ws vs ws (set vs id left ++ right ∷ []) id v right.holder.seat held
       (record {
         before = includes a ws vs held;
-        after = clocked_split copied vs id v left right a ws (includes a ws vs held) at own p later made;
+        after = clocked_split copied vs id v left right a ws (includes a ws vs held) at own p later memory made;
         write_not_lower = later.write_not_lower;
         read_not_lower = later.read_not_lower;
         as_many = refl;
@@ -121,8 +134,9 @@ module _ {P : Type 0} (holds : Rule P) (includes : Includes holds) (copied : P �
   note_splits a id v own s held at =
       let c = includes a s.words s.views held in
       split_kept a s.words s.views id v v (note_view copied v) held at own
-      (record { holder = refl; host = refl; setup = refl; new_setup = refl; new_host = refl })
+      (record { holder = refl; memory = refl; host = refl; setup = refl; new_setup = refl; new_host = refl })
       (note-keeps a.about id v.holder s.words (holders_of s.views) c.law (holder_there a s.views id v v at))
+      (note-remembers a.about id (plain v) s.words (plain_views s.views) (law_plain a s.words s.views c.law) c.memory (plain_there a s.views id v v at))
       (note_counts copied s.views id v c.makers at)
 
   pub worker_splits : (a : Setup) (id : ℕ) (v : View P) (k : ℕ) → v.setup ≡ a → id ≡ 0 → v.made ≡ Some k → k < a.about.seats
@@ -134,8 +148,9 @@ module _ {P : Type 0} (holds : Rule P) (includes : Includes holds) (copied : P �
       let none : HasNoWorker (seats_in s.views) (count_made v.made) =
       λ j there. let less = c.makers v k at0 made j (count_made v.made) there in absurd (omega arith) in
       split_kept a s.words s.views id v (one_more_made v) (worker_view copied v) held at own
-      (record { holder = refl; host = refl; setup = refl; new_setup = refl; new_host = refl })
+      (record { holder = refl; memory = refl; host = refl; setup = refl; new_setup = refl; new_host = refl })
       (worker-keeps a.about id (count_made v.made) v.holder s.words (holders_of s.views) c.law (holder_there a s.views id v v at) (omega arith) none)
+      (worker-remembers a.about id (count_made v.made) (plain v) s.words (plain_views s.views) (law_plain a s.words s.views c.law) c.memory (plain_there a s.views id v v at))
       (worker_counts copied s.views id v k c.makers at zeroth made)
 
 -- ---- a note that is taken in
@@ -148,6 +163,12 @@ module _ {P : Type 0} (merged : P → P → P) (blank : P) (vs : List (View P)) 
   holders_joined =
       map_set (λ (x : View P). x.holder) (set vs id (joined_view merged v note)) at (spent_view blank)
       ∙ ap (λ (l : List Holder). set l at spent) (map_set (λ (x : View P). x.holder) vs id (joined_view merged v note))
+
+  plain_joined : plain_views (set (set vs id (joined_view merged v note)) at (spent_view blank))
+      ≡ set (set (plain_views vs) id (clock.joined v.holder note.holder, remembered v.memory)) at (spent, nothing_remembered)
+  plain_joined =
+      map_set (λ (x : View P). plain x) (set vs id (joined_view merged v note)) at (spent_view blank)
+      ∙ ap (λ (l : List Plain). set l at (spent, nothing_remembered)) (map_set (λ (x : View P). plain x) vs id (joined_view merged v note))
 
   hosts_joined : hosts_of (set (set vs id (joined_view merged v note)) at (spent_view blank)) ≡ set (set (hosts_of vs) id (merged v.host note.host)) at blank
   hosts_joined =
@@ -162,10 +183,13 @@ module _ {P : Type 0} (merged : P → P → P) (blank : P) (vs : List (View P)) 
 
   clocked_joined : (a : Setup) (ws : List ℕ) → Clocked a ws vs → get_elem? vs id ≡ some v → get_elem? (set vs id (joined_view merged v note)) at ≡ some note
       → v.setup ≡ a → note.holder.seat ≡ None
-      → Later a.about ws ws (set (set (holders_of vs) id (clock.joined v.holder note.holder)) at spent) → Clocked a ws (set (set vs id (joined_view merged v note)) at (spent_view blank))
-  clocked_joined a ws c here there own none later =
+      → Later a.about ws ws (set (set (holders_of vs) id (clock.joined v.holder note.holder)) at spent)
+      → RememberedLaw a.about (set (set (plain_views vs) id (clock.joined v.holder note.holder, remembered v.memory)) at (spent, nothing_remembered))
+      → Clocked a ws (set (set vs id (joined_view merged v note)) at (spent_view blank))
+  clocked_joined a ws c here there own none later memory =
       record {
         law = subst (λ (l : List Holder). ClockLaw a.about ws l) (sym holders_joined) later.law;
+        memory = subst (λ (l : List Plain). RememberedLaw a.about l) (sym plain_joined) memory;
         setups = λ j w found alive.
             ⊎_elim
             (λ t. absurd (alive (ap (λ (x : View P). x.holder.phase) (sym t.1))))
@@ -191,10 +215,12 @@ module _ {P : Type 0} (holds : Rule P) (includes : Includes holds) (may_note : P
       let holder_at = holder_there a s.views at note note there' in
       let none : note.holder.seat ≡ None = seat_in_phase a.about s.words note.holder phase.Note (c.law.holders at note.holder holder_at) is_note in
       let later = join-keeps a.about id v.holder at note.holder apart is_note s.words (holders_of s.views) c.law (holder_there a s.views id v v here) holder_at in
+      let memory = join-remembers a.about id (plain v) at (plain note) apart is_note s.words (plain_views s.views) (law_plain a s.words s.views c.law) c.memory
+      (plain_there a s.views id v v here) (plain_there a s.views at note note there') in
       join a s.words s.views s.words (set (set s.views id (joined_view merged v note)) at (spent_view blank)) id at v note held
       (record {
         before = c;
-        after = clocked_joined merged blank s.views id at v note a s.words c here there own none later;
+        after = clocked_joined merged blank s.views id at v note a s.words c here there own none later memory;
         write_not_lower = later.write_not_lower;
         read_not_lower = later.read_not_lower;
         as_many = refl;
