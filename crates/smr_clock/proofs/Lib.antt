@@ -2,9 +2,11 @@ pub mod Found
 pub mod Kept
 pub mod Steps
 pub mod Splits
+pub mod HostClocked
 pub mod AdvanceLemmas
 pub mod MakingLemmas
 pub mod PollLemmas
 pub mod ReuseLemmas
 pub mod HostAllowed
 pub mod SeatSteps
+pub mod CountingLemmas

@@ -11,3 +11,4 @@ pub mod Making
 pub mod Polls
 pub mod SafeReuse
 pub mod HostSteps
+pub mod CountingHost
