@@ -7,6 +7,7 @@ pub mod AdvanceLemmas
 pub mod MakingLemmas
 pub mod PollLemmas
 pub mod ReuseLemmas
+pub mod CompleteLemmas
 pub mod HostAllowed
 pub mod SeatSteps
 pub mod CountingLemmas

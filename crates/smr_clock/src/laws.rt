@@ -2,6 +2,7 @@
 
 ghost use Rattle.smr_clock.specs.declared.setup.Setup.{Setup};
 ghost use Rattle.smr_clock.specs.HostLaws.{Includes, IncludesMemory};
+ghost use Rattle.smr_clock.specs.Complete.{AdvancesWithRoom, SaysYesOfKnown, SaysYesOfNoSection};
 ghost use Rattle.smr_clock.specs.SafeReuse.{KnownIsOver};
 
 use crate::host::Host;
@@ -18,4 +19,13 @@ pub fn every_rule_has_the_law<H: Host>()
 /// at every later moment of that clock, and no open section is before it.
 pub fn no_section_is_before_a_known_goal<H: Host>()
     ensures { (setup : Setup) → KnownIsOver H.Part setup }
+{}
+
+/// An advance is refused only for want of room, and a poll may not say no where its note knew that the
+/// goal is expired and the tag can't be mistaken, nor where it found no section and its exchange
+/// wasn't overtaken.
+pub fn refusals_have_their_cause<H: Host>()
+    ensures advances { AdvancesWithRoom H.Part }
+    ensures known { SaysYesOfKnown H.Part }
+    ensures no_section { SaysYesOfNoSection H.Part }
 {}
