@@ -1,4 +1,5 @@
 -- For hosts: whatever a step of its own makes of host parts, the clock's law is kept. A host that proves its steps has only its own rule to show.
+-- The lemma for a join is `Splits.join_clocked`; what becomes of the list of host parts is told by `Kept.hosts_kept`, `Splits.hosts_split` and `Splits.hosts_joined`. `CountingLemmas` has a host that uses them all.
 use Rattle.std.proofs.Common.{◌≡◌, ℕ, zero, suc, ◌<◌, ◌≤◌, List, [], ◌∷◌, ◌++◌, set, sym, refl, ap, subst, Some, None, arith, slice_index}
 use mathlib.Core.Option.{some, some-injective, some-ne-none}
 use lib.ListN.{get_elem?}

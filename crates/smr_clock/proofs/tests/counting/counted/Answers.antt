@@ -1,4 +1,4 @@
-use Rattle.std.proofs.Common.{rules, ◌≡◌, ◌++◌, List, Option, ap, ◌∙◌}
+use Rattle.std.proofs.Common.{rules, ◌++◌, Option, ap, ◌∙◌}
 use Rattle.std.specs.Prelude.{option_to_list}
 use Rattle.smr_clock.specs.declared.view.View.{View}
 use Rattle.smr_clock.proofs.CountingLemmas.{counting_opens}
