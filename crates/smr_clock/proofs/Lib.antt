@@ -2,9 +2,12 @@ pub mod Found
 pub mod Kept
 pub mod Steps
 pub mod Splits
+pub mod HostClocked
 pub mod AdvanceLemmas
 pub mod MakingLemmas
 pub mod PollLemmas
 pub mod ReuseLemmas
+pub mod CompleteLemmas
 pub mod HostAllowed
 pub mod SeatSteps
+pub mod CountingLemmas

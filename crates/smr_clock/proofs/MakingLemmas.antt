@@ -1,32 +1,14 @@
--- A clock with no host begins lawfully, and its workers are split off in order.
-use Rattle.std.proofs.Common.{◌≡◌, ℕ, zero, suc, List, [], ◌∷◌, ◌++◌, length, sym, ap, ◌∙◌, subst, ⊎_elim, Some, None}
-use mathlib.Core.Option.{some, some-injective, some-ne-none}
+-- The workers of a clock are split off in order.
+use Rattle.std.proofs.Common.{◌≡◌, ℕ, List, [], ◌∷◌, ◌++◌, length, sym, ap, ◌∙◌, subst, ⊎_elim}
+use mathlib.Core.Option.{some, some-ne-none}
 use lib.ListN.{get_elem?}
 use Rattle.atomic_table.specs.Seated.{TableId}
-use Rattle.smr_core.specs.ClockState.{IsInRange}
-use Rattle.smr_core.proofs.OpeningLemmas.{begins-lawful}
 use Rattle.smr_core.proofs.PlaceLemmas.{at_push, at_end, at_longer}
 use Rattle.smr_clock.specs.declared.setup.Setup.{Setup}
-use Rattle.smr_clock.specs.declared.view.View.{View}
 use Rattle.smr_clock.specs.declared.host.Host.{Ghosts}
 use Rattle.smr_clock.specs.declared.pass.Pass.{Pass}
 use Rattle.smr_clock.specs.Belongs.{view}
-use Rattle.smr_clock.specs.Views.{first_view}
-use Rattle.smr_clock.specs.Clocked.{Clocked}
-use Rattle.smr_clock.specs.Making.{first_words, fresh_view, AreSplitOff}
-
--- the list of one has its element at 0 alone
-only : {A : Type 0} (x y : A) (i : ℕ) → get_elem? (x ∷ []) i ≡ some y → x ≡ y
-only x y zero e = some-injective x y e
-only x y (suc i) e = absurd (some-ne-none y (sym e))
-
-pub bare_opens : (a : Setup) (more : List ℕ) → IsInRange a.about → Clocked {P = Unit {0}} a (first_words a more) (first_view a tt ∷ [])
-bare_opens a more r =
-    record {
-      law = begins-lawful a.about more r;
-      setups = λ id v there alive. ap (λ (x : View (Unit {0})). x.setup) (sym (only (first_view a tt) v id there));
-      makers = λ maker count first made id s there. let e : None ≡ Some s = only None (Some s) id there in absurd (cc);
-    }
+use Rattle.smr_clock.specs.Making.{fresh_view, AreSplitOff}
 
 module _ {H P : Type 0} {g : Ghosts H P} (table : TableId) (copied : P → P) (a : Setup) (first : P) where
   pub none_yet : AreSplitOff {H = H} {P = P} {g = g} table copied a first []

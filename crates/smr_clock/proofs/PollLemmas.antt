@@ -1,7 +1,8 @@
 -- What the steps of a poll come to.
-use Rattle.std.proofs.Common.{◌≡◌, ℕ, ◌+◌, ◌^◌, ◌≤◌, List, [], ◌∷◌, ◌++◌, length, fold, sym, refl, ap, ◌∙◌, subst, arith, Bool, true, false, ⊎_elim}
+use Rattle.std.proofs.Common.{◌≡◌, ℕ, ◌+◌, ◌^◌, ◌≤◌, List, [], ◌∷◌, ◌++◌, length, sym, refl, ap, ◌∙◌, subst, arith, Bool, true, false, ⊎_elim}
 use borrow.Author.Tests.{leb-true, leb-false}
 use Rattle.std.proofs.lemmas.List.{length_push}
+use Rattle.std.proofs.lemmas.List.Sums.{fold-append}
 use Rattle.smr_seq.specs.Reading.{low}
 use Rattle.smr_seq.proofs.ReadingLemmas.{IsReading-unique}
 use Rattle.smr_core.specs.ClockStep.{least_after, last_found}
@@ -14,15 +15,11 @@ use Rattle.smr_clock.specs.Polls.{begun, scanned_view, EndsAtLoad, EndsAtExchang
 
 -- ---- one word more
 
-fold_push : (f : ℕ → ℕ → ℕ) (start : ℕ) (words : List ℕ) (word : ℕ) → fold f start (words ++ word ∷ []) ≡ f (fold f start words) word
-fold_push f start [] word = refl
-fold_push f start (x ∷ words) word = fold_push f (f start x) words word
-
 pub scanned_more : {P : Type 0} (v : View P) (words : List ℕ) (word : ℕ) → poll_scanning (scanned_view v words) word ≡ scanned_view v (words ++ word ∷ [])
 scanned_more v words word =
     let count : length words + 1 ≡ length (words ++ word ∷ []) = sym (length_push words word) in
     let least : least_after v.holder.read v.holder.write (least_of v.holder.read v.holder.write words) word ≡ least_of v.holder.read v.holder.write (words ++ word ∷ []) =
-    sym (fold_push (least_after v.holder.read v.holder.write) v.holder.write words word) in
+    sym (fold-append (least_after v.holder.read v.holder.write) v.holder.write words (word ∷ [])) in
     λ i. record v {
       holder = record v.holder { scanned = count i; least = least i };
       memory = memory_of (record (remembered v.memory) { found = words ++ word ∷ [] });

@@ -23,7 +23,7 @@ finds a ws hs id h (suc zero) law at = read_found a ws hs id h law at
 finds a ws hs id h (suc (suc word)) law at = tt
 
 -- a word of the host's teaches nothing of a hand
-looked_else : {P : Type 0} (v : View P) (word found : ℕ) → 2 ≤ word → looked v word found ≡ v
+pub looked_else : {P : Type 0} (v : View P) (word found : ℕ) → 2 ≤ word → looked v word found ≡ v
 looked_else v zero found above = absurd (omega arith)
 looked_else v (suc zero) found above = absurd (omega arith)
 looked_else v (suc (suc word)) found above = refl

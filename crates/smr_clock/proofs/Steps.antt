@@ -19,8 +19,11 @@ use Rattle.smr_core.proofs.Keeps.AdvanceLoads.{advance_read-keeps, advance_load-
 use Rattle.smr_core.proofs.Keeps.Swaps.{advance_swap-keeps, poll_swap-keeps}
 use Rattle.smr_core.proofs.Keeps.PollLoads.{poll_read-keeps, poll_load-keeps}
 use Rattle.smr_core.proofs.Keeps.PollScan.{poll_scan-keeps}
+use Rattle.smr_core.specs.RememberedMoves.{KeepsMemory}
+use Rattle.smr_core.proofs.Keeps.Memory.{write_look-remembers, read_look-remembers, enter_load-remembers, enter_store-remembers, enter_check-remembers, clear-remembers, advance_read-remembers, advance_load-remembers, advance_swap-remembers, poll_read-remembers, poll_load-remembers, poll_scan-remembers, poll_swap-remembers}
 use Rattle.smr_clock.specs.declared.setup.Setup.{Setup}
 use Rattle.smr_clock.specs.declared.view.View.{View}
+use Rattle.smr_clock.specs.Views.{plain}
 use Rattle.smr_clock.specs.HostLaws.{Rule, Includes, FrameLaw}
 use Rattle.smr_clock.specs.Steps as step
 use Rattle.smr_clock.specs.Steps.{IsWriteFound, IsReadFound}
@@ -46,41 +49,43 @@ module _ {P : Type 0} (holds : Rule P) (includes : Includes holds) (frame : Fram
 
   -- a load of the write hand, and one of the read hand
   write_load : (next : ℕ → View P) → ((found : ℕ) → SameAside me.0 (next found)) → Keeps me.0.setup.about id me.0.holder write_place same (λ found. (next found).holder)
+      → KeepsMemory me.0.setup.about id (plain me.0) write_place (λ found. plain (next found))
       → Mine 0 (λ n. n) (λ found after. IsWriteFound me.0.holder found × (after ≡ (next found, me.1)))
-  write_load next aside lawful =
-      allowed holds includes frame a slots id me write_place same next (λ found after. IsWriteFound me.0.holder found × (after ≡ (next found, me.1))) own (omega arith) aside lawful
+  write_load next aside lawful remembers =
+      allowed holds includes frame a slots id me write_place same next (λ found after. IsWriteFound me.0.holder found × (after ≡ (next found, me.1))) own (omega arith) aside lawful remembers
       (λ ws hs law at. (write_found me.0.setup.about ws hs id me.0.holder law at, refl))
 
   read_load : (next : ℕ → View P) → ((found : ℕ) → SameAside me.0 (next found)) → Keeps me.0.setup.about id me.0.holder read_place same (λ found. (next found).holder)
+      → KeepsMemory me.0.setup.about id (plain me.0) read_place (λ found. plain (next found))
       → Mine 1 (λ n. n) (λ found after. IsReadFound me.0.holder found × (after ≡ (next found, me.1)))
-  read_load next aside lawful =
-      allowed holds includes frame a slots id me read_place same next (λ found after. IsReadFound me.0.holder found × (after ≡ (next found, me.1))) own (omega arith) aside lawful
+  read_load next aside lawful remembers =
+      allowed holds includes frame a slots id me read_place same next (λ found after. IsReadFound me.0.holder found × (after ≡ (next found, me.1))) own (omega arith) aside lawful remembers
       (λ ws hs law at. (read_found me.0.setup.about ws hs id me.0.holder law at, refl))
 
   pub write_looks : Mine 0 (λ n. n) (λ found after. IsWriteFound me.0.holder found × (after ≡ (step.write_looking me.0 found, me.1)))
-  write_looks = write_load (step.write_looking me.0) (λ found. aside _ _ refl refl refl refl) (write_look-keeps me.0.setup.about id me.0.holder)
+  write_looks = write_load (step.write_looking me.0) (λ found. aside _ _ refl refl refl refl) (write_look-keeps me.0.setup.about id me.0.holder) (write_look-remembers me.0.setup.about id (plain me.0))
 
   pub read_looks : Mine 1 (λ n. n) (λ found after. IsReadFound me.0.holder found × (after ≡ (step.read_looking me.0 found, me.1)))
-  read_looks = read_load (step.read_looking me.0) (λ found. aside _ _ refl refl refl refl) (read_look-keeps me.0.setup.about id me.0.holder)
+  read_looks = read_load (step.read_looking me.0) (λ found. aside _ _ refl refl refl refl) (read_look-keeps me.0.setup.about id me.0.holder) (read_look-remembers me.0.setup.about id (plain me.0))
 
   pub enter_loads : me.0.holder.phase ≡ phase.Outside → Mine 0 (λ n. n) (λ found after. IsWriteFound me.0.holder found × (after ≡ (step.enter_loading me.0 found, me.1)))
-  enter_loads outside = write_load (step.enter_loading me.0) (λ found. aside _ _ refl refl refl refl) (enter_load-keeps me.0.setup.about id me.0.holder outside)
+  enter_loads outside = write_load (step.enter_loading me.0) (λ found. aside _ _ refl refl refl refl) (enter_load-keeps me.0.setup.about id me.0.holder outside) (enter_load-remembers me.0.setup.about id (plain me.0))
 
   pub enter_checks : me.0.holder.phase ≡ phase.Stored → Mine 0 (λ n. n) (λ found after. IsWriteFound me.0.holder found × (after ≡ (step.enter_checking me.0 found, me.1)))
-  enter_checks stored = write_load (step.enter_checking me.0) (λ found. aside _ _ refl refl refl refl) (enter_check-keeps me.0.setup.about id me.0.holder stored)
+  enter_checks stored = write_load (step.enter_checking me.0) (λ found. aside _ _ refl refl refl refl) (enter_check-keeps me.0.setup.about id me.0.holder stored) (enter_check-remembers me.0.setup.about id (plain me.0) stored)
 
   pub advance_reads : IsSome me.0.holder.seat → Mine 1 (λ n. n) (λ found after. IsReadFound me.0.holder found × (after ≡ (step.advance_reading me.0 found, me.1)))
-  advance_reads worker = read_load (step.advance_reading me.0) (λ found. aside _ _ refl refl refl refl) (advance_read-keeps me.0.setup.about id me.0.holder worker)
+  advance_reads worker = read_load (step.advance_reading me.0) (λ found. aside _ _ refl refl refl refl) (advance_read-keeps me.0.setup.about id me.0.holder worker) (advance_read-remembers me.0.setup.about id (plain me.0))
 
   pub advance_loads : me.0.holder.task ≡ task.AdvRead → Mine 0 (λ n. n) (λ found after. IsWriteFound me.0.holder found × (after ≡ (step.advance_loading me.0 found, me.1)))
   advance_loads reads =
-      write_load (step.advance_loading me.0) (λ found. aside _ _ refl refl refl (advance_seat me.0.setup.about me.0.holder found)) (advance_load-keeps me.0.setup.about id me.0.holder reads)
+      write_load (step.advance_loading me.0) (λ found. aside _ _ refl refl refl (advance_seat me.0.setup.about me.0.holder found)) (advance_load-keeps me.0.setup.about id me.0.holder reads) (advance_load-remembers me.0.setup.about id (plain me.0))
 
   pub poll_reads : Mine 1 (λ n. n) (λ found after. IsReadFound me.0.holder found × (after ≡ (step.poll_reading me.0 found, me.1)))
-  poll_reads = read_load (step.poll_reading me.0) (λ found. aside _ _ refl refl refl refl) (poll_read-keeps me.0.setup.about id me.0.holder)
+  poll_reads = read_load (step.poll_reading me.0) (λ found. aside _ _ refl refl refl refl) (poll_read-keeps me.0.setup.about id me.0.holder) (poll_read-remembers me.0.setup.about id (plain me.0))
 
   pub poll_loads : me.0.holder.task ≡ task.PollRead → Mine 0 (λ n. n) (λ found after. IsWriteFound me.0.holder found × (after ≡ (step.poll_loading me.0 found, me.1)))
-  poll_loads reads = write_load (step.poll_loading me.0) (λ found. aside _ _ refl refl refl refl) (poll_load-keeps me.0.setup.about id me.0.holder reads)
+  poll_loads reads = write_load (step.poll_loading me.0) (λ found. aside _ _ refl refl refl refl) (poll_load-keeps me.0.setup.about id me.0.holder reads) (poll_load-remembers me.0.setup.about id (plain me.0))
 
   -- a load of the next seat's word
   pub poll_scans : (i : ℕ) → i ≡ seat_place me.0.holder.scanned → me.0.holder.task ≡ task.Scanning → me.0.holder.scanned < me.0.setup.about.seats
@@ -88,28 +93,29 @@ module _ {P : Type 0} (holds : Rule P) (includes : Includes holds) (frame : Fram
   poll_scans i place scanning known =
       subst (λ (j : ℕ). Mine j same (λ found after. IsSeatWord found × (after ≡ (step.poll_scanning me.0 found, me.1)))) (sym place)
       (allowed holds includes frame a slots id me (seat_place me.0.holder.scanned) same (step.poll_scanning me.0) (λ found after. IsSeatWord found × (after ≡ (step.poll_scanning me.0 found, me.1))) own (omega arith)
-      (λ found. aside _ _ refl refl refl refl) (poll_scan-keeps me.0.setup.about id me.0.holder scanning known)
+      (λ found. aside _ _ refl refl refl refl) (poll_scan-keeps me.0.setup.about id me.0.holder scanning known) (poll_scan-remembers me.0.setup.about id (plain me.0) scanning known)
       (λ ws hs law at. (law.seat_words me.0.holder.scanned known, refl)))
 
   -- a store in one's own word
   own_store : (i s word value : ℕ) (next : View P) → i ≡ seat_place s → word ≡ value → s < me.0.setup.about.seats → SameAside me.0 next
       → Keeps me.0.setup.about id me.0.holder (seat_place s) (stored value) (λ found. next.holder)
+      → KeepsMemory me.0.setup.about id (plain me.0) (seat_place s) (λ found. plain next)
       → Mine i (λ n. word) (λ found after. after ≡ (next, me.1))
-  own_store i s word value next place is known aside lawful =
+  own_store i s word value next place is known aside lawful remembers =
       subst (λ (j : ℕ). Mine j (λ n. word) (λ found after. after ≡ (next, me.1))) (sym place)
       (subst (λ (w : ℕ). Mine (seat_place s) (λ n. w) (λ found after. after ≡ (next, me.1))) (sym is)
-      (allowed holds includes frame a slots id me (seat_place s) (stored value) (λ found. next) (λ found after. after ≡ (next, me.1)) own (omega arith) (λ found. aside) lawful
+      (allowed holds includes frame a slots id me (seat_place s) (stored value) (λ found. next) (λ found after. after ≡ (next, me.1)) own (omega arith) (λ found. aside) lawful remembers
       (λ ws hs law at. refl)))
 
   pub enter_stores : (i s word : ℕ) → i ≡ seat_place s → word ≡ clock.entry_word me.0.holder → s < me.0.setup.about.seats → me.0.holder.seat ≡ Some s → me.0.holder.phase ≡ phase.Loaded
       → Mine i (λ n. word) (λ found after. after ≡ (step.enter_storing me.0, me.1))
   enter_stores i s word place is known seat loaded =
-      own_store i s word (clock.entry_word me.0.holder) (step.enter_storing me.0) place is known (aside _ _ refl refl refl refl) (enter_store-keeps me.0.setup.about id me.0.holder s seat loaded)
+      own_store i s word (clock.entry_word me.0.holder) (step.enter_storing me.0) place is known (aside _ _ refl refl refl refl) (enter_store-keeps me.0.setup.about id me.0.holder s seat loaded) (enter_store-remembers me.0.setup.about id s (plain me.0) loaded)
 
   pub clears : (i s : ℕ) → i ≡ seat_place s → s < me.0.setup.about.seats → me.0.holder.seat ≡ Some s → (me.0.holder.phase ≡ phase.Inside) ⊎ (me.0.holder.phase ≡ phase.Late)
       → Mine i (λ n. 0) (λ found after. after ≡ (step.clearing me.0, me.1))
   clears i s place known seat in_or_late =
-      own_store i s 0 0 (step.clearing me.0) place refl known (aside _ _ refl refl refl refl) (clear-keeps me.0.setup.about id me.0.holder s seat in_or_late)
+      own_store i s 0 0 (step.clearing me.0) place refl known (aside _ _ refl refl refl refl) (clear-keeps me.0.setup.about id me.0.holder s seat in_or_late) (clear-remembers me.0.setup.about id s (plain me.0))
 
   -- the exchange of the write hand
   pub advance_swaps : (old new : ℕ) → old ≡ me.0.holder.write → new ≡ clock.goal_of me.0.holder → me.0.holder.task ≡ task.AdvLoaded
@@ -119,7 +125,7 @@ module _ {P : Type 0} (holds : Rule P) (includes : Includes holds) (frame : Fram
       (subst (λ (m : ℕ). Mine 0 (λ n. either (n == me.0.holder.write) m n) (λ found after. IsWriteFound me.0.holder found × (after ≡ (step.advance_swapping me.0 found, me.1)))) (sym is)
       (allowed holds includes frame a slots id me write_place (exchanged me.0.holder.write (clock.goal_of me.0.holder)) (step.advance_swapping me.0)
       (λ found after. IsWriteFound me.0.holder found × (after ≡ (step.advance_swapping me.0 found, me.1))) own (omega arith)
-      (λ found. aside _ _ refl refl refl refl) (advance_swap-keeps me.0.setup.about id me.0.holder loaded)
+      (λ found. aside _ _ refl refl refl refl) (advance_swap-keeps me.0.setup.about id me.0.holder loaded) (advance_swap-remembers me.0.setup.about id (plain me.0))
       (λ ws hs law at. (write_found me.0.setup.about ws hs id me.0.holder law at, refl))))
 
   -- the exchange of the read hand
@@ -130,5 +136,5 @@ module _ {P : Type 0} (holds : Rule P) (includes : Includes holds) (frame : Fram
       (subst (λ (m : ℕ). Mine 1 (λ n. either (n == me.0.holder.read) m n) (λ found after. IsReadFound me.0.holder found × (after ≡ (step.poll_swapping me.0 found, me.1)))) (sym is)
       (allowed holds includes frame a slots id me read_place (exchanged me.0.holder.read me.0.holder.least) (step.poll_swapping me.0)
       (λ found after. IsReadFound me.0.holder found × (after ≡ (step.poll_swapping me.0 found, me.1))) own (omega arith)
-      (λ found. aside _ _ refl refl refl refl) (poll_swap-keeps me.0.setup.about id me.0.holder scanning all)
+      (λ found. aside _ _ refl refl refl refl) (poll_swap-keeps me.0.setup.about id me.0.holder scanning all) (poll_swap-remembers me.0.setup.about id (plain me.0) scanning all)
       (λ ws hs law at. (read_found me.0.setup.about ws hs id me.0.holder law at, refl))))

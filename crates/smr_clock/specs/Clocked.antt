@@ -4,9 +4,10 @@ use mathlib.Core.Option.{some}
 use lib.ListN.{get_elem?}
 use Rattle.smr_core.specs.declared.phase.Phase.TheVariants as phase
 use Rattle.smr_core.specs.ClockLaw.{ClockLaw}
+use Rattle.smr_core.specs.Remembered.{RememberedLaw}
 use Rattle.smr_clock.specs.declared.setup.Setup.{Setup}
 use Rattle.smr_clock.specs.declared.view.View.{View}
-use Rattle.smr_clock.specs.Views.{holders_of, seats_in}
+use Rattle.smr_clock.specs.Views.{plain_views, holders_of, seats_in}
 
 -- every view but a spent one has the clock's setup
 abbrev pub HaveSetup : {P : Type 0} → Setup → List (View P) → Type 0
@@ -20,5 +21,7 @@ CountsMade {P} vs =
 
 pub record Clocked {P : Type 0} (a : Setup) (ws : List ℕ) (vs : List (View P)) : Type 0 where
   pub law : ClockLaw a.about ws (holders_of vs)
+  -- what a poll found was stored by the workers of the seats
+  pub memory : RememberedLaw a.about (plain_views vs)
   pub setups : HaveSetup a vs
   pub makers : CountsMade vs

@@ -3,9 +3,10 @@ use Rattle.std.specs.Prelude.{◌≡◌, ℕ, ◌≤◌, List, [], ◌∷◌, �
 use mathlib.Core.Option.{some}
 use lib.ListN.{get_elem?}
 use Rattle.smr_core.specs.ClockState.{place_after_seats, write_hand, read_hand}
+use Rattle.smr_core.specs.Remembered.{RememberedLaw}
 use Rattle.smr_clock.specs.declared.setup.Setup.{Setup}
 use Rattle.smr_clock.specs.declared.view.View.{View}
-use Rattle.smr_clock.specs.Views.{seats_in, hosts_of}
+use Rattle.smr_clock.specs.Views.{plain_views, seats_in, hosts_of}
 use Rattle.smr_clock.specs.Clocked.{Clocked}
 
 -- a rule over all words and all views
@@ -14,6 +15,10 @@ Rule P = Setup → List ℕ → List (View P) → Type 0
 
 abbrev pub Includes : {P : Type 0} → Rule P → Type 0
 Includes {P} holds = (a : Setup) (ws : List ℕ) (vs : List (View P)) → holds a ws vs → Clocked a ws vs
+
+-- What is remembered is so: the words that a poll found were stored by the workers of their seats, and what it scanned, and its least mark, follow from them.
+abbrev pub IncludesMemory : {P : Type 0} → Rule P → Type 0
+IncludesMemory {P} holds = (a : Setup) (ws : List ℕ) (vs : List (View P)) → holds a ws vs → RememberedLaw a.about (plain_views vs)
 
 -- A step of the clock, as a host sees it: the clock's law holds before and after, neither hand is lower, and the host's words are as they were.
 pub record Moved {P : Type 0} (a : Setup) (ws : List ℕ) (vs : List (View P)) (ws' : List ℕ) (vs' : List (View P)) : Type 0 where

@@ -10,4 +10,6 @@ pub mod Notes
 pub mod Making
 pub mod Polls
 pub mod SafeReuse
+pub mod Complete
 pub mod HostSteps
+pub mod CountingHost

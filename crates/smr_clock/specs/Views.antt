@@ -3,6 +3,7 @@ use Rattle.std.specs.Prelude.{ℕ, List, map, Option, Some, None}
 use Rattle.smr_core.specs.declared.holder.Holder.{Holder}
 use Rattle.smr_core.specs.ClockState.{seats_of, spent, first_holder}
 use Rattle.smr_core.specs.Remembered.{Remembered, nothing_remembered}
+use Rattle.smr_core.specs.Remembered.{View as Plain}
 use Rattle.smr_clock.specs.declared.setup.Setup.{Setup}
 use Rattle.smr_clock.specs.declared.view.Remembers.{Remembers}
 use Rattle.smr_clock.specs.declared.view.View.{View}
@@ -25,6 +26,13 @@ memory_of r =
       last = record { read = r.last.read; write = r.last.write; found = r.last.found; least = r.last.least; value = r.last.value };
       polls = r.polls;
     }
+
+-- what a view knows and remembers beside its host's part, as the laws of the core's crate read it
+abbrev pub plain : {P : Type 0} → View P → Plain
+plain v = (v.holder, remembered v.memory)
+
+abbrev pub plain_views : {P : Type 0} → List (View P) → List Plain
+plain_views vs = map (λ v. plain v) vs
 
 -- the views' holders, their seats and their host parts, in the order of the views
 abbrev pub holders_of : {P : Type 0} → List (View P) → List Holder

@@ -1,7 +1,9 @@
 use smr_seq::Seq;
 
-/// The answer of an advance: a section that is before it was open when the write hand came to it, or
-/// was entered by a pass that knew of no hand as high.
+/// The answer of an advance: two above the write hand that it loaded. A section is before the goal
+/// where its entry mark is below it, that is, where it was entered before the write hand came to the
+/// goal. What was unlinked before the advance can be seen by such sections alone, so it may be used
+/// again once the goal is expired: a poll's yes says so.
 #[derive(Clone, Copy, Debug, PartialEq, Eq)]
 pub struct Goal {
     pub(crate) number: u64,

@@ -7,7 +7,8 @@ use std::marker::PhantomData;
 /// includes the clock's law and is kept by every step of the clock.
 ///
 /// A view's host part is what it has beside the clock. A step of the clock changes no host part but
-/// where a seat is split or joined.
+/// where a seat is split or joined. For a host's own steps the lemmas of `proofs/HostClocked` have
+/// the clock's half, so a host proves its own rule alone; `specs/CountingHost` is one, whole.
 pub trait Host {
     type Part;
 

@@ -1,18 +1,31 @@
 //! What follows from the law of the running clock. A call here does nothing: its contract is the law.
 
 ghost use Rattle.smr_clock.specs.declared.setup.Setup.{Setup};
-ghost use Rattle.smr_clock.specs.HostLaws.{Includes};
+ghost use Rattle.smr_clock.specs.HostLaws.{Includes, IncludesMemory};
+ghost use Rattle.smr_clock.specs.Complete.{AdvancesWithRoom, SaysYesOfKnown, SaysYesOfNoSection};
 ghost use Rattle.smr_clock.specs.SafeReuse.{KnownIsOver};
 
 use crate::host::Host;
 
-/// The clock's law is part of every host's rule, so it holds at every moment of every clock.
+/// The clock's law is part of every host's rule, so it holds at every moment of every clock. So does
+/// the law of what seats remember: each word that a poll found is 0, or the low half of a write hand
+/// that the worker of its seat has stored.
 pub fn every_rule_has_the_law<H: Host>()
-    ensures { Includes H.holds }
+    ensures clock { Includes H.holds }
+    ensures memory { IncludesMemory H.holds }
 {}
 
 /// Safe reuse: from a poll's yes on, whose note knows a floor at or above the goal, the goal is expired
 /// at every later moment of that clock, and no open section is before it.
 pub fn no_section_is_before_a_known_goal<H: Host>()
     ensures { (setup : Setup) → KnownIsOver H.Part setup }
+{}
+
+/// An advance is refused only for want of room, and a poll may not say no where its note knew that the
+/// goal is expired and the tag can't be mistaken, nor where it found no section and its exchange
+/// wasn't overtaken.
+pub fn refusals_have_their_cause<H: Host>()
+    ensures advances { AdvancesWithRoom H.Part }
+    ensures known { SaysYesOfKnown H.Part }
+    ensures no_section { SaysYesOfNoSection H.Part }
 {}

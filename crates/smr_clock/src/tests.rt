@@ -7,6 +7,7 @@ use smr_core::Phase;
 use std::alloc::Global;
 use std::test::Fail;
 
+mod counting;
 mod making;
 mod schedules;
 mod turns;

@@ -10,3 +10,4 @@ pub mod Swaps
 pub mod Splits
 pub mod Joins
 pub mod OtherWords
+pub mod Memory

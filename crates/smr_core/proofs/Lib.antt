@@ -1,6 +1,7 @@
 pub mod PlaceLemmas
 pub mod MoveLemmas
 pub mod KindLemmas
+pub mod RememberedLemmas
 pub mod Keeps
 pub mod CoreLemmas
 pub mod WorksLemmas

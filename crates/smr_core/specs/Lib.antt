@@ -3,6 +3,7 @@ pub mod ClockStep
 pub mod ClockLaw
 pub mod ClockMoves
 pub mod Remembered
+pub mod RememberedMoves
 pub mod CoreState
 pub mod CoreStep
 pub mod Turns

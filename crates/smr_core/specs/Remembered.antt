@@ -8,6 +8,7 @@ use Rattle.smr_core.specs.declared.holder.Holder.{Holder}
 use Rattle.smr_core.specs.declared.phase.Phase.{Phase}
 use Rattle.smr_core.specs.declared.phase.Phase.TheVariants as phase
 use Rattle.smr_core.specs.declared.task.Task.TheVariants as task
+use Rattle.smr_core.specs.ClockState.{IsOdd}
 use Rattle.smr_core.specs.ClockStep.{least_after, last_found}
 
 -- A poll that came to its exchange: both hands that it loaded, the words that it found, the least mark, and the read hand last found.
@@ -93,6 +94,7 @@ WordsWereStored vs found =
 
 pub record RememberedFits (a : About) (vs : List View) (v : View) : Type 0 where
   pub stored : StoredFits v.0.phase v.0 v.1
+  pub odd : (entered : ℕ) → Contains v.1.stored entered → IsOdd entered
   pub scan : v.0.task ≡ task.Scanning → FoundFits v.0 v.1
   pub found : WordsWereStored vs v.1.found
   pub last : 0 < v.1.polls → LastFits a v.1.last

@@ -3,6 +3,7 @@
 
 ghost use Rattle.smr_core.specs.ClockMoves.{BeginsLawful, OtherWordKeeps, WriteLookKeeps, ReadLookKeeps, EnterLoadKeeps, EnterStoreKeeps, EnterCheckKeeps, ClearKeeps, AdvanceReadKeeps, AdvanceLoadKeeps, AdvanceSwapKeeps, PollReadKeeps, PollLoadKeeps, PollEndKeeps, PollScanKeeps, PollSwapKeeps, NoteKeeps, WorkerKeeps, JoinKeeps};
 ghost use Rattle.smr_core.specs.TurnLaws.{TurnIsDetermined, TakenIsNotRefused};
+ghost use Rattle.smr_core.specs.RememberedMoves.{BeginsRemembering, WriteLookRemembers, ReadLookRemembers, EnterLoadRemembers, EnterStoreRemembers, EnterCheckRemembers, ClearRemembers, AdvanceReadRemembers, AdvanceLoadRemembers, AdvanceSwapRemembers, PollReadRemembers, PollLoadRemembers, PollScanRemembers, PollSwapRemembers, NoteRemembers, WorkerRemembers, JoinRemembers};
 ghost use Rattle.smr_core.specs.YesMeans.{YesIsKnown, YesMeansExpired, YesIsExpired, GoalIsExpired, PollKeepsItsTag, HandsNeverFall, WindowIsKept, MarksAreKept, EntryIsTheThirdStep};
 
 /// The clock's law holds where a clock begins, and each kind of step keeps it from every state in
@@ -27,6 +28,29 @@ pub fn steps_keep_the_law()
     ensures note { NoteKeeps }
     ensures worker { WorkerKeeps }
     ensures join { JoinKeeps }
+{}
+
+/// What the views of a running clock remember beside their holders is so where a clock begins, and
+/// stays so by each kind of step: a poll's words were stored by the workers of their seats, and how
+/// many were scanned, and the least mark, follow from them.
+pub fn steps_keep_what_is_remembered()
+    ensures begins { BeginsRemembering }
+    ensures write_look { WriteLookRemembers }
+    ensures read_look { ReadLookRemembers }
+    ensures enter_load { EnterLoadRemembers }
+    ensures enter_store { EnterStoreRemembers }
+    ensures enter_check { EnterCheckRemembers }
+    ensures clear { ClearRemembers }
+    ensures advance_read { AdvanceReadRemembers }
+    ensures advance_load { AdvanceLoadRemembers }
+    ensures advance_swap { AdvanceSwapRemembers }
+    ensures poll_read { PollReadRemembers }
+    ensures poll_load { PollLoadRemembers }
+    ensures poll_scan { PollScanRemembers }
+    ensures poll_swap { PollSwapRemembers }
+    ensures note { NoteRemembers }
+    ensures worker { WorkerRemembers }
+    ensures join { JoinRemembers }
 {}
 
 /// What a poll's yes says, of one step: each number up to the write hand that the poll loaded, whose

@@ -26,16 +26,10 @@ pub fn read_lines<G: Grammar>(grammar: &mut G, text: &[u8]) -> Result<(), ParseR
         }
         rest = behind;
     }
-    if grammar.is_ended() {
-        Ok(())
-    } else {
-        Err(at_line(
-            number + 1,
-            LineRefused::Kind {
-                kind: TraceKind::NoEnd,
-            },
-        ))
+    if !grammar.is_ended() {
+        return Err(at_line(number + 1, TraceKind::NoEnd.into()));
     }
+    Ok(())
 }
 
 /// The refusal of the line of this number.

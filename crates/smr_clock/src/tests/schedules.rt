@@ -33,6 +33,7 @@ fn an_enter_is_overtaken_by_the_window(rt: HostRuntime) -> Result<(), Fail> {
     };
     assert_eq!(rt; clock.enter_check(&mut reader), Err(late));
     assert_eq!(rt; clock.enter(&mut reader), Ok(()));
+    assert_eq!(rt; clock.hands(&mut writer), (5, 5));
     Ok(())
 }
 
@@ -49,6 +50,31 @@ fn an_advance_has_no_room_while_a_section_is_open(rt: HostRuntime) -> Result<(),
     assert!(rt; clock.poll(&mut note, &fifth));
     assert_eq!(rt; clock.advance(&mut writer)?.tag().raw, 7);
     clock.absorb(&mut writer, note);
+    assert_eq!(rt; clock.hands(&mut writer), (5, 7));
+    Ok(())
+}
+
+#[test]
+fn a_poll_reads_tags_and_words_across_the_wrap(rt: HostRuntime) -> Result<(), Fail> {
+    let (below, above) = (4_294_967_295, 4_294_967_297);
+    let (clock, mut reader, mut writer) = two_seats(rt.alloc(), below, 8)?;
+    clock.enter(&mut reader)?;
+    let goal = clock.advance(&mut writer)?;
+    let mut note = clock.note(&mut writer);
+    assert!(rt; goal.tag().raw == 1 && !clock.poll(&mut note, &goal));
+    assert_eq!(rt; clock.hands(&mut writer), (below, above));
+    clock.exit(&mut reader);
+    assert!(rt; clock.poll(&mut note, &goal));
+    assert_eq!(rt; clock.hands(&mut writer), (above, above));
+    Ok(())
+}
+
+// The other pass's advance, which is interrupted before its exchange, can't be written as a call.
+#[test]
+fn an_advance_alone_moves_the_write_hand_by_two(rt: HostRuntime) -> Result<(), Fail> {
+    let (clock, _, mut writer) = two_seats(rt.alloc(), 1, 8)?;
+    assert_eq!(rt; clock.advance(&mut writer)?.tag().raw, 3);
+    assert_eq!(rt; clock.hands(&mut writer), (1, 3));
     Ok(())
 }
 

@@ -1,12 +1,12 @@
 -- A word behind the seats' words may change: the law reads none of them.
-use Rattle.std.proofs.Common.{◌≡◌, ℕ, ◌+◌, ◌-◌, ◌^◌, ◌<◌, ◌≤◌, List, length, set, sym, refl, ap, subst, subst₂, ◌∙◌, arith, Option, Some, None, length-set, get_or-set_other}
+use Rattle.std.proofs.Common.{◌≡◌, ℕ, ◌-◌, ◌^◌, ◌<◌, ◌≤◌, List, set, sym, refl, ap, subst, subst₂, ◌∙◌, arith, Option, Some, None, length-set, get_or-set_other}
 use lib.ListN.{get_elem?}
 use mathlib.Core.Option.{some}
 use Rattle.smr_core.specs.declared.about.About.{About}
 use Rattle.smr_core.specs.declared.holder.Holder.{Holder}
 use Rattle.smr_core.specs.declared.phase.Phase.TheVariants as phase
-use Rattle.smr_core.specs.ClockState.{IsOdd, IsSeatWord, place_after_seats, write_place, read_place, seat_place, write_hand, read_hand, seat_word, word_of, seats_of}
-use Rattle.smr_core.specs.ClockLaw.{HandsFit, ClockLaw, Later}
+use Rattle.smr_core.specs.ClockState.{IsOdd, IsSeatWord, place_after_seats, write_place, read_place, seat_place, write_hand, read_hand, seat_word, word_of}
+use Rattle.smr_core.specs.ClockLaw.{HandsFit, ClockLaw}
 use Rattle.smr_core.specs.ClockMoves.{OtherWordKeeps}
 use Rattle.smr_core.proofs.PlaceLemmas.{at_map}
 use Rattle.smr_core.proofs.KindLemmas.{in_phase}

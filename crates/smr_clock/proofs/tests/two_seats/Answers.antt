@@ -1,4 +1,4 @@
-use Rattle.std.proofs.Common.{◌≡◌, ◌++◌, List, Option, ap, ◌∙◌}
+use Rattle.std.proofs.Common.{◌++◌, Option, ap, ◌∙◌}
 use Rattle.std.specs.Prelude.{option_to_list}
 use Rattle.smr_clock.specs.declared.view.View.{View}
 use Rattle.smr_clock.proofs.MakingLemmas.{last_there, before_last_there}
