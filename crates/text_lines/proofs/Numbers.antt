@@ -60,7 +60,7 @@ number_is_parsed {E} text parsed (Err e) same read = λ n is.
 
 -- ---- the number as a function of its text
 
-IsNumber-from_number_of : (text : List ℕ) (n : ℕ) → number_of text ≡ Some n → IsNumber text n
+pub IsNumber-from_number_of : (text : List ℕ) (n : ℕ) → number_of text ≡ Some n → IsNumber text n
 unfolding number_of
 IsNumber-from_number_of text n e =
     let value : ℕ = digits_value 10 text in
@@ -69,7 +69,7 @@ IsNumber-from_number_of text n e =
     let P : ℕ → Type 0 = λ k. IsNumber text k in
     subst P g.1 (record { digits = (bytes_eq-Decides text (decimal value)).0 both.1; fits = ltb-true value (2 ^ 64) both.0 })
 
-number_of_again : (text : List ℕ) (n : ℕ) → IsNumber text n → number_of text ≡ Some n
+pub number_of_again : (text : List ℕ) (n : ℕ) → IsNumber text n → number_of text ≡ Some n
 unfolding number_of
 number_of_again text n is =
     let value : digits_value 10 text ≡ n = ap (λ (t : List ℕ). digits_value 10 t) is.digits ∙ (decimal_is_IsNumeral n is.fits).1 in

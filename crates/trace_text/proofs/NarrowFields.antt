@@ -18,8 +18,9 @@ use Rattle.std.proofs.lemmas.Str.Parse.{not_in_digits}
 use Rattle.zone_stats.specs.Name.{IsName, is_name_character}
 use Rattle.trace_text.specs.Limits.{IsWithin}
 use Rattle.text_lines.specs.Number.{IsNumber}
-use Rattle.trace_text.specs.NarrowReading.{◌>>=◌, Gives, after_text, field_at, is_name, name_at, number_of, number_at}
-use Rattle.text_lines.proofs.Numbers.{own}
+use Rattle.trace_text.specs.NarrowReading.{◌>>=◌, Gives, after_text, field_at, is_name, name_at, number_at}
+use Rattle.text_lines.specs.Number.{number_of}
+use Rattle.text_lines.proofs.Numbers.{own, IsNumber-from_number_of, number_of_again, number_of_is}
 
 -- the value of a step that gave one
 pub bind_some : {A B : Type 0} (o : Option A) (f : A → Option B) (y : B) → (o >>= f) ≡ Some y → (x : A) × (o ≡ Some x) × (f x ≡ Some y)
@@ -28,10 +29,6 @@ bind_some None f y e = absurd cc
 
 pub some_is : {A : Type 0} (x y : A) → ◌≡◌ {A = Option A} (Some x) (Some y) → x ≡ y
 some_is x y e = cc
-
-not_some : {A : Type 0} (o : Option A) → ((x : A) → o ≡ Some x → ⊥) → o ≡ None
-not_some (Some x) h = absurd (h x refl)
-not_some None h = refl
 
 none_anyway : {A : Type 0} (b : Bool) (o : Option A) → o ≡ None → cond b None o ≡ None
 none_anyway true o e = refl
@@ -104,27 +101,6 @@ unfolding field_at
 field_step stop bytes o e = rw e refl
 
 -- ---- numbers
-
-IsNumber-from_number_of : (text : List ℕ) (n : ℕ) → number_of text ≡ Some n → IsNumber text n
-unfolding number_of
-IsNumber-from_number_of text n e =
-    let value : ℕ = digits_value 10 text in
-    let g = cond_some (ltb value (2 ^ 64) && bytes_eq text (decimal value)) value n e in
-    let both = and_parts (ltb value (2 ^ 64)) (bytes_eq text (decimal value)) g.0 in
-    let P : ℕ → Type 0 = λ k. IsNumber text k in
-    subst P g.1 (record { digits = (bytes_eq-Decides text (decimal value)).0 both.1; fits = ltb-true value (2 ^ 64) both.0 })
-
-number_of_again : (text : List ℕ) (n : ℕ) → IsNumber text n → number_of text ≡ Some n
-unfolding number_of
-number_of_again text n is =
-    let value : digits_value 10 text ≡ n = ap (λ (t : List ℕ). digits_value 10 t) is.digits ∙ (decimal_is_IsNumeral n is.fits).1 in
-    let same : bytes_eq text (decimal n) ≡ true = (bytes_eq-Decides text (decimal n)).1 is.digits in
-    rw (value, lt-ltb n (2 ^ 64) is.fits, same) refl
-
--- what reads every number, and nothing else, reads as `number_of` does
-number_of_is : (text : List ℕ) (r : Option ℕ) → IfSome r (IsNumber text) → IfNone r ((n : ℕ) → IsNumber text n → ⊥) → number_of text ≡ r
-number_of_is text (Some n) is none = number_of_again text n is
-number_of_is text None some none = not_some (number_of text) (λ n e. none n (IsNumber-from_number_of text n e))
 
 abbrev pub within : ℕ → ℕ → List ℕ → ℕ → Option (ℕ × List ℕ)
 within low high rest n = cond (ltb n low) None (cond (ltb high n) None (Some (n, rest)))

@@ -1,10 +1,9 @@
 -- Reading a narrow text from left to right, as functions on lists (own). Each gives what it read and the bytes behind
 -- it, or nothing. That they read what the canonical text spells, and nothing else, is proved; no public clause cites them.
-use Rattle.std.specs.Prelude.{ℕ, ◌+◌, ◌^◌, List, [], ◌∷◌, ◌++◌, length, take, drop, Bool, false, ◌&&◌, if◌then◌else◌, nat_lt, nat_le, Option, Some, None, codes, position, ◌==◌, ◌≡◌, ◌≤◌, is_some, slice_index_or, MatchBool}
+use Rattle.std.specs.Prelude.{ℕ, ◌+◌, List, [], ◌∷◌, ◌++◌, length, take, drop, Bool, false, ◌&&◌, if◌then◌else◌, nat_lt, nat_le, Option, Some, None, codes, position, ◌==◌, ◌≡◌, ◌≤◌, is_some, slice_index_or, MatchBool}
 use Rattle.std.specs.List.{list_all, flat_map, AllByRecursion}
 use Rattle.std.specs.Str.{bytes_eq}
-use Rattle.std.specs.Str.Parse.{digits_value}
-use Rattle.std.specs.Fmt.{decimal}
+use Rattle.text_lines.specs.Number.{number_of}
 use Rattle.zone_stats.specs.Name.{is_name_character}
 use Rattle.trace_text.specs.declared.head.ZoneHead.{ZoneHead}
 use Rattle.trace_text.specs.declared.head.ZoneKind.TheVariants.{Plain}
@@ -48,10 +47,6 @@ unfoldable pub name_at : List ℕ → Option (List ℕ × List ℕ)
 name_at bytes = do
   field ← field_at 32 bytes
   if is_name field.0 then Some field else None
-
--- the number whose decimal the text is
-unfoldable pub number_of : List ℕ → Option ℕ
-number_of text = let n = digits_value 10 text in if (nat_lt n (2 ^ 64) && bytes_eq text (decimal n)) then Some n else None
 
 -- a number from `low` to `high` before the first `stop`
 unfoldable pub number_at : ℕ → ℕ → ℕ → List ℕ → Option (ℕ × List ℕ)
