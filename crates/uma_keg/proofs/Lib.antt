@@ -10,3 +10,8 @@ pub mod RoomPuts
 pub mod RoomTakes
 pub mod Rooms
 pub mod Slabs
+mod Outs
+mod ShelfItems
+mod RightsOut
+mod NewKeg
+mod GivenItem

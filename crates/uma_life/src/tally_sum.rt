@@ -15,3 +15,25 @@ pub struct TallySum {
     /// By the zone's number. Zone 0 is the primary zone, whose inits and finis stay 0.
     pub zones: [ZoneTallySum; 8],
 }
+
+impl TallySum {
+    ghost use Rattle.std.specs.Prelude.{◌≡◌};
+    ghost use Rattle.uma_life.specs.Sum.{no_sums};
+
+    /// The sums of no tally.
+    pub fn none() -> TallySum
+        ensures { result ≡ no_sums }
+    {
+        let none = ZoneTallySum {
+            inits: 0,
+            ctors: 0,
+            dtors: 0,
+            finis: 0,
+        };
+        TallySum {
+            keg_inits: 0,
+            keg_finis: 0,
+            zones: [none; 8],
+        }
+    }
+}
