@@ -15,3 +15,4 @@ mod ShelfItems
 mod RightsOut
 mod NewKeg
 mod GivenItem
+mod FetchOutcomes

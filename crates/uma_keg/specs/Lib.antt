@@ -10,3 +10,4 @@ pub mod ShelfLists
 pub mod Shelves
 pub mod KegLaw
 pub mod Keg
+pub mod Fetch

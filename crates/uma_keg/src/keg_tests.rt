@@ -1,2 +1,3 @@
 mod body;
+mod fetches;
 mod zones;

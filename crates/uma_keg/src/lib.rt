@@ -7,6 +7,7 @@
 #![tactic(auto)]
 
 mod counts;
+mod fetch_law;
 mod give;
 mod keg;
 #[cfg(test)]
@@ -22,6 +23,7 @@ mod shelves;
 mod tests;
 
 pub use counts::KegCounts;
+pub use fetch_law::fetches_keep_their_bounds;
 pub use keg::Keg;
 pub use places::Places;
 pub use refused::KegRefused;
