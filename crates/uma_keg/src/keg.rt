@@ -20,16 +20,28 @@ use uma_life::{Body, Hooks, TallySum};
 use zone_stats::Refusal;
 
 /// The store of items that a primary zone and its secondary zones share.
+///
+/// The law that holds between any two calls:
+///
+/// 1. A place of a slab that is in is free exactly where the item of its number is at home, and used exactly where the
+///    number is outside, in the book of the keg's numbers. An item at home has its number, and its slab's domain.
+/// 2. A zone exists exactly where its right is at home in the book of the keg's rights. One that doesn't exist has no
+///    item outside, and no zone has more than its limit, where that is above 0.
+///
+/// Contracts alone see, for each zone, the list of the refusals of its fetches.
 #[derive(Drop)]
 pub struct Keg<T: Body, K: Hooks<T>> {
     pub(crate) places: Places,
     pub(crate) outside: Outside,
     pub(crate) shelves: Shelves<T>,
     pub(crate) rights: Book,
+    // By the zone's number.
     pub(crate) limits: [u64; 8],
     pub(crate) refusals: [Log<Refusal>; 8],
     pub(crate) reserve: u64,
+    // The sums of the tallies of buried bodies.
     pub(crate) buried: TallySum,
+    // Those of the primary zone.
     pub(crate) hooks: K,
     pub ghost places_law: { PlacesLaw places (zones_of outside.book) shelves },
     pub ghost zones_law: { ZonesLaw (zones_of outside.book) (zones_of rights) limits },
