@@ -13,3 +13,9 @@ pub mod RoomPuts
 pub mod RoomTakes
 pub mod Rooms
 pub mod Slabs
+mod Outs
+mod ShelfItems
+mod RightsOut
+mod NewKeg
+mod GivenItem
+mod FetchOutcomes

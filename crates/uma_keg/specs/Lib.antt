@@ -4,3 +4,11 @@ pub mod Places
 pub mod Refused
 pub mod Room
 pub mod Taking
+pub mod Outs
+pub mod Outside
+pub mod Shelf
+pub mod ShelfLists
+pub mod Shelves
+pub mod KegLaw
+pub mod Keg
+pub mod Fetch

@@ -1,17 +1,29 @@
 //! The kegs of a zone allocator: where a zone's slabs come from and go back to.
 //!
-//! A keg has slabs of 4,096 bytes for items of one size. [`Places`] is what a keg knows of them without the items
-//! themselves: which slabs are in, and which of their places are free. An item's number is its slab's index times the
+//! A [`Keg`] has slabs of 4,096 bytes for items of one size, and up to eight zones that share them. It has the items that
+//! are at home, and books of those that are outside, by zone. [`Places`] is what a keg knows of its slabs without the
+//! items themselves: which are in, and which of their places are free. An item's number is its slab's index times the
 //! items of a slab, plus its place in the slab.
 #![tactic(auto)]
 
 mod counts;
+mod fetch_law;
+mod give;
+mod keg;
+#[cfg(test)]
+mod keg_tests;
+mod outside;
 mod places;
 mod refused;
+mod rights;
 mod room;
+mod shelf;
+mod shelves;
 #[cfg(test)]
 mod tests;
 
 pub use counts::KegCounts;
+pub use fetch_law::fetches_keep_their_bounds;
+pub use keg::Keg;
 pub use places::Places;
 pub use refused::KegRefused;

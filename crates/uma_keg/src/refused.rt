@@ -1,6 +1,7 @@
 ghost use Rattle.std.specs.Prelude.{◌≡◌};
 ghost use Rattle.uma_keg.specs.declared.refused.KegRefused.TheVariants.{Memory};
 
+use deed_book::Memory;
 use std::alloc::AllocError;
 
 /// Why no keg was made.
@@ -18,6 +19,17 @@ impl From<AllocError> for KegRefused {
     ghost from_gives = { λ _ refused. refused ≡ Memory };
 
     fn from(_: AllocError) -> Self {
+        KegRefused::Memory
+    }
+}
+
+impl From<Memory> for KegRefused {
+    ghost use Rattle.std.specs.Prelude.{◌≡◌};
+    ghost use Rattle.uma_keg.specs.declared.refused.KegRefused.TheVariants.{Memory};
+
+    ghost from_gives = { λ _ refused. refused ≡ Memory };
+
+    fn from(_: Memory) -> Self {
         KegRefused::Memory
     }
 }

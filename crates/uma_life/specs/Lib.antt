@@ -7,3 +7,4 @@ pub mod Stored
 pub mod Ticket
 pub mod Cached
 pub mod Live
+pub mod Sum

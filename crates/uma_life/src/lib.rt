@@ -16,6 +16,7 @@ mod order;
 mod refused;
 mod stored;
 mod tally;
+mod tally_sum;
 mod ticket;
 mod zone_tally;
 
@@ -30,6 +31,7 @@ pub use order::hooks_run_in_order;
 pub use refused::BringRefused;
 pub use stored::Stored;
 pub use tally::Tally;
+pub use tally_sum::{TallySum, ZoneTallySum};
 pub use ticket::Ticket;
 pub use zone_tally::ZoneTally;
 

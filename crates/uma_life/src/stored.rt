@@ -50,6 +50,19 @@ impl<T: Body> Stored<T> {
 }
 
 impl<T: Body> Stored<T> {
+    ghost use Rattle.uma_life.specs.Stored.{stored_body, stored_domain};
+
+    /// The item in a slab of this memory domain.
+    pub fn in_domain(self, domain: u8) -> Stored<T>
+        ensures body { stored_body result ≡ stored_body self }
+        ensures domain { stored_domain result ≡ domain }
+    {
+        let Stored { body, domain: _ } = self;
+        Stored { body, domain }
+    }
+}
+
+impl<T: Body> Stored<T> {
     ghost use Rattle.uma_life.specs.Stored.{stored_body, stored_no, stored_domain};
     ghost use Rattle.uma_life.specs.Bring.{RefusesToBring};
     ghost use Rattle.uma_life.specs.Ticket.{ticket_deed, ticket_domain};

@@ -3,3 +3,4 @@ pub mod LedgerSteps
 pub mod Line
 pub mod Name
 pub mod ReportText
+pub mod Cause

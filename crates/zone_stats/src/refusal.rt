@@ -1,4 +1,5 @@
 //! Why a request of an item got none.
+ghost use Rattle.std.specs.Prelude.{◌≡◌};
 
 /// Why a zone gave no item to a request, kept in the seat's ledger. Want of memory is none of these: it isn't counted.
 #[derive(Clone, Copy, Debug, PartialEq, Eq)]
@@ -13,4 +14,46 @@ pub enum Refusal {
     Init { code: u8 },
     /// The `ctor` of the zone refused the item, with this code.
     Ctor { code: u8 },
+}
+
+impl Refusal {
+    ghost use Rattle.zone_stats.specs.Cause.{cause_of};
+
+    /// The kind of the refusal, 1 to 5 in the order of the variants, and its numbers in order, 0 where there is none.
+    pub fn cause(self) -> (u64, u64, u64)
+        ensures { result ≡ cause_of self }
+    {
+        match self {
+            Refusal::AtLimit { out, limit } => (1, out, limit),
+            Refusal::Reserved { free, reserve } => (2, free, reserve),
+            Refusal::Full { slabs, made } => (3, u64::from(slabs), made),
+            Refusal::Init { code } => (4, u64::from(code), 0),
+            Refusal::Ctor { code } => (5, u64::from(code), 0),
+        }
+    }
+}
+
+#[cfg(test)]
+mod tests {
+    use super::*;
+
+    #[test]
+    fn a_refusal_has_its_kind_and_its_numbers(rt: HostRuntime) {
+        let cases = [
+            (Refusal::AtLimit { out: 4, limit: 5 }, (1, 4, 5)),
+            (
+                Refusal::Reserved {
+                    free: 2,
+                    reserve: 3,
+                },
+                (2, 2, 3),
+            ),
+            (Refusal::Full { slabs: 1, made: 9 }, (3, 1, 9)),
+            (Refusal::Init { code: 255 }, (4, 255, 0)),
+            (Refusal::Ctor { code: 7 }, (5, 7, 0)),
+        ];
+        for (refusal, cause) in cases {
+            assert_eq!(rt; refusal.cause(), cause);
+        }
+    }
 }

@@ -1,0 +1,89 @@
+-- A keg keeps its law where an item comes back.
+use Rattle.std.proofs.Common.{◌≡◌, ◌≢◌, ◌+◌, ◌/◌, ℕ, Bool, true, false, List, Option, Some, None, is_some, option_map, length, set, refl, inl, inr, arith, sym, ap, ◌∙◌}
+use Rattle.std.specs.List.{slice_get}
+use Rattle.std.proofs.lemmas.Bool.{cases_lt, cases_eq}
+use Rattle.std.proofs.lemmas.List.{get_or-set_same, get_or-set_other, get_or_past, length-set}
+use Rattle.std.proofs.lemmas.Option.{get_or_from_slice_get}
+use Rattle.uma_life.specs.declared.stored.Stored.{Stored}
+use Rattle.uma_life.specs.Stored.{stored_no, stored_domain}
+use Rattle.uma_keg.specs.declared.shelves.Shelves.{Shelves}
+use Rattle.uma_keg.specs.Places.{KegPlaces, place_at, domain_at, IsOut, Gives}
+use Rattle.uma_keg.specs.Shelves.{item_at, has_shelf, shelf_count, places_each}
+use Rattle.uma_keg.specs.Outs.{out_of}
+use Rattle.uma_keg.specs.KegLaw.{PlacesLaw, ZonesLaw, zone_at, is_used_place, is_free_place}
+use Rattle.uma_keg.proofs.Outs.{out_accepted, tick_same, tick_other}
+use Rattle.uma_keg.proofs.Slabs.{slab_of}
+
+used : (place : Option Bool) → is_used_place place ≡ true → place ≡ Some false
+used None is = cc
+used (Some true) is = cc
+used (Some false) is = refl
+
+not_some : {X : Type 0} (o : Option X) → is_some o ≡ false → o ≡ None
+not_some None is = refl
+not_some (Some x) is = cc
+
+-- the place of a number that is outside is used
+pub out_place : {T : Type 0} {g : _} {places : KegPlaces} {zones : List (Option ℕ)} {shelves : Shelves T g} → PlacesLaw places zones shelves → (n zone : ℕ) → slice_get zones n ≡ Some (Some zone) → IsOut places n
+out_place {places = places} {zones = zones} law n zone is =
+    used (place_at places n) (sym (law.outside n) ∙ ap is_some (get_or_from_slice_get zones n (Some zone) None is))
+
+-- its item is not at home
+pub out_item : {T : Type 0} {g : _} {places : KegPlaces} {zones : List (Option ℕ)} {shelves : Shelves T g} → PlacesLaw places zones shelves → (n : ℕ) → IsOut places n → item_at shelves n ≡ None
+out_item {shelves = shelves} law n out = not_some (item_at shelves n) (law.home n ∙ ap is_free_place out)
+
+-- and its slab has a shelf
+pub out_shelf : {T : Type 0} {g : _} {places : KegPlaces} {zones : List (Option ℕ)} {shelves : Shelves T g} → PlacesLaw places zones shelves → (n : ℕ) → IsOut places n → has_shelf shelves (n / places_each shelves) ≡ true
+unfolding domain_at
+out_shelf {places = places} {shelves = shelves} law n out =
+    let has = slab_of places n false out in
+    rw law.per_slab (law.slabs (n / places.per_slab) ∙ ap (λ s. is_some (option_map (λ slab. slab.domain) s)) has.in_keg)
+
+came_home : (zones : List (Option ℕ)) (n : ℕ) → zone_at (set zones n None) n ≡ None
+came_home zones n = elim (cases_lt n (length zones)) [
+  | inl within ↦ get_or-set_same zones n None None within
+  | inr past ↦ get_or_past (set zones n None) n None (rw (length-set zones n None) past)
+]
+
+pub PlacesLaw-given : {T : Type 0} {g : _} (places now : KegPlaces) (zones home : List (Option ℕ)) (shelves full : Shelves T g) (n : ℕ) (item : Stored T g) → PlacesLaw places zones shelves → Gives places n now → home ≡ set zones n None
+    → item_at full n ≡ Some item → ((m : ℕ) → m ≢ n → item_at full m ≡ item_at shelves m) → ((index : ℕ) → has_shelf full index ≡ has_shelf shelves index) → shelf_count full ≡ shelf_count shelves → places_each full ≡ places_each shelves
+    → stored_no item ≡ n → domain_at places (n / places.per_slab) ≡ Some (stored_domain item) → PlacesLaw now home full
+PlacesLaw-given places now zones home shelves full n item law gives is put kept same count each number domain = record {
+  per_slab = each ∙ law.per_slab ∙ sym gives.slabs.per_slab;
+  cap = count ∙ law.cap ∙ sym gives.slabs.cap;
+  numbers = rw (gives.slabs.per_slab, gives.slabs.cap) (ap length is ∙ length-set zones n None ∙ law.numbers);
+  slabs = λ index. same index ∙ law.slabs index ∙ sym (ap is_some (gives.slabs.domains index));
+  outside = λ m. elim (cases_eq m n) [
+    | inl at ↦ rw (at, is) (ap is_some (came_home zones n) ∙ sym (ap is_used_place gives.free))
+    | inr other ↦ ap is_some (ap (λ zs. zone_at zs m) is ∙ get_or-set_other zones n m None None other) ∙ law.outside m ∙ sym (ap is_used_place (gives.others m other))
+  ];
+  home = λ m. elim (cases_eq m n) [
+    | inl at ↦ rw at (ap is_some put ∙ sym (ap is_free_place gives.free))
+    | inr other ↦ ap is_some (kept m other) ∙ law.home m ∙ sym (ap is_free_place (gives.others m other))
+  ];
+  numbered = λ m found stands. elim (cases_eq m n) [
+    | inl at ↦ let same_item : item ≡ found = cc in rw (← same_item, at) number
+    | inr other ↦ law.numbered m found (sym (kept m other) ∙ stands)
+  ];
+  domains = λ m d found stands has. elim (cases_eq m n) [
+    | inl at ↦
+        let same_item : item ≡ found = cc in
+        let there : domain_at places (n / places.per_slab) ≡ Some d = sym (gives.slabs.domains (n / places.per_slab)) ∙ ap (λ (i : ℕ). domain_at now (i / places.per_slab)) (sym at) ∙ ap (λ (p : ℕ). domain_at now (m / p)) (sym gives.slabs.per_slab) ∙ has in
+        cc
+    | inr other ↦ law.domains m d found (sym (kept m other) ∙ stands) (sym (gives.slabs.domains (m / places.per_slab)) ∙ ap (λ (p : ℕ). domain_at now (m / p)) (sym gives.slabs.per_slab) ∙ has)
+  ];
+}
+
+pub ZonesLaw-given : (zones home rights : List (Option ℕ)) (limits : List ℕ) (n zone : ℕ) → ZonesLaw zones rights limits → home ≡ set zones n None → slice_get zones n ≡ Some (Some zone) → ZonesLaw home rights limits
+ZonesLaw-given zones home rights limits n zone law is out = rw is (record {
+  eight_rights = law.eight_rights;
+  eight_limits = law.eight_limits;
+  absent = λ z below no. omega (arith, law.absent z below no, out_accepted zones n zone z out);
+  bounded = λ z below limited. omega (arith, law.bounded z below limited, out_accepted zones n zone z out);
+})
+
+pub out_given : (zones home : List (Option ℕ)) (n zone : ℕ) → home ≡ set zones n None → slice_get zones n ≡ Some (Some zone) → out_of home zone + 1 ≡ out_of zones zone
+out_given zones home n zone is out = rw is (omega (arith, out_accepted zones n zone zone out, tick_same zone))
+
+pub outs_given : (zones home : List (Option ℕ)) (n zone other : ℕ) → home ≡ set zones n None → slice_get zones n ≡ Some (Some zone) → other ≢ zone → out_of home other ≡ out_of zones other
+outs_given zones home n zone other is out ne = rw is (omega (arith, out_accepted zones n zone other out, tick_other zone other ne))

@@ -1,0 +1,62 @@
+-- The items on a keg's shelves, where one place of one shelf changes.
+use Rattle.std.proofs.Common.{◌≡◌, ◌≢◌, ◌≤◌, ◌<◌, ◌/◌, ◌%◌, ℕ, true, List, Option, Some, None, length, replicate, get_or, set, is_some, inl, inr, refl, sym, ap, ◌∙◌}
+use Rattle.std.specs.List.{slice_get}
+use Rattle.std.proofs.lemmas.Bool.{cases_eq, cases_lt}
+use Rattle.std.proofs.Math.Nat.{mod-lt}
+use Rattle.std.proofs.lemmas.List.{get_or-set_same, get_or-set_other, get_or_default, get_or_past, get_or-replicate, length-replicate}
+use Rattle.std.proofs.lemmas.Nat.{div-add-mod'}
+use Rattle.std.proofs.lemmas.Option.{get_or_from_slice_get, slice_get-get_or}
+use Rattle.uma_life.specs.declared.stored.Stored.{Stored}
+use Rattle.uma_keg.specs.declared.shelf.Shelf.{Shelf}
+use Rattle.uma_keg.specs.Shelf.{shelf_items}
+use Rattle.uma_keg.specs.ShelfLists.{shelf_in, item_in, AreWhole}
+
+-- an element that was read is the one of the list
+pub read : {X : Type 0} (xs : List X) (i : ℕ) (r d v : X) → i < length xs → r ≡ get_or xs i r → r ≡ v → get_or xs i d ≡ v
+read xs i r d v within is value = get_or_default xs i d r within ∙ sym is ∙ value
+
+-- where a shelf is there, it is within the list
+pub shelf_within : {T : Type 0} {g : _} (slabs : List (Option (Shelf T g))) (index : ℕ) → is_some (shelf_in slabs index) ≡ true → index < length slabs
+shelf_within slabs index there = elim (cases_lt index (length slabs)) [ inl within ↦ within | inr past ↦ absurd (cc (ap is_some (get_or_past slabs index None past), there)) ]
+
+pub item_of : {T : Type 0} {g : _} (p n : ℕ) (slabs : List (Option (Shelf T g))) (shelf : Shelf T g) (r : Option (Stored T g)) → shelf_in slabs (n / p) ≡ Some shelf → slice_get (shelf_items shelf) (n % p) ≡ Some r → item_in p slabs n ≡ r
+unfolding item_in
+item_of p n slabs shelf r in_keg is = rw (in_keg, get_or_from_slice_get (shelf_items shelf) (n % p) r None is) refl
+
+pub no_item_of : {T : Type 0} {g : _} (p n : ℕ) (slabs : List (Option (Shelf T g))) → shelf_in slabs (n / p) ≡ None → item_in p slabs n ≡ None
+unfolding item_in
+no_item_of p n slabs in_keg = rw in_keg refl
+
+-- the place that was changed has what was put there
+pub item_put : {T : Type 0} {g : _} (p n : ℕ) (slabs : List (Option (Shelf T g))) (old new : Shelf T g) (v : Option (Stored T g)) → n / p < length slabs → n % p < length (shelf_items old) → shelf_items new ≡ set (shelf_items old) (n % p) v → item_in p (set slabs (n / p) (Some new)) n ≡ v
+unfolding item_in
+item_put p n slabs old new v within place is = rw (get_or-set_same slabs (n / p) (Some new) None within, is, get_or-set_same (shelf_items old) (n % p) v None place) refl
+
+other_place : (p n m : ℕ) → m ≢ n → m / p ≡ n / p → m % p ≢ n % p
+other_place p n m ne slab place = ne (sym (div-add-mod' m p) ∙ rw (slab, place) (div-add-mod' n p))
+
+-- and all else has what it had
+pub item_kept : {T : Type 0} {g : _} (p n : ℕ) (slabs : List (Option (Shelf T g))) (old new : Shelf T g) (v : Option (Stored T g)) → n / p < length slabs → shelf_in slabs (n / p) ≡ Some old → shelf_items new ≡ set (shelf_items old) (n % p) v → (m : ℕ) → m ≢ n → item_in p (set slabs (n / p) (Some new)) m ≡ item_in p slabs m
+unfolding item_in
+item_kept p n slabs old new v within in_keg is m ne = elim (cases_eq (m / p) (n / p)) [
+  | inl same ↦ rw (same, get_or-set_same slabs (n / p) (Some new) None within, in_keg, is, get_or-set_other (shelf_items old) (n % p) (m % p) v None (other_place p n m ne same)) refl
+  | inr other ↦ rw (get_or-set_other slabs (n / p) (m / p) (Some new) None other) refl
+]
+
+-- where an item is gone its place on the shelf is empty
+pub place_gone : {T : Type 0} {g : _} (p n : ℕ) (slabs : List (Option (Shelf T g))) (shelf : Shelf T g) → 1 ≤ p → AreWhole p slabs → shelf_in slabs (n / p) ≡ Some shelf → item_in p slabs n ≡ None → slice_get (shelf_items shelf) (n % p) ≡ Some None
+unfolding item_in
+place_gone p n slabs shelf some whole in_keg gone =
+    let place : n % p < length (shelf_items shelf) = rw (whole.each (n / p) shelf in_keg) (mod-lt n some) in
+    let here : get_or (shelf_items shelf) (n % p) None ≡ None = rw in_keg at gone in
+    slice_get-get_or (shelf_items shelf) (n % p) None place ∙ ap Some here
+
+no_shelf : {T : Type 0} {g : _} (cap index : ℕ) → shelf_in {T = T} {g = g} (replicate cap None) index ≡ None
+no_shelf {T} {g} cap index = elim (cases_lt index cap) [
+  | inl within ↦ get_or-replicate cap index None None within
+  | inr past ↦ get_or_past (replicate cap None) index None (rw (length-replicate {A = Option (Shelf T g)} cap None) past)
+]
+
+-- no shelf has an item yet
+pub item_none : {T : Type 0} {g : _} (p cap n : ℕ) (slabs : List (Option (Shelf T g))) → slabs ≡ replicate cap None → item_in p slabs n ≡ None
+item_none p cap n slabs is = no_item_of p n slabs (rw is (no_shelf cap (n / p)))

@@ -1,0 +1,28 @@
+use Rattle.std.proofs.Common.{◌≡◌, Some, sym, ap, ◌∙◌}
+use Rattle.std.specs.List.{slice_get}
+use Rattle.deed_book.specs.Deed.{zone_of}
+use Rattle.uma_life.specs.Stored.{stored_no}
+use Rattle.uma_life.specs.Cached.{cached_zone}
+use Rattle.uma_keg.specs.Keg.{zones_in}
+use Rattle.uma_keg.proofs.GivenItem.{PlacesLaw-given, ZonesLaw-given, out_given, outs_given}
+use Rattle.uma_keg.proofs.keg.Keg.give.Goals as goal
+
+pub invariant_of-self : goal.invariant_of-self
+invariant_of-self g c =
+    let keg = c.args.self.now in
+    let accepted = c.accept-no.ensures in
+    let number : stored_no c.in_domain-stored.result ≡ c.accept-no.result = ap (λ b. (g.T.Body.life b).no) c.in_domain-stored.ensures.body ∙ c.give_back-stored.ensures.number ∙ sym accepted.number in
+    record {
+      places_law = PlacesLaw-given _ _ _ _ _ _ c.accept-no.result _ keg.places_law c.give.ensures.gives (rw accepted.number accepted.zones) c.put.ensures.item c.put.ensures.others c.put.ensures.shelves c.put.ensures.count c.put.ensures.places number (c.domain.ensures ∙ ap Some (sym c.in_domain-stored.ensures.domain));
+      zones_law = ZonesLaw-given _ _ _ _ _ _ keg.zones_law accepted.zones accepted.was_outside;
+    }
+
+pub returns-clause-out : goal.returns-clause-out
+returns-clause-out g c =
+    let was : slice_get (zones_in c.args.self.now) _ ≡ Some (Some (cached_zone c.args.item)) = c.accept-no.ensures.was_outside ∙ ap (λ deed. Some (Some (zone_of deed))) c.give_back-stored.ensures.deed in
+    out_given _ _ _ _ c.accept-no.ensures.zones was
+
+pub returns-clause-outs : goal.returns-clause-outs
+returns-clause-outs g c zone =
+    let was : slice_get (zones_in c.args.self.now) _ ≡ Some (Some (cached_zone c.args.item)) = c.accept-no.ensures.was_outside ∙ ap (λ deed. Some (Some (zone_of deed))) c.give_back-stored.ensures.deed in
+    outs_given _ _ _ _ zone c.accept-no.ensures.zones was

@@ -1,0 +1,46 @@
+-- The law of a keg: its places, its book of numbers, its items and its zones agree between any two calls. That an item is in its keg or has one holder outside, and that a limit bounds the items outside in its zone, are rules of FreeBSD's uma(9); that the limit is exact is own.
+use Rattle.std.specs.Prelude.{◌≡◌, ◌≤◌, ◌<◌, ◌*◌, ◌/◌, ℕ, Bool, true, false, List, Option, Some, None, is_some, length, slice_index_or}
+use Rattle.deed_book.specs.BookLaw.{IsHome}
+use Rattle.uma_life.specs.declared.stored.Stored.{Stored}
+use Rattle.uma_life.specs.Stored.{stored_no, stored_domain}
+use Rattle.uma_keg.specs.declared.shelves.Shelves.{Shelves}
+use Rattle.uma_keg.specs.Places.{KegPlaces, place_at, domain_at}
+use Rattle.uma_keg.specs.Shelves.{item_at, has_shelf, shelf_count, places_each}
+use Rattle.uma_keg.specs.Outs.{out_of}
+
+-- the zone of a number that is outside
+abbrev pub zone_at : List (Option ℕ) → ℕ → Option ℕ
+zone_at zones n = slice_index_or zones n None
+
+-- a place of a slab that is in, whose number is out
+abbrev pub is_used_place : Option Bool → Bool
+is_used_place (Some false) = true
+is_used_place _ = false
+
+-- a free place of a slab that is in
+abbrev pub is_free_place : Option Bool → Bool
+is_free_place (Some true) = true
+is_free_place _ = false
+
+-- 1. The shelves are those of the places: as many, as large, and one for each slab that is in.
+-- 2. A place of a slab that is in is used exactly where its number is in the map, and every number of the map is of a slab that is in.
+-- 3. A place of a slab that is in is free exactly where the item of its number is at home.
+-- 4. An item at home has its number, and its slab's domain.
+pub record PlacesLaw {T : Type 0} {g : _} (places : KegPlaces) (zones : List (Option ℕ)) (shelves : Shelves T g) : Type 0 where
+  pub per_slab : places_each shelves ≡ places.per_slab
+  pub cap : shelf_count shelves ≡ places.cap
+  pub numbers : length zones ≡ places.cap * places.per_slab
+  pub slabs : (index : ℕ) → has_shelf shelves index ≡ is_some (domain_at places index)
+  pub outside : (n : ℕ) → is_some (zone_at zones n) ≡ is_used_place (place_at places n)
+  pub home : (n : ℕ) → is_some (item_at shelves n) ≡ is_free_place (place_at places n)
+  pub numbered : (n : ℕ) (item : Stored T g) → item_at shelves n ≡ Some item → stored_no item ≡ n
+  pub domains : (n domain : ℕ) (item : Stored T g) → item_at shelves n ≡ Some item → domain_at places (n / places.per_slab) ≡ Some domain → stored_domain item ≡ domain
+
+-- 1. There are eight rights and as many limits.
+-- 2. No item is outside in a zone that doesn't exist. A zone exists exactly where its right is at home.
+-- 3. A limit above 0 isn't exceeded.
+pub record ZonesLaw (zones rights : List (Option ℕ)) (limits : List ℕ) : Type 0 where
+  pub eight_rights : length rights ≡ 8
+  pub eight_limits : length limits ≡ 8
+  pub absent : (zone : ℕ) → zone < 8 → (IsHome rights zone → ⊥) → out_of zones zone ≡ 0
+  pub bounded : (zone : ℕ) → zone < 8 → 0 < slice_index_or limits zone 0 → out_of zones zone ≤ slice_index_or limits zone 0

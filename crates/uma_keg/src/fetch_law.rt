@@ -1,0 +1,7 @@
+ghost use Rattle.uma_keg.specs.Fetch.{FetchLaw};
+
+/// The law of how a fetch ends, by the numbers that it begins with: it has one count of new slabs, gives at least one
+/// item and no more than it was asked for, keeps the limit, and gives items wherever it may.
+pub fn fetches_keep_their_bounds()
+    ensures { FetchLaw }
+{}

@@ -1,0 +1,32 @@
+ghost use Rattle.std.specs.Prelude.{◌≡◌, ◌<◌, None, Some, length, slice_get, slice_set};
+
+use uma_life::{Body, Stored};
+
+/// The items of one slab that are at home, each at its place. None where the place's item is outside.
+#[derive(Drop)]
+pub(crate) struct Shelf<T: Body> {
+    pub(crate) places: Vec<Option<Stored<T>>>,
+}
+
+impl<T: Body> Shelf<T> {
+    ghost use Rattle.uma_keg.specs.Shelf.{shelf_items};
+
+    /// Takes the item of a place, if it is there.
+    pub fn take(&mut self, place: u32) -> Option<Stored<T>>
+        requires { place < length (shelf_items self.old) }
+        ensures item { slice_get (shelf_items self.old) place ≡ Some result }
+        ensures items { shelf_items self.new ≡ slice_set (shelf_items self.old) place None }
+    {
+        self.places[place as usize].take()
+    }
+
+    /// Puts an item at its place, where none is.
+    #[tactic(auto, using(std::proofs::lemmas::Option::slice_get_within))]
+    pub fn put(&mut self, place: u32, item: Stored<T>)
+        requires { slice_get (shelf_items self.old) place ≡ Some None }
+        ensures { shelf_items self.new ≡ slice_set (shelf_items self.old) place (Some item) }
+    {
+        let gap = self.places[place as usize].replace(item);
+        let None = gap else { unreachable!() };
+    }
+}
