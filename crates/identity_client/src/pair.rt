@@ -1,6 +1,6 @@
-ghost use Rattle.std.specs.Prelude.{◌<◌};
+ghost use Rattle.std.specs.Prelude.{◌≡◌, ◌<◌, IfOk};
 ghost use Rattle.identity_client.specs.HighWater.{KnowsHeight};
-ghost use Rattle.identity_client.specs.Station.{station_water};
+ghost use Rattle.identity_client.specs.Station.{station_water, station_count};
 
 use crate::high_water::Gauge;
 use crate::station::Station;
@@ -18,6 +18,8 @@ impl Pair {
     /// Two stations, with a row of `count` gauges each.
     pub fn new(alloc: Global, count: u64) -> Result<Pair, AllocError>
         requires { 0 < count }
+        ensures upper { IfOk result (λ pair. station_count pair.upper ≡ count) }
+        ensures lower { IfOk result (λ pair. station_count pair.lower ≡ count) }
     {
         let upper = Station::new(alloc, count)?;
         let lower = Station::new(alloc, count)?;

@@ -1,4 +1,4 @@
-ghost use Rattle.std.specs.Prelude.{◌≡◌, ◌<◌};
+ghost use Rattle.std.specs.Prelude.{◌≡◌, ◌<◌, IfOk};
 ghost use Rattle.keyed_lock.specs.KeyedLock.{lock_key};
 ghost use Rattle.identity_client.specs.HighWater.{water_id, KnowsHeight};
 ghost use Rattle.identity_client.specs.WaterKey.{key_water};
@@ -20,11 +20,12 @@ pub struct Station {
 }
 
 impl Station {
-    ghost use Rattle.identity_client.specs.Station.{station_water};
+    ghost use Rattle.identity_client.specs.Station.{station_water, station_count};
 
     /// A station with a row of `count` gauges.
     pub fn new(alloc: Global, count: u64) -> Result<Station, AllocError>
         requires { 0 < count }
+        ensures count { IfOk result (λ station. station_count station ≡ count) }
     {
         let water = HighWater::new(alloc)?;
         let gauges = GaugeRow::new(alloc, &water, count)?;
