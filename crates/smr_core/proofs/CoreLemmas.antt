@@ -22,7 +22,7 @@ use Rattle.smr_core.specs.ClockLaw.{HolderFits, ClockLaw, Later, Keeps, SeatFits
 use Rattle.smr_core.specs.CoreState.{State, IsActor, CoreLaw, AimFits, holder_of, holders_of, most_holders, seat_at}
 use Rattle.smr_core.specs.CoreStep.{IsStep, Moves, taker, poll_goes_on}
 use Rattle.smr_core.proofs.PlaceLemmas.{at_map, at_set, at_push, map_set, set_here}
-use Rattle.smr_core.proofs.KindLemmas.{seat_in_phase}
+use Rattle.smr_core.proofs.KindLemmas.{by_test, seat_in_phase}
 use Rattle.smr_core.proofs.Keeps.Looks.{write_look-keeps}
 use Rattle.smr_core.proofs.Keeps.EnterLoad.{enter_load-keeps}
 use Rattle.smr_core.proofs.Keeps.EnterCheck.{enter_check-keeps}
@@ -40,10 +40,6 @@ pub record CoreLater (s s' : State) : Type 0 where
   pub about : s'.about ≡ s.about
   pub write_not_lower : write_hand s.words ≤ write_hand s'.words
   pub read_not_lower : read_hand s.words ≤ read_hand s'.words
-
-by_test : (b : Bool) (P : Bool → Type 0) → (b ≡ true → P true) → (b ≡ false → P false) → P b
-by_test true P t f = t refl
-by_test false P t f = f refl
 
 -- ---- the holder of an actor, in the list of holders
 

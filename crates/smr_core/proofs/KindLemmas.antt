@@ -1,5 +1,5 @@
 -- What the lemmas on the kinds of step share: a holder with some of its numbers changed still fits, and a step that only loads, or only stores in its own word.
-use Rattle.std.proofs.Common.{◌≡◌, ℕ, ◌+◌, ◌*◌, ◌<◌, ◌≤◌, ◌≢◌, List, set, sym, refl, ap, ◌∙◌, subst, arith, Some, IsSome, slice_index}
+use Rattle.std.proofs.Common.{◌≡◌, ℕ, ◌+◌, ◌*◌, ◌<◌, ◌≤◌, ◌≢◌, Bool, true, false, List, set, sym, refl, ap, ◌∙◌, subst, arith, Some, IsSome, slice_index}
 use Rattle.std.proofs.lemmas.List.{set-get_or}
 use mathlib.Core.Option.{some}
 use lib.ListN.{get_elem?}
@@ -14,6 +14,11 @@ use Rattle.smr_core.specs.ClockState.{IsOdd, write_hand, read_hand, word_of}
 use Rattle.smr_core.specs.ClockStep.{same}
 use Rattle.smr_core.specs.ClockLaw.{PhaseFits, SeatFits, TaskFits, HolderFits, ClockLaw, Later, Keeps}
 use Rattle.smr_core.proofs.MoveLemmas.{moved}
+
+-- what holds of either answer of a test
+pub by_test : (b : Bool) (P : Bool → Type 0) → (b ≡ true → P true) → (b ≡ false → P false) → P b
+by_test true P t f = t refl
+by_test false P t f = f refl
 
 -- ---- what the law says of a holder whose phase or task is known
 

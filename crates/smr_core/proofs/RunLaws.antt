@@ -1,5 +1,5 @@
 -- The laws over runs of the core, and what a yes means.
-use Rattle.std.proofs.Common.{◌≡◌, ℕ, suc, ◌-◌, ◌^◌, ◌≤◌, ◌⊎◌, List, [], ◌∷◌, ◌++◌, length, set, sym, refl, ap, ◌∙◌, subst, inl, inr, ⊎_elim, arith, le_trans, Bool, true, false, cond, leb, Option, Some, None, Contains, get_or-set_same}
+use Rattle.std.proofs.Common.{◌≡◌, ℕ, suc, ◌-◌, ◌^◌, ◌≤◌, ◌⊎◌, List, [], ◌∷◌, ◌++◌, length, set, sym, refl, ap, ◌∙◌, subst, inl, inr, ⊎_elim, arith, le_trans, Bool, cond, leb, Option, Some, None, Contains, get_or-set_same}
 use borrow.Author.Tests.{leb-true}
 use Rattle.std.proofs.lemmas.Bool.{cases_lt}
 use mathlib.Core.Option.{some}
@@ -25,7 +25,7 @@ use Rattle.smr_core.specs.CoreStep.{IsStep, Run, Needs, taker, poll_goes_on, pol
 use Rattle.smr_core.specs.YesMeans as means
 use Rattle.smr_core.specs.YesMeans.{IsReached, LeadsTo, IsPolling, NoNewPoll, AnswersYes, YesAtLoad, YesAtSwap, SaysYes, IsOver, NoSectionBefore}
 use Rattle.smr_core.proofs.PlaceLemmas.{same_place, set_here}
-use Rattle.smr_core.proofs.KindLemmas.{in_phase, in_task}
+use Rattle.smr_core.proofs.KindLemmas.{by_test, in_phase, in_task}
 use Rattle.smr_core.proofs.CoreLemmas.{CoreLater, core_keeps, holder_there}
 use Rattle.smr_core.proofs.Keeps.Swaps.{goal-le-left}
 use Rattle.smr_core.proofs.OpeningLemmas.{opening-law}
@@ -94,10 +94,6 @@ kept_by_run n P Allowed each s (step ∷ steps) (saw ∷ sees) s' x all r at p =
     (each s step x after.0 (all step (contains_head step steps)) after.2 p)
 kept_by_run n P Allowed each s [] (saw ∷ sees) s' x all r at p = absurd r
 kept_by_run n P Allowed each s (step ∷ steps) [] s' x all r at p = absurd r
-
-by_test : (b : Bool) (P : Bool → Type 0) → (b ≡ true → P true) → (b ≡ false → P false) → P b
-by_test true P t f = t refl
-by_test false P t f = f refl
 
 -- the actor after a load that may end its operation
 poll_load_cases : (a : About) (x : Actor) (found : ℕ) (P : Actor → Type 0) → P (record x { holder = clock.poll_ended a x.holder found })

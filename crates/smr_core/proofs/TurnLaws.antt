@@ -5,16 +5,14 @@ use Rattle.smr_core.specs.declared.holder.Holder.{Holder}
 use Rattle.smr_core.specs.declared.step.Step.{Step}
 use Rattle.smr_core.specs.declared.step.Step.TheVariants.{EnterLoad, EnterStore, EnterCheck, Clear, AdvanceRead, AdvanceLoad, AdvanceSwap, PollRead, PollLoad, PollScan, PollSwap, Note, Absorb}
 use Rattle.smr_core.specs.declared.seen.Seen.{Seen}
-use Rattle.smr_core.specs.declared.seen.Seen.TheVariants as seen
 use Rattle.smr_core.specs.declared.step_refused.StepRefused.{StepRefused}
 use Rattle.smr_core.specs.declared.step_refused.StepRefused.TheVariants.{NoSeat, OutOfTurn, Crowded, Memory}
-use Rattle.smr_core.specs.declared.turn.Turn.{Turn}
 use Rattle.smr_core.specs.declared.turn.Turn.TheVariants.{One, Enter, Advance, Poll}
 use Rattle.smr_core.specs.ClockState.{write_place, spent}
 use Rattle.smr_core.specs.ClockStep as clock
 use Rattle.smr_core.specs.CoreState.{State, IsActor, most_holders}
 use Rattle.smr_core.specs.CoreStep.{IsStep, Moves, MakesNote, TakesIn, Needs, Refuses, Run, IsIdleNote, taker}
-use Rattle.smr_core.specs.Turns.{IsTurn, first_step, is_hand, is_late, saw_at, turn_steps}
+use Rattle.smr_core.specs.Turns.{is_hand, is_late, saw_at, turn_steps}
 use Rattle.smr_core.specs.TurnLaws.{TurnIsDetermined, TakenIsNotRefused}
 use Rattle.smr_core.proofs.PlaceLemmas.{same_place, place_within}
 use Rattle.smr_core.proofs.TurnLemmas.{sure_by}

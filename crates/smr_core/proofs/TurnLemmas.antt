@@ -1,5 +1,5 @@
 -- Within an operation each step but the first is sure: what it needs is what the step before it left.
-use Rattle.std.proofs.Common.{◌≡◌, ℕ, ◌+◌, ◌<◌, ◌≤◌, ◌⊎◌, zero, suc, List, [], ◌∷◌, ◌++◌, length, replicate, slice_get, slice_index, refl, sym, ap, ◌∙◌, subst, arith, Bool, true, false, cond, leb, Option, Some, None, inl, inr}
+use Rattle.std.proofs.Common.{◌≡◌, ℕ, ◌+◌, ◌<◌, ◌≤◌, ◌⊎◌, zero, suc, List, [], ◌∷◌, ◌++◌, length, replicate, slice_index, refl, sym, ap, ◌∙◌, subst, arith, Bool, true, false, cond, leb, Option, Some, None, inl, inr}
 use Rattle.std.proofs.lemmas.Bool.{false≢true}
 use Rattle.std.proofs.lemmas.List.{replicate-append-replicate}
 use Rattle.smr_seq.specs.Reading.{reading}
@@ -15,12 +15,12 @@ use Rattle.smr_core.specs.declared.seen.Seen.TheVariants as seen
 use Rattle.smr_core.specs.declared.step_refused.StepRefused.{StepRefused}
 use Rattle.smr_core.specs.declared.step_refused.StepRefused.TheVariants.{NoSeat, OutOfTurn, Crowded, Memory}
 use Rattle.smr_core.specs.declared.turn.Turn.{Turn}
-use Rattle.smr_core.specs.declared.turn.Turn.TheVariants.{One, Enter, Advance, Poll}
+use Rattle.smr_core.specs.declared.turn.Turn.TheVariants.{Enter, Poll}
 use Rattle.smr_core.specs.ClockState.{write_place}
 use Rattle.smr_core.specs.ClockStep as clock
 use Rattle.smr_core.specs.CoreState.{State, IsActor}
 use Rattle.smr_core.specs.CoreStep.{IsStep, Moves, Needs, Refuses, Run, IsMissing, IsOutOfTurn, MayMakeNote, taker, poll_goes_on, poll_sees, load_sees}
-use Rattle.smr_core.specs.Turns.{IsSure, IsTurn, RefusesTurn, Scans, first_step, is_hand, is_late, saw_at, turn_steps}
+use Rattle.smr_core.specs.Turns.{IsSure, IsTurn, RefusesTurn, Scans, first_step, is_hand, is_late, saw_at}
 use Rattle.smr_core.proofs.PlaceLemmas.{set_here, same_place, place_within}
 use Rattle.smr_core.proofs.RunLemmas.{run-push}
 

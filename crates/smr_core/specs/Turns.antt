@@ -9,7 +9,7 @@ use Rattle.smr_core.specs.declared.step.Step.TheVariants.{EnterLoad, EnterStore,
 use Rattle.smr_core.specs.declared.seen.Seen.{Seen}
 use Rattle.smr_core.specs.declared.seen.Seen.TheVariants as seen
 use Rattle.smr_core.specs.declared.step_refused.StepRefused.{StepRefused}
-use Rattle.smr_core.specs.declared.step_refused.StepRefused.TheVariants.{NoSeat, OutOfTurn, Crowded, Memory}
+use Rattle.smr_core.specs.declared.step_refused.StepRefused.TheVariants.{Memory}
 use Rattle.smr_core.specs.declared.turn.Turn.{Turn}
 use Rattle.smr_core.specs.declared.turn.Turn.TheVariants.{One, Enter, Advance, Poll}
 use Rattle.smr_core.specs.CoreState.{State, IsActor}

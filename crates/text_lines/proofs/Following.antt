@@ -1,5 +1,5 @@
 -- Going over the lines of a text: what is kept from line to line, and what it gives in the end.
-use Rattle.std.proofs.Common.{◌≡◌, ℕ, suc, ◌+◌, ◌<◌, ◌≤◌, Bool, true, false, List, [], ◌∷◌, length, Some, None, Result, Ok, Err, refl, sym, ap, subst, ◌∙◌, arith, inl, inr}
+use Rattle.std.proofs.Common.{◌≡◌, ℕ, ◌+◌, ◌<◌, ◌≤◌, Bool, true, false, List, [], ◌∷◌, length, Ok, Err, refl, sym, ap, subst, ◌∙◌, arith, inl, inr}
 use Rattle.std.specs.Str.Lines.{lines}
 use Rattle.text_lines.specs.declared.refused.TraceKind.{TraceKind}
 use Rattle.text_lines.specs.declared.refused.TraceKind.TheVariants.{NoEnd}
@@ -7,7 +7,7 @@ use Rattle.text_lines.specs.declared.refused.LineRefused.{LineRefused}
 use Rattle.text_lines.specs.declared.refused.LineRefused.TheVariants as refusals
 use Rattle.text_lines.specs.declared.refused.TraceRefused.{TraceRefused}
 use Rattle.text_lines.specs.declared.refused.ParseRefused.TheVariants as texts
-use Rattle.text_lines.specs.TextLines.{TextLine, Test, after_earlier, spoken, is_ended, wrong_with, AreRight, IsRightText, IsRefusedAt}
+use Rattle.text_lines.specs.TextLines.{TextLine, Test, after_earlier, spoken, is_ended, AreRight, IsRefusedAt}
 use Rattle.text_lines.specs.Taking.{TakesLine, ShowsText, at_line}
 
 -- the lines before `rest` are right, there are so many, and the state is the one after them
@@ -39,7 +39,7 @@ goes_on test shows text rest line behind number old new done f cut shorter takes
 stops_at : {S : Type 0} (test : Test) (shows : S → List TextLine → Type 0) (text rest line behind : List ℕ) (number : ℕ) (old new : S) (kind : TraceKind)
     → Follows test shows text rest number old → lines rest ≡ line ∷ lines behind → TakesLine test shows old (number + 1) line (Err (refusals.Kind kind)) new
     → IsRefusedAt test text (number + 1) kind
-stops_at test shows text rest line behind number old new kind f cut takes =
+stops_at test shows text rest line behind number old new why f cut takes =
     inl (record {
       earlier = f.earlier;
       line = line;

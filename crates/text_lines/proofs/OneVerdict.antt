@@ -1,10 +1,9 @@
 -- A text is right or is refused, never both, and it is refused at one line for one reason.
-use Rattle.std.proofs.Common.{◌≡◌, ℕ, suc, ◌+◌, ◌<◌, Bool, true, false, List, [], ◌∷◌, length, Option, Some, None, refl, sym, ap, subst, ◌∙◌, arith, inl, inr}
+use Rattle.std.proofs.Common.{◌≡◌, ℕ, ◌+◌, ◌<◌, true, List, [], ◌∷◌, length, Option, Some, None, refl, sym, ap, subst, ◌∙◌, arith, inl, inr}
 use Rattle.std.specs.Str.Lines.{lines}
 use Rattle.std.proofs.lemmas.Bool.{cases_lt}
 use Rattle.text_lines.specs.declared.refused.TraceKind.{TraceKind}
-use Rattle.text_lines.specs.declared.refused.TraceKind.TheVariants.{NoEnd}
-use Rattle.text_lines.specs.TextLines.{TextLine, Test, after_earlier, spoken, is_ended, wrong_with, AreRight, IsRightText, IsFirstBad, HasNoEnd, IsRefusedAt}
+use Rattle.text_lines.specs.TextLines.{TextLine, Test, after_earlier, spoken, is_ended, wrong_with, AreRight, IsRightText, IsFirstBad, IsRefusedAt}
 
 -- ---- where a list is cut
 
@@ -45,7 +44,7 @@ right_at test (x ∷ all) earlier xs others line right e lt =
 -- ---- two verdicts of one text
 
 not_both : (o : Option TraceKind) (kind : TraceKind) → o ≡ None → o ≡ Some kind → ⊥
-not_both o kind e f = cc
+not_both o why e f = cc
 
 -- a first bad line is none of lines that are all right
 bad_among_right : (test : Test) (bytes : List ℕ) (n : ℕ) (kind : TraceKind) (all : List (List ℕ)) → IsFirstBad test bytes n kind → lines bytes ≡ after_earlier all [] → AreRight test all → ⊥
@@ -84,7 +83,7 @@ same_all bytes all other e f =
 
 pub right_is_not_refused : (test : Test) (bytes : List ℕ) (spoke : List TextLine) (n : ℕ) (kind : TraceKind) → IsRightText test bytes spoke → IsRefusedAt test bytes n kind → ⊥
 right_is_not_refused test bytes spoke n kind right (inl bad) = bad_among_right test bytes n kind right.all bad right.whole right.right
-right_is_not_refused test bytes spoke n kind right (inr no_end) =
+right_is_not_refused test bytes spoke n why right (inr no_end) =
     let same : right.all ≡ no_end.all = same_all bytes right.all no_end.all right.whole no_end.whole in
     let ended : is_ended (spoken no_end.all) ≡ true = ap (λ a. is_ended (spoken a)) (sym same) ∙ (ap is_ended (sym right.spoke_is) ∙ right.ended) in
     let unended = no_end.unended in cc

@@ -38,6 +38,14 @@ abbrev pub three_fields : List (List ℕ) → Result (List ℕ × List ℕ × Li
 three_fields (a ∷ b ∷ c ∷ []) = Ok (a, b, c)
 three_fields other = Err Fields
 
+abbrev pub four_fields : List (List ℕ) → Result (List ℕ × List ℕ × List ℕ × List ℕ) TraceKind
+four_fields (a ∷ b ∷ c ∷ d ∷ []) = Ok (a, b, c, d)
+four_fields other = Err Fields
+
+abbrev pub five_fields : List (List ℕ) → Result (List ℕ × List ℕ × List ℕ × List ℕ × List ℕ) TraceKind
+five_fields (a ∷ b ∷ c ∷ d ∷ e ∷ []) = Ok (a, b, c, d, e)
+five_fields other = Err Fields
+
 -- the number that a field spells
 abbrev pub number_or_wrong : Option ℕ → Result ℕ TraceKind
 number_or_wrong (Some n) = Ok n

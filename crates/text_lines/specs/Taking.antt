@@ -4,7 +4,7 @@ use Rattle.text_lines.specs.declared.refused.LineRefused.{LineRefused}
 use Rattle.text_lines.specs.declared.refused.LineRefused.TheVariants as refusals
 use Rattle.text_lines.specs.declared.refused.ParseRefused.{ParseRefused}
 use Rattle.text_lines.specs.declared.refused.ParseRefused.TheVariants as texts
-use Rattle.text_lines.specs.TextLines.{TextLine, Test, spoken, wrong_with, AreRight, IsRightText}
+use Rattle.text_lines.specs.TextLines.{TextLine, Test, spoken, wrong_with, IsRightText}
 
 -- from the state after some lines, the line with this number and these fields leads to the state after it, or its test names this kind
 abbrev pub Takes : {S : Type 0} → Test → (S → List TextLine → Type 0) → S → ℕ → List (List ℕ) → Result Unit LineRefused → S → Type 0

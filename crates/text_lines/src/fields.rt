@@ -1,6 +1,6 @@
 //! The fields behind the first one of a line, each borrowed from it, and the tests that every grammar makes of them.
 ghost use Rattle.std.specs.Prelude.{◌≡◌, ◌≤◌, IfOk};
-ghost use Rattle.text_lines.specs.Fields.{Reads, no_field, one_field, two_fields, three_fields, number_in, ranged, number_within, is_head};
+ghost use Rattle.text_lines.specs.Fields.{Reads, no_field, one_field, two_fields, three_fields, four_fields, five_fields, number_in, ranged, number_within, is_head};
 ghost use Rattle.text_lines.specs.TextLines.{fields_of};
 
 use crate::lines::next_field;
@@ -51,6 +51,30 @@ pub fn three_fields(text: &[u8]) -> Result<(&[u8], &[u8], &[u8]), TraceKind>
     };
     let (second, third) = two_fields(rest)?;
     Ok((first, second, third))
+}
+
+/// The four fields that there are.
+#[tactic(auto, using(crate::proofs::Counting::four_by))]
+pub fn four_fields(text: &[u8]) -> Result<(&[u8], &[u8], &[u8], &[u8]), TraceKind>
+    ensures { Reads (λ x. (x.0.now, x.1.now, x.2.now, x.3.now)) result (four_fields (fields_of text.now)) }
+{
+    let Some((first, rest)) = next_field(text) else {
+        return Err(TraceKind::Fields);
+    };
+    let (second, third, fourth) = three_fields(rest)?;
+    Ok((first, second, third, fourth))
+}
+
+/// The five fields that there are.
+#[tactic(auto, using(crate::proofs::Counting::five_by))]
+pub fn five_fields(text: &[u8]) -> Result<(&[u8], &[u8], &[u8], &[u8], &[u8]), TraceKind>
+    ensures { Reads (λ x. (x.0.now, x.1.now, x.2.now, x.3.now, x.4.now)) result (five_fields (fields_of text.now)) }
+{
+    let Some((first, rest)) = next_field(text) else {
+        return Err(TraceKind::Fields);
+    };
+    let (second, third, fourth, fifth) = four_fields(rest)?;
+    Ok((first, second, third, fourth, fifth))
 }
 
 /// The number that a field spells, by the rule of `parse_number`.

@@ -12,7 +12,8 @@ mod reading;
 mod refused;
 
 pub use fields::{
-    is_head, no_field, number_in, number_within, one_field, ranged, three_fields, two_fields,
+    five_fields, four_fields, is_head, no_field, number_in, number_within, one_field, ranged,
+    three_fields, two_fields,
 };
 pub use grammar::Grammar;
 pub use laws::one_verdict;

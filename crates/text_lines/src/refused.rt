@@ -23,8 +23,30 @@ pub enum TraceKind {
     Fields,
     /// Not a number.
     Number,
-    /// A number outside its range.
+    /// Not a name.
+    Name,
+    /// No kind of a zone.
+    Kind,
+    /// A number outside its range, or a worker that there isn't.
     Range,
+    /// What needs a clock stands without the `clock` line.
+    NoClock,
+    /// What needs names stands without the `names` line.
+    NoNames,
+    /// A zone has this name already.
+    DoubleName,
+    /// No earlier zone of the kind wanted has this name.
+    NoZone,
+    /// More zones than a keg or a trace may have.
+    Zones,
+    /// The slot that is to be filled is filled.
+    SlotBusy,
+    /// The slot that is to be emptied is empty.
+    SlotEmpty,
+    /// The worker is in a section already.
+    SectionOpen,
+    /// The worker is in no section.
+    SectionClosed,
     /// The line after the last one: there is no `end`.
     NoEnd,
     /// The text is none that is built yet; it stands with line 0.
@@ -78,7 +100,18 @@ impl fmt::Display for TraceKind {
             TraceKind::Place => "out of place",
             TraceKind::Fields => "wrong fields",
             TraceKind::Number => "bad number",
+            TraceKind::Name => "bad name",
+            TraceKind::Kind => "bad kind",
             TraceKind::Range => "out of range",
+            TraceKind::NoClock => "no clock",
+            TraceKind::NoNames => "no names",
+            TraceKind::DoubleName => "name taken",
+            TraceKind::NoZone => "no such zone",
+            TraceKind::Zones => "too many zones",
+            TraceKind::SlotBusy => "slot busy",
+            TraceKind::SlotEmpty => "slot empty",
+            TraceKind::SectionOpen => "section open",
+            TraceKind::SectionClosed => "no section",
             TraceKind::NoEnd => "no end",
             TraceKind::Unbuilt => "not built yet",
         })

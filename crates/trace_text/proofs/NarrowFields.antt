@@ -5,8 +5,7 @@ use Rattle.std.specs.Fmt.{decimal}
 use Rattle.std.specs.Int.{IsInRange}
 use Rattle.std.specs.List.{list_all, AllByRecursion, position_or_len}
 use Rattle.std.specs.Str.{bytes_eq}
-use Rattle.std.specs.Str.Parse.{digits_value}
-use Rattle.std.proofs.lemmas.Bool.{ltb-true, ltb-false, lt-ltb, le-ltb, leb-true, le-leb, eqb-true, eq-eqb, ne_eqb, and_parts, and_from}
+use Rattle.std.proofs.lemmas.Bool.{ltb-false, lt-ltb, le-ltb, leb-true, le-leb, eqb-true, eq-eqb, ne_eqb, and_parts, and_from}
 use Rattle.std.proofs.lemmas.Fmt.{decimal_is_IsNumeral}
 use Rattle.std.proofs.lemmas.List.{take_at, drop_at, take-append-drop, drop_more, length-append, get_or_append_left, get_or_at, drop-drop}
 use Rattle.std.proofs.lemmas.List.Elements.{All-from_recursion, recursion_from_All}
@@ -38,7 +37,7 @@ none_or : {A : Type 0} (b : Bool) (o : Option A) (x : A) → cond b None o ≡ S
 none_or true o x e = absurd cc
 none_or false o x e = (refl, e)
 
-not_true : (b : Bool) → (b ≡ true → ⊥) → b ≡ false
+pub not_true : (b : Bool) → (b ≡ true → ⊥) → b ≡ false
 not_true true h = absurd (h refl)
 not_true false h = refl
 
@@ -157,13 +156,13 @@ list_all_from_recursion : (test : ℕ → Bool) (xs : List ℕ) → AllByRecursi
 list_all_from_recursion test [] h = refl
 list_all_from_recursion test (x ∷ xs) h = and_from (test x) (list_all test xs) h.0 (list_all_from_recursion test xs h.1)
 
-IsName-from_is_name : (text : List ℕ) → is_name text ≡ true → IsName text
+pub IsName-from_is_name : (text : List ℕ) → is_name text ≡ true → IsName text
 IsName-from_is_name text e =
     let both = and_parts (leb 1 (length text) && leb (length text) 16) (list_all is_name_character text) e in
     let sizes = and_parts (leb 1 (length text)) (leb (length text) 16) both.0 in
     record { nonempty = leb-true _ _ sizes.0; fits = leb-true _ _ sizes.1; characters = All-from_recursion _ text (list_all_by_recursion is_name_character text both.1) }
 
-is_name_from_IsName : (text : List ℕ) → IsName text → is_name text ≡ true
+pub is_name_from_IsName : (text : List ℕ) → IsName text → is_name text ≡ true
 is_name_from_IsName text h =
     and_from _ _ (and_from _ _ (le-leb _ _ h.nonempty) (le-leb _ _ h.fits)) (list_all_from_recursion is_name_character text (recursion_from_All _ text h.characters))
 

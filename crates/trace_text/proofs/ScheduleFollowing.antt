@@ -1,12 +1,12 @@
 -- What a line says is what is wrong with it or nothing, and leads from the state before it to the one after it.
-use Rattle.std.proofs.Common.{◌≡◌, ℕ, ◌+◌, Bool, true, false, cond, List, [], ◌∷◌, ◌++◌, Option, Some, None, Result, Ok, Err, refl, sym, ap, subst, ◌∙◌, arith}
-use Rattle.std.specs.Prelude.{codes, is_some, IsSome, ◌||◌, OnOk, IfErr}
+use Rattle.std.proofs.Common.{◌≡◌, ℕ, Bool, true, false, cond, List, [], ◌∷◌, Option, Some, None, Result, Ok, Err, refl, sym, ap, ◌∙◌}
+use Rattle.std.specs.Prelude.{codes, is_some, ◌||◌, OnOk, IfErr}
 use Rattle.std.specs.Str.{bytes_eq}
 use Rattle.smr_core.specs.declared.about.About.{About}
 use Rattle.text_lines.specs.declared.refused.TraceKind.{TraceKind}
 use Rattle.text_lines.specs.declared.refused.LineRefused.{LineRefused}
 use Rattle.text_lines.specs.declared.refused.LineRefused.TheVariants as refusals
-use Rattle.text_lines.specs.Fields.{◌>>=◌, no_field}
+use Rattle.text_lines.specs.Fields.{◌>>=◌}
 use Rattle.text_lines.specs.TextLines.{TextLine, is_end, is_ended}
 use Rattle.text_lines.specs.Taking.{Takes}
 use Rattle.trace_text.specs.declared.schedule_reading.reader.ScheduleReader.{ScheduleReader}
@@ -16,8 +16,8 @@ use Rattle.trace_text.specs.declared.schedule_reading.word.PairWord.TheVariants 
 use Rattle.trace_text.specs.declared.schedule_reading.word.SeatWord.TheVariants as seats
 use Rattle.trace_text.specs.declared.schedule_reading.word.Word.{Word}
 use Rattle.trace_text.specs.declared.schedule_reading.word.Word.TheVariants as words
-use Rattle.trace_text.specs.ScheduleGrammar.{word_named, word_or_wrong, fits_place, placed, clock_in, seat_in, two_numbers_in, said_by, says, schedule_test, clock_of, turn_lines, clock_after, seat_turn, pair_turn}
-use Rattle.trace_text.specs.ScheduleShown.{Shows, Hears, is_last, is_begun}
+use Rattle.trace_text.specs.ScheduleGrammar.{word_named, word_or_wrong, fits_place, placed, clock_in, seat_in, two_numbers_in, said_by, says, schedule_test, clock_of, clock_after, seat_turn, pair_turn}
+use Rattle.trace_text.specs.ScheduleShown.{Shows, Hears, is_last}
 
 -- ---- the line `end` says that it is the last, and no other does
 
@@ -54,7 +54,7 @@ word_is_end first word is =
 -- the value of a step that gave one
 pub bound : {A B : Type 0} (r : Result A TraceKind) (f : A → Result B TraceKind) (y : B) → (r >>= f) ≡ Ok y → (x : A) × (r ≡ Ok x) × (f x ≡ Ok y)
 bound (Ok x) f y e = (x, refl, e)
-bound (Err kind) f y e = absurd cc
+bound (Err why) f y e = absurd cc
 
 named : (o : Option Word) (word : Word) → word_or_wrong o ≡ Ok word → o ≡ Some word
 named (Some w) word e = cc
@@ -146,4 +146,4 @@ pub takes : (old new : ScheduleReader) (number : ℕ) (fields : List (List ℕ))
     → Takes schedule_test Shows old number fields r new
 takes old new number fields x (Ok done) begun ended is hears memory = heard old new number fields x begun ended is hears
 takes old new number fields x (Err refusals.Memory) begun ended is hears memory = tt
-takes old new number fields x (Err (refusals.Kind kind)) begun ended is hears memory = absurd cc
+takes old new number fields x (Err (refusals.Kind why)) begun ended is hears memory = absurd cc

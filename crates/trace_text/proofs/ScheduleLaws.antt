@@ -1,5 +1,5 @@
 -- A schedule prints one thing at most, and nothing where a line is refused.
-use Rattle.std.proofs.Common.{◌≡◌, ℕ, zero, suc, List, [], ◌∷◌, ◌++◌, ◌≤◌, length, take, slice_get, Option, Some, None, refl, sym, ap, ◌∙◌, subst}
+use Rattle.std.proofs.Common.{◌≡◌, ℕ, zero, suc, List, [], ◌∷◌, ◌++◌, ◌≤◌, length, take, slice_get, Option, Some, refl, sym, ap, ◌∙◌, subst}
 use Rattle.std.specs.List.{flat_map}
 use Rattle.std.specs.Option.{option_map_or}
 use Rattle.smr_core.specs.declared.seen.Seen.{Seen}
@@ -7,7 +7,7 @@ use Rattle.smr_core.specs.declared.step_refused.StepRefused.{StepRefused}
 use Rattle.smr_core.specs.declared.turn.Turn.{Turn}
 use Rattle.smr_core.specs.CoreState.{State, opening}
 use Rattle.smr_core.specs.CoreStep.{Refuses}
-use Rattle.smr_core.specs.Turns.{IsTurn, TurnRun, first_step}
+use Rattle.smr_core.specs.Turns.{TurnRun, first_step}
 use Rattle.smr_core.specs.TurnLaws.{TurnIsDetermined, TakenIsNotRefused}
 use Rattle.trace_text.specs.declared.schedule.Schedule.{Schedule}
 use Rattle.trace_text.specs.declared.schedule.TurnLine.{TurnLine}

@@ -14,7 +14,7 @@ use Rattle.trace_text.specs.declared.schedule.TurnLine.{TurnLine}
 use Rattle.trace_text.specs.declared.schedule_refused.ScheduleRefused.{ScheduleRefused}
 use Rattle.trace_text.specs.declared.schedule_refused.ScheduleRefused.TheVariants as schedule_refused
 use Rattle.trace_text.specs.CanonicalText.{line}
-use Rattle.trace_text.specs.ScheduleText.{Prints, PrintsLine, RefusesLine, RefusesTurnLine, RefusesSchedule, RefusedAt, about_of, refused_at, seen_line, turns_of, hands_line, IsOutput}
+use Rattle.trace_text.specs.ScheduleText.{Prints, PrintsLine, RefusesLine, RefusesTurnLine, RefusesSchedule, RefusedAt, about_of, refused_at, seen_line, turns_of}
 
 -- turns go on by one
 turn_run-push : (s mid s' : State) (turns : List Turn) (sees : List (List Seen)) (turn : Turn) (saw : List Seen)

@@ -1,15 +1,14 @@
 -- The numbers of a schedule that has a text are in their ranges, and a text is one of one schedule.
-use Rattle.std.proofs.Common.{◌≡◌, ℕ, ◌+◌, ◌^◌, ◌%◌, ◌<◌, ◌≤◌, Bool, true, false, cond, eqb, ltb, leb, List, [], ◌∷◌, Option, Some, None, Result, Ok, Err, refl, sym, ap, subst, ◌∙◌, arith}
+use Rattle.std.proofs.Common.{◌≡◌, ℕ, ◌^◌, ◌%◌, ◌<◌, ◌≤◌, Bool, true, false, eqb, ltb, leb, List, [], ◌∷◌, Option, Some, None, Result, Ok, Err, refl, sym, ap, subst, ◌∙◌, arith}
 use Rattle.std.specs.Prelude.{◌&&◌, is_some}
 use Rattle.std.proofs.lemmas.Bool.{ltb-true, leb-true, eqb-true, and_parts}
 use Rattle.smr_core.specs.declared.about.About.{About}
-use Rattle.smr_core.specs.ClockState.{IsInRange, IsOdd}
+use Rattle.smr_core.specs.ClockState.{IsInRange}
 use Rattle.text_lines.specs.declared.refused.TraceKind.{TraceKind}
 use Rattle.text_lines.specs.Fields.{◌>>=◌, no_field, three_fields, number_in, ranged, number_within}
-use Rattle.text_lines.specs.TextLines.{TextLine, IsRightText}
+use Rattle.text_lines.specs.TextLines.{TextLine}
 use Rattle.text_lines.proofs.OneVerdict.{one_right_reading}
 use Rattle.trace_text.specs.declared.schedule.Schedule.{Schedule}
-use Rattle.trace_text.specs.declared.schedule.TurnLine.{TurnLine}
 use Rattle.trace_text.specs.declared.schedule_reading.said.Said.{Said}
 use Rattle.trace_text.specs.declared.schedule_reading.said.Said.TheVariants as said
 use Rattle.trace_text.specs.declared.schedule_reading.word.Word.{Word}
@@ -90,7 +89,7 @@ after_clock (Ok (said.Clock b)) before a f g e = f a (ap (λ (o : Option About).
   clock_said None = Ok said.End
 after_clock (Ok (said.Does turn)) before a f g e = g a e
 after_clock (Ok said.End) before a f g e = g a e
-after_clock (Err kind) before a f g e = g a e
+after_clock (Err why) before a f g e = g a e
 
 clock_in_range : (lines : List TextLine) (a : About) → clock_of lines ≡ Some a → IsInRange a
 clock_in_range [] a e = absurd cc

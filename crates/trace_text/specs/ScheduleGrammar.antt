@@ -1,9 +1,8 @@
 -- The grammar of schedules (own): `smr 1`, then `clock SEATS START WINDOW`, then lines that take steps, then `end`. The test of a
 -- line looks at the earlier lines, of which the last one comes first.
-use Rattle.std.specs.Prelude.{ℕ, ◌≡◌, ◌+◌, ◌^◌, ◌%◌, List, [], ◌∷◌, ◌++◌, Bool, true, false, ◌&&◌, ◌==◌, not, nat_le, nat_lt, if◌then◌else◌, Option, Some, None, Result, Ok, Err, codes, is_some}
+use Rattle.std.specs.Prelude.{ℕ, ◌≡◌, ◌%◌, List, [], ◌∷◌, ◌++◌, Bool, false, ◌&&◌, ◌==◌, not, nat_le, nat_lt, if◌then◌else◌, Option, Some, None, Result, Ok, Err, codes, is_some}
 use Rattle.std.specs.Str.{bytes_eq}
 use Rattle.smr_core.specs.declared.about.About.{About}
-use Rattle.smr_core.specs.declared.step.Step.{Step}
 use Rattle.smr_core.specs.declared.step.Step.TheVariants as steps
 use Rattle.smr_core.specs.declared.turn.Turn.{Turn}
 use Rattle.smr_core.specs.declared.turn.Turn.TheVariants as turns

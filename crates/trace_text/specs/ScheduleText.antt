@@ -1,6 +1,6 @@
 -- What a schedule prints (own): the line of each step that is taken, for what the step saw, and at last the hands. The
 -- steps are those of the core, from its opening. A schedule whose step is refused prints nothing.
-use Rattle.std.specs.Prelude.{ℕ, ◌≡◌, ◌≢◌, List, [], ◌∷◌, ◌++◌, map, take, slice_get, Bool, true, false, Option, Some, codes, if◌then◌else◌}
+use Rattle.std.specs.Prelude.{ℕ, ◌≡◌, ◌≢◌, List, [], ◌∷◌, ◌++◌, map, take, slice_get, Bool, true, false, Some, codes}
 use Rattle.std.specs.List.{flat_map}
 use Rattle.std.specs.Fmt.{decimal}
 use Rattle.smr_core.specs.declared.about.About.{About}

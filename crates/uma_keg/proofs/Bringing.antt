@@ -9,7 +9,7 @@ use Rattle.std.proofs.lemmas.List.Folds.{sum_by-replicate}
 use Rattle.std.proofs.lemmas.Option.{slice_get-get_or}
 use Rattle.uma_keg.specs.Places.{KegPlaces, Slab, slab_at, place_at, places_by, slab_count, free_count, out_count, IsIn, IsFree, IsOut, IsSound, CountsOneSlab, Brings}
 use Rattle.uma_keg.proofs.Marks.{count_less}
-use Rattle.uma_keg.proofs.Slabs.{place_at-in, place_at-absent, place_at-same, domain_at-in, domain_at-absent, domain_at-same}
+use Rattle.uma_keg.proofs.Slabs.{free_isnt_out, absent_isnt_out, place_at-in, place_at-absent, place_at-same, domain_at-in, domain_at-absent, domain_at-same}
 
 -- a wholly free slab, and the keg with it
 abbrev pub free_slab : ℕ → ℕ → Slab
@@ -79,12 +79,6 @@ room_for-next k i next =
     rw (← next.cap) less
 
 -- the new slab's numbers aren't out
-free_isnt_out : (k : KegPlaces) (n : ℕ) → IsFree k n → IsOut k n → ⊥
-free_isnt_out k n free out = cc
-
-absent_isnt_out : (k : KegPlaces) (n : ℕ) → place_at k n ≡ None → IsOut k n → ⊥
-absent_isnt_out k n absent out = cc
-
 outs_brought : (k : KegPlaces) (d i : ℕ) → IsNext k i → IsSound k → (n : ℕ) → IsOut (brought k d i) n ↔ IsOut k n
 outs_brought k d i next sound n =
     elim (cases_eq (n / k.per_slab) i) [

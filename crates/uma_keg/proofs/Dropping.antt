@@ -9,7 +9,7 @@ use Rattle.std.proofs.lemmas.Option.{slice_get-get_or}
 use Rattle.uma_keg.specs.Dropping.{IsWhollyFree, Drops}
 use Rattle.uma_keg.specs.Places.{KegPlaces, Slab, slab_at, place_at, domain_at, places_by, slab_count, free_count, out_count, IsIn, IsFree, IsOut, IsSound, CountsOneSlab}
 use Rattle.uma_keg.proofs.Marks.{count_less, free_and_used}
-use Rattle.uma_keg.proofs.Slabs.{place_at-in, place_at-absent, place_at-same, domain_at-in, domain_at-absent, domain_at-same}
+use Rattle.uma_keg.proofs.Slabs.{free_isnt_out, absent_isnt_out, place_at-in, place_at-absent, place_at-same, domain_at-in, domain_at-absent, domain_at-same}
 
 -- the keg without the slab of this index
 abbrev pub dropped : KegPlaces → ℕ → KegPlaces
@@ -74,12 +74,6 @@ counts_dropped k i s whole =
     }
 
 -- the slab's numbers aren't out, before or after
-free_isnt_out : (k : KegPlaces) (n : ℕ) → IsFree k n → IsOut k n → ⊥
-free_isnt_out k n free out = cc
-
-absent_isnt_out : (k : KegPlaces) (n : ℕ) → place_at k n ≡ None → IsOut k n → ⊥
-absent_isnt_out k n absent out = cc
-
 outs_dropped : (k : KegPlaces) (i : ℕ) (s : Slab) → IsWholeSlab k i s → 1 ≤ k.per_slab → (n : ℕ) → IsOut (dropped k i) n ↔ IsOut k n
 outs_dropped k i s whole some n =
     elim (cases_eq (n / k.per_slab) i) [

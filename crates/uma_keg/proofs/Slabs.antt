@@ -5,7 +5,7 @@ use Rattle.std.proofs.Math.Arith.{digits_div, digits_mod}
 use Rattle.std.proofs.lemmas.Nat.{div-add-mod'}
 use Rattle.std.proofs.lemmas.Bool.{cases_lt}
 use Rattle.std.proofs.lemmas.List.{get_or_past}
-use Rattle.uma_keg.specs.Places.{KegPlaces, Slab, slab_at, place_at, domain_at}
+use Rattle.uma_keg.specs.Places.{KegPlaces, Slab, slab_at, place_at, domain_at, IsFree, IsOut}
 
 -- the place of a number whose slab is in, and of one whose slab isn't
 pub place_at-in : (k : KegPlaces) (n : ℕ) (s : Slab) → slab_at k (n / k.per_slab) ≡ Some s → place_at k n ≡ slice_get s.free (n % k.per_slab)
@@ -88,3 +88,10 @@ lower_place c i q n lower slab =
     let number : n / c * c + n % c ≡ n = div-add-mod' n c in
     let same : i * c + n % c ≡ n = rw (← slab) number in
     omega arith
+
+-- a place that is free, and one whose slab isn't in, is no number out
+pub free_isnt_out : (k : KegPlaces) (n : ℕ) → IsFree k n → IsOut k n → ⊥
+free_isnt_out k n free out = cc
+
+pub absent_isnt_out : (k : KegPlaces) (n : ℕ) → place_at k n ≡ None → IsOut k n → ⊥
+absent_isnt_out k n absent out = cc

@@ -1,6 +1,6 @@
 -- What is done with the bytes leaves no room for another ending.
-use Rattle.std.proofs.Common.{◌≡◌, ◌≢◌, ℕ, ◌<◌, ◌≤◌, List, length, Option, Some, None, refl, sym, ap, subst, ◌∙◌, arith, inl, inr}
-use Rattle.std.specs.Prelude.{IfSome, IsSomeAnd, ◌⊎◌}
+use Rattle.std.proofs.Common.{◌≡◌, ℕ, List, Option, Some, None, refl, subst, arith, inl, inr}
+use Rattle.std.specs.Prelude.{IfSome, IsSomeAnd}
 use Rattle.smr_core.specs.declared.step_refused.StepRefused.{StepRefused}
 use Rattle.text_lines.specs.TextLines.{TextLine, Test, IsRightText, IsRefusedAt}
 use Rattle.text_lines.specs.declared.refused.TraceKind.{TraceKind}

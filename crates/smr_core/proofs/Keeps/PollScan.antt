@@ -1,5 +1,5 @@
 -- The load of a seat's word by a poll keeps the law: the deep point of the clock. The reading comes in as a premise, so that it is plain what of it is used.
-use Rattle.std.proofs.Common.{◌≡◌, ℕ, ◌+◌, ◌-◌, ◌^◌, ◌<◌, ◌≤◌, List, sym, refl, ap, ◌∙◌, subst, ⊎_elim, arith, le_trans, max, Bool, true, false, cond, eqb, Option, Some, None}
+use Rattle.std.proofs.Common.{◌≡◌, ℕ, ◌+◌, ◌-◌, ◌^◌, ◌<◌, ◌≤◌, List, sym, refl, ap, ◌∙◌, subst, ⊎_elim, arith, le_trans, max, cond, eqb, Option, Some, None}
 use Rattle.std.proofs.lemmas.Bool.{cases_lt}
 use borrow.Author.Tests.{eqb-true, eqb-false}
 use mathlib.Core.Option.{some}
@@ -15,14 +15,10 @@ use Rattle.smr_core.specs.ClockStep as step
 use Rattle.smr_core.specs.ClockStep.{same, stored, exchanged}
 use Rattle.smr_core.specs.ClockLaw.{TaskFits, HolderFits, ClockLaw}
 use Rattle.smr_core.specs.ClockMoves.{PollScanKeeps}
-use Rattle.smr_core.proofs.KindLemmas.{in_phase, in_task, phase_kept, Loads, keeps_load}
+use Rattle.smr_core.proofs.KindLemmas.{by_test, in_phase, in_task, phase_kept, Loads, keeps_load}
 use Rattle.smr_seq.proofs.ReadingLemmas.{reading-low, IsReading-reading}
 
 -- ---- the least mark after one word
-
-by_test : (b : Bool) (P : Bool → Type 0) → (b ≡ true → P true) → (b ≡ false → P false) → P b
-by_test true P t f = t refl
-by_test false P t f = f refl
 
 least_with-between : (f m : ℕ) (o : Option ℕ) → f ≤ m → (f ≤ step.least_with f m o) × (step.least_with f m o ≤ m)
 least_with-between f m None le = (le, omega arith)

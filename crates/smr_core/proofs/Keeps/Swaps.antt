@@ -1,5 +1,5 @@
 -- The two compare-exchanges keep the law. Each has two lemmas: it finds what it had loaded and writes, or it is a mere look.
-use Rattle.std.proofs.Common.{◌≡◌, ℕ, ◌+◌, ◌-◌, ◌^◌, ◌<◌, ◌≤◌, List, length, set, sym, refl, ap, ◌∙◌, subst, arith, max, Bool, true, false, cond, eqb, Option, Some, None, IsSome, length-set, get_or-set_same, get_or-set_other}
+use Rattle.std.proofs.Common.{◌≡◌, ℕ, ◌+◌, ◌-◌, ◌^◌, ◌<◌, ◌≤◌, List, length, set, sym, refl, ap, ◌∙◌, subst, arith, max, cond, eqb, Option, Some, None, IsSome, length-set, get_or-set_same, get_or-set_other}
 use borrow.Author.Tests.{eqb-true, eqb-false}
 use Rattle.std.proofs.lemmas.List.{set-get_or}
 use mathlib.Core.Option.{some}
@@ -16,12 +16,8 @@ use Rattle.smr_core.specs.ClockLaw.{HandsFit, PhaseFits, SeatFits, TaskFits, Hol
 use Rattle.smr_core.proofs.PlaceLemmas.{at_map}
 use Rattle.smr_core.specs.ClockMoves.{AdvanceSwapKeeps, PollSwapKeeps}
 use Rattle.smr_core.proofs.MoveLemmas.{Moves, moved, fits_still}
-use Rattle.smr_core.proofs.KindLemmas.{in_task, seat_in_phase, phase_kept, same_scans, marks_above_read, Loads, loads}
+use Rattle.smr_core.proofs.KindLemmas.{by_test, in_task, seat_in_phase, phase_kept, same_scans, marks_above_read, Loads, loads}
 use Rattle.smr_core.specs.ClockState.{IsSeatWord}
-
-by_test : (b : Bool) (P : Bool → Type 0) → (b ≡ true → P true) → (b ≡ false → P false) → P b
-by_test true P t f = t refl
-by_test false P t f = f refl
 
 -- the words after a hand is written: the place is below those of the seats
 module _ (ws : List ℕ) (i v : ℕ) (hand : i < 2) where

@@ -1,5 +1,4 @@
-use Rattle.std.proofs.Common.{rules, ◌≡◌, ◌+◌, arith, sym, ◌∙◌}
-use Rattle.text_lines.proofs.Following.{goes_on, stops, misses_end}
+use Rattle.text_lines.proofs.Following.{goes_on}
 use Rattle.text_lines.proofs.reading.read_lines.Goals as goal
 
 pub lines-preserved : goal.lines-preserved

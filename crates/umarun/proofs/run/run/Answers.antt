@@ -1,6 +1,6 @@
 -- The text that was written is that of the report.
-use Rattle.std.proofs.Common.{◌≡◌, List, ℕ, Option, Some, None, Err, sym, ap, ◌∙◌, subst, inr}
-use Rattle.std.specs.Prelude.{IfSome, IfNone, IsSomeAnd, IsNone}
+use Rattle.std.proofs.Common.{List, ℕ, Some, Err, sym, ap, ◌∙◌, subst, inr}
+use Rattle.std.specs.Prelude.{IfSome, IfNone}
 use Rattle.uma_io.specs.Sink.{Adds, AddsPart}
 use Rattle.umarun.specs.declared.finish.Finish.{Finish}
 use Rattle.umarun.proofs.Outcomes.{none_refused, ends_by_memory}

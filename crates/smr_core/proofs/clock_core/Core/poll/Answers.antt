@@ -1,5 +1,5 @@
 -- Each step but the first is sure, and together they are the turn.
-use Rattle.std.proofs.Common.{rules, ◌≡◌, true, false, arith, ap, ◌∙◌, ◌++◌, ◌∷◌, [], List, refl, sym, subst, ◌+◌, replicate}
+use Rattle.std.proofs.Common.{rules, ◌≡◌, true, arith, ap, ◌∙◌, ◌++◌, ◌∷◌, [], List, sym, subst, ◌+◌, replicate}
 use Rattle.smr_core.specs.declared.seen.Seen.{Seen}
 use Rattle.smr_core.specs.declared.step.Step.TheVariants.{PollRead, PollLoad, PollScan}
 use Rattle.smr_core.specs.declared.turn.Turn.TheVariants.{Poll}

@@ -1,8 +1,7 @@
 -- A field of six bytes, each of which is known, is that text.
-use Rattle.std.proofs.Common.{rules, ◌≡◌, ℕ, ◌<◌, ◌≤◌, List, length, refl, arith}
+use Rattle.std.proofs.Common.{rules, ◌≡◌, refl, arith}
 use Rattle.std.specs.Prelude.{codes}
 use Rattle.std.proofs.lemmas.Slice.Eq.{text_from_reads}
-use Rattle.umarun.specs.Ending.{command_named}
 use Rattle.umarun.proofs.command.Command.named.Goals as goal
 
 pub returns-in-replay : goal.returns-in-replay

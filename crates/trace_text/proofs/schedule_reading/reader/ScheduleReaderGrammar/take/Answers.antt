@@ -1,5 +1,4 @@
-use Rattle.std.proofs.Common.{◌≡◌, sym, ap, ◌∙◌}
-use Rattle.std.specs.Prelude.{is_some}
+use Rattle.std.proofs.Common.{sym, ap, ◌∙◌}
 use Rattle.text_lines.specs.TextLines.{fields_of}
 use Rattle.trace_text.specs.ScheduleGrammar.{says}
 use Rattle.trace_text.proofs.ScheduleFollowing.{takes}

@@ -1,7 +1,6 @@
-use Rattle.std.proofs.Common.{rules, ◌≡◌, ℕ, ◌+◌, ◌<◌, ◌≤◌, List, length, refl, arith}
+use Rattle.std.proofs.Common.{rules, ◌≡◌, refl, arith}
 use Rattle.std.specs.Prelude.{codes}
 use Rattle.std.proofs.lemmas.Slice.Eq.{text_from_reads}
-use Rattle.trace_text.specs.ScheduleGrammar.{word_named}
 use Rattle.trace_text.proofs.schedule_reading.word.Word.named.Goals as goal
 
 pub returns-in-aread : goal.returns-in-aread
