@@ -12,7 +12,7 @@ const NAME_MAX: usize = 16;
 /// The name of a zone: 1 to 16 characters of `A-Z a-z 0-9 _ -`.
 ///
 /// It lies in the value itself, so to make or to copy one takes no memory. Contracts see the list of its bytes.
-#[derive(Debug, Drop, PartialEq, Eq)]
+#[derive(Debug, Drop, PartialEq, Eq, Hash)]
 pub struct ZoneName {
     bytes: ArrayVec<u8, NAME_MAX>,
 }
