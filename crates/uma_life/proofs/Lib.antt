@@ -2,3 +2,4 @@ mod Same
 mod Words
 mod Passing
 mod Tallies
+mod Sums

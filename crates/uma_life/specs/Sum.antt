@@ -1,7 +1,10 @@
 -- Own: the sums of tallies, which don't wrap.
-use Rattle.std.specs.Prelude.{replicate}
+use Rattle.std.specs.Prelude.{◌<◌, ◌+◌, ◌-◌, ◌^◌, ℕ, List, min, replicate, slice_index_or}
+use Rattle.uma_life.specs.declared.zone_tally.ZoneTally.{ZoneTally}
+use Rattle.uma_life.specs.declared.tally.Tally.{Tally}
 use Rattle.uma_life.specs.declared.tally_sum.ZoneTallySum.{ZoneTallySum}
 use Rattle.uma_life.specs.declared.tally_sum.TallySum.{TallySum}
+use Rattle.uma_life.specs.Hook.{Hook, KegInit, ZoneInit, Ctor, Dtor, ZoneFini, KegFini, counts_of}
 
 abbrev pub no_zone_sums : ZoneTallySum
 no_zone_sums = record { inits = 0; ctors = 0; dtors = 0; finis = 0 }
@@ -9,3 +12,58 @@ no_zone_sums = record { inits = 0; ctors = 0; dtors = 0; finis = 0 }
 -- the sums of no tally
 abbrev pub no_sums : TallySum
 no_sums = record { keg_inits = 0; keg_finis = 0; zones = replicate 8 no_zone_sums }
+
+-- how often an item passed a hook, by its tally
+abbrev pub times_of : Tally → Hook → ℕ
+times_of tally KegInit = tally.keg_inits
+times_of tally (ZoneInit zone) = (counts_of tally zone).inits
+times_of tally (Ctor zone) = (counts_of tally zone).ctors
+times_of tally (Dtor zone) = (counts_of tally zone).dtors
+times_of tally (ZoneFini zone) = (counts_of tally zone).finis
+times_of tally KegFini = tally.keg_finis
+
+abbrev pub zone_sums : List ZoneTallySum → ℕ → ZoneTallySum
+zone_sums zones zone = slice_index_or zones zone no_zone_sums
+
+-- how often items passed a hook, by their sums
+abbrev pub sum_of : TallySum → Hook → ℕ
+sum_of sums KegInit = sums.keg_inits
+sum_of sums (ZoneInit zone) = (zone_sums sums.zones zone).inits
+sum_of sums (Ctor zone) = (zone_sums sums.zones zone).ctors
+sum_of sums (Dtor zone) = (zone_sums sums.zones zone).dtors
+sum_of sums (ZoneFini zone) = (zone_sums sums.zones zone).finis
+sum_of sums KegFini = sums.keg_finis
+
+-- each sum is below a bound
+abbrev pub AreBelow : ℕ → TallySum → Type 0
+AreBelow bound sums = (hook : Hook) → sum_of sums hook < bound
+
+-- the sums of a zone with the counts of one more item
+abbrev pub zone_sums_with : ZoneTallySum → ZoneTally → ZoneTallySum
+zone_sums_with sums counts = record {
+  inits = sums.inits + counts.inits;
+  ctors = sums.ctors + counts.ctors;
+  dtors = sums.dtors + counts.dtors;
+  finis = sums.finis + counts.finis;
+}
+
+-- each sum of a zone is below a bound
+pub record IsBelow (bound : ℕ) (sums : ZoneTallySum) : Type 0 where
+  pub inits : sums.inits < bound
+  pub ctors : sums.ctors < bound
+  pub dtors : sums.dtors < bound
+  pub finis : sums.finis < bound
+
+-- counters of 64 bits
+pub record AreCounts (counts : ZoneTally) : Type 0 where
+  pub inits : counts.inits < 2 ^ 64
+  pub ctors : counts.ctors < 2 ^ 64
+  pub dtors : counts.dtors < 2 ^ 64
+  pub finis : counts.finis < 2 ^ 64
+
+-- a sum as a counter of 64 bits that stops at its end
+abbrev pub capped : ℕ → ℕ
+capped sum = min sum (2 ^ 64 - 1)
+
+abbrev pub capped_zone : ZoneTallySum → ZoneTally
+capped_zone sums = record { inits = capped sums.inits; ctors = capped sums.ctors; dtors = capped sums.dtors; finis = capped sums.finis }

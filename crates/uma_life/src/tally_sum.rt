@@ -1,3 +1,11 @@
+ghost use Rattle.std.specs.Prelude.{◌≡◌, ◌<◌, ◌+◌, ◌-◌, ◌^◌, ◌↔◌, ℕ, IsTrue, min, length, slice_index_or};
+ghost use Rattle.uma_life.specs.Hook.{Hook};
+ghost use Rattle.uma_life.specs.Life.{no_counts};
+ghost use Rattle.uma_life.specs.Sum.{times_of, sum_of, zone_sums, AreBelow, IsBelow, AreCounts, zone_sums_with, capped_zone};
+
+use crate::tally::Tally;
+use crate::zone_tally::ZoneTally;
+
 /// How often the items of a keg passed each hook of a zone, summed up without a wrap.
 #[derive(Clone, Copy, Debug, PartialEq, Eq)]
 pub struct ZoneTallySum {
@@ -17,7 +25,6 @@ pub struct TallySum {
 }
 
 impl TallySum {
-    ghost use Rattle.std.specs.Prelude.{◌≡◌};
     ghost use Rattle.uma_life.specs.Sum.{no_sums};
 
     /// The sums of no tally.
@@ -36,4 +43,109 @@ impl TallySum {
             zones: [none; 8],
         }
     }
+    /// Adds the tally of one more item.
+    pub fn add(&mut self, tally: Tally)
+        requires { AreBelow (2 ^ 127) self.old }
+        ensures sums { (hook : Hook) → sum_of self.new hook ≡ sum_of self.old hook + times_of tally hook }
+        ensures counts { (hook : Hook) → times_of tally hook < 2 ^ 64 }
+    {
+        self.keg_inits += u128::from(tally.keg_inits);
+        self.keg_finis += u128::from(tally.keg_finis);
+        self.zones = zones_with(self.zones, tally.zones);
+    }
+
+    /// The sums as counts of 64 bits: one that is greater stops at 2^64 - 1.
+    pub fn capped(&self) -> Tally
+        ensures { (hook : Hook) → times_of result hook ≡ min (sum_of self.now hook) (2 ^ 64 - 1) }
+    {
+        Tally {
+            keg_inits: capped(self.keg_inits),
+            keg_finis: capped(self.keg_finis),
+            zones: capped_zones(self.zones),
+        }
+    }
+
+    /// Whether each sum is below a bound.
+    pub fn are_below(&self, bound: u128) -> bool
+        ensures { IsTrue result ↔ AreBelow bound self.now }
+    {
+        self.keg_inits < bound && self.keg_finis < bound && zones_are_below(self.zones, bound)
+    }
+}
+
+impl ZoneTallySum {
+    /// These sums with the counts of one more item.
+    fn with(self, counts: ZoneTally) -> ZoneTallySum
+        requires { IsBelow (2 ^ 127) self }
+        ensures sums { result ≡ zone_sums_with self counts }
+        ensures counts { AreCounts counts }
+    {
+        ZoneTallySum {
+            inits: self.inits + u128::from(counts.inits),
+            ctors: self.ctors + u128::from(counts.ctors),
+            dtors: self.dtors + u128::from(counts.dtors),
+            finis: self.finis + u128::from(counts.finis),
+        }
+    }
+
+    fn is_below(self, bound: u128) -> bool
+        ensures { IsTrue result ↔ IsBelow bound self }
+    {
+        self.inits < bound && self.ctors < bound && self.dtors < bound && self.finis < bound
+    }
+
+    fn capped(self) -> ZoneTally
+        ensures { result ≡ capped_zone self }
+    {
+        ZoneTally {
+            inits: capped(self.inits),
+            ctors: capped(self.ctors),
+            dtors: capped(self.dtors),
+            finis: capped(self.finis),
+        }
+    }
+}
+
+/// These sums of eight zones with the counts of one more item.
+fn zones_with(sums: [ZoneTallySum; 8], counts: [ZoneTally; 8]) -> [ZoneTallySum; 8]
+    requires { (zone : ℕ) → zone < 8 → IsBelow (2 ^ 127) (zone_sums sums zone) }
+    ensures eight { (length sums ≡ 8) × (length counts ≡ 8) × (length result ≡ 8) }
+    ensures sums { (zone : ℕ) → zone < 8 → zone_sums result zone ≡ zone_sums_with (zone_sums sums zone) (slice_index_or counts zone no_counts) }
+    ensures counts { (zone : ℕ) → zone < 8 → AreCounts (slice_index_or counts zone no_counts) }
+{
+    let mut more = sums;
+    for zone in 0..8 {
+        more[zone] = sums[zone].with(counts[zone]);
+    }
+    more
+}
+
+/// A sum as a count of 64 bits.
+fn capped(sum: u128) -> u64
+    ensures { result ≡ min sum (2 ^ 64 - 1) }
+{
+    sum.min(u128::from(u64::MAX)) as u64
+}
+
+fn capped_zones(sums: [ZoneTallySum; 8]) -> [ZoneTally; 8]
+    ensures eight { (length sums ≡ 8) × (length result ≡ 8) }
+    ensures capped { (zone : ℕ) → zone < 8 → slice_index_or result zone no_counts ≡ capped_zone (zone_sums sums zone) }
+{
+    let mut zones = [sums[0].capped(); 8];
+    for zone in 1..8 {
+        zones[zone] = sums[zone].capped();
+    }
+    zones
+}
+
+fn zones_are_below(zones: [ZoneTallySum; 8], bound: u128) -> bool
+    ensures eight { length zones ≡ 8 }
+    ensures below { IsTrue result ↔ ((zone : ℕ) → zone < 8 → IsBelow bound (zone_sums zones zone)) }
+{
+    for sums in zones {
+        if !sums.is_below(bound) {
+            return false;
+        }
+    }
+    true
 }
