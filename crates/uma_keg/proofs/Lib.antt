@@ -19,3 +19,14 @@ mod RightsOut
 mod NewKeg
 mod GivenItem
 mod FetchOutcomes
+mod BroughtSlab
+mod NewItemSums
+mod TallyLaws
+mod NextSlab
+mod RefusedSlab
+mod GoneSums
+mod FreedSlab
+mod FreedSlabs
+mod TakenIn
+mod UsedPlaces
+mod PairedSums

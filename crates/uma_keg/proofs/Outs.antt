@@ -1,5 +1,5 @@
 -- The counts of the numbers outside, where one number goes out or comes home.
-use Rattle.std.proofs.Common.{◌≡◌, ◌≢◌, ◌≤◌, ◌<◌, ◌+◌, ◌-◌, ℕ, zero, suc, ◌==◌, inl, inr, cond, List, [], ◌∷◌, Option, Some, None, length, replicate, get_or, set, refl, arith, sym, ◌∙◌}
+use Rattle.std.proofs.Common.{◌≡◌, ◌≢◌, ◌≤◌, ◌<◌, ◌+◌, ◌-◌, ℕ, zero, suc, ◌==◌, inl, inr, cond, List, [], ◌∷◌, Option, Some, None, length, replicate, get_or, set, is_some, sum_by, count_by, ap, refl, arith, sym, ◌∙◌}
 use Rattle.std.specs.List.{slice_get}
 use Rattle.std.proofs.lemmas.Bool.{cases_eq}
 use Rattle.std.proofs.lemmas.Bool.Decides.{nat_tests}
@@ -91,3 +91,28 @@ CountsOuts-new numbers few = record {
   eight = refl;
   counts = λ zone below. no_count zone ∙ sym (out_none numbers zone);
 }
+
+-- the eight counts together, where one number goes out or comes home
+
+pub total_issued : (zones : List (Option ℕ)) (outs : List ℕ) (n y : ℕ) → sum_by (λ out. out) outs ≡ count_by is_some zones → y < length outs → slice_get zones n ≡ Some None → sum_by (λ out. out) (set outs y (get_or outs y 0 + 1)) ≡ count_by is_some (set zones n (Some y))
+total_issued zones outs n y total within is =
+    let in_zones = slice_get_within zones n None is in
+    let value = get_or_from_slice_get zones n None None is in
+    let counted = sum_by-set (λ (o : Option ℕ). cond (is_some o) 1 0) zones n (Some y) None in_zones in
+    let summed = sum_by-set (λ (out : ℕ). out) outs y (get_or outs y 0 + 1) 0 within in
+    let tick_of : Option ℕ → ℕ = λ o. cond (is_some o) 1 0 in
+    let was : tick_of (get_or zones n None) ≡ 0 = ap tick_of value in
+    omega (arith, total, counted, summed, was)
+
+pub total_accepted : (zones : List (Option ℕ)) (outs : List ℕ) (n y : ℕ) → sum_by (λ out. out) outs ≡ count_by is_some zones → y < length outs → 1 ≤ get_or outs y 0 → slice_get zones n ≡ Some (Some y) → sum_by (λ out. out) (set outs y (get_or outs y 0 - 1)) ≡ count_by is_some (set zones n None)
+total_accepted zones outs n y total within some is =
+    let in_zones = slice_get_within zones n (Some y) is in
+    let value = get_or_from_slice_get zones n (Some y) None is in
+    let counted = sum_by-set (λ (o : Option ℕ). cond (is_some o) 1 0) zones n None None in_zones in
+    let summed = sum_by-set (λ (out : ℕ). out) outs y (get_or outs y 0 - 1) 0 within in
+    let tick_of : Option ℕ → ℕ = λ o. cond (is_some o) 1 0 in
+    let was : tick_of (get_or zones n None) ≡ 1 = ap tick_of value in
+    omega (arith, total, counted, summed, was, some)
+
+pub total_new : (numbers : ℕ) → sum_by (λ out. out) (0 ∷ 0 ∷ 0 ∷ 0 ∷ 0 ∷ 0 ∷ 0 ∷ 0 ∷ []) ≡ count_by is_some (replicate {A = Option ℕ} numbers None)
+total_new numbers = let none = sum_by-replicate (λ (o : Option ℕ). cond (is_some o) 1 0) numbers None in omega (arith, none)

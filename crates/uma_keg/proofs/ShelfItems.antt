@@ -1,15 +1,18 @@
 -- The items on a keg's shelves, where one place of one shelf changes.
-use Rattle.std.proofs.Common.{◌≡◌, ◌≢◌, ◌≤◌, ◌<◌, ◌/◌, ◌%◌, ℕ, true, List, Option, Some, None, length, replicate, get_or, set, is_some, inl, inr, refl, sym, ap, ◌∙◌}
-use Rattle.std.specs.List.{slice_get}
+use Rattle.std.proofs.Common.{◌≡◌, ◌≢◌, ◌≤◌, ◌<◌, ◌/◌, ◌%◌, ℕ, true, List, Option, Some, None, length, replicate, get_or, set, cond, count_by, is_some, is_none, false, arith, inl, inr, refl, sym, ap, ◌∙◌}
+use Rattle.std.specs.List.{slice_get, position}
 use Rattle.std.proofs.lemmas.Bool.{cases_eq, cases_lt}
 use Rattle.std.proofs.Math.Nat.{mod-lt}
+use Rattle.std.proofs.lemmas.List.Quantifiers.{position-Some}
+use Rattle.std.proofs.lemmas.List.Sums.{get_or-le-sum_by}
+use Rattle.uma_keg.proofs.Marks.{position_counted}
 use Rattle.std.proofs.lemmas.List.{get_or-set_same, get_or-set_other, get_or_default, get_or_past, get_or-replicate, length-replicate}
 use Rattle.std.proofs.lemmas.Nat.{div-add-mod'}
 use Rattle.std.proofs.lemmas.Option.{get_or_from_slice_get, slice_get-get_or}
 use Rattle.uma_life.specs.declared.stored.Stored.{Stored}
 use Rattle.uma_keg.specs.declared.shelf.Shelf.{Shelf}
 use Rattle.uma_keg.specs.Shelf.{shelf_items}
-use Rattle.uma_keg.specs.ShelfLists.{shelf_in, item_in, AreWhole}
+use Rattle.uma_keg.specs.ShelfLists.{shelf_in, item_on, item_in, AreWhole}
 
 -- an element that was read is the one of the list
 pub read : {X : Type 0} (xs : List X) (i : ℕ) (r d v : X) → i < length xs → r ≡ get_or xs i r → r ≡ v → get_or xs i d ≡ v
@@ -60,3 +63,51 @@ no_shelf {T} {g} cap index = elim (cases_lt index cap) [
 -- no shelf has an item yet
 pub item_none : {T : Type 0} {g : _} (p cap n : ℕ) (slabs : List (Option (Shelf T g))) → slabs ≡ replicate cap None → item_in p slabs n ≡ None
 item_none p cap n slabs is = no_item_of p n slabs (rw is (no_shelf cap (n / p)))
+
+not_none : {X : Type 0} (o : Option X) → is_none o ≡ true → is_some o ≡ false
+not_none None is = refl
+not_none (Some x) is = absurd cc
+
+some_of : {X : Type 0} (o : Option X) → is_none o ≡ false → is_some o ≡ true
+some_of None is = absurd cc
+some_of (Some x) is = refl
+
+-- the first gap, and the shelves before it
+pub gap_found : {T : Type 0} {g : _} (slabs : List (Option (Shelf T g))) (index : ℕ) → position is_none slabs ≡ Some index → (index < length slabs) × (is_some (shelf_in slabs index) ≡ false) × ((lower : ℕ) → lower < index → is_some (shelf_in slabs lower) ≡ true)
+gap_found slabs index is =
+    let at = position-Some is_none slabs index None is in
+    (at.0, not_none (shelf_in slabs index) at.1, λ lower below. some_of (shelf_in slabs lower) (at.2 lower below))
+
+-- where there is no gap, each has a shelf
+filled : {T : Type 0} {g : _} (slabs : List (Option (Shelf T g))) (index : ℕ) → index < length slabs → position is_none slabs ≡ None → (o : Option (Shelf T g)) → shelf_in slabs index ≡ o → is_some o ≡ true
+filled slabs index within none (Some shelf) is = refl
+filled {T} {g} slabs index within none None is =
+    let counted = get_or-le-sum_by (λ (o : Option (Shelf T g)). cond (is_none o) 1 0) slabs index None within in
+    let some : 0 < count_by is_none slabs = let one = rw is at counted in omega arith in
+    absurd (cc (none, position_counted is_none slabs some))
+
+pub no_gap : {T : Type 0} {g : _} (slabs : List (Option (Shelf T g))) → position is_none slabs ≡ None → (index : ℕ) → index < length slabs → is_some (shelf_in slabs index) ≡ true
+no_gap slabs none index within = filled slabs index within none (shelf_in slabs index) refl
+
+-- a new shelf has its items, and all else has what it had
+pub shelf_added : {T : Type 0} {g : _} (p n index : ℕ) (slabs : List (Option (Shelf T g))) (shelf : Shelf T g) → index < length slabs → n / p ≡ index → item_in p (set slabs index (Some shelf)) n ≡ item_on (n % p) shelf
+unfolding item_in
+shelf_added p n index slabs shelf within at = rw (at, get_or-set_same slabs index (Some shelf) None within) refl
+
+pub shelf_kept : {T : Type 0} {g : _} (p n index : ℕ) (slabs : List (Option (Shelf T g))) (shelf : Shelf T g) → n / p ≢ index → item_in p (set slabs index (Some shelf)) n ≡ item_in p slabs n
+unfolding item_in
+shelf_kept p n index slabs shelf other = rw (get_or-set_other slabs index (n / p) (Some shelf) None other) refl
+
+-- the item of a place of a shelf
+pub item_in-shelf : {T : Type 0} {g : _} (p n : ℕ) (slabs : List (Option (Shelf T g))) (shelf : Shelf T g) → shelf_in slabs (n / p) ≡ Some shelf → item_in p slabs n ≡ item_on (n % p) shelf
+unfolding item_in
+item_in-shelf p n slabs shelf in_keg = rw in_keg refl
+
+-- where a shelf was taken away no item is, and all else has what it had
+pub shelf_gone : {T : Type 0} {g : _} (p n index : ℕ) (slabs : List (Option (Shelf T g))) → index < length slabs → n / p ≡ index → item_in p (set slabs index None) n ≡ None
+unfolding item_in
+shelf_gone p n index slabs within at = rw (at, get_or-set_same slabs index None None within) refl
+
+pub shelf_stays : {T : Type 0} {g : _} (p n index : ℕ) (slabs : List (Option (Shelf T g))) → n / p ≢ index → item_in p (set slabs index None) n ≡ item_in p slabs n
+unfolding item_in
+shelf_stays p n index slabs other = rw (get_or-set_other slabs index (n / p) None None other) refl

@@ -1,5 +1,5 @@
 -- What contracts see of a keg.
-use Rattle.std.specs.Prelude.{◌≡◌, ◌≤◌, ◌<◌, ℕ, List, [], Option, length, slice_index_or}
+use Rattle.std.specs.Prelude.{◌≡◌, ◌≤◌, ◌<◌, ◌+◌, ◌*◌, ℕ, List, [], Option, length, slice_index_or}
 use Rattle.zone_stats.specs.declared.refusal.Refusal.{Refusal}
 use Rattle.deed_book.specs.declared.book.Book.{Book}
 use Rattle.deed_book.specs.Deed.{TableId}
@@ -11,6 +11,9 @@ use Rattle.uma_keg.specs.declared.keg.Keg.{Keg}
 use Rattle.uma_keg.specs.Places.{KegPlaces}
 use Rattle.uma_keg.specs.Shelves.{item_at}
 use Rattle.uma_keg.specs.Outs.{out_of}
+use Rattle.uma_keg.specs.Tallies.{home_times, sum_below}
+use Rattle.uma_life.specs.Hook.{Hook}
+use Rattle.uma_life.specs.Sum.{sum_of}
 
 -- its slabs, and which of their places are free
 abbrev pub places_in : {T K : Type 0} {g : _} {h : _} → Keg T K g h → KegPlaces
@@ -63,6 +66,10 @@ hooks_in keg = keg.hooks
 -- the sums of the tallies of buried bodies
 abbrev pub buried_in : {T K : Type 0} {g : _} {h : _} → Keg T K g h → TallySum
 buried_in keg = keg.buried
+
+-- how often the items passed a hook: the sum over those at home, by their numbers, and the buried
+abbrev pub total_in : {T K : Type 0} {g : _} {h : _} → Keg T K g h → Hook → ℕ
+total_in keg hook = sum_of keg.buried hook + sum_below (λ n. home_times hook (item_at keg.shelves n)) (keg.places.cap * keg.places.per_slab)
 
 -- what no call changes
 pub record IsSameKeg {T K : Type 0} {g : _} {h : _} (old new : Keg T K g h) : Type 0 where

@@ -12,3 +12,11 @@ pub mod Shelves
 pub mod KegLaw
 pub mod Keg
 pub mod Fetch
+pub mod Tallies
+pub mod NewItems
+pub mod BringSlab
+pub mod FreeSlabs
+pub mod Lent
+pub mod UsedPlaces
+pub mod Paired
+pub mod Census

@@ -1,10 +1,12 @@
-ghost use Rattle.std.specs.Prelude.{◌≡◌, ◌≢◌, ℕ, ◌*◌, ◌/◌, ◌<◌, ◌≤◌, ◌↔◌, ◌∷◌, [], min, None, Some, IsTrue, IfOk, IfErr, OnOk, All, map, replicate, slice_set};
+ghost use Rattle.std.specs.Prelude.{◌≡◌, ◌≢◌, ℕ, ◌+◌, ◌*◌, ◌/◌, ◌<◌, ◌≤◌, ◌↔◌, ◌∷◌, [], min, None, Some, IsTrue, IfOk, IfErr, OnOk, All, count_by, is_some, map, replicate, slice_set};
 ghost use Rattle.deed_book.specs.Book.{book_table, zones_of};
 ghost use Rattle.deed_book.specs.Deed.{deed_table, no_of};
 ghost use Rattle.uma_life.specs.Sum.{no_sums};
 ghost use Rattle.uma_keg.specs.Places.{IsNew, slab_count, free_count};
 ghost use Rattle.uma_keg.specs.Refused.{IsItemSize, IsSlabCount, IsRefusedFor};
 ghost use Rattle.uma_keg.specs.KegLaw.{PlacesLaw, ZonesLaw};
+ghost use Rattle.uma_keg.specs.Tallies.{TallyLaw};
+ghost use Rattle.uma_keg.specs.Paired.{ArePaired};
 
 use crate::counts::KegCounts;
 use crate::outside::Outside;
@@ -27,6 +29,7 @@ use zone_stats::Refusal;
 ///    number is outside, in the book of the keg's numbers. An item at home has its number, and its slab's domain.
 /// 2. A zone exists exactly where its right is at home in the book of the keg's rights. One that doesn't exist has no
 ///    item outside, and no zone has more than its limit, where that is above 0.
+/// 3. In the sums of the buried hooks come in pairs.
 ///
 /// Contracts alone see, for each zone, the list of the refusals of its fetches.
 #[derive(Drop)]
@@ -45,6 +48,8 @@ pub struct Keg<T: Body, K: Hooks<T>> {
     pub(crate) hooks: K,
     pub ghost places_law: { PlacesLaw places (zones_of outside.book) shelves },
     pub ghost zones_law: { ZonesLaw (zones_of outside.book) (zones_of rights) limits },
+    pub ghost tally_law: { TallyLaw buried places },
+    pub ghost paired: { ArePaired buried },
 }
 
 fn no_refusals() -> [Log<Refusal>; 8]
@@ -117,6 +122,7 @@ impl<T: Body, K: Hooks<T>> Keg<T, K> {
         ensures free { result.free ≡ free_count (places_in self.now) }
         ensures per_slab { result.per_slab ≡ (places_in self.now).per_slab }
         ensures reserve { result.reserve ≡ reserve_in self.now }
+        ensures balanced { result.slabs * result.per_slab ≡ result.free + count_by is_some (zones_in self.now) }
     {
         let counts = self.places.counts();
         KegCounts {

@@ -1,3 +1,7 @@
 mod body;
+mod census;
 mod fetches;
+mod free_slabs;
+mod refusing;
+mod slabs;
 mod zones;

@@ -6,24 +6,35 @@
 //! items of a slab, plus its place in the slab.
 #![tactic(auto)]
 
+mod bring;
+mod census;
 mod counts;
 mod fetch_law;
+mod fetch_refused;
+mod free_slabs;
 mod give;
 mod keg;
+mod keg_census;
 #[cfg(test)]
 mod keg_tests;
+mod new_items;
 mod outside;
 mod places;
+mod recount;
 mod refused;
 mod rights;
 mod room;
 mod shelf;
 mod shelves;
+mod tallies;
 #[cfg(test)]
 mod tests;
+mod undeeded;
 
+pub use census::Census;
 pub use counts::KegCounts;
 pub use fetch_law::fetches_keep_their_bounds;
+pub use fetch_refused::FetchRefused;
 pub use keg::Keg;
 pub use places::Places;
 pub use refused::KegRefused;

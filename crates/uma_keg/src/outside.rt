@@ -1,4 +1,4 @@
-ghost use Rattle.std.specs.Prelude.{◌≡◌, ◌≤◌, ◌<◌, ℕ, None, Some, IfOk, replicate, slice_set};
+ghost use Rattle.std.specs.Prelude.{◌≡◌, ◌≤◌, ◌<◌, ℕ, None, Some, IfOk, count_by, is_some, replicate, slice_index_or, slice_set, sum_by};
 ghost use Rattle.deed_book.specs.Book.{book_table, zones_of};
 ghost use Rattle.uma_keg.specs.Outs.{CountsOuts, out_of};
 
@@ -11,6 +11,7 @@ pub(crate) struct Outside {
     pub(crate) book: Book,
     outs: [u64; 8],
     pub ghost counted: { CountsOuts (zones_of book) outs },
+    pub ghost total: { sum_by (λ out. out) outs ≡ count_by is_some (zones_of book) },
 }
 
 impl Outside {
@@ -61,5 +62,13 @@ impl Outside {
         ensures { result ≡ out_of (outside_zones self.now) zone }
     {
         self.outs[zone as usize]
+    }
+
+    /// How many numbers are outside in each zone. Together these are all numbers outside.
+    pub fn outs(&self) -> [u64; 8]
+        ensures each { (zone : ℕ) → zone < 8 → slice_index_or result zone 0 ≡ out_of (outside_zones self.now) zone }
+        ensures total { sum_by (λ out. out) result ≡ count_by is_some (outside_zones self.now) }
+    {
+        self.outs
     }
 }

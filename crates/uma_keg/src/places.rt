@@ -1,6 +1,7 @@
 ghost use Rattle.std.specs.Prelude.{◌≡◌, ◌≢◌, ℕ, ◌*◌, ◌/◌, ◌<◌, ◌≤◌, ◌⊎◌, ◌↔◌, min, false, IsSome, IsNone, IsOk, IfSome, IfNone, IfOk, IfErr, OnSome, OnOk, OnErr, position, replicate};
 ghost use Rattle.std.specs.Option.{option_or};
 ghost use Rattle.uma_keg.specs.Places.{place_at, domain_at, slab_count, free_count, out_count, IsFree, IsOut, IsSound, IsNew, Brings, Gives, CountsOneOut, CountsOneSlab};
+ghost use Rattle.uma_keg.specs.UsedPlaces.{AreEven};
 ghost use Rattle.uma_keg.specs.Refused.{IsItemSize, IsSlabCount, IsRefusedFor};
 ghost use Rattle.uma_keg.specs.Dropping.{Drops, IsWorn, HasNoneWhollyFree};
 ghost use Rattle.uma_keg.specs.Room.{is_absent, can_take, is_partly_used, is_wholly_free, IsLastThat, NonePassFrom};
@@ -182,6 +183,7 @@ impl Places {
         ensures per_slab { result.per_slab ≡ self.now.per_slab }
         ensures reserve { result.reserve ≡ 0 }
         ensures sound { IsSound self.now }
+        ensures even { AreEven self.now }
     {
         KegCounts {
             slabs: self.slabs,

@@ -1,4 +1,5 @@
 ghost use Rattle.std.specs.Prelude.{◌≡◌, ◌<◌, None, Some, length, slice_get, slice_set};
+ghost use Rattle.std.specs.Option.{option_copied};
 
 use uma_life::{Body, Stored};
 
@@ -10,6 +11,15 @@ pub(crate) struct Shelf<T: Body> {
 
 impl<T: Body> Shelf<T> {
     ghost use Rattle.uma_keg.specs.Shelf.{shelf_items};
+    ghost use Rattle.uma_keg.specs.ShelfLists.{item_on};
+
+    /// The item of a place, if it is there.
+    pub fn item(&self, place: u32) -> Option<&Stored<T>>
+        requires { place < length (shelf_items self.now) }
+        ensures { option_copied result ≡ item_on place self.now }
+    {
+        self.places[place as usize].as_ref()
+    }
 
     /// Takes the item of a place, if it is there.
     pub fn take(&mut self, place: u32) -> Option<Stored<T>>

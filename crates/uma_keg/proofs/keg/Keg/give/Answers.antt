@@ -1,11 +1,21 @@
-use Rattle.std.proofs.Common.{◌≡◌, Some, sym, ap, ◌∙◌}
+use Rattle.std.proofs.Common.{◌≡◌, Some, refl, sym, ap, ◌∙◌}
 use Rattle.std.specs.List.{slice_get}
 use Rattle.deed_book.specs.Deed.{zone_of}
 use Rattle.uma_life.specs.Stored.{stored_no}
 use Rattle.uma_life.specs.Cached.{cached_zone}
 use Rattle.uma_keg.specs.Keg.{zones_in}
-use Rattle.uma_keg.proofs.GivenItem.{PlacesLaw-given, ZonesLaw-given, out_given, outs_given}
+use Rattle.uma_keg.specs.Places.{IsOut}
+use Rattle.uma_keg.proofs.GivenItem.{out_place, PlacesLaw-given, ZonesLaw-given, out_given, outs_given}
+use Rattle.uma_keg.proofs.TallyLaws.{TallyLaw-kept}
 use Rattle.uma_keg.proofs.keg.Keg.give.Goals as goal
+
+pub domain-requires : goal.domain-requires
+domain-requires g c =
+    let out : IsOut c.args.self.now.places c.accept-no.result = rw c.accept-no.ensures.number (out_place c.args.self.now.places_law _ _ c.accept-no.ensures.was_outside) in
+    rw out refl
+
+pub give-requires : goal.give-requires
+give-requires g c = rw c.accept-no.ensures.number (out_place c.args.self.now.places_law _ _ c.accept-no.ensures.was_outside)
 
 pub invariant_of-self : goal.invariant_of-self
 invariant_of-self g c =
@@ -15,6 +25,8 @@ invariant_of-self g c =
     record {
       places_law = PlacesLaw-given _ _ _ _ _ _ c.accept-no.result _ keg.places_law c.give.ensures.gives (rw accepted.number accepted.zones) c.put.ensures.item c.put.ensures.others c.put.ensures.shelves c.put.ensures.count c.put.ensures.places number (c.domain.ensures ∙ ap Some (sym c.in_domain-stored.ensures.domain));
       zones_law = ZonesLaw-given _ _ _ _ _ _ keg.zones_law accepted.zones accepted.was_outside;
+      tally_law = TallyLaw-kept _ _ _ keg.tally_law (sym c.give.ensures.counts.slabs) c.give.ensures.gives.slabs.per_slab;
+      paired = keg.paired;
     }
 
 pub returns-clause-out : goal.returns-clause-out

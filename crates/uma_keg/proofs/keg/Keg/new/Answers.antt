@@ -1,5 +1,7 @@
 use Rattle.std.proofs.Common.{◌∙◌}
 use Rattle.uma_keg.proofs.NewKeg.{PlacesLaw-new, ZonesLaw-new}
+use Rattle.uma_keg.proofs.TallyLaws.{TallyLaw-new}
+use Rattle.uma_keg.proofs.PairedSums.{paired_none}
 use Rattle.uma_keg.proofs.keg.Keg.new.Goals as goal
 
 pub invariant_of-keg : goal.invariant_of-keg
@@ -8,4 +10,6 @@ invariant_of-keg g c =
     record {
       places_law = PlacesLaw-new _ _ _ _ _ c.in_ok-places.ensures.new (rw (← counts.cap, ← counts.per_slab) c.in_ok-outside.ensures) (c.in_ok-shelves.ensures.count ∙ counts.cap) (c.in_ok-shelves.ensures.places ∙ counts.per_slab) c.in_ok-shelves.ensures.none c.in_ok-shelves.ensures.no_item;
       zones_law = ZonesLaw-new _ _ _ c.in_ok-outside.ensures c.in_ok-rights.ensures.book;
+      tally_law = TallyLaw-new _ _ c.none.ensures c.in_ok-places.ensures.new.slabs;
+      paired = paired_none _ c.none.ensures;
     }

@@ -1,0 +1,68 @@
+-- A keg keeps its law where a slab is brought in, all of whose items are at home.
+use Rattle.std.proofs.Common.{◌≡◌, ◌≢◌, ◌≤◌, ◌<◌, ◌+◌, ◌*◌, ◌/◌, ◌%◌, ℕ, Bool, true, List, Option, Some, None, is_some, refl, inl, inr, sym, ap, ◌∙◌}
+use Rattle.std.proofs.Math.Nat.{mod-lt}
+use Rattle.std.proofs.lemmas.Nat.{div-add-mod'}
+use Rattle.std.proofs.lemmas.Bool.{cases_eq}
+use Rattle.uma_keg.proofs.Slabs.{slab_of, domain_at-in}
+use Rattle.uma_life.specs.declared.stored.Stored.{Stored}
+use Rattle.uma_life.specs.Stored.{stored_no, stored_domain}
+use Rattle.uma_keg.specs.declared.shelf.Shelf.{Shelf}
+use Rattle.uma_keg.specs.declared.shelves.Shelves.{Shelves}
+use Rattle.uma_keg.specs.Places.{KegPlaces, place_at, domain_at, Brings}
+use Rattle.uma_keg.specs.ShelfLists.{item_on}
+use Rattle.uma_keg.specs.Shelves.{item_at, has_shelf, shelf_count, places_each}
+use Rattle.uma_keg.specs.KegLaw.{PlacesLaw, is_used_place, is_free_place}
+
+-- each place of the shelf has the item of its number, in this domain
+pub record IsBrought {T : Type 0} {g : _} (first per_slab domain : ℕ) (shelf : Shelf T g) : Type 0 where
+  pub whole : (place : ℕ) → place < per_slab → is_some (item_on place shelf) ≡ true
+  pub numbered : (place : ℕ) (item : Stored T g) → item_on place shelf ≡ Some item → stored_no item ≡ first + place
+  pub domains : (place : ℕ) (item : Stored T g) → item_on place shelf ≡ Some item → stored_domain item ≡ domain
+
+-- the shelf of a new slab was added
+pub record IsAdded {T : Type 0} {g : _} (old new : Shelves T g) (index : ℕ) (shelf : Shelf T g) : Type 0 where
+  pub items : (n : ℕ) → n / places_each old ≡ index → item_at new n ≡ item_on (n % places_each old) shelf
+  pub others : (n : ℕ) → n / places_each old ≢ index → item_at new n ≡ item_at old n
+  pub there : has_shelf new index ≡ true
+  pub shelves : (other : ℕ) → other ≢ index → has_shelf new other ≡ has_shelf old other
+  pub count : shelf_count new ≡ shelf_count old
+  pub places : places_each new ≡ places_each old
+
+same_some : {m n : ℕ} → Some m ≡ Some n → m ≡ n
+same_some e = cc
+
+number_of : (n p index : ℕ) → n / p ≡ index → index * p + n % p ≡ n
+number_of n p index at = ap (λ (i : ℕ). i * p + n % p) (sym at) ∙ div-add-mod' n p
+
+-- a slab that isn't in has no place
+no_place : (places : KegPlaces) (n : ℕ) (o : Option Bool) → place_at places n ≡ o → domain_at places (n / places.per_slab) ≡ None → place_at places n ≡ None
+no_place places n None is absent = is
+no_place places n (Some b) is absent = let has = slab_of places n b is in absurd (cc (absent, domain_at-in places (n / places.per_slab) has.slab has.in_keg))
+
+pub PlacesLaw-brought : {T : Type 0} {g : _} (places now : KegPlaces) (zones : List (Option ℕ)) (shelves full : Shelves T g) (index domain : ℕ) (shelf : Shelf T g)
+    → 1 ≤ places.per_slab → PlacesLaw places zones shelves → Brings places domain index now → IsAdded shelves full index shelf → IsBrought (index * places.per_slab) places.per_slab domain shelf → PlacesLaw now zones full
+PlacesLaw-brought places now zones shelves full index domain shelf some law brings added brought = record {
+  per_slab = added.places ∙ law.per_slab ∙ sym brings.per_slab;
+  cap = added.count ∙ law.cap ∙ sym brings.cap;
+  numbers = rw (brings.per_slab, brings.cap) law.numbers;
+  slabs = λ other. elim (cases_eq other index) [
+    | inl at ↦ rw at (added.there ∙ sym (ap is_some brings.domain))
+    | inr else ↦ added.shelves other else ∙ law.slabs other ∙ sym (ap is_some (brings.other_slabs other else))
+  ];
+  outside = λ n. elim (cases_eq (n / places.per_slab) index) [
+    | inl at ↦ law.outside n ∙ ap is_used_place (no_place places n (place_at places n) refl (ap (domain_at places) at ∙ brings.absent)) ∙ sym (ap is_used_place (brings.free n at))
+    | inr else ↦ law.outside n ∙ sym (ap is_used_place (brings.other_places n else))
+  ];
+  home = λ n. elim (cases_eq (n / places.per_slab) index) [
+    | inl at ↦ ap is_some (added.items n (ap (λ p. n / p) law.per_slab ∙ at)) ∙ ap (λ p. is_some (item_on (n % p) shelf)) law.per_slab ∙ brought.whole (n % places.per_slab) (mod-lt n some) ∙ sym (ap is_free_place (brings.free n at))
+    | inr else ↦ ap is_some (added.others n (λ at. else (ap (λ p. n / p) (sym law.per_slab) ∙ at))) ∙ law.home n ∙ sym (ap is_free_place (brings.other_places n else))
+  ];
+  numbered = λ n item is. elim (cases_eq (n / places.per_slab) index) [
+    | inl at ↦ brought.numbered (n % places.per_slab) item (ap (λ p. item_on (n % p) shelf) (sym law.per_slab) ∙ sym (added.items n (ap (λ p. n / p) law.per_slab ∙ at)) ∙ is) ∙ number_of n places.per_slab index at
+    | inr else ↦ law.numbered n item (sym (added.others n (λ at. else (ap (λ p. n / p) (sym law.per_slab) ∙ at))) ∙ is)
+  ];
+  domains = λ n d item is has. elim (cases_eq (n / places.per_slab) index) [
+    | inl at ↦ brought.domains (n % places.per_slab) item (ap (λ p. item_on (n % p) shelf) (sym law.per_slab) ∙ sym (added.items n (ap (λ p. n / p) law.per_slab ∙ at)) ∙ is) ∙ same_some (sym brings.domain ∙ ap (domain_at now) (sym at) ∙ ap (λ p. domain_at now (n / p)) (sym brings.per_slab) ∙ has)
+    | inr else ↦ law.domains n d item (sym (added.others n (λ at. else (ap (λ p. n / p) (sym law.per_slab) ∙ at))) ∙ is) (sym (brings.other_slabs (n / places.per_slab) else) ∙ ap (λ p. domain_at now (n / p)) (sym brings.per_slab) ∙ has)
+  ];
+}

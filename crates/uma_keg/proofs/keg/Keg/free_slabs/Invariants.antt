@@ -1,0 +1,24 @@
+use Rattle.std.proofs.Common.{◌≡◌, ◌≤◌, ◌<◌, ◌+◌, ℕ}
+use Rattle.uma_keg.specs.Places.{slab_count, free_count}
+use Rattle.uma_keg.specs.Dropping.{IsWorn}
+use Rattle.uma_keg.specs.FreeSlabs.{FreesSlabs}
+use Rattle.uma_keg.specs.Keg.{places_in, zones_in, rights_in, limit_in, refusals_in, reserve_in, IsSameKeg}
+use Rattle.uma_keg.proofs.FreedSlabs.{Leaves}
+use Rattle.uma_keg.proofs.keg.Keg.free_slabs.Given as goal
+
+abbrev pub decreases-loop-self : goal.decreases-loop-self
+decreases-loop-self g l = slab_count (places_in l.self)
+
+abbrev pub invariant-loop-self : goal.invariant-loop-self
+invariant-loop-self g l = record {
+  freed : FreesSlabs l.initial.self l.count l.self;
+  leaves : Leaves l.initial.self l.self;
+  reserve : 0 < l.count → reserve_in l.initial.self ≤ free_count (places_in l.self);
+  unworn : 0 < l.count → IsWorn (places_in l.initial.self) → ⊥;
+  few : l.count + slab_count (places_in l.self) ≤ 1024;
+  zones : zones_in l.self ≡ zones_in l.initial.self;
+  rights : rights_in l.self ≡ rights_in l.initial.self;
+  limits : (zone : ℕ) → limit_in l.self zone ≡ limit_in l.initial.self zone;
+  refusals : (zone : ℕ) → refusals_in l.self zone ≡ refusals_in l.initial.self zone;
+  same : IsSameKeg l.initial.self l.self;
+}

@@ -1,0 +1,24 @@
+use Rattle.std.proofs.Common.{◌≡◌, sym, ap, arith, ◌∙◌}
+use Rattle.uma_keg.specs.Outside.{outside_table, outside_zones}
+use Rattle.uma_keg.specs.Lent.{seen_of, seen_without}
+use Rattle.uma_keg.proofs.TakenIn.{item_moved, last_taken, last_home, last_issued}
+use Rattle.uma_keg.proofs.recount.issue_again.Goals as goal
+
+pub issue-requires-clause-home : goal.issue-requires-clause-home
+issue-requires-clause-home g c =
+    last_home _ _ _ c.deed-no.result _ (last_taken (outside_zones c.args.before.value) (outside_zones c.loop-item.outside) _ _ c.in-Some.item c.in-Some.ensures.items c.loop-item.invariant.taken) c.deed-no.ensures
+
+pub loop-item-preserved : goal.loop-item-preserved
+loop-item-preserved g c =
+    let kept = c.loop-item.invariant in
+    let table = outside_table c.args.outside.now in
+    let item = c.in-Some.item in
+    let last = last_taken (outside_zones c.args.before.value) (outside_zones c.loop-item.outside) _ _ item c.in-Some.ensures.items kept.taken in
+    let same : seen_without table item ≡ seen_of c.with.result = sym (c.with.ensures ∙ ap (λ t. seen_without t item) (c.issue.ensures.deed_table ∙ kept.table)) in
+    record {
+      table = c.issue.ensures.table ∙ kept.table;
+      counted = omega (arith, kept.counted, c.in-Some.ensures.cases, c.push_reserved.ensures.len);
+      room = rw c.push_reserved.ensures.capacity kept.room;
+      items = sym (item_moved table _ _ c.with.result _ _ item c.push_reserved.ensures.items c.in-Some.ensures.items same) ∙ kept.items;
+      taken = last_issued _ _ _ c.deed-no.result _ _ last c.deed-no.ensures c.issue.ensures.zones;
+    }

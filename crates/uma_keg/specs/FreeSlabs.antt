@@ -1,0 +1,62 @@
+-- How a keg gives up slabs. That a slab whose items are all free may be given up, that keg_fini runs on each of them, and that the reserve is kept, is the rule of FreeBSD's uma(9); the greatest index first, and how many are given up at once, are own.
+use Rattle.std.specs.Prelude.{◌≡◌, ◌≢◌, ◌≤◌, ◌<◌, ◌+◌, ◌*◌, ◌/◌, ◌⊎◌, ℕ, Option, Some, None}
+use Rattle.uma_life.specs.declared.stored.Stored.{Stored}
+use Rattle.uma_life.specs.Hook.{Hook}
+use Rattle.uma_life.specs.Sum.{sum_of}
+use Rattle.uma_keg.specs.declared.keg.Keg.{Keg}
+use Rattle.uma_keg.specs.Places.{KegPlaces, place_at, domain_at, slab_count, free_count, out_count, CountsOneSlab}
+use Rattle.uma_keg.specs.Dropping.{IsWhollyFree, IsWorn, HasNoneWhollyFree, Drops}
+use Rattle.uma_keg.specs.Tallies.{ended_times, sum_below}
+use Rattle.uma_keg.specs.Keg.{places_in, stored_in, buried_in, reserve_in}
+
+-- the slab of this index is wholly free, and its index is at least the one that the giving up went down to
+pub record Goes (old : KegPlaces) (from index : ℕ) : Type 0 where
+  pub above : from ≤ index
+  pub whole : IsWhollyFree old index
+
+-- The wholly free slabs from one index on are given up, and no other. All else stays.
+pub record DropsFrom (old : KegPlaces) (from : ℕ) (new : KegPlaces) : Type 0 where
+  pub absent : (index : ℕ) → Goes old from index → domain_at new index ≡ None
+  pub nowhere : (n : ℕ) → Goes old from (n / old.per_slab) → place_at new n ≡ None
+  pub other_slabs : (index : ℕ) → (Goes old from index → ⊥) → domain_at new index ≡ domain_at old index
+  pub other_places : (n : ℕ) → (Goes old from (n / old.per_slab) → ⊥) → place_at new n ≡ place_at old n
+  pub per_slab : new.per_slab ≡ old.per_slab
+  pub cap : new.cap ≡ old.cap
+  pub made : new.made ≡ old.made
+
+-- so many slabs fewer are in, and all their places were free
+pub record CountsFewer (old : KegPlaces) (count : ℕ) (new : KegPlaces) : Type 0 where
+  pub slabs : slab_count new + count ≡ slab_count old
+  pub free : free_count new + count * old.per_slab ≡ free_count old
+  pub out : out_count new ≡ out_count old
+
+-- how often the item of a place passed a hook, once it is ended, if it was at home and isn't any more
+abbrev pub times_gone : {T : Type 0} {g : _} → Hook → Option (Stored T g) → Option (Stored T g) → ℕ
+times_gone hook old (Some _) = 0
+times_gone hook old None = ended_times hook old
+
+-- the items that aren't at home any more were ended, and their tallies added to the buried
+abbrev pub BuriesGone : {T K : Type 0} {g : _} {h : _} → Keg T K g h → Keg T K g h → Type 0
+BuriesGone old new =
+    (hook : Hook) → sum_of (buried_in new) hook ≡ sum_of (buried_in old) hook + sum_below (λ n. times_gone hook (stored_in old n) (stored_in new n)) ((places_in old).cap * (places_in old).per_slab)
+
+-- So many slabs were given up: the wholly free ones from one index on. Their items were ended, and each other item is where it was.
+pub record FreesSlabs {T K : Type 0} {g : _} {h : _} (old : Keg T K g h) (count : ℕ) (new : Keg T K g h) : Type 0 where
+  pub from : ℕ
+  pub places : DropsFrom (places_in old) from (places_in new)
+  pub counts : CountsFewer (places_in old) count (places_in new)
+  pub gone : (n : ℕ) → Goes (places_in old) from (n / (places_in old).per_slab) → stored_in new n ≡ None
+  pub others : (n : ℕ) → (Goes (places_in old) from (n / (places_in old).per_slab) → ⊥) → stored_in new n ≡ stored_in old n
+  pub buried : BuriesGone old new
+
+-- Why no further slab is given up: too many were ever brought in, or none is wholly free, or one more would leave fewer free items than the reserve.
+abbrev pub GivesNoMore : {T K : Type 0} {g : _} {h : _} → Keg T K g h → Type 0
+GivesNoMore keg = IsWorn (places_in keg) ⊎ HasNoneWhollyFree (places_in keg) ⊎ (free_count (places_in keg) < reserve_in keg + (places_in keg).per_slab)
+
+-- The wholly free slab of greatest index was given up. Its items were ended, and each other item is where it was.
+pub record FreesSlab {T K : Type 0} {g : _} {h : _} (old : Keg T K g h) (index : ℕ) (new : Keg T K g h) : Type 0 where
+  pub places : Drops (places_in old) index (places_in new)
+  pub counts : CountsOneSlab (places_in new) (places_in old)
+  pub gone : (n : ℕ) → n / (places_in old).per_slab ≡ index → stored_in new n ≡ None
+  pub others : (n : ℕ) → n / (places_in old).per_slab ≢ index → stored_in new n ≡ stored_in old n
+  pub buried : BuriesGone old new

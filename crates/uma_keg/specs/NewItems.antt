@@ -1,0 +1,31 @@
+-- The items of a slab that is brought in. That keg_init runs on each, and that a refusal ends those made before it, is the rule of FreeBSD's uma(9).
+use Rattle.std.specs.Prelude.{◌≡◌, ◌<◌, ◌+◌, ℕ, List, Option, None, length, slice_index_or}
+use Rattle.std.specs.Option.{IsSomeAnd}
+use Rattle.uma_life.specs.declared.stored.Stored.{Stored}
+use Rattle.uma_life.specs.declared.tally_sum.TallySum.{TallySum}
+use Rattle.uma_life.specs.declared.refused.BringRefused.{BringRefused}
+use Rattle.uma_life.specs.declared.refused.BringRefused.TheVariants.{Init, Memory}
+use Rattle.uma_life.specs.Stored.{stored_body, stored_domain}
+use Rattle.uma_life.specs.Life.{raw_life}
+use Rattle.uma_life.specs.Hook.{KegInit, IsCode, after}
+use Rattle.uma_keg.specs.Tallies.{AddsVain}
+
+-- an item that passed keg_init alone, of this number and domain
+pub record IsNewItem {T : Type 0} {g : _} (number domain : ℕ) (item : Stored T g) : Type 0 where
+  pub life : g.life (stored_body item) ≡ after KegInit (raw_life number)
+  pub in_domain : stored_domain item ≡ domain
+
+-- each place has a new item of its number: the first one's, and so on
+pub record AreNewItems {T : Type 0} {g : _} (first domain : ℕ) (items : List (Option (Stored T g))) : Type 0 where
+  pub each : (place : ℕ) → place < length items → IsSomeAnd (slice_index_or items place None) (IsNewItem (first + place) domain)
+
+-- The items of the places below one were made and ended, as keg_init accepts them.
+pub record StopsAt (per_slab place : ℕ) (Accepts : ℕ → Type 0) (old new : TallySum) : Type 0 where
+  pub within : place < per_slab
+  pub earlier : (lower : ℕ) → lower < place → Accepts lower
+  pub buried : AddsVain old place new
+
+-- Why a slab's items weren't made: at some place keg_init refused the body with a code, or memory was wanting. Those of the places before it were ended.
+abbrev pub RefusesItems : ℕ → (ℕ → ℕ → Type 0) → (ℕ → Type 0) → TallySum → TallySum → BringRefused → Type 0
+RefusesItems per_slab Refuses Accepts old new (Init code) = (place : ℕ) × StopsAt per_slab place Accepts old new × Refuses place code × IsCode code
+RefusesItems per_slab Refuses Accepts old new Memory = (place : ℕ) × StopsAt per_slab place Accepts old new

@@ -1,0 +1,101 @@
+ghost use Rattle.std.specs.Prelude.{◌≡◌, ◌<◌, ◌^◌, ℕ, Err, IfErr, OnOk, OnErr};
+ghost use Rattle.uma_life.specs.Hook.{Hook};
+ghost use Rattle.uma_life.specs.Sum.{AreBelow};
+ghost use Rattle.uma_keg.specs.Places.{slab_count};
+ghost use Rattle.uma_keg.specs.BringSlab.{BringsSlab, RefusesSlab};
+ghost use Rattle.uma_keg.specs.Keg.{places_in, zones_in, rights_in, stored_in, limit_in, refusals_in, buried_in, total_in, IsSameKeg, IsWithinLimits};
+
+use crate::counts::KegCounts;
+use crate::fetch_refused::FetchRefused;
+use crate::keg::Keg;
+use crate::shelf::Shelf;
+use std::alloc::Global;
+use std::sync::Wait;
+use uma_life::{Body, Hooks};
+use zone_stats::Refusal;
+
+/// A slab is brought in while each sum of hooks is below this (own), so that no sum comes to its end.
+const MOST_TALLIED: u128 = 1 << 120;
+
+impl<T: Body, K: Hooks<T>> Keg<T, K> {
+    /// Brings in one slab more, of the memory domain of the seat that asks.
+    ///
+    /// `Full` exactly where as many slabs are in as may be. `Init` where `keg_init` refuses an item, with its code; those
+    /// of the slab that were made before it are ended, and no half of a slab is in. `Memory` where memory is wanting, or
+    /// one of the sums of hooks is at 2^120. It waits for `raw` and `bury` alone.
+    pub fn bring<R: Wait>(&mut self, rt: &R, alloc: Global, domain: u8) -> Result<(), FetchRefused>
+        ensures brings { OnOk result (BringsSlab self.old domain self.new) }
+        ensures room { OnOk result (slab_count (places_in self.old) < (places_in self.old).cap) }
+        ensures refused { IfErr result (RefusesSlab self.old (buried_in self.new)) }
+        ensures places { OnErr result (places_in self.new ≡ places_in self.old) }
+        ensures stored { OnErr result ((n : ℕ) → stored_in self.new n ≡ stored_in self.old n) }
+        ensures worn { (((hook : Hook) → total_in self.old hook < 2 ^ 120) → ⊥) → result ≡ Err FetchRefused.Memory }
+        ensures zones { zones_in self.new ≡ zones_in self.old }
+        ensures rights { rights_in self.new ≡ rights_in self.old }
+        ensures limits { (zone : ℕ) → limit_in self.new zone ≡ limit_in self.old zone }
+        ensures refusals { (zone : ℕ) → refusals_in self.new zone ≡ refusals_in self.old zone }
+        ensures same { IsSameKeg self.old self.new }
+        ensures within { IsWithinLimits self.new }
+    {
+        if !self.wide_tally().are_below(MOST_TALLIED) {
+            return Err(FetchRefused::Memory);
+        }
+        self.bring_slab(rt, alloc, domain)
+    }
+
+    /// The same where each sum is below its bound.
+    pub(crate) fn bring_slab<R: Wait>(
+        &mut self,
+        rt: &R,
+        alloc: Global,
+        domain: u8,
+    ) -> Result<(), FetchRefused>
+        requires { AreBelow (2 ^ 120) (buried_in self.old) }
+        ensures brings { OnOk result (BringsSlab self.old domain self.new) }
+        ensures room { OnOk result (slab_count (places_in self.old) < (places_in self.old).cap) }
+        ensures refused { IfErr result (RefusesSlab self.old (buried_in self.new)) }
+        ensures places { OnErr result (places_in self.new ≡ places_in self.old) }
+        ensures stored { OnErr result ((n : ℕ) → stored_in self.new n ≡ stored_in self.old n) }
+        ensures zones { zones_in self.new ≡ zones_in self.old }
+        ensures rights { rights_in self.new ≡ rights_in self.old }
+        ensures limits { (zone : ℕ) → limit_in self.new zone ≡ limit_in self.old zone }
+        ensures refusals { (zone : ℕ) → refusals_in self.new zone ≡ refusals_in self.old zone }
+        ensures same { IsSameKeg self.old self.new }
+        ensures within { IsWithinLimits self.new }
+    {
+        let KegCounts {
+            slabs,
+            cap,
+            made,
+            per_slab,
+            ..
+        } = self.places.counts();
+        if slabs == cap {
+            return Err(FetchRefused::Refused {
+                refusal: Refusal::Full { slabs, made },
+            });
+        }
+        let Some(index) = self.shelves.first_gap() else {
+            unreachable!()
+        };
+        let first = index * per_slab;
+        match Shelf::bring(
+            rt,
+            alloc,
+            &self.hooks,
+            first,
+            per_slab,
+            domain,
+            &mut self.buried,
+        ) {
+            Ok(shelf) => {
+                let Ok(_) = self.places.bring(domain) else {
+                    unreachable!()
+                };
+                self.shelves.add(index, shelf);
+                Ok(())
+            }
+            Err(refused) => Err(FetchRefused::from(refused)),
+        }
+    }
+}

@@ -1,0 +1,69 @@
+ghost use Rattle.std.specs.Prelude.{◌≡◌, ◌≤◌, ◌<◌, ◌+◌, ◌⊎◌, ◌↔◌, ℕ, IsTrue, IsNone, IfSome, IfNone};
+ghost use Rattle.uma_keg.specs.Places.{free_count};
+ghost use Rattle.uma_keg.specs.Dropping.{IsWorn, HasNoneWhollyFree};
+ghost use Rattle.uma_keg.specs.FreeSlabs.{FreesSlab, FreesSlabs, GivesNoMore};
+ghost use Rattle.uma_keg.specs.Keg.{places_in, zones_in, rights_in, stored_in, limit_in, refusals_in, reserve_in, buried_in, IsSameKeg, IsWithinLimits};
+
+use crate::counts::KegCounts;
+use crate::keg::Keg;
+use std::sync::Wait;
+use uma_life::{Body, Hooks};
+
+impl<T: Body, K: Hooks<T>> Keg<T, K> {
+    /// Gives up wholly free slabs, the greatest index first, and answers how many. It goes on while one is left and as
+    /// many free items stay as the reserve has.
+    ///
+    /// Their items pass `keg_fini` and are buried. None is given up where more than `2^40 - cap` slabs were ever brought
+    /// in. It waits for `bury` alone.
+    pub fn free_slabs<R: Wait>(&mut self, rt: &R) -> u32
+        ensures freed { FreesSlabs self.old result self.new }
+        ensures reserve { 0 < result → reserve_in self.old ≤ free_count (places_in self.new) }
+        ensures worn { IsWorn (places_in self.old) → result ≡ 0 }
+        ensures no_more { GivesNoMore self.new }
+        ensures zones { zones_in self.new ≡ zones_in self.old }
+        ensures rights { rights_in self.new ≡ rights_in self.old }
+        ensures limits { (zone : ℕ) → limit_in self.new zone ≡ limit_in self.old zone }
+        ensures refusals { (zone : ℕ) → refusals_in self.new zone ≡ refusals_in self.old zone }
+        ensures same { IsSameKeg self.old self.new }
+        ensures within { IsWithinLimits self.new }
+    {
+        let KegCounts { per_slab, .. } = self.places.counts();
+        let mut count = 0;
+        while self.can_spare(per_slab) {
+            let Some(_) = self.free_slab(rt) else {
+                return count;
+            };
+            count += 1;
+        }
+        count
+    }
+
+    /// Whether the reserve stays where so many items are free no more.
+    fn can_spare(&self, items: u32) -> bool
+        ensures { IsTrue result ↔ (reserve_in self.now + items ≤ free_count (places_in self.now)) }
+    {
+        let KegCounts { free, .. } = self.places.counts();
+        self.reserve <= free && u64::from(items) <= free - self.reserve
+    }
+
+    /// Gives up the wholly free slab of greatest index, whatever the reserve, and answers that index. None exactly where
+    /// no slab is wholly free, or more than `2^40 - cap` were ever brought in; nothing changes then.
+    fn free_slab<R: Wait>(&mut self, rt: &R) -> Option<u32>
+        ensures freed { IfSome result (λ index. FreesSlab self.old index self.new) }
+        ensures none_exactly { IsNone result ↔ (IsWorn (places_in self.old) ⊎ HasNoneWhollyFree (places_in self.old)) }
+        ensures places { IfNone result (places_in self.new ≡ places_in self.old) }
+        ensures stored { IfNone result ((n : ℕ) → stored_in self.new n ≡ stored_in self.old n) }
+        ensures buried { IfNone result (buried_in self.new ≡ buried_in self.old) }
+        ensures zones { zones_in self.new ≡ zones_in self.old }
+        ensures rights { rights_in self.new ≡ rights_in self.old }
+        ensures limits { (zone : ℕ) → limit_in self.new zone ≡ limit_in self.old zone }
+        ensures refusals { (zone : ℕ) → refusals_in self.new zone ≡ refusals_in self.old zone }
+        ensures same { IsSameKeg self.old self.new }
+        ensures within { IsWithinLimits self.new }
+    {
+        let index = self.places.drop_slab()?;
+        let shelf = self.shelves.remove(index);
+        shelf.end(rt, &self.hooks, &mut self.buried);
+        Some(index)
+    }
+}

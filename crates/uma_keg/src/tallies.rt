@@ -1,0 +1,45 @@
+ghost use Rattle.std.specs.Prelude.{◌≡◌, ◌≤◌, ◌<◌, ◌+◌, ◌*◌, ◌-◌, ◌^◌, ◌/◌, ℕ, min};
+ghost use Rattle.uma_life.specs.Hook.{Hook};
+ghost use Rattle.uma_life.specs.Sum.{sum_of, times_of, AreBelow};
+ghost use Rattle.uma_keg.specs.Shelves.{item_at, shelf_count, places_each};
+ghost use Rattle.uma_keg.specs.Tallies.{home_times};
+ghost use Rattle.uma_keg.specs.Keg.{total_in};
+
+use crate::counts::KegCounts;
+use crate::keg::Keg;
+use crate::shelves::Shelves;
+use uma_life::{Body, Hooks, Tally, TallySum};
+
+impl<T: Body, K: Hooks<T>> Keg<T, K> {
+    /// How often the items passed each hook, summed up over those at home in the keg and the buried.
+    pub fn wide_tally(&self) -> TallySum
+        ensures { (hook : Hook) → sum_of result hook ≡ total_in self.now hook }
+    {
+        let KegCounts { cap, per_slab, .. } = self.places.counts();
+        let mut sums = self.buried;
+        for no in 0..cap * per_slab {
+            add_home(&self.shelves, no, &mut sums);
+        }
+        sums
+    }
+
+    /// The same as counts of 64 bits, where a sum above 2^64 - 1 is 2^64 - 1.
+    pub fn tally(&self) -> Tally
+        ensures { (hook : Hook) → times_of result hook ≡ min (total_in self.now hook) (2 ^ 64 - 1) }
+    {
+        self.wide_tally().capped()
+    }
+}
+
+/// Adds the tally of the item of a number, if it is at home.
+fn add_home<T: Body>(shelves: &Shelves<T>, no: u32, sums: &mut TallySum)
+    requires within { no / places_each shelves.now < shelf_count shelves.now }
+    requires room { AreBelow (2 ^ 127) sums.old }
+    ensures sums { (hook : Hook) → sum_of sums.new hook ≡ sum_of sums.old hook + home_times hook (item_at shelves.now no) }
+    ensures counts { (hook : Hook) → home_times hook (item_at shelves.now no) < 2 ^ 64 }
+{
+    match shelves.item(no) {
+        Some(item) => sums.add(item.body().tally()),
+        None => {}
+    }
+}
