@@ -37,7 +37,7 @@ split_at_place p xs i e =
 
 -- ---- lines
 
-lines_of_more : (x : List ℕ) (parts : List (List ℕ)) → 0 < length parts → lines_of_parts (x ∷ parts) ≡ strip_carriage_return x ∷ lines_of_parts parts
+pub lines_of_more : (x : List ℕ) (parts : List (List ℕ)) → 0 < length parts → lines_of_parts (x ∷ parts) ≡ strip_carriage_return x ∷ lines_of_parts parts
 lines_of_more x [] lt = absurd (omega arith)
 lines_of_more x (y ∷ more) lt = refl
 

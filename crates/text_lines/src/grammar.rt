@@ -14,9 +14,14 @@ pub trait Grammar {
     /// The state is the one after these lines, the last one first.
     ghost shows: { Self → List TextLine → Type 0 };
 
+    /// What the state keeps between any two lines, whatever they are.
+    ghost kept: { Self → Type 0 };
+
     /// Takes a line in, or says what is wrong with it. `number` is that of the line, from 1.
     fn take(&mut self, number: u64, line: &[u8]) -> Result<(), LineRefused>
-        ensures { Takes test shows self.old number (fields_of line.now) result self.new };
+        requires { kept self.old }
+        ensures takes { Takes test shows self.old number (fields_of line.now) result self.new }
+        ensures kept { kept self.new };
 
     /// Whether the last line was `end`.
     fn is_ended(&self) -> bool

@@ -11,7 +11,8 @@ use crate::refused::{LineRefused, ParseRefused, TraceKind, TraceRefused};
 /// the first thing that is wrong with it; where there is none but no `end` either, the line after the last one is. It goes
 /// a fixed number of times over each line, and takes only the memory that the grammar takes.
 pub fn read_lines<G: Grammar>(grammar: &mut G, text: &[u8]) -> Result<(), ParseRefused>
-    requires { G.shows grammar.old [] }
+    requires shows { G.shows grammar.old [] }
+    requires kept { G.kept grammar.old }
     ensures read { OnOk result (ShowsText G.test G.shows text.now grammar.new) }
     ensures refused { (refused : Refused) → IsErrOf result (ParseRefused.Trace refused)
         → IsRefusedAt G.test text.now refused.line refused.kind }
@@ -46,7 +47,9 @@ fn at_line(line: u64, refused: LineRefused) -> ParseRefused
 
 /// Has the grammar take a line in where it isn't skipped. Its bytes are tested first, and also where it is skipped.
 fn read_line<G: Grammar>(grammar: &mut G, number: u64, line: &[u8]) -> Result<(), LineRefused>
-    ensures { TakesLine G.test G.shows grammar.old number line.now result grammar.new }
+    requires { G.kept grammar.old }
+    ensures takes { TakesLine G.test G.shows grammar.old number line.now result grammar.new }
+    ensures kept { G.kept grammar.new }
 {
     if !is_allowed_line(line) {
         return Err(TraceKind::Bytes.into());

@@ -3,7 +3,7 @@ use Rattle.std.proofs.Common.{◌≡◌, ℕ, Bool, true, false, cond, List, [],
 use Rattle.std.specs.Prelude.{codes, is_some, ◌||◌, OnOk, IfErr}
 use Rattle.std.specs.Str.{bytes_eq}
 use Rattle.smr_core.specs.declared.about.About.{About}
-use Rattle.text_lines.specs.declared.refused.TraceKind.{TraceKind}
+use Rattle.text_lines.specs.declared.refused.TraceKind.TheVariants as kinds
 use Rattle.text_lines.specs.declared.refused.LineRefused.{LineRefused}
 use Rattle.text_lines.specs.declared.refused.LineRefused.TheVariants as refusals
 use Rattle.text_lines.specs.Fields.{◌>>=◌}
@@ -18,6 +18,7 @@ use Rattle.trace_text.specs.declared.schedule_reading.word.Word.{Word}
 use Rattle.trace_text.specs.declared.schedule_reading.word.Word.TheVariants as words
 use Rattle.trace_text.specs.ScheduleGrammar.{word_named, word_or_wrong, fits_place, placed, clock_in, seat_in, two_numbers_in, said_by, says, schedule_test, clock_of, clock_after, seat_turn, pair_turn}
 use Rattle.trace_text.specs.ScheduleShown.{Shows, Hears, is_last}
+use Rattle.trace_text.proofs.Steps.{bound, is_some_value, is_true}
 
 -- ---- the line `end` says that it is the last, and no other does
 
@@ -51,29 +52,16 @@ word_is_end first word is =
     (no_end (is_text (codes "enter")) (words.Seat seats.Enter) _ refl (no_end (is_text (codes "advance")) (words.Seat seats.Advance) _ refl (no_end (is_text (codes "poll")) (words.Pair pairs.Poll) _ refl none_named))))))))))))))))))
     is
 
--- the value of a step that gave one
-pub bound : {A B : Type 0} (r : Result A TraceKind) (f : A → Result B TraceKind) (y : B) → (r >>= f) ≡ Ok y → (x : A) × (r ≡ Ok x) × (f x ≡ Ok y)
-bound (Ok x) f y e = (x, refl, e)
-bound (Err why) f y e = absurd cc
-
-named : (o : Option Word) (word : Word) → word_or_wrong o ≡ Ok word → o ≡ Some word
-named (Some w) word e = cc
-named None word e = absurd cc
-
-fitting : (b : Bool) (u : Unit {0}) → placed b ≡ Ok u → b ≡ true
-fitting true u e = refl
-fitting false u e = absurd cc
-
 -- what is last of a line with this word
-abbrev ends_line : Bool → List (List ℕ) → Bool
+abbrev pub ends_line : Bool → List (List ℕ) → Bool
 ends_line word [] = word
 ends_line word (field ∷ rest) = false
 
-is_end_by : (first : List ℕ) (rest : List (List ℕ)) → is_end (first ∷ rest) ≡ ends_line (bytes_eq first (codes "end")) rest
+pub is_end_by : (first : List ℕ) (rest : List (List ℕ)) → is_end (first ∷ rest) ≡ ends_line (bytes_eq first (codes "end")) rest
 is_end_by first [] = refl
 is_end_by first (field ∷ rest) = refl
 
-not_last : (rest : List (List ℕ)) → false ≡ ends_line false rest
+pub not_last : (rest : List (List ℕ)) → false ≡ ends_line false rest
 not_last [] = refl
 not_last (field ∷ rest) = refl
 
@@ -96,7 +84,7 @@ pub says_parts : (clocked : Bool) (first : List ℕ) (rest : List (List ℕ)) (x
 says_parts clocked first rest x e =
     let a = bound (word_or_wrong (word_named first)) (λ word. placed (fits_place clocked word) >>= λ fits. said_by word rest) x e in
     let b = bound (placed (fits_place clocked a.0)) (λ fits. said_by a.0 rest) x a.2 in
-    (a.0, named (word_named first) a.0 a.1, fitting (fits_place clocked a.0) b.0 b.1, b.2)
+    (a.0, is_some_value (word_named first) kinds.Word a.0 a.1, (is_true (fits_place clocked a.0) tt b.0 kinds.Place b.1).0, b.2)
 
 says_last : (clocked : Bool) (fields : List (List ℕ)) (x : Said) → says clocked fields ≡ Ok x → (is_end fields ≡ is_last x) × (is_last x ≡ true → clocked ≡ true)
 says_last clocked [] x e = absurd cc

@@ -1,8 +1,8 @@
 -- What lines print, one after another.
-use Rattle.std.proofs.Common.{◌≡◌, ℕ, zero, suc, ◌+◌, ◌<◌, ◌≤◌, List, [], ◌∷◌, ◌++◌, length, map, take, get_or, slice_get, Some, refl, sym, ap, ◌∙◌, subst, append_assoc, arith, take_all}
-use Rattle.std.specs.List.{flat_map, join_with_byte}
-use Rattle.std.specs.Fmt.{decimal}
+use Rattle.std.proofs.Common.{◌≡◌, ℕ, ◌+◌, ◌<◌, ◌≤◌, List, [], ◌∷◌, ◌++◌, length, take, get_or, refl, sym, ap, ◌∙◌, subst, append_assoc, take_all}
+use Rattle.std.specs.List.{flat_map}
 use Rattle.std.proofs.lemmas.List.{take_more, map-append, append-nil}
+use Rattle.std.proofs.lemmas.Option.{slice_get-get_or}
 use Rattle.smr_core.specs.declared.seen.Seen.{Seen}
 use Rattle.smr_core.specs.declared.step_refused.StepRefused.{StepRefused}
 use Rattle.smr_core.specs.declared.step_refused.StepRefused.TheVariants as refusals
@@ -13,7 +13,6 @@ use Rattle.trace_text.specs.declared.schedule.Schedule.{Schedule}
 use Rattle.trace_text.specs.declared.schedule.TurnLine.{TurnLine}
 use Rattle.trace_text.specs.declared.schedule_refused.ScheduleRefused.{ScheduleRefused}
 use Rattle.trace_text.specs.declared.schedule_refused.ScheduleRefused.TheVariants as schedule_refused
-use Rattle.trace_text.specs.CanonicalText.{line}
 use Rattle.trace_text.specs.ScheduleText.{Prints, PrintsLine, RefusesLine, RefusesTurnLine, RefusesSchedule, RefusedAt, about_of, refused_at, seen_line, turns_of}
 
 -- turns go on by one
@@ -66,18 +65,13 @@ pub prints-all : (s s' : State) (lines : List TurnLine) (n : ℕ) (bytes : List 
     → Prints s (take n lines) bytes s' → Prints s lines bytes s'
 prints-all s s' lines n bytes h p = subst (λ (l : List TurnLine). Prints s l bytes s') (take_all n lines h) p
 
-slice_get-below : (l : List TurnLine) (n : ℕ) (d : TurnLine) → n < length l → slice_get l n ≡ Some (get_or l n d)
-slice_get-below [] n d h = absurd (omega arith)
-slice_get-below (x ∷ xs) zero d h = refl
-slice_get-below (x ∷ xs) (suc n) d h = slice_get-below xs n d (omega arith)
-
 pub refused-here : (schedule : Schedule) (n : ℕ) (d : TurnLine) (mid : State) (printed : List ℕ) (refused : StepRefused) → n < length schedule.lines
     → Prints (opening (about_of schedule)) (take n schedule.lines) printed mid
     → RefusesLine mid (get_or schedule.lines n d) refused
     → RefusedAt schedule n (get_or schedule.lines n d) refused
 refused-here schedule n d mid printed refused below p q =
     record {
-      there = slice_get-below schedule.lines n d below;
+      there = slice_get-get_or schedule.lines n d below;
       mid = mid;
       printed = printed;
       before = p;
@@ -91,20 +85,6 @@ refuses_line s l refusals.Memory r = tt
 refuses_line s l (refusals.NoSeat missing count) r = (refl, record { step = r; not_memory = λ e. cc })
 refuses_line s l (refusals.OutOfTurn at in_phase in_task) r = (refl, record { step = r; not_memory = λ e. cc })
 refuses_line s l (refusals.Crowded count) r = (refl, record { step = r; not_memory = λ e. cc })
-
--- words joined by one space, as one word and the others each after a space
-pub joined : (word : List ℕ) (numbers : List ℕ)
-    → join_with_byte 32 (word ∷ map decimal numbers) ≡ word ++ flat_map (λ (n : ℕ). 32 ∷ decimal n) numbers
-joined word [] = sym (append-nil word)
-joined word (n ∷ numbers) = ap (λ (l : List ℕ). word ++ 32 ∷ l) (joined (decimal n) numbers)
-
--- what a line of a word and numbers appends
-pub line_appended : (old word numbers : List ℕ)
-    → ((old ++ word) ++ flat_map (λ (n : ℕ). 32 ∷ decimal n) numbers) ++ 10 ∷ [] ≡ old ++ line (word ∷ map decimal numbers)
-line_appended old word numbers =
-    ap (λ (l : List ℕ). l ++ 10 ∷ []) (append_assoc old word (flat_map (λ (n : ℕ). 32 ∷ decimal n) numbers))
-    ∙ append_assoc old (word ++ flat_map (λ (n : ℕ). 32 ∷ decimal n) numbers) (10 ∷ [])
-    ∙ ap (λ (l : List ℕ). old ++ (l ++ 10 ∷ [])) (sym (joined word numbers))
 
 -- a line that is refused after the lines before it
 pub refuses-schedule : (schedule : Schedule) (n : ℕ) (d : TurnLine) (mid : State) (printed : List ℕ) (refused : ScheduleRefused) → n < length schedule.lines

@@ -1,10 +1,11 @@
 -- The numbers of a schedule that has a text are in their ranges, and a text is one of one schedule.
-use Rattle.std.proofs.Common.{◌≡◌, ℕ, ◌^◌, ◌%◌, ◌<◌, ◌≤◌, Bool, true, false, eqb, ltb, leb, List, [], ◌∷◌, Option, Some, None, Result, Ok, Err, refl, sym, ap, subst, ◌∙◌, arith}
+use Rattle.std.proofs.Common.{◌≡◌, ℕ, ◌^◌, ◌%◌, ◌<◌, ◌≤◌, Bool, eqb, ltb, leb, List, [], ◌∷◌, Option, Some, None, Result, Ok, Err, refl, sym, ap, subst, ◌∙◌, arith}
 use Rattle.std.specs.Prelude.{◌&&◌, is_some}
 use Rattle.std.proofs.lemmas.Bool.{ltb-true, leb-true, eqb-true, and_parts}
 use Rattle.smr_core.specs.declared.about.About.{About}
 use Rattle.smr_core.specs.ClockState.{IsInRange}
 use Rattle.text_lines.specs.declared.refused.TraceKind.{TraceKind}
+use Rattle.text_lines.specs.declared.refused.TraceKind.TheVariants as kinds
 use Rattle.text_lines.specs.Fields.{◌>>=◌, no_field, three_fields, number_in, ranged, number_within}
 use Rattle.text_lines.specs.TextLines.{TextLine}
 use Rattle.text_lines.proofs.OneVerdict.{one_right_reading}
@@ -15,35 +16,32 @@ use Rattle.trace_text.specs.declared.schedule_reading.word.Word.{Word}
 use Rattle.trace_text.specs.declared.schedule_reading.word.Word.TheVariants as words
 use Rattle.trace_text.specs.ScheduleGrammar.{clock_in, start_in, window_in, seat_in, two_numbers_in, seat_turn, pair_turn, said_by, says, clock_after, clock_of, turn_lines, schedule_test, IsScheduleText, IsValidSchedule}
 use Rattle.trace_text.specs.ScheduleText.{about_of}
-use Rattle.trace_text.proofs.ScheduleFollowing.{bound, says_parts}
-
-in_range : (b : Bool) (n m : ℕ) → ranged b n ≡ Ok m → (b ≡ true) × (n ≡ m)
-in_range true n m e = (refl, cc)
-in_range false n m e = absurd cc
+use Rattle.trace_text.proofs.ScheduleFollowing.{says_parts}
+use Rattle.trace_text.proofs.Steps.{bound, is_true}
 
 seats_fit : (field : List ℕ) (n : ℕ) → number_within 1 64 field ≡ Ok n → (1 ≤ n) × (n ≤ 64)
 seats_fit field n e =
     let b = bound (number_in field) (λ k. ranged (leb 1 k && leb k 64) k) n e in
-    let r = in_range (leb 1 b.0 && leb b.0 64) b.0 n b.2 in
+    let r = is_true (leb 1 b.0 && leb b.0 64) b.0 n kinds.Range b.2 in
     let both = and_parts (leb 1 b.0) (leb b.0 64) r.0 in
     let low : 1 ≤ b.0 = leb-true 1 b.0 both.0 in
     let high : b.0 ≤ 64 = leb-true b.0 64 both.1 in
     (omega (arith, r.1), omega (arith, r.1))
 
-start_fits : (field : List ℕ) (n : ℕ) → start_in field ≡ Ok n → (n % 2 ≡ 1) × (n < 2 ^ 63)
+pub start_fits : (field : List ℕ) (n : ℕ) → start_in field ≡ Ok n → (n % 2 ≡ 1) × (n < 2 ^ 63)
 start_fits field n e =
     let b = bound (number_in field) (λ k. ranged (eqb (k % 2) 1 && ltb k 9223372036854775808) k) n e in
-    let r = in_range (eqb (b.0 % 2) 1 && ltb b.0 9223372036854775808) b.0 n b.2 in
+    let r = is_true (eqb (b.0 % 2) 1 && ltb b.0 9223372036854775808) b.0 n kinds.Range b.2 in
     let both = and_parts (eqb (b.0 % 2) 1) (ltb b.0 9223372036854775808) r.0 in
     let odd : b.0 % 2 ≡ 1 = eqb-true (b.0 % 2) 1 both.0 in
     let low : b.0 < 9223372036854775808 = ltb-true b.0 9223372036854775808 both.1 in
     let P : ℕ → Type 0 = λ k. (k % 2 ≡ 1) × (k < 2 ^ 63) in
     subst P r.1 (odd, low)
 
-window_fits : (field : List ℕ) (n : ℕ) → window_in field ≡ Ok n → (n % 2 ≡ 0) × (4 ≤ n) × (n ≤ 2 ^ 30)
+pub window_fits : (field : List ℕ) (n : ℕ) → window_in field ≡ Ok n → (n % 2 ≡ 0) × (4 ≤ n) × (n ≤ 2 ^ 30)
 window_fits field n e =
     let b = bound (number_in field) (λ k. ranged (eqb (k % 2) 0 && (leb 4 k && leb k 1073741824)) k) n e in
-    let r = in_range (eqb (b.0 % 2) 0 && (leb 4 b.0 && leb b.0 1073741824)) b.0 n b.2 in
+    let r = is_true (eqb (b.0 % 2) 0 && (leb 4 b.0 && leb b.0 1073741824)) b.0 n kinds.Range b.2 in
     let both = and_parts (eqb (b.0 % 2) 0) (leb 4 b.0 && leb b.0 1073741824) r.0 in
     let ends = and_parts (leb 4 b.0) (leb b.0 1073741824) both.1 in
     let even : b.0 % 2 ≡ 0 = eqb-true (b.0 % 2) 0 both.0 in

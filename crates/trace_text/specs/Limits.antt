@@ -12,3 +12,7 @@ last_slot = 65535
 -- how many slots a worker has
 abbrev pub slots : ℕ
 slots = 65536
+
+-- the most workers of a trace
+abbrev pub most_workers : ℕ
+most_workers = 16

@@ -9,8 +9,11 @@
 
 mod between;
 mod head;
+mod lines;
+mod memory;
 mod narrow;
 mod op;
+mod printing;
 mod round;
 mod schedule;
 mod schedule_laws;
@@ -18,11 +21,15 @@ mod schedule_output;
 mod schedule_reading;
 mod schedule_refused;
 mod trace;
+mod trace_laws;
+mod trace_reading;
 
 pub use between::{Between, Betweens};
 pub use head::{ClockHead, Head, NamesHead, ZoneHead, ZoneHeads, ZoneKind};
-pub use narrow::{one_narrow_reading, parse_narrow};
+pub use memory::Memory;
+pub use narrow::is_narrow;
 pub use op::{Op, OpList, OpLists};
+pub use printing::print;
 pub use round::{Round, Rounds};
 pub use schedule::{Schedule, TurnLine, TurnLines};
 pub use schedule_laws::schedules_print_one_thing;
@@ -32,3 +39,5 @@ pub use schedule_refused::ScheduleRefused;
 pub use smr_core::Turn;
 pub use text_lines::{ParseRefused, TraceKind, TraceRefused, parse_number};
 pub use trace::Trace;
+pub use trace_laws::{texts_are_of_one_trace, texts_are_of_valid_traces, valid_traces_have_texts};
+pub use trace_reading::parse;

@@ -1,13 +1,13 @@
 //! What a schedule prints.
-ghost use Rattle.std.specs.Prelude.{◌≡◌, ◌++◌, ◌∷◌, [], IfOk, IfErr, OnOk, decimal, map};
+ghost use Rattle.std.specs.Prelude.{◌≡◌, ◌++◌, IfOk, IfErr, OnOk};
 ghost use Rattle.std.specs.List.{flat_map};
 ghost use Rattle.smr_core.specs.ClockState.{IsInRange};
 ghost use Rattle.smr_core.specs.CoreState.{opening};
-ghost use Rattle.trace_text.specs.CanonicalText.{line};
 ghost use Rattle.trace_text.specs.ScheduleGrammar.{IsValidSchedule};
 ghost use Rattle.trace_text.specs.ScheduleLaws.{NoneIsRefused};
 ghost use Rattle.trace_text.specs.ScheduleText.{seen_line, about_of, IsOutput, PrintsLine, RefusesSchedule, RefusesTurnLine, hands_line};
 
+use crate::lines::{push_line, push_numbers};
 use crate::{Schedule, ScheduleRefused, TurnLine};
 use smr_core::{Core, Seen};
 use std::alloc::{AllocError, Global};
@@ -116,41 +116,6 @@ fn push_word(
     push_numbers(alloc, text, &[least])?;
     text.push(b'\n')?;
     Ok(())
-}
-
-/// Appends a line of a word and numbers.
-#[tactic(auto, using(crate::proofs::ScheduleLemmas::line_appended))]
-fn push_line(
-    alloc: Global,
-    text: &mut Vec<u8>,
-    word: &[u8],
-    numbers: &[u64],
-) -> Result<(), AllocError>
-    ensures { OnOk result (text.new.items ≡ text.old.items ++ line (word.now ∷ map decimal numbers.now)) }
-{
-    text.extend_from_slice(word)?;
-    push_numbers(alloc, text, numbers)?;
-    text.push(b'\n')?;
-    Ok(())
-}
-
-/// Appends numbers, each after one space.
-fn push_numbers(alloc: Global, text: &mut Vec<u8>, numbers: &[u64]) -> Result<(), AllocError>
-    ensures { OnOk result (text.new.items ≡ text.old.items ++ flat_map (λ number. 32 ∷ decimal number) numbers.now) }
-{
-    for &number in numbers {
-        push_number(alloc, text, number)?;
-    }
-    Ok(())
-}
-
-/// Appends a number after one space.
-fn push_number(alloc: Global, text: &mut Vec<u8>, number: u64) -> Result<(), AllocError>
-    ensures { OnOk result (text.new.items ≡ text.old.items ++ 32 ∷ decimal number) }
-{
-    let digits = format!(in alloc; "{number}")?;
-    text.push(b' ')?;
-    text.extend_from_slice(digits.as_bytes())
 }
 
 #[cfg(test)]

@@ -11,7 +11,7 @@ use std::alloc::Global;
 use text_lines::read_lines;
 
 mod reader;
-mod said;
+pub(crate) mod said;
 mod word;
 
 /// Reads a schedule. The first bad line is named, and the first thing that is wrong with it.

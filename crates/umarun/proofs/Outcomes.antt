@@ -1,31 +1,141 @@
 -- What is done with the bytes leaves no room for another ending.
-use Rattle.std.proofs.Common.{◌≡◌, ℕ, List, Option, Some, None, refl, subst, arith, inl, inr}
+use Rattle.std.proofs.Common.{◌≡◌, ◌⊎◌, ℕ, ◌≤◌, List, length, Option, Some, None, Result, Err, refl, sym, ap, ◌∙◌, subst, arith, inl, inr}
 use Rattle.std.specs.Prelude.{IfSome, IsSomeAnd}
 use Rattle.smr_core.specs.declared.step_refused.StepRefused.{StepRefused}
 use Rattle.text_lines.specs.TextLines.{TextLine, Test, IsRightText, IsRefusedAt}
 use Rattle.text_lines.specs.declared.refused.TraceKind.{TraceKind}
+use Rattle.text_lines.specs.declared.refused.ParseRefused.{ParseRefused}
+use Rattle.text_lines.specs.declared.refused.ParseRefused.TheVariants as parsing
 use Rattle.text_lines.specs.declared.refused.TraceRefused.{TraceRefused}
 use Rattle.trace_text.specs.declared.schedule.Schedule.{Schedule}
 use Rattle.trace_text.specs.declared.schedule_refused.ScheduleRefused.TheVariants as refusals
+use Rattle.trace_text.specs.declared.trace.Trace.{Trace}
+use Rattle.trace_text.specs.Grammar.{IsTraceText, trace_test}
+use Rattle.trace_text.specs.Narrow.{IsNarrow}
+use Rattle.trace_text.specs.TraceLaws.{TextsAreOfOneTrace}
 use Rattle.trace_text.specs.ScheduleGrammar.{schedule_test, IsScheduleText}
 use Rattle.trace_text.specs.ScheduleLaws.{RefusedPrintsNothing}
 use Rattle.trace_text.specs.ScheduleText.{RefusesSchedule}
 use Rattle.uma_io.specs.Source.{HasMoreThan}
+use Rattle.uma_replay.specs.Fill.{FillsOnlyZone}
+use Rattle.uma_replay.specs.Report.{StandsFor, HasNoDetail}
+use Rattle.umarun.specs.Causes.{parse_fault}
 use Rattle.umarun.specs.declared.fault.Fault.{Fault}
 use Rattle.umarun.specs.declared.fault.Fault.TheVariants as faults
-use Rattle.umarun.specs.Replaying.{Replays, AreRefused, most_bytes}
+use Rattle.umarun.specs.Replaying.{Replays, AreBad, AreInput, AreRefused, RefusesTrace, most_bytes}
 use Rattle.umarun.specs.Stepping.{ArePlayed, RefusesText, RefusesStep}
 use Rattle.zone_stats.specs.declared.report.Report.{Report}
-
--- bytes that were replayed are none that are refused
-pub none_refused : (report : Report) (left : Option (List ℕ)) → IfSome left (Replays report) → IsSomeAnd left AreRefused → ⊥
-none_refused report None replays refused = refused
-none_refused report (Some bytes) replays (inl long) = let within = replays.within in absurd (omega arith)
-none_refused report (Some bytes) replays (inr none) = none replays.trace replays.text
 
 -- no text is right and refused
 abbrev pub OneVerdict : Type 0
 OneVerdict = (test : Test) (bytes : List ℕ) (spoke : List TextLine) (line : ℕ) (kind : TraceKind) → IsRightText test bytes spoke → IsRefusedAt test bytes line kind → ⊥
+
+-- ---- what `replay` does with the bytes
+
+input_not_bad : OneVerdict → TextsAreOfOneTrace → (refused : TraceRefused) (bytes : List ℕ) (trace : Trace) → IsTraceText bytes trace → IsNarrow trace → AreBad refused bytes → ⊥
+input_not_bad verdict one refused bytes trace text narrow (inl bad) = verdict trace_test bytes text.spoke refused.line refused.kind text.right bad
+input_not_bad verdict one refused bytes trace text narrow (inr unbuilt) =
+    let P : Trace → Type 0 = λ t. IsNarrow t in
+    unbuilt.1.2 (subst P (one bytes trace unbuilt.1.0 text unbuilt.1.1) narrow)
+
+pub input_not_refused : OneVerdict → TextsAreOfOneTrace → (refused : TraceRefused) (bytes : List ℕ) → RefusesTrace refused bytes → AreInput bytes → ⊥
+input_not_refused verdict one refused bytes refuses input = input_not_bad verdict one refused bytes input.1.0 input.1.1 input.1.2 refuses.why
+
+pub replayed_not_refused : OneVerdict → TextsAreOfOneTrace → (report : Report) (bytes : List ℕ) → Replays report bytes → AreRefused bytes → ⊥
+replayed_not_refused verdict one report bytes replays (inl long) = let within = replays.within in absurd (omega arith)
+replayed_not_refused verdict one report bytes replays (inr refused) = input_not_bad verdict one refused.0 bytes replays.trace replays.text replays.narrow refused.1.why
+
+-- the bytes that were left are those that were read
+pub replays : (left : Option (List ℕ)) (read given : List ℕ) (trace : Trace) (report : Report) → IfSome left (λ all. read ≡ all) → given ≡ read → length read ≤ most_bytes
+    → IsTraceText given trace → IsNarrow trace → StandsFor trace report → FillsOnlyZone trace report → HasNoDetail report → IfSome left (Replays report)
+replays None read given trace report all same within text narrow stands fills plain = tt
+replays (Some left) read given trace report all same within text narrow stands fills plain =
+    let P : List ℕ → Type 0 = λ bytes. Replays report bytes in
+    let Q : List ℕ → Type 0 = λ bytes. IsTraceText bytes trace in
+    subst P all (record { within = within; trace = trace; text = subst Q same text; narrow = narrow; stands = stands; fills = fills; plain = plain })
+
+bad_by : (why : ParseRefused) (fault : Fault) (refused : TraceRefused) (bytes : List ℕ) → ((r : TraceRefused) → ◌≡◌ {A = Result Trace ParseRefused} (Err why) (Err (parsing.Trace r)) → AreBad r bytes)
+    → fault ≡ parse_fault why → fault ≡ faults.Trace refused → AreBad refused bytes
+bad_by (parsing.Trace r) fault refused bytes bad by is =
+    let same : r ≡ refused = cc in
+    let P : TraceRefused → Type 0 = λ x. AreBad x bytes in
+    subst P same (bad r refl)
+bad_by parsing.Memory fault refused bytes bad by is = absurd cc
+
+pub refuses : (left : Option (List ℕ)) (read given : List ℕ) (why : ParseRefused) (fault : Fault) (refused : TraceRefused) → IfSome left (λ all. read ≡ all) → given ≡ read → length read ≤ most_bytes
+    → ((r : TraceRefused) → ◌≡◌ {A = Result Trace ParseRefused} (Err why) (Err (parsing.Trace r)) → AreBad r given) → fault ≡ parse_fault why → fault ≡ faults.Trace refused → IfSome left (RefusesTrace refused)
+refuses None read given why fault refused all same within bad by is = tt
+refuses (Some left) read given why fault refused all same within bad by is =
+    let P : List ℕ → Type 0 = λ bytes. RefusesTrace refused bytes in
+    let Q : List ℕ → Type 0 = λ bytes. AreBad refused bytes in
+    subst P all (record { within = within; why = subst Q same (bad_by why fault refused given bad by is) })
+
+-- no text is refused at two lines, or for two reasons
+abbrev pub OneLine : Type 0
+OneLine = (test : Test) (bytes : List ℕ) (line other : ℕ) (kind why : TraceKind) → IsRefusedAt test bytes line kind → IsRefusedAt test bytes other why → line ≡ other
+
+abbrev pub OneKind : Type 0
+OneKind = (test : Test) (bytes : List ℕ) (line other : ℕ) (kind why : TraceKind) → IsRefusedAt test bytes line kind → IsRefusedAt test bytes other why → kind ≡ why
+
+same_refusal : (refused other : TraceRefused) → refused.line ≡ other.line → refused.kind ≡ other.kind → refused ≡ other
+same_refusal refused other line kind =
+    let made : ◌≡◌ {A = TraceRefused} (record { line = refused.line; kind = refused.kind }) (record { line = other.line; kind = other.kind }) = rw (line, kind) refl in made
+
+one_reason : OneVerdict → OneLine → OneKind → (refused other : TraceRefused) (bytes : List ℕ) → AreBad refused bytes → AreBad other bytes → refused ≡ other
+one_reason verdict line kind refused other bytes (inl bad) (inl worse) =
+    same_refusal refused other (line trace_test bytes refused.line other.line refused.kind other.kind bad worse) (kind trace_test bytes refused.line other.line refused.kind other.kind bad worse)
+one_reason verdict line kind refused other bytes (inl bad) (inr unbuilt) = absurd (verdict trace_test bytes unbuilt.1.1.spoke refused.line refused.kind unbuilt.1.1.right bad)
+one_reason verdict line kind refused other bytes (inr unbuilt) (inl bad) = absurd (verdict trace_test bytes unbuilt.1.1.spoke other.line other.kind unbuilt.1.1.right bad)
+one_reason verdict line kind refused other bytes (inr unbuilt) (inr same) = unbuilt.0 ∙ sym same.0
+
+pub one_refusal : OneVerdict → OneLine → OneKind → (refused other : TraceRefused) (bytes : List ℕ) → RefusesTrace refused bytes → RefusesTrace other bytes → refused ≡ other
+one_refusal verdict line kind refused other bytes refuses again = one_reason verdict line kind refused other bytes refuses.why again.why
+
+-- bytes that were replayed are none that are refused
+pub none_refused : ((report : Report) (bytes : List ℕ) → Replays report bytes → AreRefused bytes → ⊥) → (report : Report) (left : Option (List ℕ)) → IfSome left (Replays report) → IsSomeAnd left AreRefused → ⊥
+none_refused law report None replays refused = refused
+none_refused law report (Some bytes) replays refused = law report bytes replays refused
+
+pub none_named : ((report : Report) (bytes : List ℕ) → Replays report bytes → AreRefused bytes → ⊥) → (report : Report) (left : Option (List ℕ)) (refused : TraceRefused)
+    → IfSome left (Replays report) → IsSomeAnd left (RefusesTrace refused) → ⊥
+none_named law report None refused replays refuses = refuses
+none_named law report (Some bytes) refused replays refuses = law report bytes replays (inr (refused, refuses))
+
+-- what `replay` answers where it has no report
+pub record EndsReplay (left : Option (List ℕ)) (fault : Fault) : Type 0 where
+  pub too_long : (most : ℕ) → fault ≡ faults.TooLong most → (most ≡ most_bytes) × HasMoreThan most_bytes left
+  pub refused : (why : TraceRefused) → fault ≡ faults.Trace why → IfSome left (RefusesTrace why)
+  pub no_step : (line : ℕ) (why : StepRefused) → fault ≡ faults.Step line why → ⊥
+  pub command : fault ≡ faults.Usage → ⊥
+  pub unwritten : fault ≡ faults.Write → ⊥
+  pub unread : fault ≡ faults.Read → ⊥
+
+-- a narrow text ends by want of memory
+pub replay_ends : (left : Option (List ℕ)) (fault : Fault) → ((refused : TraceRefused) (bytes : List ℕ) → RefusesTrace refused bytes → AreInput bytes → ⊥)
+    → EndsReplay left fault → IsSomeAnd left AreInput → fault ≡ faults.Memory
+replay_ends None fault law ends input = absurd input
+replay_ends (Some bytes) faults.Usage law ends input = absurd (ends.command refl)
+replay_ends (Some bytes) (faults.TooLong most) law ends input = let more = (ends.too_long most refl).1 in let within = input.0 in absurd (omega arith)
+replay_ends (Some bytes) (faults.Trace why) law ends input = absurd (law why bytes (ends.refused why refl) input)
+replay_ends (Some bytes) (faults.Step line why) law ends input = absurd (ends.no_step line why refl)
+replay_ends (Some bytes) faults.Read law ends input = absurd (ends.unread refl)
+replay_ends (Some bytes) faults.Write law ends input = absurd (ends.unwritten refl)
+replay_ends (Some bytes) faults.Memory law ends input = refl
+
+-- a text that is refused ends by its refusal, or by want of memory
+pub replay_names : (left : Option (List ℕ)) (fault : Fault) (refused : TraceRefused)
+    → ((refused other : TraceRefused) (bytes : List ℕ) → RefusesTrace refused bytes → RefusesTrace other bytes → refused ≡ other)
+    → EndsReplay left fault → IsSomeAnd left (RefusesTrace refused) → (fault ≡ faults.Trace refused) ⊎ (fault ≡ faults.Memory)
+replay_names None fault refused law ends refuses = absurd refuses
+replay_names (Some bytes) faults.Usage refused law ends refuses = absurd (ends.command refl)
+replay_names (Some bytes) (faults.TooLong most) refused law ends refuses = let more = (ends.too_long most refl).1 in let within = refuses.within in absurd (omega arith)
+replay_names (Some bytes) (faults.Trace why) refused law ends refuses = inl (ap faults.Trace (law why refused bytes (ends.refused why refl) refuses))
+replay_names (Some bytes) (faults.Step line why) refused law ends refuses = absurd (ends.no_step line why refl)
+replay_names (Some bytes) faults.Read refused law ends refuses = absurd (ends.unread refl)
+replay_names (Some bytes) faults.Write refused law ends refuses = absurd (ends.unwritten refl)
+replay_names (Some bytes) faults.Memory refused law ends refuses = inr refl
+
+-- ---- what `steps` does with the bytes
 
 abbrev pub OneSchedule : Type 0
 OneSchedule = (bytes : List ℕ) (schedule other : Schedule) → IsScheduleText bytes schedule → IsScheduleText bytes other → schedule ≡ other

@@ -1,16 +1,23 @@
 //! What the command `replay` does.
-ghost use Rattle.std.specs.Prelude.{◌≡◌, ℕ, IfSome, IfOk, OnOk, IsErrOf};
+ghost use Rattle.std.specs.Prelude.{◌≡◌, ℕ, List, IfSome, IfOk, OnOk, IsErrOf};
 ghost use Rattle.text_lines.specs.declared.refused.TraceRefused.{TraceRefused as Refused};
+ghost use Rattle.trace_text.specs.Grammar.{IsTraceText};
+ghost use Rattle.trace_text.specs.Narrow.{IsNarrow};
+ghost use Rattle.trace_text.specs.Valid.{IsValid};
 ghost use Rattle.smr_core.specs.declared.step_refused.StepRefused.{StepRefused as Turned};
 ghost use Rattle.uma_io.specs.Faults.{Rose};
 ghost use Rattle.uma_io.specs.Source.{Exhausts, HasMoreThan};
-ghost use Rattle.umarun.specs.Replaying.{Replays, AreUnbuilt, unbuilt, most_bytes};
+ghost use Rattle.umarun.specs.Replaying.{Replays, AreBad, AreInput, AreRefused, RefusesTrace, most_bytes};
 ghost use Rattle.zone_stats.specs.ReportText.{report_text};
+ghost use Rattle.zone_stats.specs.declared.report.Report.{Report as ReportValue};
 
 use crate::fault::Fault;
 use crate::run::MOST_BYTES;
 use std::alloc::Global;
-use trace_text::parse_narrow;
+use text_lines::one_verdict;
+use trace_text::{
+    ParseRefused, Trace, TraceKind, TraceRefused, is_narrow, parse, texts_are_of_one_trace,
+};
 use uma_io::{Source, read_all};
 use uma_replay::replay_serial;
 use zone_stats::{Report, table_text};
@@ -24,14 +31,48 @@ pub fn replay<S: Source>(alloc: Global, source: &mut S) -> Result<(Report, Vec<u
     ensures too_long { (most : ℕ) → IsErrOf result (Fault.TooLong most)
         → (most ≡ most_bytes) × HasMoreThan most_bytes (S.bytes_left source.old) }
     ensures refused { (refused : Refused) → IsErrOf result (Fault.Trace refused)
-        → (refused ≡ unbuilt) × IfSome (S.bytes_left source.old) AreUnbuilt }
+        → IfSome (S.bytes_left source.old) (RefusesTrace refused) }
     ensures no_step { (line : ℕ) (refused : Turned) → IsErrOf result (Fault.Step line refused) → ⊥ }
     ensures command { IsErrOf result Fault.Usage → ⊥ }
     ensures unwritten { IsErrOf result Fault.Write → ⊥ }
 {
     let bytes = read_all(alloc, source, MOST_BYTES)?;
-    let trace = parse_narrow(alloc, &bytes)?;
+    let trace = narrow_trace(alloc, &bytes)?;
     let report = replay_serial(alloc, &trace)?;
     let text = table_text(alloc, &report)?;
     Ok((report, text))
+}
+
+/// The trace of a text, if it is one that is replayed so far.
+fn narrow_trace(alloc: Global, bytes: &[u8]) -> Result<Trace, ParseRefused>
+    ensures read { IfOk result (IsTraceText bytes.now) }
+    ensures valid { IfOk result IsValid }
+    ensures narrow { IfOk result IsNarrow }
+    ensures refused { (refused : Refused) → IsErrOf result (ParseRefused.Trace refused) → AreBad refused bytes.now }
+{
+    let trace = parse(alloc, bytes)?;
+    if !is_narrow(&trace) {
+        return Err(UNBUILT);
+    }
+    Ok(trace)
+}
+
+/// The refusal of a trace that isn't replayed yet.
+const UNBUILT: ParseRefused = ParseRefused::Trace {
+    refused: TraceRefused {
+        line: 0,
+        kind: TraceKind::Unbuilt,
+    },
+};
+
+/// Bytes that are replayed are refused for no reason, and other bytes for one reason at most. The call does nothing: its
+/// contract is the law.
+pub fn replayed_or_refused()
+    ensures report { (report : ReportValue) (bytes : List ℕ) → Replays report bytes → AreRefused bytes → ⊥ }
+    ensures input { (refused : Refused) (bytes : List ℕ) → RefusesTrace refused bytes → AreInput bytes → ⊥ }
+    ensures one { (refused other : Refused) (bytes : List ℕ)
+        → RefusesTrace refused bytes → RefusesTrace other bytes → refused ≡ other }
+{
+    one_verdict();
+    texts_are_of_one_trace();
 }

@@ -5,14 +5,14 @@ ghost use Rattle.uma_io.specs.Faults.{Rose};
 ghost use Rattle.uma_io.specs.Sink.{Adds, AddsPart};
 ghost use Rattle.uma_io.specs.Source.{Exhausts, HasMoreThan};
 ghost use Rattle.umarun.specs.Ending.{command_of, status_at};
-ghost use Rattle.umarun.specs.Replaying.{Replays, AreInput, AreUnbuilt, AreRefused, unbuilt, most_bytes};
+ghost use Rattle.umarun.specs.Replaying.{Replays, AreInput, AreRefused, RefusesTrace, most_bytes};
 ghost use Rattle.umarun.specs.Stepping.{ArePlayed, WritesOutput, WritesPart, RefusesText, RefusesStep};
 ghost use Rattle.zone_stats.specs.ReportText.{report_text};
 
 use crate::command::Command;
 use crate::fault::Fault;
 use crate::finish::Finish;
-use crate::replaying::replay;
+use crate::replaying::{replay, replayed_or_refused};
 use crate::stepping::{played_or_refused, steps};
 use std::alloc::Global;
 use uma_io::{Sink, Source, write_all};
@@ -53,18 +53,22 @@ pub fn run<R, S: Source, K: Sink, G: Gate + Sync>(
     ensures unwritten { IsSome result.fault → result.fault ≢ Some Fault.Write → sink.new ≡ sink.old }
 
     // `replay`: a report stands for the trace that the bytes read are the text of, and its text is written, and nothing
-    // else. A text is refused only where it is no narrow one.
+    // else. A text is refused only at its first bad line, for the first thing that is wrong with it, or, with line 0, where
+    // its trace isn't narrow.
     ensures replays { IfSome result.report (λ report. IfSome (S.bytes_left source.old) (Replays report)) }
     ensures replay_written { IfNone result.fault (IfSome result.report (λ report.
         Adds (K.bytes_held sink.old) (report_text report) (K.bytes_held sink.new))) }
     ensures replay_part { result.fault ≡ Some Fault.Write → IfSome result.report (λ report.
         AddsPart (K.bytes_held sink.old) (report_text report) (K.bytes_held sink.new)) }
     ensures replay_refused { (refused : Refused) → command_of (map string_bytes words.now) ≡ Some Command.Replay
-        → result.fault ≡ Some (Fault.Trace refused)
-        → (refused ≡ unbuilt) × IfSome (S.bytes_left source.old) AreUnbuilt }
+        → result.fault ≡ Some (Fault.Trace refused) → IfSome (S.bytes_left source.old) (RefusesTrace refused) }
 
-    // So an input that is refused gives no report, and each other one is replayed, or memory was wanting, where nothing of
-    // the outside failed.
+    // So an input that is refused gives no report but that refusal, and each other one is replayed, or memory was wanting,
+    // where nothing of the outside failed.
+    ensures replay_names { (refused : Refused) → command_of (map string_bytes words.now) ≡ Some Command.Replay
+        → IsSomeAnd (S.bytes_left source.old) (RefusesTrace refused)
+        → ¬ (Rose (S.fault_count source.old) (S.fault_count source.new))
+        → (result.fault ≡ Some (Fault.Trace refused)) ⊎ (result.fault ≡ Some Fault.Memory) }
     ensures replay_refuses { IsSomeAnd (S.bytes_left source.old) AreRefused → IsNone result.report }
     ensures replay_complete { command_of (map string_bytes words.now) ≡ Some Command.Replay
         → IsSomeAnd (S.bytes_left source.old) AreInput
@@ -93,13 +97,16 @@ pub fn run<R, S: Source, K: Sink, G: Gate + Sync>(
 {
     match Command::of(words) {
         None => Finish::refused(Fault::Usage),
-        Some(Command::Replay) => match replay(alloc, source) {
-            Err(fault) => Finish::refused(fault),
-            Ok((report, text)) => match write_all(sink, &text) {
-                Ok(()) => Finish::reported(report, None),
-                Err(_) => Finish::reported(report, Some(Fault::Write)),
-            },
-        },
+        Some(Command::Replay) => {
+            replayed_or_refused();
+            match replay(alloc, source) {
+                Err(fault) => Finish::refused(fault),
+                Ok((report, text)) => match write_all(sink, &text) {
+                    Ok(()) => Finish::reported(report, None),
+                    Err(_) => Finish::reported(report, Some(Fault::Write)),
+                },
+            }
+        }
         Some(Command::Steps) => {
             played_or_refused();
             match steps(alloc, source) {

@@ -67,6 +67,8 @@ impl Grammar for ScheduleReader {
 
     ghost shows = { Shows };
 
+    ghost kept = { λ reader. Unit };
+
     fn take(&mut self, number: u64, line: &[u8]) -> Result<(), LineRefused> {
         if !self.begun {
             if !is_head(line, b"smr") {

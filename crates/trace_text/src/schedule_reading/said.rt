@@ -87,7 +87,7 @@ fn clock_in(rest: &[u8]) -> Result<About, TraceKind>
 }
 
 /// Where both hands begin.
-fn start_in(field: &[u8]) -> Result<u64, TraceKind>
+pub fn start_in(field: &[u8]) -> Result<u64, TraceKind>
     ensures { result ≡ start_in field.now }
 {
     let number = number_in(field)?;
@@ -95,7 +95,7 @@ fn start_in(field: &[u8]) -> Result<u64, TraceKind>
 }
 
 /// How far the write hand may go above the read hand.
-fn window_in(field: &[u8]) -> Result<u64, TraceKind>
+pub fn window_in(field: &[u8]) -> Result<u64, TraceKind>
     ensures { result ≡ window_in field.now }
 {
     let number = number_in(field)?;

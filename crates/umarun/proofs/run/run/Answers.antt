@@ -1,9 +1,9 @@
 -- The text that was written is that of the report.
-use Rattle.std.proofs.Common.{List, ℕ, Some, Err, sym, ap, ◌∙◌, subst, inr}
+use Rattle.std.proofs.Common.{◌≡◌, List, ℕ, Some, Err, sym, ap, ◌∙◌, subst, inl, inr}
 use Rattle.std.specs.Prelude.{IfSome, IfNone}
 use Rattle.uma_io.specs.Sink.{Adds, AddsPart}
 use Rattle.umarun.specs.declared.finish.Finish.{Finish}
-use Rattle.umarun.proofs.Outcomes.{none_refused, ends_by_memory}
+use Rattle.umarun.proofs.Outcomes.{EndsReplay, none_named, none_refused, ends_by_memory, replay_ends, replay_names}
 use Rattle.zone_stats.specs.ReportText.{report_text}
 use Rattle.umarun.proofs.run.run.Goals as goal
 
@@ -24,10 +24,48 @@ returns-in-Some-Replay-clause-replay_part g c = λ is.
     subst P (sym c.reported-in-Err-write_all.ensures) (subst Q (c.deref.ensures.value ∙ c.in-Ok.ensures.text) c.in-Err-write_all.ensures.part)
 
 pub returns-in-Ok-write_all-clause-replay_refuses : goal.returns-in-Ok-write_all-clause-replay_refuses
-returns-in-Ok-write_all-clause-replay_refuses g c = λ refused. absurd (none_refused c.in-Ok.report (g.S.Source.bytes_left c.args.source.now) c.in-Ok.ensures.replays refused)
+returns-in-Ok-write_all-clause-replay_refuses g c = λ refused. absurd (none_refused c.replayed_or_refused.ensures.report c.in-Ok.report (g.S.Source.bytes_left c.args.source.now) c.in-Ok.ensures.replays refused)
 
 pub returns-in-Some-Replay-clause-replay_refuses : goal.returns-in-Some-Replay-clause-replay_refuses
-returns-in-Some-Replay-clause-replay_refuses g c = λ refused. absurd (none_refused c.in-Ok.report (g.S.Source.bytes_left c.args.source.now) c.in-Ok.ensures.replays refused)
+returns-in-Some-Replay-clause-replay_refuses g c = λ refused. absurd (none_refused c.replayed_or_refused.ensures.report c.in-Ok.report (g.S.Source.bytes_left c.args.source.now) c.in-Ok.ensures.replays refused)
+
+pub returns-in-Err-clause-replay_names : goal.returns-in-Err-clause-replay_names
+returns-in-Err-clause-replay_names g c = λ refused is refuses unread.
+    let left = g.S.Source.bytes_left c.args.source.now in
+    let fault : c.refused-in-Err.result.fault ≡ Some c.in-Err.fault = ap (λ (finish : Finish). finish.fault) c.refused-in-Err.ensures in
+    let ends : EndsReplay left c.in-Err.fault = record {
+      too_long = λ most is. c.in-Err.ensures.too_long most (ap Err is);
+      refused = λ why is. c.in-Err.ensures.refused why (ap Err is);
+      no_step = λ line why is. c.in-Err.ensures.no_step line why (ap Err is);
+      command = λ is. c.in-Err.ensures.command (ap Err is);
+      unwritten = λ is. c.in-Err.ensures.unwritten (ap Err is);
+      unread = λ is. unread (c.in-Err.ensures.read (ap Err is));
+    } in
+    elim (replay_names left c.in-Err.fault refused c.replayed_or_refused.ensures.one ends refuses) [
+      | inl named ↦ inl (fault ∙ ap Some named)
+      | inr memory ↦ inr (fault ∙ ap Some memory)
+    ]
+
+pub returns-in-Err-clause-replay_complete : goal.returns-in-Err-clause-replay_complete
+returns-in-Err-clause-replay_complete g c = λ is input unread unwritten.
+    let left = g.S.Source.bytes_left c.args.source.now in
+    let ends : EndsReplay left c.in-Err.fault = record {
+      too_long = λ most is. c.in-Err.ensures.too_long most (ap Err is);
+      refused = λ why is. c.in-Err.ensures.refused why (ap Err is);
+      no_step = λ line why is. c.in-Err.ensures.no_step line why (ap Err is);
+      command = λ is. c.in-Err.ensures.command (ap Err is);
+      unwritten = λ is. c.in-Err.ensures.unwritten (ap Err is);
+      unread = λ is. unread (c.in-Err.ensures.read (ap Err is));
+    } in
+    inr (ap (λ (finish : Finish). finish.fault) c.refused-in-Err.ensures ∙ ap Some (replay_ends left c.in-Err.fault c.replayed_or_refused.ensures.input ends input))
+
+pub returns-in-Ok-write_all-clause-replay_names : goal.returns-in-Ok-write_all-clause-replay_names
+returns-in-Ok-write_all-clause-replay_names g c = λ refused is refuses unread.
+    absurd (none_named c.replayed_or_refused.ensures.report c.in-Ok.report (g.S.Source.bytes_left c.args.source.now) refused c.in-Ok.ensures.replays refuses)
+
+pub returns-in-Some-Replay-clause-replay_names : goal.returns-in-Some-Replay-clause-replay_names
+returns-in-Some-Replay-clause-replay_names g c = λ refused is refuses unread.
+    absurd (none_named c.replayed_or_refused.ensures.report c.in-Ok.report (g.S.Source.bytes_left c.args.source.now) refused c.in-Ok.ensures.replays refuses)
 
 pub returns-in-Err-steps-clause-steps_complete : goal.returns-in-Err-steps-clause-steps_complete
 returns-in-Err-steps-clause-steps_complete g c = λ is played unread unwritten.

@@ -1,0 +1,270 @@
+-- The lines below the header of lines that are told: their numbers are in their ranges, what they name is there, `give` lines stand behind
+-- a `round` line, and each line fits the slots and sections before it.
+use Rattle.std.proofs.Common.{◌≡◌, ℕ, ◌<◌, ◌≤◌, Bool, true, false, eqb, leb, List, [], ◌∷◌, ◌++◌, length, Option, Some, None, refl, sym, ap, subst, ◌∙◌, arith}
+use Rattle.std.specs.Prelude.{◌&&◌, All, IsSome, is_some}
+use Rattle.std.specs.List.{flat_map}
+use Rattle.std.specs.Str.{bytes_eq}
+use Rattle.std.proofs.lemmas.Bool.{le-leb, not-false, or_parts}
+use Rattle.std.proofs.lemmas.List.{append-nil, length-append}
+use Rattle.std.proofs.lemmas.List.Concat.{flat_map-append}
+use Rattle.std.proofs.lemmas.List.Elements.{All-append, All-nil, All-push, All-same, All-weaker}
+use Rattle.std.proofs.lemmas.List.Quantifiers.{position-Some}
+use Rattle.trace_text.specs.declared.between.Between.TheVariants.{Give}
+use Rattle.trace_text.specs.declared.head.ClockHead.{ClockHead}
+use Rattle.trace_text.specs.declared.head.Head.{Head}
+use Rattle.trace_text.specs.declared.head.NamesHead.{NamesHead}
+use Rattle.trace_text.specs.declared.head.ZoneHead.{ZoneHead}
+use Rattle.trace_text.specs.declared.op.Op.{Op}
+use Rattle.trace_text.specs.declared.op.Op.TheVariants as ops
+use Rattle.trace_text.specs.declared.trace_reading.entry.Entry.{Entry}
+use Rattle.trace_text.specs.declared.trace_reading.entry.Entry.TheVariants as entries
+use Rattle.trace_text.specs.declared.trace_reading.said.Said.{Said}
+use Rattle.trace_text.specs.declared.trace_reading.said.Said.TheVariants as said
+use Rattle.trace_text.specs.declared.trace_reading.said.ZoneWork.{ZoneWork}
+use Rattle.trace_text.specs.declared.trace_reading.said.ZoneWork.TheVariants as works
+use Rattle.trace_text.specs.Grammar.{clock_after, clock_of, done, entries_of, entry_in, entry_of, finds_filled, head_of, last_stage, line_of, names_after, names_of, new_zone, stage_of, work_op, workers_after, workers_of, zone_named, zones_of}
+use Rattle.trace_text.specs.Lines.{Line, Does}
+use Rattle.trace_text.specs.Reading.{held, in_section}
+use Rattle.trace_text.specs.Limits.{IsWithin}
+use Rattle.trace_text.specs.TraceLine.{rank}
+use Rattle.trace_text.specs.Valid.{LineFits, LinesFit, OpFits}
+use Rattle.trace_text.proofs.TraceBehind.{Behind, ClashesWithNone, by_lines}
+use Rattle.trace_text.proofs.TraceParts.{FitsHead, GivesStand, entry_line}
+use Rattle.trace_text.proofs.TraceSaying.{OpNumbersFit, WorkNumbersFit}
+use Rattle.trace_text.proofs.TraceTold.{Told}
+
+-- ---- the lines of the header come first
+
+-- the last line is one of the header
+abbrev pub is_in_head : List Said → Bool
+is_in_head before = leb (rank (last_stage before)) 7
+
+none_more : (before : List Said) (s : Said) → Behind before s → (is_in_head before ≡ true → entries_of before ≡ []) → leb (rank (stage_of s)) 7 ≡ true → entries_of (s ∷ before) ≡ []
+none_more before said.Uma b none e = absurd (let p = b.place in omega arith)
+none_more before (said.Workers count) b none e = append-nil (entries_of before) ∙ none (let place = b.place in le-leb (rank (last_stage before)) 7 (omega arith))
+none_more before (said.Domains count) b none e = append-nil (entries_of before) ∙ none (let place = b.place in le-leb (rank (last_stage before)) 7 (omega arith))
+none_more before (said.Clock clock) b none e = append-nil (entries_of before) ∙ none (let place = b.place in le-leb (rank (last_stage before)) 7 (omega arith))
+none_more before said.Detail b none e = append-nil (entries_of before) ∙ none (let place = b.place in le-leb (rank (last_stage before)) 7 (omega arith))
+none_more before (said.Zone zone) b none e = append-nil (entries_of before) ∙ none (let place = b.place in le-leb (rank (last_stage before)) 7 (omega arith))
+none_more before (said.Second second) b none e = append-nil (entries_of before) ∙ none (let place = b.place in le-leb (rank (last_stage before)) 7 (omega arith))
+none_more before (said.Names names) b none e = append-nil (entries_of before) ∙ none (let place = b.place in le-leb (rank (last_stage before)) 7 (omega arith))
+none_more before (said.Work worker op) b none e = absurd cc
+none_more before (said.InZone worker zone work) b none e = absurd cc
+none_more before said.Round b none e = absurd cc
+none_more before (said.Give between) b none e = absurd cc
+none_more before said.End b none e = absurd cc
+
+-- no line below the header stands behind nothing but header lines
+pub head_has_none : (before : List Said) → Told before → is_in_head before ≡ true → entries_of before ≡ []
+head_has_none = by_lines (λ before. is_in_head before ≡ true → entries_of before ≡ []) (λ e. refl) (λ e. refl) (λ before s t b none. none_more before s b none)
+
+-- ---- what the header says only grows
+
+record Grows (old new : Head) : Type 0 where
+  workers : old.workers ≡ new.workers
+  zones : length old.zones ≤ length new.zones
+  clock : IsSome old.clock → IsSome new.clock
+  names : IsSome old.names → IsSome new.names
+
+still_fits_op : (old new : Head) → Grows old new → (op : Op) → OpFits old op → OpFits new op
+still_fits_op old new g (ops.Alloc zone slot arg reserve) f = let more : zone < length new.zones = let a = f.0 in let b = g.zones in omega arith in (more, f.1, f.2)
+still_fits_op old new g (ops.Free slot) f = f
+still_fits_op old new g ops.Enter f = g.clock f
+still_fits_op old new g ops.Exit f = g.clock f
+still_fits_op old new g (ops.Bind key value) f = (g.names f.0, f.1, f.2)
+still_fits_op old new g (ops.Unbind key) f = (g.names f.0, f.1)
+still_fits_op old new g (ops.Look key) f = (g.names f.0, f.1)
+still_fits_op old new g (ops.Trim zone) f = let b = g.zones in omega arith
+still_fits_op old new g (ops.Drain zone) f = let b = g.zones in omega arith
+still_fits_op old new g (ops.DrainSeat zone) f = let b = g.zones in omega arith
+still_fits_op old new g (ops.Prealloc zone items) f = let more : zone < length new.zones = let a = f.0 in let b = g.zones in omega arith in (more, f.1)
+
+still_fits : (old new : Head) → Grows old new → (entry : Entry) → FitsHead old entry → FitsHead new entry
+still_fits old new g (entries.Does w op) f = let Q : ℕ → Type 0 = λ n. w < n in (subst Q g.workers f.0, still_fits_op old new g op f.1)
+still_fits old new g (entries.Moves (Give giver slot taker slot2)) f =
+    let P : ℕ → Type 0 = λ n. giver < n in
+    let Q : ℕ → Type 0 = λ n. taker < n in
+    (subst P g.workers f.0, f.1, subst Q g.workers f.2, f.3)
+still_fits old new g entries.Round f = tt
+
+pub clock_kept : (s : Said) (before : Option ClockHead) → IsSome before → IsSome (clock_after s before)
+clock_kept (said.Clock clock) before h = refl
+clock_kept other before h = h
+
+names_kept : (s : Said) (before : Option NamesHead) → IsSome before → IsSome (names_after s before)
+names_kept (said.Names names) before h = refl
+names_kept other before h = h
+
+grows : (before : List Said) (s : Said) → workers_of before ≡ workers_after s (workers_of before) → Grows (head_of before) (head_of (s ∷ before))
+grows before s same =
+    let more : length (zones_of before) ≤ length (zones_of before ++ new_zone (zones_of before) s) = omega (arith, length-append (zones_of before) (new_zone (zones_of before) s)) in
+    record { workers = same; zones = more; clock = clock_kept s (clock_of before); names = names_kept s (names_of before) }
+
+-- ---- the line's own
+
+op_fits : (before : List Said) (worker : ℕ) (op : Op) → OpNumbersFit op → ClashesWithNone before (said.Work worker op) → OpFits (head_of before) op
+op_fits before worker (ops.Free slot) n c = n
+op_fits before worker ops.Enter n c = not-false (is_some (clock_of before)) c.clock
+op_fits before worker ops.Exit n c = not-false (is_some (clock_of before)) c.clock
+op_fits before worker (ops.Bind key value) n c = (not-false (is_some (names_of before)) c.names, n.0, n.1)
+op_fits before worker (ops.Unbind key) n c = (not-false (is_some (names_of before)) c.names, n)
+op_fits before worker (ops.Look key) n c = (not-false (is_some (names_of before)) c.names, n)
+op_fits before worker (ops.Alloc zone slot arg reserve) n c = absurd n
+op_fits before worker (ops.Trim zone) n c = absurd n
+op_fits before worker (ops.Drain zone) n c = absurd n
+op_fits before worker (ops.DrainSeat zone) n c = absurd n
+op_fits before worker (ops.Prealloc zone items) n c = absurd n
+
+work_fits : (h : Head) (work : ZoneWork) (zone : ℕ) → WorkNumbersFit work → zone < length h.zones → OpFits h (work_op work zone)
+work_fits h (works.Alloc slot arg reserve) zone n lt = (lt, n.0, n.1)
+work_fits h works.Trim zone n lt = lt
+work_fits h works.Drain zone n lt = lt
+work_fits h works.DrainSeat zone n lt = lt
+work_fits h (works.Prealloc items) zone n lt = (lt, n)
+
+in_zone_fits : (h : Head) (worker : ℕ) (work : ZoneWork) (o : Option ℕ) → worker < h.workers → WorkNumbersFit work → ((zone : ℕ) → o ≡ Some zone → zone < length h.zones)
+    → All (FitsHead h) (entry_in worker work o)
+in_zone_fits h worker work None lt n there = All-nil (FitsHead h)
+in_zone_fits h worker work (Some zone) lt n there = All-push (FitsHead h) [] (entries.Does worker (work_op work zone)) (All-nil (FitsHead h)) (lt, work_fits h work zone n (there zone refl))
+
+named_there : (zones : List ZoneHead) (name : List ℕ) (zone : ℕ) → zone_named zones name ≡ Some zone → zone < length zones
+named_there [] name zone e = absurd cc
+named_there (z ∷ zones) name zone e = (position-Some (λ (x : ZoneHead). bytes_eq x.name name) (z ∷ zones) zone z e).0
+
+entry_fits : (before : List Said) (s : Said) → Behind before s → All (FitsHead (head_of before)) (entry_of (zones_of before) s)
+entry_fits before (said.Work worker op) b =
+    All-push (FitsHead (head_of before)) [] (entries.Does worker op) (All-nil (FitsHead (head_of before))) (b.numbers.0, op_fits before worker op b.numbers.1 b.clashes)
+entry_fits before (said.InZone worker zone work) b =
+    in_zone_fits (head_of before) worker work (zone_named (zones_of before) zone) b.numbers.0 b.numbers.1 (λ place e. named_there (zones_of before) zone place e)
+entry_fits before said.Round b = All-push (FitsHead (head_of before)) [] entries.Round (All-nil (FitsHead (head_of before))) tt
+entry_fits before (said.Give (Give giver slot taker slot2)) b =
+    All-push (FitsHead (head_of before)) [] (entries.Moves (Give giver slot taker slot2)) (All-nil (FitsHead (head_of before))) b.numbers
+entry_fits before other b = All-nil (FitsHead (head_of before))
+
+-- ---- all lines' own
+
+-- only a `workers` line, which stands in the header, says how many workers there are
+fit_more : (before : List Said) (s : Said) → Told before → Behind before s → All (FitsHead (head_of before)) (entries_of (s ∷ before)) → All (FitsHead (head_of (s ∷ before))) (entries_of (s ∷ before))
+fit_more before (said.Workers count) t b fit =
+    let none : entries_of (said.Workers count ∷ before) ≡ [] = append-nil (entries_of before) ∙ head_has_none before t (let place = b.place in le-leb (rank (last_stage before)) 7 (omega arith)) in
+    All-same (FitsHead (head_of (said.Workers count ∷ before))) (entries_of (said.Workers count ∷ before)) [] none (All-nil (FitsHead (head_of (said.Workers count ∷ before))))
+fit_more before other t b fit =
+    All-weaker (FitsHead (head_of before)) (FitsHead (head_of (other ∷ before))) (still_fits (head_of before) (head_of (other ∷ before)) (grows before other refl)) (entries_of (other ∷ before)) fit
+
+pub entries_fit : (before : List Said) → Told before → All (FitsHead (head_of before)) (entries_of before)
+entries_fit =
+    by_lines (λ before. All (FitsHead (head_of before)) (entries_of before)) (All-nil (FitsHead (head_of []))) (All-nil (FitsHead (head_of (said.Uma ∷ []))))
+    (λ before s t b fit. fit_more before s t b (All-append (FitsHead (head_of before)) (entries_of before) (entry_of (zones_of before) s) fit (entry_fits before s b)))
+
+-- ---- where `give` lines stand
+
+-- a `round` line is the last one, or `give` lines stand behind it
+abbrev begun_by : Bool → List Entry → Bool
+begun_by begun [] = begun
+begun_by begun (entries.Does w op ∷ more) = begun_by false more
+begun_by begun (entries.Moves between ∷ more) = begun_by true more
+begun_by begun (entries.Round ∷ more) = begun_by true more
+
+begun_by-append : (begun : Bool) (xs ys : List Entry) → begun_by begun (xs ++ ys) ≡ begun_by (begun_by begun xs) ys
+begun_by-append begun [] ys = refl
+begun_by-append begun (entries.Does w op ∷ more) ys = begun_by-append false more ys
+begun_by-append begun (entries.Moves between ∷ more) ys = begun_by-append true more ys
+begun_by-append begun (entries.Round ∷ more) ys = begun_by-append true more ys
+
+stand-append : (begun : Bool) (xs ys : List Entry) → GivesStand begun xs → GivesStand (begun_by begun xs) ys → GivesStand begun (xs ++ ys)
+stand-append begun [] ys g h = h
+stand-append begun (entries.Does w op ∷ more) ys g h = stand-append false more ys g h
+stand-append begun (entries.Moves between ∷ more) ys g h = (g.0, stand-append true more ys g.1 h)
+stand-append begun (entries.Round ∷ more) ys g h = stand-append true more ys g h
+
+begun_last : (before : List Said) → IsWithin 9 9 (rank (last_stage before)) → begun_by false (entries_of before) ≡ true
+begun_last [] e = absurd (omega arith)
+begun_last (said.Round ∷ before) e = begun_by-append false (entries_of before) (entries.Round ∷ [])
+begun_last (said.Give between ∷ before) e = begun_by-append false (entries_of before) (entries.Moves between ∷ [])
+begun_last (other ∷ before) e = absurd (omega arith)
+
+in_zone_stands : (begun : Bool) (worker : ℕ) (work : ZoneWork) (o : Option ℕ) → GivesStand begun (entry_in worker work o)
+in_zone_stands begun worker work None = tt
+in_zone_stands begun worker work (Some zone) = tt
+
+entry_stands : (before : List Said) (s : Said) → Behind before s → GivesStand (begun_by false (entries_of before)) (entry_of (zones_of before) s)
+entry_stands before (said.Give between) b = (begun_last before b.place, tt)
+entry_stands before (said.InZone worker zone work) b = in_zone_stands (begun_by false (entries_of before)) worker work (zone_named (zones_of before) zone)
+entry_stands before other b = tt
+
+pub gives_stand : (before : List Said) → Told before → GivesStand false (entries_of before)
+gives_stand =
+    by_lines (λ before. GivesStand false (entries_of before)) tt tt
+    (λ before s t b stand. stand-append false (entries_of before) (entry_of (zones_of before) s) stand (entry_stands before s b))
+
+-- ---- the slots and sections before a line
+
+-- these lines, the last one first, and then others
+abbrev onto : List Line → List Line → List Line
+onto [] earlier = earlier
+onto (line ∷ lines) earlier = onto lines (line ∷ earlier)
+
+onto-append : (xs ys earlier : List Line) → onto (xs ++ ys) earlier ≡ onto ys (onto xs earlier)
+onto-append [] ys earlier = refl
+onto-append (x ∷ xs) ys earlier = onto-append xs ys (x ∷ earlier)
+
+fit-append : (earlier xs ys : List Line) → LinesFit earlier xs → LinesFit (onto xs earlier) ys → LinesFit earlier (xs ++ ys)
+fit-append earlier [] ys f g = g
+fit-append earlier (x ∷ xs) ys f g = (f.0, fit-append (x ∷ earlier) xs ys f.1 g)
+
+in_zone_done : (worker : ℕ) (work : ZoneWork) (o : Option ℕ) (earlier : List Line) → onto (flat_map entry_line (entry_in worker work o)) earlier ≡ line_of (entry_in worker work o) ++ earlier
+in_zone_done worker work None earlier = refl
+in_zone_done worker work (Some zone) earlier = refl
+
+entry_done : (zones : List ZoneHead) (s : Said) (earlier : List Line) → onto (flat_map entry_line (entry_of zones s)) earlier ≡ line_of (entry_of zones s) ++ earlier
+entry_done zones (said.InZone worker zone work) earlier = in_zone_done worker work (zone_named zones zone) earlier
+entry_done zones other earlier = refl
+
+-- what was done is what the lines below the header do
+pub done_is : (before : List Said) → onto (flat_map entry_line (entries_of before)) [] ≡ done before
+done_is [] = refl
+done_is (s ∷ before) =
+    let new : List Entry = entry_of (zones_of before) s in
+    ap (λ (lines : List Line). onto lines []) (flat_map-append entry_line (entries_of before) new)
+    ∙ (onto-append (flat_map entry_line (entries_of before)) (flat_map entry_line new) []
+    ∙ (ap (λ (lines : List Line). onto (flat_map entry_line new) lines) (done_is before) ∙ entry_done (zones_of before) s (done before)))
+
+none_held : (o : Option ℕ) → is_some o ≡ false → o ≡ None
+none_held None e = refl
+none_held (Some x) e = absurd cc
+
+op_line_fits : (before : List Said) (worker : ℕ) (op : Op) → OpNumbersFit op → ClashesWithNone before (said.Work worker op) → LineFits (done before) (Does worker op)
+op_line_fits before worker (ops.Free slot) n c = not-false (is_some (held (done before) worker slot)) c.empty
+op_line_fits before worker ops.Enter n c = c.opened
+op_line_fits before worker ops.Exit n c = not-false (in_section (done before) worker) c.closed
+op_line_fits before worker (ops.Alloc zone slot arg reserve) n c = absurd n
+op_line_fits before worker other n c = tt
+
+work_line_fits : (earlier : List Line) (worker : ℕ) (name : List ℕ) (work : ZoneWork) (zone : ℕ) → finds_filled (λ w slot. is_some (held earlier w slot)) (said.InZone worker name work) ≡ false
+    → LineFits earlier (Does worker (work_op work zone))
+work_line_fits earlier worker name (works.Alloc slot arg reserve) zone e = none_held (held earlier worker slot) e
+work_line_fits earlier worker name other zone e = tt
+
+in_zone_line_fits : (earlier : List Line) (worker : ℕ) (name : List ℕ) (work : ZoneWork) (o : Option ℕ) → finds_filled (λ w slot. is_some (held earlier w slot)) (said.InZone worker name work) ≡ false
+    → LinesFit earlier (flat_map entry_line (entry_in worker work o))
+in_zone_line_fits earlier worker name work None e = tt
+in_zone_line_fits earlier worker name work (Some zone) e = (work_line_fits earlier worker name work zone e, tt)
+
+entry_line_fits : (before : List Said) (s : Said) → Behind before s → LinesFit (done before) (flat_map entry_line (entry_of (zones_of before) s))
+entry_line_fits before (said.Work worker op) b = (op_line_fits before worker op b.numbers.1 b.clashes, tt)
+entry_line_fits before (said.InZone worker zone work) b = in_zone_line_fits (done before) worker zone work (zone_named (zones_of before) zone) b.clashes.filled
+entry_line_fits before (said.Give (Give giver slot taker slot2)) b =
+    let to = or_parts (eqb giver taker && eqb slot slot2) (is_some (held (done before) taker slot2)) b.clashes.filled in
+    ((not-false (is_some (held (done before) giver slot)) b.clashes.empty, none_held (held (done before) taker slot2) to.1), tt)
+entry_line_fits before other b = tt
+
+line_more : (before : List Said) (s : Said) → Behind before s → LinesFit [] (flat_map entry_line (entries_of before)) → LinesFit [] (flat_map entry_line (entries_of (s ∷ before)))
+line_more before s b fit =
+    let old : List Line = flat_map entry_line (entries_of before) in
+    let new : List Line = flat_map entry_line (entry_of (zones_of before) s) in
+    let P : List Line → Type 0 = λ earlier. LinesFit earlier new in
+    let Q : List Line → Type 0 = λ lines. LinesFit [] lines in
+    subst Q (sym (flat_map-append entry_line (entries_of before) (entry_of (zones_of before) s))) (fit-append [] old new fit (subst P (sym (done_is before)) (entry_line_fits before s b)))
+
+pub lines_fit : (before : List Said) → Told before → LinesFit [] (flat_map entry_line (entries_of before))
+lines_fit = by_lines (λ before. LinesFit [] (flat_map entry_line (entries_of before))) tt tt (λ before s t b fit. line_more before s b fit)

@@ -1,0 +1,336 @@
+-- What a line says is what is wrong with it or nothing, and leads from the state before it to the one after it.
+use Rattle.std.proofs.Common.{◌≡◌, ℕ, ◌+◌, ◌*◌, ◌≤◌, get_or, length, inl, inr, Bool, true, false, List, [], ◌∷◌, ◌++◌, Option, Some, None, Result, Ok, Err, refl, sym, ap, ◌∙◌, subst}
+use Rattle.std.specs.Prelude.{All, codes, is_some, OnOk, IfErr, ◌&&◌, ◌||◌, ◌==◌, not}
+use Rattle.std.proofs.lemmas.Bool.{cases_lt}
+use Rattle.std.proofs.lemmas.List.{get_or_past}
+use Rattle.text_lines.specs.declared.refused.TraceKind.{TraceKind}
+use Rattle.text_lines.specs.declared.refused.TraceKind.TheVariants as kinds
+use Rattle.text_lines.specs.declared.refused.LineRefused.{LineRefused}
+use Rattle.text_lines.specs.declared.refused.LineRefused.TheVariants as refusals
+use Rattle.text_lines.specs.Fields.{is_head, wrong}
+use Rattle.text_lines.specs.TextLines.{TextLine, is_ended}
+use Rattle.text_lines.specs.Taking.{Takes}
+use Rattle.trace_text.specs.declared.between.Between.TheVariants.{Give}
+use Rattle.trace_text.specs.declared.head.ZoneHead.{ZoneHead}
+use Rattle.trace_text.specs.declared.op.Op.{Op}
+use Rattle.trace_text.specs.declared.op.Op.TheVariants as ops
+use Rattle.trace_text.specs.declared.trace_reading.entry.Entry.{Entry}
+use Rattle.trace_text.specs.declared.trace_reading.entry.Entry.TheVariants as entries
+use Rattle.trace_text.specs.declared.trace_reading.reader.TraceReader.{TraceReader}
+use Rattle.trace_text.specs.declared.trace_reading.said.Said.{Said}
+use Rattle.trace_text.specs.declared.trace_reading.said.Said.TheVariants as said
+use Rattle.trace_text.specs.declared.trace_reading.said.ZoneWork.{ZoneWork}
+use Rattle.trace_text.specs.declared.trace_reading.said.ZoneWork.TheVariants as works
+use Rattle.trace_text.specs.declared.trace_reading.stage.Stage.TheVariants as stages
+use Rattle.trace_text.specs.declared.trace_reading.tables.Tables.{Tables}
+use Rattle.trace_text.specs.Grammar.{head_wrong, stage_of, workers_after, domains_after, clock_after, detail_after, names_after, new_zone, last_stage, workers_of, zones_of, entry_of, entry_in, zone_named, line_of, done, finds_filled, finds_empty, finds_open, finds_closed, clash_after, is_filled_by, is_open_by, sayings, and_said, tells, trace_test}
+use Rattle.trace_text.specs.Limits.{last_slot, slots}
+use Rattle.trace_text.specs.Reading.{held, in_section}
+use Rattle.trace_text.specs.TraceHeard.{Hears, MarksAll, clash_found}
+use Rattle.trace_text.specs.TraceKnown.{Knows, KnowsSaid, KnowsTables, is_start, is_last}
+use Rattle.trace_text.specs.TraceLine.{says}
+use Rattle.trace_text.specs.TraceShown.{slot_at, open_at, filled_by, filled_after, opened_after, NamesFit}
+use Rattle.trace_text.specs.TraceTables.{AreEmpty}
+use Rattle.trace_text.proofs.TraceClash.{same_clash}
+use Rattle.trace_text.proofs.TraceSlots.{filled_next, opened_next}
+use Rattle.trace_text.proofs.TraceSpoken.{end_is_told, head_no_end}
+
+-- ---- the tables say what the lines say, of the slots that a line names
+
+abbrev pub SameSlots : (ℕ → ℕ → Bool) → (ℕ → ℕ → Bool) → Type 0
+SameSlots a b = (w slot : ℕ) → slot ≤ last_slot → a w slot ≡ b w slot
+
+abbrev pub SameSections : (ℕ → Bool) → (ℕ → Bool) → Type 0
+SameSections p q = (w : ℕ) → p w ≡ q w
+
+same_filled : (a b : ℕ → ℕ → Bool) → SameSlots a b → (n : ℕ) (s : Said) → NamesFit n s → finds_filled a s ≡ finds_filled b s
+same_filled a b same n said.Uma fit = refl
+same_filled a b same n (said.Workers count) fit = refl
+same_filled a b same n (said.Domains count) fit = refl
+same_filled a b same n (said.Clock clock) fit = refl
+same_filled a b same n said.Detail fit = refl
+same_filled a b same n (said.Zone zone) fit = refl
+same_filled a b same n (said.Second second) fit = refl
+same_filled a b same n (said.Names names) fit = refl
+same_filled a b same n (said.Work w op) fit = refl
+same_filled a b same n (said.InZone w zone (works.Alloc slot arg reserve)) fit = same w slot fit.1
+same_filled a b same n (said.InZone w zone works.Trim) fit = refl
+same_filled a b same n (said.InZone w zone works.Drain) fit = refl
+same_filled a b same n (said.InZone w zone works.DrainSeat) fit = refl
+same_filled a b same n (said.InZone w zone (works.Prealloc items)) fit = refl
+same_filled a b same n said.Round fit = refl
+same_filled a b same n (said.Give (Give giver slot taker slot2)) fit = ap (λ x. (giver == taker && slot == slot2) || x) (same taker slot2 fit.3)
+same_filled a b same n said.End fit = refl
+
+same_empty : (a b : ℕ → ℕ → Bool) → SameSlots a b → (n : ℕ) (s : Said) → NamesFit n s → finds_empty a s ≡ finds_empty b s
+same_empty a b same n said.Uma fit = refl
+same_empty a b same n (said.Workers count) fit = refl
+same_empty a b same n (said.Domains count) fit = refl
+same_empty a b same n (said.Clock clock) fit = refl
+same_empty a b same n said.Detail fit = refl
+same_empty a b same n (said.Zone zone) fit = refl
+same_empty a b same n (said.Second second) fit = refl
+same_empty a b same n (said.Names names) fit = refl
+same_empty a b same n (said.Work w (ops.Alloc zone slot arg reserve)) fit = refl
+same_empty a b same n (said.Work w (ops.Free slot)) fit = ap not (same w slot fit.1)
+same_empty a b same n (said.Work w ops.Enter) fit = refl
+same_empty a b same n (said.Work w ops.Exit) fit = refl
+same_empty a b same n (said.Work w (ops.Bind key value)) fit = refl
+same_empty a b same n (said.Work w (ops.Unbind key)) fit = refl
+same_empty a b same n (said.Work w (ops.Look key)) fit = refl
+same_empty a b same n (said.Work w (ops.Trim zone)) fit = refl
+same_empty a b same n (said.Work w (ops.Drain zone)) fit = refl
+same_empty a b same n (said.Work w (ops.DrainSeat zone)) fit = refl
+same_empty a b same n (said.Work w (ops.Prealloc zone items)) fit = refl
+same_empty a b same n (said.InZone w zone work) fit = refl
+same_empty a b same n said.Round fit = refl
+same_empty a b same n (said.Give (Give giver slot taker slot2)) fit = ap not (same giver slot fit.1)
+same_empty a b same n said.End fit = refl
+
+open_op : (p q : ℕ → Bool) → SameSections p q → (w : ℕ) (op : Op) → (finds_open p (said.Work w op) ≡ finds_open q (said.Work w op)) × (finds_closed p (said.Work w op) ≡ finds_closed q (said.Work w op))
+open_op p q same w (ops.Alloc zone slot arg reserve) = (refl, refl)
+open_op p q same w (ops.Free slot) = (refl, refl)
+open_op p q same w ops.Enter = (same w, refl)
+open_op p q same w ops.Exit = (refl, ap not (same w))
+open_op p q same w (ops.Bind key value) = (refl, refl)
+open_op p q same w (ops.Unbind key) = (refl, refl)
+open_op p q same w (ops.Look key) = (refl, refl)
+open_op p q same w (ops.Trim zone) = (refl, refl)
+open_op p q same w (ops.Drain zone) = (refl, refl)
+open_op p q same w (ops.DrainSeat zone) = (refl, refl)
+open_op p q same w (ops.Prealloc zone items) = (refl, refl)
+
+same_open : (p q : ℕ → Bool) → SameSections p q → (s : Said) → (finds_open p s ≡ finds_open q s) × (finds_closed p s ≡ finds_closed q s)
+same_open p q same said.Uma = (refl, refl)
+same_open p q same (said.Workers count) = (refl, refl)
+same_open p q same (said.Domains count) = (refl, refl)
+same_open p q same (said.Clock clock) = (refl, refl)
+same_open p q same said.Detail = (refl, refl)
+same_open p q same (said.Zone zone) = (refl, refl)
+same_open p q same (said.Second second) = (refl, refl)
+same_open p q same (said.Names names) = (refl, refl)
+same_open p q same (said.Work w op) = open_op p q same w op
+same_open p q same (said.InZone w zone work) = (refl, refl)
+same_open p q same said.Round = (refl, refl)
+same_open p q same (said.Give between) = (refl, refl)
+same_open p q same said.End = (refl, refl)
+
+same_found : (reader : TraceReader) (before : List Said) (n : ℕ) (s : Said) → NamesFit n s → KnowsSaid reader before → clash_found reader s ≡ clash_after before s
+same_found reader before n s fit knows =
+    let filled = same_filled (slot_at reader.tables.slots.items) (is_filled_by before) knows.tables.filled n s fit in
+    let empty = same_empty (slot_at reader.tables.slots.items) (is_filled_by before) knows.tables.filled n s fit in
+    let opened = same_open (open_at reader.tables.sections.items) (is_open_by before) knows.tables.opened s in
+    let agree = same_clash (is_some reader.clock) (is_some reader.names) reader.zones (slot_at reader.tables.slots.items) (is_filled_by before) (open_at reader.tables.sections.items) (is_open_by before) s
+    (record { filled = filled; empty = empty; opened = opened.0; closed = opened.1 }) in
+    agree ∙ rw (knows.clock, knows.names, knows.zones) refl
+
+-- ---- the tables after one line more
+
+-- a move's first slot is one of a worker's
+abbrev pub FirstFits : List Entry → Type 0
+FirstFits [] = Unit {0}
+FirstFits (entries.Does w op ∷ more) = Unit {0}
+FirstFits (entries.Moves (Give giver from taker to) ∷ more) = from ≤ last_slot
+FirstFits (entries.Round ∷ more) = Unit {0}
+
+in_zone_first : (w : ℕ) (work : ZoneWork) (place : Option ℕ) → FirstFits (entry_in w work place)
+in_zone_first w work None = tt
+in_zone_first w work (Some place) = tt
+
+first_fits : (n : ℕ) (zones : List ZoneHead) (s : Said) → NamesFit n s → FirstFits (entry_of zones s)
+first_fits n zones said.Uma fit = tt
+first_fits n zones (said.Workers count) fit = tt
+first_fits n zones (said.Domains count) fit = tt
+first_fits n zones (said.Clock clock) fit = tt
+first_fits n zones said.Detail fit = tt
+first_fits n zones (said.Zone zone) fit = tt
+first_fits n zones (said.Second second) fit = tt
+first_fits n zones (said.Names names) fit = tt
+first_fits n zones (said.Work w op) fit = tt
+first_fits n zones (said.InZone w zone work) fit = in_zone_first w work (zone_named zones zone)
+first_fits n zones said.Round fit = tt
+first_fits n zones (said.Give (Give giver slot taker slot2)) fit = fit.1
+first_fits n zones said.End fit = tt
+
+op_filled_as : (op : Op) (slot : ℕ) (x y : Bool) → x ≡ y → filled_by op slot x ≡ filled_by op slot y
+op_filled_as op slot x y e = ap (filled_by op slot) e
+
+filled_as : (e : Entry) (more : List Entry) (a b : ℕ → ℕ → Bool) → SameSlots a b → FirstFits (e ∷ more) → (w slot : ℕ) → slot ≤ last_slot → filled_after e a w slot ≡ filled_after e b w slot
+filled_as (entries.Does v op) more a b same fit w slot le = rw (same w slot le) refl
+filled_as (entries.Moves (Give giver from taker to)) more a b same fit w slot le = rw (same giver from fit, same w slot le) refl
+filled_as entries.Round more a b same fit w slot le = same w slot le
+
+opened_as : (e : Entry) (p q : ℕ → Bool) → SameSections p q → (w : ℕ) → opened_after e p w ≡ opened_after e q w
+opened_as (entries.Does v op) p q same w = rw (same w) refl
+opened_as (entries.Moves between) p q same w = same w
+opened_as entries.Round p q same w = same w
+
+first_line : (e : Entry) (more : List Entry) → line_of (e ∷ more) ≡ line_of (e ∷ [])
+first_line (entries.Does w op) more = refl
+first_line (entries.Moves between) more = refl
+first_line entries.Round more = refl
+
+none_set : (table : List Bool) → All (λ is. is ≡ false) table → (i : ℕ) → get_or table i false ≡ false
+none_set table all i = elim (cases_lt i (length table)) [
+  | inl within ↦ all i false within
+  | inr past ↦ get_or_past table i false past
+]
+
+-- before the first line
+empty_tables : (tables : Tables) → AreEmpty tables → KnowsTables tables.slots.items tables.sections.items []
+empty_tables tables empty = record {
+  filled = λ w slot le. none_set tables.slots.items empty.empty (w * slots + slot);
+  opened = λ w. none_set tables.sections.items empty.closed w;
+}
+
+pub knows_none : (reader : TraceReader) → reader.stage ≡ stages.Start → reader.workers ≡ 0 → reader.domains ≡ 0 → reader.clock ≡ None → reader.detail ≡ false → reader.zones ≡ [] → reader.names ≡ None
+    → reader.entries.items ≡ [] → AreEmpty reader.tables → Knows reader []
+knows_none reader stage workers domains clock detail zones names entries empty = record {
+  said = record { stage = stage; workers = workers; domains = domains; clock = clock; detail = detail; zones = zones; names = names; entries = entries; tables = empty_tables reader.tables empty };
+  begun = ap is_start stage;
+  ended = ap is_last stage;
+}
+
+-- the first line
+pub begins : (old new : TraceReader) (number : ℕ) (fields : List (List ℕ)) → is_start old.stage ≡ true → is_head (codes "uma") fields ≡ true → new ≡ record old { stage = stages.Uma }
+    → Takes trace_test Knows old number fields (Ok tt) new
+begins old new number fields start head is [] shown =
+    let e : head_wrong (is_head (codes "uma") fields) ≡ None = ap head_wrong head in
+    let P : TraceReader → Type 0 = λ r. Knows r (record { number = number; fields = fields } ∷ []) in
+    let s = shown.said in
+    let known : KnowsSaid (record old { stage = stages.Uma }) (said.Uma ∷ []) = record {
+      stage = refl;
+      workers = s.workers;
+      domains = s.domains;
+      clock = s.clock;
+      detail = s.detail;
+      zones = s.zones ∙ refl;
+      names = s.names;
+      entries = s.entries;
+      tables = record { filled = s.tables.filled; opened = s.tables.opened };
+    } in
+    (e, subst P (sym is) (record { said = known; begun = refl; ended = sym (head_no_end fields e) }))
+begins old new number fields start head is (last ∷ before) shown = absurd (let some = shown.begun in cc)
+
+pub bad_head : (old new : TraceReader) (number : ℕ) (fields : List (List ℕ)) → is_start old.stage ≡ true → is_head (codes "uma") fields ≡ false
+    → Takes trace_test Knows old number fields (Err (refusals.Kind kinds.Head)) new
+bad_head old new number fields start head [] shown = ap head_wrong head
+bad_head old new number fields start head (last ∷ before) shown = absurd (let some = shown.begun in cc)
+
+pub after_end : (old new : TraceReader) (number : ℕ) (fields : List (List ℕ)) → old.stage ≡ stages.End → Takes trace_test Knows old number fields (Err (refusals.Kind kinds.After)) new
+after_end old new number fields end [] shown = absurd (let none = shown.begun in let e = ap is_start end in cc)
+after_end old new number fields end (last ∷ before) shown =
+    let ended : is_ended (last ∷ before) ≡ true = sym shown.ended ∙ ap is_last end in rw ended refl
+
+tables_next : (old new : Tables) (before : List Said) (found : List Entry) → FirstFits found → MarksAll found old new → KnowsTables old.slots.items old.sections.items before
+    → ((w slot : ℕ) → slot ≤ last_slot → slot_at new.slots.items w slot ≡ is_some (held (line_of found ++ done before) w slot))
+    × ((w : ℕ) → open_at new.sections.items w ≡ in_section (line_of found ++ done before) w)
+tables_next old new before [] fits marks knows =
+    (λ w slot le. ap (λ (t : Tables). slot_at t.slots.items w slot) marks ∙ knows.filled w slot le, λ w. ap (λ (t : Tables). open_at t.sections.items w) marks ∙ knows.opened w)
+tables_next old new before (e ∷ more) fits marks knows = (
+  λ w slot le. marks.filled w slot le ∙ (filled_as e more (slot_at old.slots.items) (is_filled_by before) knows.filled fits w slot le
+      ∙ (sym (filled_next e (done before) w slot) ∙ ap (λ ls. is_some (held (ls ++ done before) w slot)) (sym (first_line e more)))),
+  λ w. marks.opened w ∙ (opened_as e (open_at old.sections.items) (is_open_by before) knows.opened w
+      ∙ (sym (opened_next e (done before) w) ∙ ap (λ ls. in_section (ls ++ done before) w) (sym (first_line e more)))),
+)
+
+-- the state after lines that said this, and then what it took in
+said_next : (old new : TraceReader) (before : List Said) (n : ℕ) (s : Said) → NamesFit n s → Hears s old new → KnowsSaid old before → KnowsSaid new (s ∷ before)
+said_next old new before n s fit hears knows =
+    let P : List ZoneHead → Type 0 = λ zones. MarksAll (entry_of zones s) old.tables new.tables in
+    let tables = tables_next old.tables new.tables before (entry_of (zones_of before) s) (first_fits n (zones_of before) s fit) (subst P knows.zones hears.marks) knows.tables in
+    record {
+      stage = hears.stage;
+      workers = hears.workers ∙ ap (workers_after s) knows.workers;
+      domains = hears.domains ∙ ap (domains_after s) knows.domains;
+      clock = hears.clock ∙ ap (clock_after s) knows.clock;
+      detail = hears.detail ∙ ap (detail_after s) knows.detail;
+      zones = hears.zones ∙ ap (λ (zones : List ZoneHead). zones ++ new_zone zones s) knows.zones;
+      names = hears.names ∙ ap (names_after s) knows.names;
+      entries = hears.entries ∙ rw (knows.entries, knows.zones) refl;
+      tables = record { filled = tables.0; opened = tables.1 };
+    }
+
+-- ---- a line taken in, or refused
+
+begun_by : (s : Said) → is_start (stage_of s) ≡ false
+begun_by said.Uma = refl
+begun_by (said.Workers count) = refl
+begun_by (said.Domains count) = refl
+begun_by (said.Clock clock) = refl
+begun_by said.Detail = refl
+begun_by (said.Zone zone) = refl
+begun_by (said.Second second) = refl
+begun_by (said.Names names) = refl
+begun_by (said.Work worker op) = refl
+begun_by (said.InZone worker zone work) = refl
+begun_by said.Round = refl
+begun_by (said.Give between) = refl
+begun_by said.End = refl
+
+-- behind the first line
+pub record IsBehind (reader : TraceReader) (last : TextLine) (before : List TextLine) : Type 0 where
+  pub knows : KnowsSaid reader (sayings (last ∷ before))
+  pub unended : is_ended (last ∷ before) ≡ false
+
+behind_some : (reader : TraceReader) (lines : List TextLine) → is_start reader.stage ≡ false → is_last reader.stage ≡ false → Knows reader lines
+    → (P : List TextLine → Type 0) → ((last : TextLine) (before : List TextLine) → IsBehind reader last before → P (last ∷ before)) → P lines
+behind_some reader [] begun unended knows P f = absurd (let none = knows.begun in cc)
+behind_some reader (last ∷ before) begun unended knows P f = f last before (record { knows = knows.said; unended = sym knows.ended ∙ unended })
+
+-- what the fields say, by the state
+says_there : (reader : TraceReader) (before : List Said) (fields : List (List ℕ)) → KnowsSaid reader before
+    → says reader.stage reader.workers fields ≡ says (last_stage before) (workers_of before) fields
+says_there reader before fields knows = rw (knows.stage, knows.workers) refl
+
+tested : (last : TextLine) (before : List TextLine) (line : TextLine) → is_ended (last ∷ before) ≡ false → trace_test (last ∷ before) line ≡ wrong (tells (sayings (last ∷ before)) line.fields)
+tested last before line unended = rw unended refl
+
+heard : (old new : TraceReader) (number : ℕ) (fields : List (List ℕ)) (n : ℕ) (s : Said)
+    → is_start old.stage ≡ false → is_last old.stage ≡ false → says old.stage old.workers fields ≡ Ok s → NamesFit n s → clash_found old s ≡ None → Hears s old new
+    → Takes trace_test Knows old number fields (Ok tt) new
+heard old new number fields n s begun unended is fit none hears lines shown =
+    behind_some old lines begun unended shown (λ all. (trace_test all (record { number = number; fields = fields }) ≡ None) × Knows new (record { number = number; fields = fields } ∷ all)) (λ last before behind.
+    let line : TextLine = record { number = number; fields = fields } in
+    let earlier : List Said = sayings (last ∷ before) in
+    let says_it : says (last_stage earlier) (workers_of earlier) fields ≡ Ok s = sym (says_there old earlier fields behind.knows) ∙ is in
+    let no_clash : clash_after earlier s ≡ None = sym (same_found old earlier n s fit behind.knows) ∙ none in
+    let tells_it : tells earlier fields ≡ Ok s = rw (says_it, no_clash) refl in
+    let all : sayings (line ∷ last ∷ before) ≡ s ∷ earlier = ap (λ r. and_said r earlier) says_it in
+    let P : List Said → Type 0 = λ before. KnowsSaid new before in (
+      tested last before line behind.unended ∙ ap wrong tells_it,
+      record {
+        said = subst P (sym all) (said_next old new earlier n s fit hears behind.knows);
+        begun = ap is_start hears.stage ∙ begun_by s;
+        ended = ap is_last hears.stage ∙ sym (end_is_told (last_stage earlier) (workers_of earlier) fields s says_it);
+      },
+    ))
+
+pub takes : (old new : TraceReader) (number : ℕ) (fields : List (List ℕ)) (n : ℕ) (s : Said) (r : Result (Unit {0}) LineRefused)
+    → is_start old.stage ≡ false → is_last old.stage ≡ false → says old.stage old.workers fields ≡ Ok s → NamesFit n s → clash_found old s ≡ None
+    → OnOk r (Hears s old new) → IfErr r (λ refused. refused ≡ refusals.Memory)
+    → Takes trace_test Knows old number fields r new
+takes old new number fields n s (Ok done) begun unended is fit none hears memory = heard old new number fields n s begun unended is fit none hears
+takes old new number fields n s (Err refusals.Memory) begun unended is fit none hears memory = tt
+takes old new number fields n s (Err (refusals.Kind why)) begun unended is fit none hears memory = absurd cc
+
+pub clashes : (old new : TraceReader) (number : ℕ) (fields : List (List ℕ)) (n : ℕ) (s : Said) (why : TraceKind)
+    → is_start old.stage ≡ false → is_last old.stage ≡ false → says old.stage old.workers fields ≡ Ok s → NamesFit n s → clash_found old s ≡ Some why
+    → Takes trace_test Knows old number fields (Err (refusals.Kind why)) new
+clashes old new number fields n s why begun unended is fit found lines shown =
+    behind_some old lines begun unended shown (λ all. trace_test all (record { number = number; fields = fields }) ≡ Some why) (λ last before behind.
+    let earlier : List Said = sayings (last ∷ before) in
+    let says_it : says (last_stage earlier) (workers_of earlier) fields ≡ Ok s = sym (says_there old earlier fields behind.knows) ∙ is in
+    let clash : clash_after earlier s ≡ Some why = sym (same_found old earlier n s fit behind.knows) ∙ found in
+    let tells_it : tells earlier fields ≡ Err why = rw (says_it, clash) refl in
+    tested last before (record { number = number; fields = fields }) behind.unended ∙ ap wrong tells_it)
+
+pub says_wrong : (old new : TraceReader) (number : ℕ) (fields : List (List ℕ)) (why : TraceKind)
+    → is_start old.stage ≡ false → is_last old.stage ≡ false → says old.stage old.workers fields ≡ Err why
+    → Takes trace_test Knows old number fields (Err (refusals.Kind why)) new
+says_wrong old new number fields why begun unended is lines shown =
+    behind_some old lines begun unended shown (λ all. trace_test all (record { number = number; fields = fields }) ≡ Some why) (λ last before behind.
+    let earlier : List Said = sayings (last ∷ before) in
+    let says_it : says (last_stage earlier) (workers_of earlier) fields ≡ Err why = sym (says_there old earlier fields behind.knows) ∙ is in
+    let tells_it : tells earlier fields ≡ Err why = rw says_it refl in
+    tested last before (record { number = number; fields = fields }) behind.unended ∙ ap wrong tells_it)

@@ -1,0 +1,26 @@
+-- What is known of the lines below the header of a right text.
+use Rattle.std.proofs.Common.{◌≡◌, ◌<◌, List, [], ◌∷◌, Bool, true, false}
+use Rattle.trace_text.specs.declared.head.Head.{Head}
+use Rattle.trace_text.specs.declared.trace_reading.entry.Entry.{Entry}
+use Rattle.trace_text.specs.declared.trace_reading.entry.Entry.TheVariants as entries
+use Rattle.trace_text.specs.Lines.{Line, Does, Moves}
+use Rattle.trace_text.specs.Valid.{OpFits, BetweenFits}
+
+-- the line that it is, if it is more than a `round` line
+abbrev pub entry_line : Entry → List Line
+entry_line (entries.Does w op) = Does w op ∷ []
+entry_line (entries.Moves between) = Moves between ∷ []
+entry_line entries.Round = []
+
+-- its own numbers are in their ranges, and what it names is there
+abbrev pub FitsHead : Head → Entry → Type 0
+FitsHead h (entries.Does w op) = (w < h.workers) × OpFits h op
+FitsHead h (entries.Moves between) = BetweenFits h between
+FitsHead h entries.Round = Unit {0}
+
+-- A `give` line stands behind a `round` line, with only `give` lines between the two. The truth value says that so it is at the beginning.
+abbrev pub GivesStand : Bool → List Entry → Type 0
+GivesStand begun [] = Unit {0}
+GivesStand begun (entries.Does w op ∷ more) = GivesStand false more
+GivesStand begun (entries.Moves between ∷ more) = (begun ≡ true) × GivesStand true more
+GivesStand begun (entries.Round ∷ more) = GivesStand true more

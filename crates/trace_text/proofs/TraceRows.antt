@@ -1,0 +1,74 @@
+-- The grammar on worked rows: what lines say, what is wrong with a line behind others, and the rounds.
+use Rattle.std.proofs.Common.{◌≡◌, ℕ, List, [], ◌∷◌, Some, None, Err, refl, false}
+use Rattle.std.specs.Prelude.{codes}
+use Rattle.text_lines.specs.declared.refused.TraceKind.TheVariants as kinds
+use Rattle.trace_text.specs.declared.between.Between.TheVariants.{Give}
+use Rattle.trace_text.specs.declared.head.ZoneHead.{ZoneHead}
+use Rattle.trace_text.specs.declared.head.ZoneKind.TheVariants.{Plain}
+use Rattle.trace_text.specs.declared.op.Op.TheVariants as ops
+use Rattle.trace_text.specs.declared.trace_reading.said.Said.{Said}
+use Rattle.trace_text.specs.declared.trace_reading.said.Said.TheVariants as said
+use Rattle.trace_text.specs.declared.trace_reading.said.SecondHead.{SecondHead}
+use Rattle.trace_text.specs.declared.trace_reading.said.ZoneWork.TheVariants as works
+use Rattle.trace_text.specs.declared.trace_reading.word.Word.TheVariants as words
+use Rattle.trace_text.specs.declared.trace_reading.word.HeadWord.TheVariants as heads
+use Rattle.trace_text.specs.Grammar.{clash_after, last_stage, rounds_of}
+use Rattle.trace_text.specs.TraceLine.{alloc_said, may_follow}
+
+box : ZoneHead
+box = record { name = codes "box"; parent = None; size = 256; slabs = 4; bucket = 4; limit = 0; reserve = 0; kind = Plain }
+
+second : List ℕ → SecondHead
+second name = record { name = name; of = codes "box"; bucket = 4; limit = 0; kind = Plain }
+
+-- four lines, the last one first, without a clock and with one
+four : List Said
+four = said.Zone box ∷ said.Domains 1 ∷ said.Workers 1 ∷ said.Uma ∷ []
+
+five : List Said
+five = said.Zone box ∷ said.Clock (record { start = 1; window = 8 }) ∷ said.Domains 1 ∷ said.Workers 1 ∷ said.Uma ∷ []
+
+asks : ℕ → Said
+asks slot = said.InZone 0 (codes "box") (works.Alloc slot 0 false)
+
+bad_lines :
+    (may_follow (last_stage four) (words.Head heads.Workers) ≡ false)
+    × (alloc_said 1 (codes "0" ∷ codes "box" ∷ []) ≡ Err kinds.Fields)
+    × (clash_after four (said.Work 0 ops.Enter) ≡ Some kinds.NoClock)
+    × (clash_after four (said.Work 0 (ops.Look 3)) ≡ Some kinds.NoNames)
+    × (clash_after four (said.Zone box) ≡ Some kinds.DoubleName)
+    × (clash_after four (said.InZone 0 (codes "bax") (works.Alloc 0 0 false)) ≡ Some kinds.NoZone)
+    × (clash_after (said.Work 0 ops.Enter ∷ five) (said.Work 0 ops.Enter) ≡ Some kinds.SectionOpen)
+    × (clash_after five (said.Work 0 ops.Exit) ≡ Some kinds.SectionClosed)
+    × (clash_after (said.Work 0 ops.Exit ∷ said.Work 0 ops.Enter ∷ five) (said.Work 0 ops.Enter) ≡ None)
+    × (clash_after (asks 0 ∷ four) (asks 0) ≡ Some kinds.SlotBusy)
+    × (clash_after (said.Work 0 (ops.Free 0) ∷ asks 0 ∷ four) (asks 0) ≡ None)
+    × (clash_after four (said.Work 0 (ops.Free 0)) ≡ Some kinds.SlotEmpty)
+    × (clash_after (said.Round ∷ four) (said.Give (Give 0 0 0 0)) ≡ Some kinds.SlotBusy)
+    × (clash_after (said.Give (Give 0 0 0 7) ∷ said.Round ∷ asks 0 ∷ four) (said.Work 0 (ops.Free 0)) ≡ Some kinds.SlotEmpty)
+    × (clash_after (said.Give (Give 0 0 0 7) ∷ said.Round ∷ asks 0 ∷ four) (said.Work 0 (ops.Free 7)) ≡ None)
+    × (may_follow (last_stage four) words.Give ≡ false)
+unfolding four five asks box
+bad_lines = (refl, refl, refl, refl, refl, refl, refl, refl, refl, refl, refl, refl, refl, refl, refl, refl)
+
+-- seven secondary zones, and an eighth
+seven : List Said
+seven =
+    said.Second (second (codes "s7")) ∷ said.Second (second (codes "s6")) ∷ said.Second (second (codes "s5")) ∷ said.Second (second (codes "s4"))
+    ∷ said.Second (second (codes "s3")) ∷ said.Second (second (codes "s2")) ∷ said.Second (second (codes "s1")) ∷ four
+
+a_ninth_zone_of_a_keg : clash_after seven (said.Second (second (codes "s8"))) ≡ Some kinds.Zones
+unfolding seven four second box
+a_ninth_zone_of_a_keg = refl
+
+-- a secondary zone of a secondary one is none of the kind wanted
+a_second_of_a_second : clash_after (said.Second (second (codes "bag")) ∷ four) (said.Second (record { name = codes "sac"; of = codes "bag"; bucket = 4; limit = 0; kind = Plain })) ≡ Some kinds.NoZone
+unfolding four second box
+a_second_of_a_second = refl
+
+-- two workers, a round, a move, and what follows
+two_rounds : rounds_of (said.End ∷ said.Work 1 (ops.Free 7) ∷ said.Give (Give 0 0 1 7) ∷ said.Round ∷ asks 0 ∷ said.Zone box ∷ said.Domains 1 ∷ said.Workers 2 ∷ said.Uma ∷ [])
+    ≡ record { ops = (ops.Alloc 0 0 0 false ∷ []) ∷ [] ∷ []; between = Give 0 0 1 7 ∷ [] }
+    ∷ record { ops = [] ∷ (ops.Free 7 ∷ []) ∷ []; between = [] } ∷ []
+unfolding asks box
+two_rounds = refl

@@ -1,0 +1,141 @@
+-- The lines of a right text are told, and the last one is `end`.
+use Rattle.std.proofs.Common.{◌≡◌, ℕ, Bool, true, false, List, [], ◌∷◌, length, Option, Some, None, Result, Ok, Err, refl, sym, ap, subst, ◌∙◌, cond}
+use Rattle.std.specs.Prelude.{codes, ◌↔◌, ◌+◌, not}
+use Rattle.std.specs.List.{list_all}
+use Rattle.text_lines.specs.declared.refused.TraceKind.{TraceKind}
+use Rattle.text_lines.specs.declared.refused.TraceKind.TheVariants as kinds
+use Rattle.text_lines.specs.Fields.{wrong, is_head}
+use Rattle.text_lines.specs.TextLines.{TextLine, Test, AreRight, IsRightText, fields_of, is_allowed, is_end, is_ended, is_skipped, spoken}
+use Rattle.trace_text.specs.declared.trace_reading.said.Said.{Said}
+use Rattle.trace_text.specs.declared.trace_reading.stage.Stage.{Stage}
+use Rattle.trace_text.specs.declared.trace_reading.stage.Stage.TheVariants as stages
+use Rattle.trace_text.specs.Grammar.{and_said, clash_after, head_wrong, last_stage, or_clash, sayings, stage_of, tells, trace_test, workers_of}
+use Rattle.trace_text.specs.TraceKnown.{is_last}
+use Rattle.trace_text.specs.TraceLine.{says}
+use Rattle.trace_text.proofs.Steps.{bound}
+use Rattle.trace_text.proofs.TraceSaying.{says_right}
+use Rattle.trace_text.proofs.TraceTold.{IsSaid, Told}
+
+-- ---- each line that isn't skipped passes its test behind the earlier ones
+
+abbrev pub Passes : Test → List TextLine → Type 0
+Passes test [] = Unit {0}
+Passes test (line ∷ before) = (test before line ≡ None) × Passes test before
+
+passes_one : (test : Test) (bad skipped : Bool) (line : TextLine) (before : List TextLine)
+    → cond bad (Some kinds.Bytes) (cond skipped None (test before line)) ≡ None → Passes test before → Passes test (cond skipped before (line ∷ before))
+passes_one test true skipped line before e p = absurd cc
+passes_one test false true line before e p = p
+passes_one test false false line before e p = (e, p)
+
+right_passes : (test : Test) (all : List (List ℕ)) → AreRight test all → Passes test (spoken all)
+right_passes test [] right = tt
+right_passes test (line ∷ earlier) right =
+    passes_one test (not (list_all is_allowed line)) (is_skipped (fields_of line)) (record { number = length earlier + 1; fields = fields_of line }) (spoken earlier) right.0 (right_passes test earlier right.1)
+
+pub text_passes : (test : Test) (bytes : List ℕ) (spoke : List TextLine) → IsRightText test bytes spoke → Passes test spoke
+text_passes test bytes spoke right =
+    let P : List TextLine → Type 0 = λ lines. Passes test lines in
+    subst P (sym right.spoke_is) (right_passes test right.all right.right)
+
+-- ---- what a line that passes says
+
+not_wrong : {A : Type 0} (r : Result A TraceKind) → wrong r ≡ None → (x : A) × (r ≡ Ok x)
+not_wrong (Ok x) e = (x, refl)
+not_wrong (Err why) e = absurd cc
+
+no_clash : (o : Option TraceKind) (x s : Said) → or_clash o x ≡ Ok s → (o ≡ None) × (x ≡ s)
+no_clash None x s e = (refl, cc)
+no_clash (Some why) x s e = absurd cc
+
+not_after : (b : Bool) (o : Option TraceKind) → cond b (Some kinds.After) o ≡ None → o ≡ None
+not_after true o e = absurd cc
+not_after false o e = e
+
+-- of a line behind others
+pub record SaidBehind (last : TextLine) (before : List TextLine) (line : TextLine) (s : Said) : Type 0 where
+  pub says_it : says (last_stage (sayings (last ∷ before))) (workers_of (sayings (last ∷ before))) line.fields ≡ Ok s
+  pub fits : clash_after (sayings (last ∷ before)) s ≡ None
+  pub all : sayings (line ∷ last ∷ before) ≡ s ∷ sayings (last ∷ before)
+
+tells_parts : (before : List Said) (fields : List (List ℕ)) (s : Said) → tells before fields ≡ Ok s → (says (last_stage before) (workers_of before) fields ≡ Ok s) × (clash_after before s ≡ None)
+tells_parts before fields s e =
+    let b = bound (says (last_stage before) (workers_of before) fields) (λ x. or_clash (clash_after before x) x) s e in
+    let c = no_clash (clash_after before b.0) b.0 s b.2 in
+    let P : Said → Type 0 = λ x. (says (last_stage before) (workers_of before) fields ≡ Ok x) × (clash_after before x ≡ None) in
+    subst P c.1 (b.1, c.0)
+
+pub said_behind : (last : TextLine) (before : List TextLine) (line : TextLine) → trace_test (last ∷ before) line ≡ None → (s : Said) × SaidBehind last before line s
+said_behind last before line e =
+    let earlier : List Said = sayings (last ∷ before) in
+    let told = not_wrong (tells earlier line.fields) (not_after (is_ended (last ∷ before)) (wrong (tells earlier line.fields)) e) in
+    let parts = tells_parts earlier line.fields told.0 told.1 in
+    (told.0, record { says_it = parts.0; fits = parts.1; all = ap (λ r. and_said r earlier) parts.0 })
+
+-- ---- all lines
+
+and_said_some : (r : Result Said TraceKind) (earlier : List Said) → (earlier ≡ [] → ⊥) → and_said r earlier ≡ [] → ⊥
+and_said_some (Ok s) earlier some e = cc
+and_said_some (Err why) earlier some e = some e
+
+sayings_some : (line : TextLine) (before : List TextLine) → sayings (line ∷ before) ≡ [] → ⊥
+sayings_some line [] e = cc
+sayings_some line (last ∷ before) e =
+    let earlier : List Said = sayings (last ∷ before) in
+    and_said_some (says (last_stage earlier) (workers_of earlier) line.fields) earlier (sayings_some last before) e
+
+told_next : (earlier : List Said) (s : Said) → (earlier ≡ [] → ⊥) → IsSaid earlier s → clash_after earlier s ≡ None → Told earlier → Told (s ∷ earlier)
+told_next [] s some is fits t = absurd (some refl)
+told_next (last ∷ before) s some is fits t = (is, fits, t)
+
+pub passing_told : (lines : List TextLine) → Passes trace_test lines → Told (sayings lines)
+passing_told [] p = tt
+passing_told (line ∷ []) p = refl
+passing_told (line ∷ last ∷ before) p =
+    let b = said_behind last before line p.0 in
+    let is : IsSaid (sayings (last ∷ before)) b.0 = record { fields = line.fields; says_it = b.1.says_it } in
+    let P : List Said → Type 0 = λ all. Told all in
+    subst P (sym b.1.all) (told_next (sayings (last ∷ before)) b.0 (sayings_some last before) is b.1.fits (passing_told (last ∷ before) p.1))
+
+-- ---- the last line
+
+pub end_stage_is : (stage : Stage) → is_last stage ≡ true → stage ≡ stages.End
+end_stage_is stages.End e = refl
+end_stage_is stages.Start e = absurd cc
+end_stage_is stages.Uma e = absurd cc
+end_stage_is stages.Workers e = absurd cc
+end_stage_is stages.Domains e = absurd cc
+end_stage_is stages.Clock e = absurd cc
+end_stage_is stages.Detail e = absurd cc
+end_stage_is stages.Zones e = absurd cc
+end_stage_is stages.Names e = absurd cc
+end_stage_is stages.Works e = absurd cc
+end_stage_is stages.Between e = absurd cc
+
+-- a line says `end` where it is an `end` line
+pub end_is_told : (stage : Stage) (workers : ℕ) (fields : List (List ℕ)) (s : Said) → says stage workers fields ≡ Ok s → is_end fields ≡ is_last (stage_of s)
+end_is_told stage workers fields s e = (says_right stage workers fields s e).ends
+
+pub head_no_end : (fields : List (List ℕ)) → head_wrong (is_head (codes "uma") fields) ≡ None → is_end fields ≡ false
+head_no_end [] e = absurd cc
+head_no_end (word ∷ []) e = absurd cc
+head_no_end (word ∷ version ∷ rest) e = refl
+
+-- the last line of lines that pass is `end` where the last thing said is
+pub ended_is_told : (lines : List TextLine) → Passes trace_test lines → is_ended lines ≡ is_last (last_stage (sayings lines))
+ended_is_told [] p = refl
+ended_is_told (line ∷ []) p = head_no_end line.fields p.0
+ended_is_told (line ∷ last ∷ before) p =
+    let b = said_behind last before line p.0 in
+    let earlier : List Said = sayings (last ∷ before) in
+    end_is_told (last_stage earlier) (workers_of earlier) line.fields b.0 b.1.says_it ∙ sym (ap (λ (all : List Said). is_last (last_stage all)) b.1.all)
+
+pub ended_where_end : (lines : List TextLine) → Passes trace_test lines → (is_ended lines ≡ true) ↔ (last_stage (sayings lines) ≡ stages.End)
+ended_where_end lines p =
+    let same : is_ended lines ≡ is_last (last_stage (sayings lines)) = ended_is_told lines p in
+    (λ e. end_stage_is (last_stage (sayings lines)) (sym same ∙ e), λ e. same ∙ ap is_last e)
+
+pub told : (bytes : List ℕ) (spoke : List TextLine) → IsRightText trace_test bytes spoke → Told (sayings spoke) × (last_stage (sayings spoke) ≡ stages.End)
+told bytes spoke right =
+    let p : Passes trace_test spoke = text_passes trace_test bytes spoke right in
+    (passing_told spoke p, end_stage_is (last_stage (sayings spoke)) (sym (ended_is_told spoke p) ∙ right.ended))

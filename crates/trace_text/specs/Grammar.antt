@@ -1,0 +1,340 @@
+-- The grammar of traces (own): `uma 1`, the other header lines, then what the workers do, then `end`. The test of a line looks at what
+-- the earlier lines said, of which the last one comes first.
+use Rattle.std.specs.Prelude.{ℕ, ◌≡◌, List, [], ◌∷◌, ◌++◌, map, length, Bool, true, false, ◌&&◌, ◌||◌, ◌==◌, not, nat_le, if◌then◌else◌, Option, Some, None, Result, Ok, Err, codes, is_some, position, slice_get}
+use Rattle.std.specs.List.{flat_map, slice_split, range_with_len}
+use Rattle.std.specs.Str.{bytes_eq}
+use Rattle.text_lines.specs.declared.refused.TraceKind.{TraceKind}
+use Rattle.text_lines.specs.declared.refused.TraceKind.TheVariants as kinds
+use Rattle.text_lines.specs.Fields.{◌>>=◌, wrong, is_head}
+use Rattle.text_lines.specs.TextLines.{TextLine, is_ended, IsRightText}
+use Rattle.trace_text.specs.declared.between.Between.{Between}
+use Rattle.trace_text.specs.declared.between.Between.TheVariants.{Give}
+use Rattle.trace_text.specs.declared.head.ClockHead.{ClockHead}
+use Rattle.trace_text.specs.declared.head.Head.{Head}
+use Rattle.trace_text.specs.declared.head.NamesHead.{NamesHead}
+use Rattle.trace_text.specs.declared.head.ZoneHead.{ZoneHead}
+use Rattle.trace_text.specs.declared.head.ZoneKind.{ZoneKind}
+use Rattle.trace_text.specs.declared.head.ZoneKind.TheVariants.{Plain, Smr}
+use Rattle.trace_text.specs.declared.op.Op.{Op}
+use Rattle.trace_text.specs.declared.op.Op.TheVariants as ops
+use Rattle.trace_text.specs.declared.round.Round.{Round}
+use Rattle.trace_text.specs.declared.trace.Trace.{Trace}
+use Rattle.trace_text.specs.declared.trace_reading.entry.Entry.{Entry}
+use Rattle.trace_text.specs.declared.trace_reading.entry.Entry.TheVariants as entries
+use Rattle.trace_text.specs.declared.trace_reading.said.Said.{Said}
+use Rattle.trace_text.specs.declared.trace_reading.said.Said.TheVariants as said
+use Rattle.trace_text.specs.declared.trace_reading.said.SecondHead.{SecondHead}
+use Rattle.trace_text.specs.declared.trace_reading.said.ZoneWork.{ZoneWork}
+use Rattle.trace_text.specs.declared.trace_reading.said.ZoneWork.TheVariants as works
+use Rattle.trace_text.specs.declared.trace_reading.stage.Stage.{Stage}
+use Rattle.trace_text.specs.declared.trace_reading.stage.Stage.TheVariants as stages
+use Rattle.trace_text.specs.Lines.{Line, Does, Moves}
+use Rattle.trace_text.specs.Reading.{held, in_section}
+use Rattle.trace_text.specs.TraceLine.{says}
+use Rattle.trace_text.specs.Valid.{sharer_count}
+
+-- ---- what the earlier lines said: the header
+
+abbrev pub stage_of : Said → Stage
+stage_of said.Uma = stages.Uma
+stage_of (said.Workers count) = stages.Workers
+stage_of (said.Domains count) = stages.Domains
+stage_of (said.Clock clock) = stages.Clock
+stage_of said.Detail = stages.Detail
+stage_of (said.Zone zone) = stages.Zones
+stage_of (said.Second second) = stages.Zones
+stage_of (said.Names names) = stages.Names
+stage_of (said.Work worker op) = stages.Works
+stage_of (said.InZone worker zone work) = stages.Works
+stage_of said.Round = stages.Between
+stage_of (said.Give between) = stages.Between
+stage_of said.End = stages.End
+
+-- what the last line was
+abbrev pub last_stage : List Said → Stage
+last_stage [] = stages.Start
+last_stage (last ∷ before) = stage_of last
+
+-- how many workers there are
+abbrev pub workers_after : Said → ℕ → ℕ
+workers_after (said.Workers count) before = count
+workers_after other before = before
+
+abbrev pub workers_of : List Said → ℕ
+workers_of [] = 0
+workers_of (s ∷ before) = workers_after s (workers_of before)
+
+abbrev pub domains_after : Said → ℕ → ℕ
+domains_after (said.Domains count) before = count
+domains_after other before = before
+
+abbrev pub domains_of : List Said → ℕ
+domains_of [] = 0
+domains_of (s ∷ before) = domains_after s (domains_of before)
+
+abbrev pub clock_after : Said → Option ClockHead → Option ClockHead
+clock_after (said.Clock clock) before = Some clock
+clock_after other before = before
+
+abbrev pub clock_of : List Said → Option ClockHead
+clock_of [] = None
+clock_of (s ∷ before) = clock_after s (clock_of before)
+
+abbrev pub detail_after : Said → Bool → Bool
+detail_after said.Detail before = true
+detail_after other before = before
+
+abbrev pub has_detail : List Said → Bool
+has_detail [] = false
+has_detail (s ∷ before) = detail_after s (has_detail before)
+
+abbrev pub names_after : Said → Option NamesHead → Option NamesHead
+names_after (said.Names names) before = Some names
+names_after other before = before
+
+abbrev pub names_of : List Said → Option NamesHead
+names_of [] = None
+names_of (s ∷ before) = names_after s (names_of before)
+
+-- the place of the zone of this name
+abbrev pub zone_named : List ZoneHead → List ℕ → Option ℕ
+zone_named zones name = position (λ (z : ZoneHead). bytes_eq z.name name) zones
+
+-- the place of the primary zone of this name
+abbrev pub primary_named : List ZoneHead → List ℕ → Option ℕ
+primary_named zones name = position (λ (z : ZoneHead). bytes_eq z.name name && not (is_some z.parent)) zones
+
+-- a secondary zone has the size, the slabs and the reserve of its primary zone
+abbrev pub second_over : ℕ → Option ZoneHead → SecondHead → List ZoneHead
+second_over place None second = []
+second_over place (Some primary) second =
+    record { name = second.name; parent = Some place; size = primary.size; slabs = primary.slabs; bucket = second.bucket; limit = second.limit; reserve = primary.reserve; kind = second.kind } ∷ []
+
+abbrev pub second_zone : Option ℕ → List ZoneHead → SecondHead → List ZoneHead
+second_zone None zones second = []
+second_zone (Some place) zones second = second_over place (slice_get zones place) second
+
+-- the zone that a line names for the first time, behind these
+abbrev pub new_zone : List ZoneHead → Said → List ZoneHead
+new_zone zones (said.Zone zone) = zone ∷ []
+new_zone zones (said.Second second) = second_zone (primary_named zones second.of) zones second
+new_zone zones other = []
+
+-- the zones in order of naming
+abbrev pub zones_of : List Said → List ZoneHead
+zones_of [] = []
+zones_of (s ∷ before) = zones_of before ++ new_zone (zones_of before) s
+
+abbrev pub head_of : List Said → Head
+head_of before = record {
+  workers = workers_of before;
+  domains = domains_of before;
+  clock = clock_of before;
+  detail = has_detail before;
+  zones = zones_of before;
+  names = names_of before;
+}
+
+-- ---- what the earlier lines said: what the workers do
+
+abbrev pub work_op : ZoneWork → ℕ → Op
+work_op (works.Alloc slot arg reserve) zone = ops.Alloc zone slot arg reserve
+work_op works.Trim zone = ops.Trim zone
+work_op works.Drain zone = ops.Drain zone
+work_op works.DrainSeat zone = ops.DrainSeat zone
+work_op (works.Prealloc items) zone = ops.Prealloc zone items
+
+abbrev pub entry_in : ℕ → ZoneWork → Option ℕ → List Entry
+entry_in worker work None = []
+entry_in worker work (Some zone) = entries.Does worker (work_op work zone) ∷ []
+
+-- what a line adds to those below the header
+abbrev pub entry_of : List ZoneHead → Said → List Entry
+entry_of zones (said.Work worker op) = entries.Does worker op ∷ []
+entry_of zones (said.InZone worker zone work) = entry_in worker work (zone_named zones zone)
+entry_of zones said.Round = entries.Round ∷ []
+entry_of zones (said.Give between) = entries.Moves between ∷ []
+entry_of zones other = []
+
+-- the lines below the header, in order
+abbrev pub entries_of : List Said → List Entry
+entries_of [] = []
+entries_of (s ∷ before) = entries_of before ++ entry_of (zones_of before) s
+
+-- those lines that fill and empty slots, or enter and leave sections
+abbrev pub line_of : List Entry → List Line
+line_of [] = []
+line_of (entries.Does worker op ∷ more) = Does worker op ∷ []
+line_of (entries.Moves between ∷ more) = Moves between ∷ []
+line_of (entries.Round ∷ more) = []
+
+-- the last one first
+abbrev pub done : List Said → List Line
+done [] = []
+done (s ∷ before) = line_of (entry_of (zones_of before) s) ++ done before
+
+-- ---- the tests of a line by the earlier ones, in this order
+
+-- an SMR zone, the names and sections need a clock
+abbrev pub is_smr : ZoneKind → Bool
+is_smr Plain = false
+is_smr Smr = true
+
+abbrev pub needs_clock : Said → Bool
+needs_clock (said.Zone zone) = is_smr zone.kind
+needs_clock (said.Second second) = is_smr second.kind
+needs_clock (said.Names names) = true
+needs_clock (said.Work worker ops.Enter) = true
+needs_clock (said.Work worker ops.Exit) = true
+needs_clock other = false
+
+abbrev pub needs_names : Said → Bool
+needs_names (said.Work worker (ops.Bind key value)) = true
+needs_names (said.Work worker (ops.Unbind key)) = true
+needs_names (said.Work worker (ops.Look key)) = true
+needs_names other = false
+
+-- a name given before
+abbrev pub takes_name : List ZoneHead → Said → Bool
+takes_name zones (said.Zone zone) = is_some (zone_named zones zone.name)
+takes_name zones (said.Second second) = is_some (zone_named zones second.name)
+takes_name zones (said.Names names) = is_some (zone_named zones names.name)
+takes_name zones other = false
+
+-- a zone that isn't there, or none of the kind wanted
+abbrev pub lacks_zone : List ZoneHead → Said → Bool
+lacks_zone zones (said.Second second) = not (is_some (primary_named zones second.of))
+lacks_zone zones (said.InZone worker zone work) = not (is_some (zone_named zones zone))
+lacks_zone zones other = false
+
+-- a keg has eight zones at most
+abbrev pub fills_keg : List ZoneHead → Option ℕ → Bool
+fills_keg zones None = false
+fills_keg zones (Some primary) = nat_le 7 (sharer_count zones primary)
+
+-- a ninth zone of a keg, or a seventeenth zone, that of the names among them
+abbrev pub passes_most : List ZoneHead → Said → Bool
+passes_most zones (said.Zone zone) = nat_le 16 (length zones)
+passes_most zones (said.Second second) = nat_le 16 (length zones) || fills_keg zones (primary_named zones second.of)
+passes_most zones (said.Names names) = nat_le 16 (length zones)
+passes_most zones other = false
+
+-- A filled slot is to be filled. A `give` from a slot to itself counts as this.
+abbrev pub finds_filled : (ℕ → ℕ → Bool) → Said → Bool
+finds_filled is_filled (said.InZone worker zone (works.Alloc slot arg reserve)) = is_filled worker slot
+finds_filled is_filled (said.Give (Give giver slot taker slot2)) = (giver == taker && slot == slot2) || is_filled taker slot2
+finds_filled is_filled other = false
+
+-- an empty slot is to be emptied
+abbrev pub finds_empty : (ℕ → ℕ → Bool) → Said → Bool
+finds_empty is_filled (said.Work worker (ops.Free slot)) = not (is_filled worker slot)
+finds_empty is_filled (said.Give (Give giver slot taker slot2)) = not (is_filled giver slot)
+finds_empty is_filled other = false
+
+abbrev pub finds_open : (ℕ → Bool) → Said → Bool
+finds_open is_open (said.Work worker ops.Enter) = is_open worker
+finds_open is_open other = false
+
+abbrev pub finds_closed : (ℕ → Bool) → Said → Bool
+finds_closed is_open (said.Work worker ops.Exit) = not (is_open worker)
+finds_closed is_open other = false
+
+-- the kind of the first test that is failed
+abbrev pub first_failed : List (Bool × TraceKind) → Option TraceKind
+first_failed [] = None
+first_failed ((failed, kind) ∷ more) = if failed then Some kind else first_failed more
+
+-- what is wrong with a line that says this, where there are these zones, slots and sections
+abbrev pub clash : Bool → Bool → List ZoneHead → (ℕ → ℕ → Bool) → (ℕ → Bool) → Said → Option TraceKind
+clash has_clock has_names zones is_filled is_open s = first_failed (
+    (needs_clock s && not has_clock, kinds.NoClock)
+    ∷ (needs_names s && not has_names, kinds.NoNames)
+    ∷ (takes_name zones s, kinds.DoubleName)
+    ∷ (lacks_zone zones s, kinds.NoZone)
+    ∷ (passes_most zones s, kinds.Zones)
+    ∷ (finds_filled is_filled s, kinds.SlotBusy)
+    ∷ (finds_empty is_filled s, kinds.SlotEmpty)
+    ∷ (finds_open is_open s, kinds.SectionOpen)
+    ∷ (finds_closed is_open s, kinds.SectionClosed)
+    ∷ [])
+
+-- whether a slot is filled, and whether a worker is in a section, after what was said
+abbrev pub is_filled_by : List Said → ℕ → ℕ → Bool
+is_filled_by before worker slot = is_some (held (done before) worker slot)
+
+abbrev pub is_open_by : List Said → ℕ → Bool
+is_open_by before worker = in_section (done before) worker
+
+abbrev pub clash_after : List Said → Said → Option TraceKind
+clash_after before s =
+    clash (is_some (clock_of before)) (is_some (names_of before)) (zones_of before) (is_filled_by before) (is_open_by before) s
+
+-- ---- all lines
+
+-- what these lines said, the last one first
+abbrev pub and_said : Result Said TraceKind → List Said → List Said
+and_said (Ok s) before = s ∷ before
+and_said (Err why) before = before
+
+abbrev pub sayings : List TextLine → List Said
+sayings [] = []
+sayings (line ∷ []) = said.Uma ∷ []
+sayings (line ∷ last ∷ before) =
+    let earlier = sayings (last ∷ before) in and_said (says (last_stage earlier) (workers_of earlier) line.fields) earlier
+
+abbrev pub or_clash : Option TraceKind → Said → Result Said TraceKind
+or_clash None s = Ok s
+or_clash (Some kind) s = Err kind
+
+-- what a line with these fields says behind lines that said this, or the first thing that is wrong with it
+abbrev pub tells : List Said → List (List ℕ) → Result Said TraceKind
+tells before fields = do
+  s ← says (last_stage before) (workers_of before) fields
+  or_clash (clash_after before s) s
+
+abbrev pub head_wrong : Bool → Option TraceKind
+head_wrong is = if is then None else Some kinds.Head
+
+-- what is wrong with a line that isn't skipped, or nothing
+abbrev pub trace_test : List TextLine → TextLine → Option TraceKind
+trace_test [] line = head_wrong (is_head (codes "uma") line.fields)
+trace_test (last ∷ before) line =
+    if is_ended (last ∷ before) then Some kinds.After else
+    wrong (tells (sayings (last ∷ before)) line.fields)
+
+-- ---- the rounds
+
+abbrev pub is_round : Entry → Bool
+is_round entries.Round = true
+is_round other = false
+
+abbrev pub op_by : ℕ → Entry → List Op
+op_by worker (entries.Does v op) = if v == worker then (op ∷ []) else []
+op_by worker other = []
+
+abbrev pub give_in : Entry → List Between
+give_in (entries.Moves between) = between ∷ []
+give_in other = []
+
+-- what each of so many workers does in this part, in order
+abbrev pub ops_in : ℕ → List Entry → List (List Op)
+ops_in workers part = map (λ worker. flat_map (op_by worker) part) (range_with_len 0 workers)
+
+-- The `round` lines cut the lines into parts. A round has the operations of a part and the `give` lines of the next one.
+abbrev pub rounds_in : ℕ → List (List Entry) → List Round
+rounds_in workers [] = []
+rounds_in workers (part ∷ []) = record { ops = ops_in workers part; between = [] } ∷ []
+rounds_in workers (part ∷ next ∷ parts) =
+    record { ops = ops_in workers part; between = flat_map give_in next } ∷ rounds_in workers (next ∷ parts)
+
+abbrev pub rounds_of : List Said → List Round
+rounds_of before = rounds_in (workers_of before) (slice_split is_round (entries_of before))
+
+abbrev pub trace_of : List Said → Trace
+trace_of before = record { head = head_of before; rounds = rounds_of before }
+
+-- the bytes are a text of this trace
+pub record IsTraceText (bytes : List ℕ) (trace : Trace) : Type 0 where
+  pub spoke : List TextLine
+  pub right : IsRightText trace_test bytes spoke
+  pub trace_is : trace ≡ trace_of (sayings spoke)

@@ -1,0 +1,30 @@
+-- The tables of a trace's reading (own): which slots are filled, and which workers are in a section.
+use Rattle.std.specs.Prelude.{ℕ, ◌≡◌, ◌<◌, ◌≤◌, ◌*◌, All, length, false}
+use Rattle.trace_text.specs.declared.between.Between.TheVariants.{Give}
+use Rattle.trace_text.specs.declared.trace_reading.entry.Entry.{Entry}
+use Rattle.trace_text.specs.declared.trace_reading.entry.Entry.TheVariants as entries
+use Rattle.trace_text.specs.declared.trace_reading.tables.Tables.{Tables}
+pub use Rattle.trace_text.specs.Limits.{most_workers}
+use Rattle.trace_text.specs.Limits.{last_slot, slots}
+pub use Rattle.trace_text.specs.TraceShown.{OpSlotFits}
+use Rattle.trace_text.specs.TraceShown.{slot_at, open_at, filled_after, opened_after}
+
+pub record AreWhole (tables : Tables) : Type 0 where
+  pub slots_whole : length tables.slots.items ≡ most_workers * slots
+  pub sections_whole : length tables.sections.items ≡ most_workers
+
+-- all slots are empty, and no section is open
+pub record AreEmpty (tables : Tables) : Type 0 where
+  pub empty : All (λ filled. filled ≡ false) tables.slots.items
+  pub closed : All (λ is_open. is_open ≡ false) tables.sections.items
+
+-- there is room for the workers and the slots that a line names
+abbrev pub EntryFits : Entry → Type 0
+EntryFits (entries.Does worker op) = (worker < most_workers) × OpSlotFits op
+EntryFits (entries.Moves (Give giver slot taker slot2)) = (giver < most_workers) × (slot ≤ last_slot) × (taker < most_workers) × (slot2 ≤ last_slot)
+EntryFits entries.Round = Unit {0}
+
+-- the line was done to the tables
+pub record Marks (entry : Entry) (old new : Tables) : Type 0 where
+  pub filled : (w slot : ℕ) → slot ≤ last_slot → slot_at new.slots.items w slot ≡ filled_after entry (slot_at old.slots.items) w slot
+  pub opened : (w : ℕ) → open_at new.sections.items w ≡ opened_after entry (open_at old.sections.items) w

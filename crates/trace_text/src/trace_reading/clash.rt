@@ -1,0 +1,180 @@
+//! The tests of what a line says by what the earlier lines said.
+ghost use Rattle.std.specs.Prelude.{◌≡◌, ◌+◌, ◌*◌, false, slice_index_or};
+ghost use Rattle.trace_text.specs.Grammar.{needs_clock, needs_names, takes_name, lacks_zone, fills_keg, passes_most, finds_filled, finds_empty, finds_open, finds_closed, clash};
+ghost use Rattle.trace_text.specs.TraceShown.{slot_at, open_at};
+
+use crate::trace_reading::said::{Said, ZoneWork};
+use crate::trace_reading::slots::{open_at, slot_at};
+use crate::trace_reading::zones::Zones;
+use crate::{Between, Op, TraceKind, ZoneKind};
+
+/// The most zones of a trace.
+const MOST_ZONES: usize = 16;
+
+/// The most secondary zones of a keg.
+const MOST_SECONDS: usize = 7;
+
+impl Said {
+    fn needs_clock(&self) -> bool
+        ensures { result ≡ needs_clock self.now }
+    {
+        match self {
+            Said::Zone { zone } => zone.kind == ZoneKind::Smr,
+            Said::Second { second } => second.kind == ZoneKind::Smr,
+            Said::Names { .. } => true,
+            Said::Work { op, .. } => matches!(op, Op::Enter | Op::Exit),
+            _ => false,
+        }
+    }
+
+    fn needs_names(&self) -> bool
+        ensures { result ≡ needs_names self.now }
+    {
+        match self {
+            Said::Work { op, .. } => {
+                matches!(op, Op::Bind { .. } | Op::Unbind { .. } | Op::Look { .. })
+            }
+            _ => false,
+        }
+    }
+
+    fn takes_name(&self, zones: &Zones) -> bool
+        ensures { result ≡ takes_name zones.now self.now }
+    {
+        match self {
+            Said::Zone { zone } => zones.named(&zone.name).is_some(),
+            Said::Second { second } => zones.named(&second.name).is_some(),
+            Said::Names { names } => zones.named(&names.name).is_some(),
+            _ => false,
+        }
+    }
+
+    fn lacks_zone(&self, zones: &Zones) -> bool
+        ensures { result ≡ lacks_zone zones.now self.now }
+    {
+        match self {
+            Said::Second { second } => !zones.primary_named(&second.of).is_some(),
+            Said::InZone { zone, .. } => !zones.named(zone).is_some(),
+            _ => false,
+        }
+    }
+
+    fn passes_most(&self, zones: &Zones) -> bool
+        ensures { result ≡ passes_most zones.now self.now }
+    {
+        match self {
+            Said::Zone { .. } | Said::Names { .. } => MOST_ZONES <= zones.len(),
+            Said::Second { second } => {
+                let primary = zones.primary_named(&second.of);
+                MOST_ZONES <= zones.len() || fills_keg(zones, primary)
+            }
+            _ => false,
+        }
+    }
+
+    fn finds_filled(&self, slots: &[bool]) -> bool
+        ensures { result ≡ finds_filled (slot_at slots.now) self.now }
+    {
+        match self {
+            Said::InZone { worker, work, .. } => match work {
+                ZoneWork::Alloc { slot, .. } => slot_at(slots, *worker, *slot),
+                _ => false,
+            },
+            Said::Give { between } => {
+                let Between::Give {
+                    giver,
+                    slot,
+                    taker,
+                    slot2,
+                } = *between;
+                (giver == taker && slot == slot2) || slot_at(slots, taker, slot2)
+            }
+            _ => false,
+        }
+    }
+
+    fn finds_empty(&self, slots: &[bool]) -> bool
+        ensures { result ≡ finds_empty (slot_at slots.now) self.now }
+    {
+        match self {
+            Said::Work { worker, op } => match op {
+                Op::Free { slot } => !slot_at(slots, *worker, *slot),
+                _ => false,
+            },
+            Said::Give { between } => {
+                let Between::Give { giver, slot, .. } = *between;
+                !slot_at(slots, giver, slot)
+            }
+            _ => false,
+        }
+    }
+
+    fn finds_open(&self, sections: &[bool]) -> bool
+        ensures { result ≡ finds_open (open_at sections.now) self.now }
+    {
+        match self {
+            Said::Work { worker, op } => matches!(op, Op::Enter) && open_at(sections, *worker),
+            _ => false,
+        }
+    }
+
+    fn finds_closed(&self, sections: &[bool]) -> bool
+        ensures { result ≡ finds_closed (open_at sections.now) self.now }
+    {
+        match self {
+            Said::Work { worker, op } => matches!(op, Op::Exit) && !open_at(sections, *worker),
+            _ => false,
+        }
+    }
+
+    /// What is wrong with a line that says this, where there are these zones, slots and sections.
+    pub fn clash(
+        &self,
+        has_clock: bool,
+        has_names: bool,
+        zones: &Zones,
+        slots: &[bool],
+        sections: &[bool],
+    ) -> Option<TraceKind>
+        ensures { result ≡ clash has_clock has_names zones.now (slot_at slots.now) (open_at sections.now) self.now }
+    {
+        if self.needs_clock() && !has_clock {
+            return Some(TraceKind::NoClock);
+        }
+        if self.needs_names() && !has_names {
+            return Some(TraceKind::NoNames);
+        }
+        if self.takes_name(zones) {
+            return Some(TraceKind::DoubleName);
+        }
+        if self.lacks_zone(zones) {
+            return Some(TraceKind::NoZone);
+        }
+        if self.passes_most(zones) {
+            return Some(TraceKind::Zones);
+        }
+        if self.finds_filled(slots) {
+            return Some(TraceKind::SlotBusy);
+        }
+        if self.finds_empty(slots) {
+            return Some(TraceKind::SlotEmpty);
+        }
+        if self.finds_open(sections) {
+            return Some(TraceKind::SectionOpen);
+        }
+        if self.finds_closed(sections) {
+            return Some(TraceKind::SectionClosed);
+        }
+        None
+    }
+}
+
+/// Whether the keg of the primary zone at this place has all the zones that it may have.
+fn fills_keg(zones: &Zones, primary: Option<u32>) -> bool
+    ensures { result ≡ fills_keg zones.now primary }
+{
+    match primary {
+        Some(primary) => MOST_SECONDS <= zones.sharer_count(primary),
+        None => false,
+    }
+}

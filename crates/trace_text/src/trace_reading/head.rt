@@ -1,0 +1,108 @@
+//! What the header lines say.
+ghost use Rattle.std.specs.Prelude.{◌≡◌, IfOk, ℕ};
+ghost use Rattle.text_lines.specs.TextLines.{fields_of};
+ghost use Rattle.trace_text.specs.ScheduleGrammar.{start_in, window_in};
+ghost use Rattle.trace_text.specs.TraceLine.{clock_in, zone_in, second_in, names_in, head_said};
+ghost use Rattle.trace_text.specs.TraceShown.{NamesFit};
+
+use crate::schedule_reading::said::{start_in, window_in};
+use crate::trace_reading::fields::{kind_in, name_in, seven_fields};
+use crate::trace_reading::said::{Said, SecondHead};
+use crate::trace_reading::word::HeadWord;
+use crate::{ClockHead, NamesHead, TraceKind, ZoneHead};
+use text_lines::{five_fields, four_fields, no_field, number_within, one_field, two_fields};
+
+/// What a header line says behind the first one.
+pub fn head_said(word: HeadWord, rest: &[u8]) -> Result<Said, TraceKind>
+    ensures value { result ≡ head_said word (fields_of rest.now) }
+    ensures names { (workers : ℕ) → IfOk result (NamesFit workers) }
+{
+    match word {
+        HeadWord::Uma => Err(TraceKind::Place),
+        HeadWord::Workers => {
+            let count = number_within(one_field(rest)?, 1, 16)?;
+            Ok(Said::Workers {
+                count: count as u32,
+            })
+        }
+        HeadWord::Domains => {
+            let count = number_within(one_field(rest)?, 1, 4)?;
+            Ok(Said::Domains { count: count as u8 })
+        }
+        HeadWord::Clock => {
+            let clock = clock_in(rest)?;
+            Ok(Said::Clock { clock })
+        }
+        HeadWord::Detail => {
+            no_field(rest)?;
+            Ok(Said::Detail)
+        }
+        HeadWord::Zone => {
+            let zone = zone_in(rest)?;
+            Ok(Said::Zone { zone })
+        }
+        HeadWord::Second => {
+            let second = second_in(rest)?;
+            Ok(Said::Second { second })
+        }
+        HeadWord::Names => {
+            let names = names_in(rest)?;
+            Ok(Said::Names { names })
+        }
+    }
+}
+
+/// The numbers of a clock.
+fn clock_in(rest: &[u8]) -> Result<ClockHead, TraceKind>
+    ensures { result ≡ clock_in (fields_of rest.now) }
+{
+    let (start, window) = two_fields(rest)?;
+    Ok(ClockHead {
+        start: start_in(start)?,
+        window: window_in(window)?,
+    })
+}
+
+/// A primary zone.
+fn zone_in(rest: &[u8]) -> Result<ZoneHead, TraceKind>
+    ensures { result ≡ zone_in (fields_of rest.now) }
+{
+    let (name, size, five) = seven_fields(rest)?;
+    Ok(ZoneHead {
+        name: name_in(name)?,
+        parent: None,
+        size: number_within(size, 8, 4096)? as u32,
+        slabs: number_within(five.0, 1, 1024)? as u32,
+        bucket: number_within(five.1, 4, 64)? as u32,
+        limit: number_within(five.2, 0, 1_000_000)?,
+        reserve: number_within(five.3, 0, 65535)?,
+        kind: kind_in(five.4)?,
+    })
+}
+
+/// A secondary zone.
+fn second_in(rest: &[u8]) -> Result<SecondHead, TraceKind>
+    ensures { result ≡ second_in (fields_of rest.now) }
+{
+    let (name, of, bucket, limit, kind) = five_fields(rest)?;
+    Ok(SecondHead {
+        name: name_in(name)?,
+        of: name_in(of)?,
+        bucket: number_within(bucket, 4, 64)? as u32,
+        limit: number_within(limit, 0, 1_000_000)?,
+        kind: kind_in(kind)?,
+    })
+}
+
+/// A cache of names.
+fn names_in(rest: &[u8]) -> Result<NamesHead, TraceKind>
+    ensures { result ≡ names_in (fields_of rest.now) }
+{
+    let (name, rows, slabs, bucket) = four_fields(rest)?;
+    Ok(NamesHead {
+        name: name_in(name)?,
+        rows: number_within(rows, 1, 4096)? as u32,
+        slabs: number_within(slabs, 1, 1024)? as u32,
+        bucket: number_within(bucket, 4, 64)? as u32,
+    })
+}

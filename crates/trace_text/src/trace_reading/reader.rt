@@ -1,0 +1,215 @@
+ghost use Rattle.std.specs.Prelude.{◌≡◌, ◌<◌, [], false, OnOk, IfOk, IfErr};
+ghost use Rattle.trace_text.specs.Grammar.{entry_of, passes_most, stage_of, takes_name, trace_test, work_op};
+ghost use Rattle.trace_text.specs.TraceHeard.{Adds, AddsAll, Hears, clash_found};
+ghost use Rattle.trace_text.specs.declared.trace_reading.said.Said.TheVariants.{InZone};
+ghost use Rattle.trace_text.specs.TraceTables.{AreWhole, EntryFits, most_workers};
+ghost use Rattle.trace_text.specs.TraceShown.{NamesFit, WorkSlotFits};
+ghost use Rattle.trace_text.specs.TraceKnown.{Keeps, Knows, trace_by};
+
+use crate::trace_reading::entry::Entry;
+use crate::trace_reading::rounds::rounds;
+use crate::trace_reading::said::{Said, ZoneWork};
+use crate::trace_reading::stage::Stage;
+use crate::trace_reading::tables::Tables;
+use crate::trace_reading::zones::Zones;
+use crate::{ClockHead, Head, NamesHead, Op, Trace, TraceKind};
+use std::alloc::{AllocError, Global};
+use text_lines::{Grammar, LineRefused, is_head};
+use zone_stats::ZoneName;
+
+/// The running state of a reading: what the lines so far have said.
+#[derive(Drop)]
+pub struct TraceReader {
+    pub stage: Stage,
+    pub workers: u32,
+    pub domains: u8,
+    pub clock: Option<ClockHead>,
+    pub detail: bool,
+    pub zones: Zones,
+    pub names: Option<NamesHead>,
+    pub tables: Tables,
+    pub entries: Vec<Entry>,
+}
+
+impl Said {
+    /// What the line is in the order of a text.
+    pub fn stage(&self) -> Stage
+        ensures { result ≡ stage_of self.now }
+    {
+        match self {
+            Said::Uma => Stage::Uma,
+            Said::Workers { .. } => Stage::Workers,
+            Said::Domains { .. } => Stage::Domains,
+            Said::Clock { .. } => Stage::Clock,
+            Said::Detail => Stage::Detail,
+            Said::Zone { .. } | Said::Second { .. } => Stage::Zones,
+            Said::Names { .. } => Stage::Names,
+            Said::Work { .. } | Said::InZone { .. } => Stage::Works,
+            Said::Round | Said::Give { .. } => Stage::Between,
+            Said::End => Stage::End,
+        }
+    }
+}
+
+impl ZoneWork {
+    /// The operation, in the zone at this place.
+    pub fn op(self, zone: u32) -> Op
+        ensures { result ≡ work_op self zone }
+    {
+        match self {
+            ZoneWork::Alloc { slot, arg, reserve } => Op::Alloc {
+                zone,
+                slot,
+                arg,
+                reserve,
+            },
+            ZoneWork::Trim => Op::Trim { zone },
+            ZoneWork::Drain => Op::Drain { zone },
+            ZoneWork::DrainSeat => Op::DrainSeat { zone },
+            ZoneWork::Prealloc { items } => Op::Prealloc { zone, items },
+        }
+    }
+}
+
+impl TraceReader {
+    /// Before the first line.
+    pub fn new(alloc: Global) -> Result<TraceReader, AllocError>
+        ensures knows { IfOk result (λ reader. Knows reader []) }
+        ensures kept { IfOk result Keeps }
+    {
+        Ok(TraceReader {
+            stage: Stage::Start,
+            workers: 0,
+            domains: 0,
+            clock: None,
+            detail: false,
+            zones: Zones::new(alloc),
+            names: None,
+            tables: Tables::new(alloc)?,
+            entries: Vec::new(alloc),
+        })
+    }
+
+    /// The trace, once the last line was `end`.
+    pub fn trace(self, alloc: Global) -> Result<Trace, AllocError>
+        ensures { IfOk result (λ trace. trace ≡ trace_by self) }
+    {
+        let rounds = rounds(alloc, self.workers, self.entries.as_slice())?;
+        let head = Head {
+            workers: self.workers,
+            domains: self.domains,
+            clock: self.clock,
+            detail: self.detail,
+            zones: self.zones.into_heads(alloc)?,
+            names: self.names,
+        };
+        Ok(Trace { head, rounds })
+    }
+
+    /// Takes in a line below the header.
+    fn add(&mut self, entry: Entry) -> Result<(), LineRefused>
+        requires whole { AreWhole self.old.tables }
+        requires fits { EntryFits entry }
+        ensures adds { OnOk result (Adds entry self.old self.new) }
+        ensures whole { AreWhole self.new.tables }
+        ensures workers { self.new.workers ≡ self.old.workers }
+        ensures memory { IfErr result (λ refused. refused ≡ LineRefused.Memory) }
+    {
+        self.entries.push(entry)?;
+        self.tables.mark(entry);
+        Ok(())
+    }
+
+    /// Takes in what a worker does in a zone, where it is there.
+    fn add_in_zone(
+        &mut self,
+        worker: u32,
+        zone: &ZoneName,
+        work: ZoneWork,
+    ) -> Result<(), LineRefused>
+        requires whole { AreWhole self.old.tables }
+        requires worker { worker < most_workers }
+        requires slot { WorkSlotFits work }
+        ensures added { OnOk result (AddsAll (entry_of self.old.zones (InZone worker zone.now work)) self.old self.new) }
+        ensures whole { AreWhole self.new.tables }
+        ensures workers { self.new.workers ≡ self.old.workers }
+        ensures memory { IfErr result (λ refused. refused ≡ LineRefused.Memory) }
+    {
+        let Some(place) = self.zones.named(zone) else {
+            return Ok(());
+        };
+        let op = work.op(place);
+        self.add(Entry::Does { worker, op })
+    }
+
+    /// What is wrong with a line that says this.
+    fn clash(&self, said: &Said) -> Option<TraceKind>
+        ensures { result ≡ clash_found self.now said.now }
+    {
+        said.clash(
+            self.clock.is_some(),
+            self.names.is_some(),
+            &self.zones,
+            self.tables.slots.as_slice(),
+            self.tables.sections.as_slice(),
+        )
+    }
+
+    /// Takes in what a line behind the first one says.
+    fn hear(&mut self, said: Said) -> Result<(), LineRefused>
+        requires kept { Keeps self.old }
+        requires new { takes_name self.old.zones said ≡ false }
+        requires few { passes_most self.old.zones said ≡ false }
+        requires names { NamesFit most_workers said }
+        ensures heard { OnOk result (Hears said self.old self.new) }
+        ensures kept { Keeps self.new }
+        ensures memory { IfErr result (λ refused. refused ≡ LineRefused.Memory) }
+    {
+        self.stage = said.stage();
+        match said {
+            Said::Workers { count } => self.workers = count,
+            Said::Domains { count } => self.domains = count,
+            Said::Clock { clock } => self.clock = Some(clock),
+            Said::Detail => self.detail = true,
+            Said::Names { names } => self.names = Some(names),
+            Said::Zone { zone } => self.zones.push(zone)?,
+            Said::Second { second } => self.zones.push_second(second)?,
+            Said::Work { worker, op } => self.add(Entry::Does { worker, op })?,
+            Said::InZone { worker, zone, work } => self.add_in_zone(worker, &zone, work)?,
+            Said::Round => self.add(Entry::Round)?,
+            Said::Give { between } => self.add(Entry::Moves { between })?,
+            Said::Uma | Said::End => {}
+        }
+        Ok(())
+    }
+}
+
+impl Grammar for TraceReader {
+    ghost test = { trace_test };
+
+    ghost shows = { Knows };
+
+    ghost kept = { Keeps };
+
+    fn take(&mut self, _number: u64, line: &[u8]) -> Result<(), LineRefused> {
+        if self.stage.is_start() {
+            if !is_head(line, b"uma") {
+                return Err(TraceKind::Head.into());
+            }
+            self.stage = Stage::Uma;
+            return Ok(());
+        }
+        if self.stage.is_last() {
+            return Err(TraceKind::After.into());
+        }
+        let said = Said::by_line(self.stage, self.workers, line)?;
+        match self.clash(&said) {
+            Some(kind) => Err(kind.into()),
+            None => self.hear(said),
+        }
+    }
+
+    fn is_ended(&self) -> bool {
+        self.stage.is_last()
+    }
+}

@@ -1,0 +1,113 @@
+//! What one line of a trace says.
+ghost use Rattle.std.specs.Prelude.{◌≡◌, IfOk};
+ghost use Rattle.text_lines.specs.TextLines.{fields_of};
+ghost use Rattle.trace_text.specs.TraceLine.{said_by, says};
+ghost use Rattle.trace_text.specs.TraceShown.{NamesFit};
+
+use crate::trace_reading::head::head_said;
+use crate::trace_reading::stage::Stage;
+use crate::trace_reading::word::Word;
+use crate::trace_reading::work::{give_said, work_said, zone_said};
+use crate::{Between, ClockHead, NamesHead, Op, TraceKind, ZoneHead, ZoneKind};
+use text_lines::{next_field, no_field};
+use zone_stats::ZoneName;
+
+/// What a line says. A zone is named here by its name.
+#[derive(Drop)]
+pub enum Said {
+    Uma,
+    Workers {
+        count: u32,
+    },
+    Domains {
+        count: u8,
+    },
+    Clock {
+        clock: ClockHead,
+    },
+    Detail,
+    Zone {
+        zone: ZoneHead,
+    },
+    Second {
+        second: SecondHead,
+    },
+    Names {
+        names: NamesHead,
+    },
+    /// What a worker does by itself.
+    Work {
+        worker: u32,
+        op: Op,
+    },
+    /// What a worker does in a zone.
+    InZone {
+        worker: u32,
+        zone: ZoneName,
+        work: ZoneWork,
+    },
+    Round,
+    Give {
+        between: Between,
+    },
+    End,
+}
+
+/// A `second` line.
+#[derive(Drop)]
+pub struct SecondHead {
+    pub name: ZoneName,
+    /// The name of the primary zone.
+    pub of: ZoneName,
+    pub bucket: u32,
+    pub limit: u64,
+    pub kind: ZoneKind,
+}
+
+/// What is done in a zone.
+#[derive(Clone, Copy, Debug, PartialEq, Eq)]
+pub enum ZoneWork {
+    Alloc { slot: u32, arg: u64, reserve: bool },
+    Trim,
+    Drain,
+    DrainSeat,
+    Prealloc { items: u64 },
+}
+
+impl Said {
+    /// What a line says behind the first one, or the first thing that is wrong with it.
+    pub fn by_line(stage: Stage, workers: u32, line: &[u8]) -> Result<Said, TraceKind>
+        ensures value { result ≡ says stage workers (fields_of line.now) }
+        ensures names { IfOk result (NamesFit workers) }
+    {
+        let Some((first, rest)) = next_field(line) else {
+            return Err(TraceKind::Word);
+        };
+        let word = Word::named(first).ok_or(TraceKind::Word)?;
+        if !stage.may_follow(word) {
+            return Err(TraceKind::Place);
+        }
+        Said::by_word(workers, word, rest)
+    }
+
+    /// What a line says by its word and what stands behind it.
+    fn by_word(workers: u32, word: Word, rest: &[u8]) -> Result<Said, TraceKind>
+        ensures value { result ≡ said_by workers word (fields_of rest.now) }
+        ensures names { IfOk result (NamesFit workers) }
+    {
+        match word {
+            Word::Head(word) => head_said(word, rest),
+            Word::Work(word) => work_said(workers, word, rest),
+            Word::Zone(word) => zone_said(workers, word, rest),
+            Word::Round => {
+                no_field(rest)?;
+                Ok(Said::Round)
+            }
+            Word::Give => give_said(workers, rest),
+            Word::End => {
+                no_field(rest)?;
+                Ok(Said::End)
+            }
+        }
+    }
+}

@@ -1,0 +1,47 @@
+//! Which slots of the workers are filled, and which workers are in a section.
+ghost use Rattle.std.specs.Prelude.{◌≡◌, ◌≤◌, ◌<◌, ◌+◌, ◌*◌, ◌&&◌, ◌==◌, ℕ, length, if◌then◌else◌};
+ghost use Rattle.trace_text.specs.Limits.{last_slot, slots};
+ghost use Rattle.trace_text.specs.TraceShown.{slot_at, open_at};
+
+/// How many slots a worker has.
+const SLOTS: usize = 65536;
+
+/// Whether a worker's slot is filled, in a table of all slots, one worker's behind the other's.
+pub fn slot_at(table: &[bool], worker: u32, slot: u32) -> bool
+    ensures { result ≡ slot_at table.now worker slot }
+{
+    match table.get(worker as usize * SLOTS + slot as usize) {
+        Some(&filled) => filled,
+        None => false,
+    }
+}
+
+/// Has a worker's slot filled or empty, and leaves the others.
+pub fn set_slot(table: &mut [bool], worker: u32, slot: u32, filled: bool)
+    requires there { worker * slots + slot < length table.old }
+    requires slot { slot ≤ last_slot }
+    ensures each { (v t : ℕ) → t ≤ last_slot
+        → slot_at table.new v t ≡ (if (worker == v) && (slot == t) then filled else slot_at table.old v t) }
+    ensures length { length table.new ≡ length table.old }
+{
+    table[worker as usize * SLOTS + slot as usize] = filled;
+}
+
+/// Whether a worker is in a section.
+pub fn open_at(table: &[bool], worker: u32) -> bool
+    ensures { result ≡ open_at table.now worker }
+{
+    match table.get(worker as usize) {
+        Some(&open) => open,
+        None => false,
+    }
+}
+
+/// Has a worker in a section or in none, and leaves the others.
+pub fn set_open(table: &mut [bool], worker: u32, is_open: bool)
+    requires { worker < length table.old }
+    ensures each { (v : ℕ) → open_at table.new v ≡ (if worker == v then is_open else open_at table.old v) }
+    ensures length { length table.new ≡ length table.old }
+{
+    table[worker as usize] = is_open;
+}

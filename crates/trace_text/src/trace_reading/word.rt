@@ -1,0 +1,80 @@
+ghost use Rattle.std.specs.Prelude.{◌≡◌};
+ghost use Rattle.trace_text.specs.TraceLine.{word_named};
+
+/// The word with which a line of a trace begins.
+#[derive(Clone, Copy, Debug, PartialEq, Eq)]
+pub enum Word {
+    /// A word of a header line.
+    Head(HeadWord),
+    /// A word of what a worker does by itself.
+    Work(WorkWord),
+    /// A word of what a worker does in a zone.
+    Zone(ZoneWord),
+    Round,
+    Give,
+    End,
+}
+
+#[derive(Clone, Copy, Debug, PartialEq, Eq)]
+pub enum HeadWord {
+    Uma,
+    Workers,
+    Domains,
+    Clock,
+    Detail,
+    Zone,
+    Second,
+    Names,
+}
+
+#[derive(Clone, Copy, Debug, PartialEq, Eq)]
+pub enum WorkWord {
+    Free,
+    Enter,
+    Exit,
+    Bind,
+    Unbind,
+    Look,
+}
+
+#[derive(Clone, Copy, Debug, PartialEq, Eq)]
+pub enum ZoneWord {
+    Alloc,
+    Trim,
+    Drain,
+    DrainSeat,
+    Prealloc,
+}
+
+impl Word {
+    /// The word that a field is.
+    pub fn named(field: &[u8]) -> Option<Word>
+        ensures { result ≡ word_named field.now }
+    {
+        match field {
+            b"alloc" => Some(Word::Zone(ZoneWord::Alloc)),
+            b"free" => Some(Word::Work(WorkWord::Free)),
+            b"enter" => Some(Word::Work(WorkWord::Enter)),
+            b"exit" => Some(Word::Work(WorkWord::Exit)),
+            b"bind" => Some(Word::Work(WorkWord::Bind)),
+            b"unbind" => Some(Word::Work(WorkWord::Unbind)),
+            b"look" => Some(Word::Work(WorkWord::Look)),
+            b"trim" => Some(Word::Zone(ZoneWord::Trim)),
+            b"drain" => Some(Word::Zone(ZoneWord::Drain)),
+            b"drainseat" => Some(Word::Zone(ZoneWord::DrainSeat)),
+            b"prealloc" => Some(Word::Zone(ZoneWord::Prealloc)),
+            b"round" => Some(Word::Round),
+            b"give" => Some(Word::Give),
+            b"end" => Some(Word::End),
+            b"uma" => Some(Word::Head(HeadWord::Uma)),
+            b"workers" => Some(Word::Head(HeadWord::Workers)),
+            b"domains" => Some(Word::Head(HeadWord::Domains)),
+            b"clock" => Some(Word::Head(HeadWord::Clock)),
+            b"detail" => Some(Word::Head(HeadWord::Detail)),
+            b"zone" => Some(Word::Head(HeadWord::Zone)),
+            b"second" => Some(Word::Head(HeadWord::Second)),
+            b"names" => Some(Word::Head(HeadWord::Names)),
+            _ => None,
+        }
+    }
+}

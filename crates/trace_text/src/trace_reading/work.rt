@@ -1,0 +1,138 @@
+//! What the lines below the header say.
+ghost use Rattle.std.specs.Prelude.{◌≡◌, IfOk};
+ghost use Rattle.text_lines.specs.TextLines.{fields_of};
+ghost use Rattle.trace_text.specs.TraceLine.{alloc_said, prealloc_said, zone_said, free_said, bind_said, work_said, give_said};
+ghost use Rattle.trace_text.specs.TraceShown.{NamesFit};
+
+use crate::trace_reading::fields::{
+    AllocFields, arg_in, name_in, only_worker, slot_in, worker_and_key, worker_and_zone, worker_in,
+};
+use crate::trace_reading::said::{Said, ZoneWork};
+use crate::trace_reading::word::{WorkWord, ZoneWord};
+use crate::{Between, Op, TraceKind};
+use text_lines::{four_fields, number_in, number_within, three_fields, two_fields};
+
+/// The most items that a `prealloc` line brings in.
+const MOST_ITEMS: u64 = 262_144;
+
+/// What a worker of so many does by itself.
+pub fn work_said(workers: u32, word: WorkWord, rest: &[u8]) -> Result<Said, TraceKind>
+    ensures value { result ≡ work_said workers word (fields_of rest.now) }
+    ensures names { IfOk result (NamesFit workers) }
+{
+    match word {
+        WorkWord::Free => free_said(workers, rest),
+        WorkWord::Enter => {
+            let worker = only_worker(workers, rest)?;
+            Ok(Said::Work {
+                worker,
+                op: Op::Enter,
+            })
+        }
+        WorkWord::Exit => {
+            let worker = only_worker(workers, rest)?;
+            Ok(Said::Work {
+                worker,
+                op: Op::Exit,
+            })
+        }
+        WorkWord::Bind => bind_said(workers, rest),
+        WorkWord::Unbind => {
+            let (worker, key) = worker_and_key(workers, rest)?;
+            let op = Op::Unbind { key };
+            Ok(Said::Work { worker, op })
+        }
+        WorkWord::Look => {
+            let (worker, key) = worker_and_key(workers, rest)?;
+            let op = Op::Look { key };
+            Ok(Said::Work { worker, op })
+        }
+    }
+}
+
+/// A free.
+fn free_said(workers: u32, rest: &[u8]) -> Result<Said, TraceKind>
+    ensures value { result ≡ free_said workers (fields_of rest.now) }
+    ensures names { IfOk result (NamesFit workers) }
+{
+    let (worker, slot) = two_fields(rest)?;
+    let worker = worker_in(workers, worker)?;
+    let slot = slot_in(slot)?;
+    let op = Op::Free { slot };
+    Ok(Said::Work { worker, op })
+}
+
+/// A binding of a name.
+fn bind_said(workers: u32, rest: &[u8]) -> Result<Said, TraceKind>
+    ensures value { result ≡ bind_said workers (fields_of rest.now) }
+    ensures names { IfOk result (NamesFit workers) }
+{
+    let (worker, key, value) = three_fields(rest)?;
+    let worker = worker_in(workers, worker)?;
+    let key = number_in(key)?;
+    let value = number_in(value)?;
+    let op = Op::Bind { key, value };
+    Ok(Said::Work { worker, op })
+}
+
+/// What a worker of so many does in a zone.
+pub fn zone_said(workers: u32, word: ZoneWord, rest: &[u8]) -> Result<Said, TraceKind>
+    ensures value { result ≡ zone_said workers word (fields_of rest.now) }
+    ensures names { IfOk result (NamesFit workers) }
+{
+    let work = match word {
+        ZoneWord::Alloc => return alloc_said(workers, rest),
+        ZoneWord::Prealloc => return prealloc_said(workers, rest),
+        ZoneWord::Trim => ZoneWork::Trim,
+        ZoneWord::Drain => ZoneWork::Drain,
+        ZoneWord::DrainSeat => ZoneWork::DrainSeat,
+    };
+    let (worker, zone) = worker_and_zone(workers, rest)?;
+    Ok(Said::InZone { worker, zone, work })
+}
+
+/// A request.
+fn alloc_said(workers: u32, rest: &[u8]) -> Result<Said, TraceKind>
+    ensures value { result ≡ alloc_said workers (fields_of rest.now) }
+    ensures names { IfOk result (NamesFit workers) }
+{
+    let fields = AllocFields::of(rest)?;
+    let worker = worker_in(workers, fields.worker)?;
+    let zone = name_in(fields.zone)?;
+    let slot = slot_in(fields.slot)?;
+    let arg = arg_in(fields.arg)?;
+    let work = ZoneWork::Alloc {
+        slot,
+        arg,
+        reserve: fields.reserve,
+    };
+    Ok(Said::InZone { worker, zone, work })
+}
+
+/// The bringing in of slabs.
+fn prealloc_said(workers: u32, rest: &[u8]) -> Result<Said, TraceKind>
+    ensures value { result ≡ prealloc_said workers (fields_of rest.now) }
+    ensures names { IfOk result (NamesFit workers) }
+{
+    let (worker, zone, items) = three_fields(rest)?;
+    let worker = worker_in(workers, worker)?;
+    let zone = name_in(zone)?;
+    let items = number_within(items, 0, MOST_ITEMS)?;
+    let work = ZoneWork::Prealloc { items };
+    Ok(Said::InZone { worker, zone, work })
+}
+
+/// A move from a worker's slot to one of a worker.
+pub fn give_said(workers: u32, rest: &[u8]) -> Result<Said, TraceKind>
+    ensures value { result ≡ give_said workers (fields_of rest.now) }
+    ensures names { IfOk result (NamesFit workers) }
+{
+    let (giver, slot, taker, slot2) = four_fields(rest)?;
+    let between = Between::Give {
+        giver: worker_in(workers, giver)?,
+        slot: slot_in(slot)?,
+        taker: worker_in(workers, taker)?,
+        slot2: slot_in(slot2)?,
+    };
+    Ok(Said::Give { between })
+}
