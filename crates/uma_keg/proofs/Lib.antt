@@ -30,3 +30,7 @@ mod FreedSlabs
 mod TakenIn
 mod UsedPlaces
 mod PairedSums
+mod TakenItem
+mod TakenItems
+mod BroughtSlabs
+mod FetchedItems

@@ -20,3 +20,7 @@ pub mod Lent
 pub mod UsedPlaces
 pub mod Paired
 pub mod Census
+pub mod TakeItem
+pub mod TakeItems
+pub mod BringSlabs
+pub mod Fetched

@@ -15,7 +15,7 @@ use uma_life::{Body, Hooks};
 use zone_stats::Refusal;
 
 /// A slab is brought in while each sum of hooks is below this (own), so that no sum comes to its end.
-const MOST_TALLIED: u128 = 1 << 120;
+pub(crate) const MOST_TALLIED: u128 = 1 << 120;
 
 impl<T: Body, K: Hooks<T>> Keg<T, K> {
     /// Brings in one slab more, of the memory domain of the seat that asks.

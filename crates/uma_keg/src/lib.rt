@@ -7,8 +7,11 @@
 #![tactic(auto)]
 
 mod bring;
+mod bring_slabs;
 mod census;
 mod counts;
+mod fetch;
+mod fetch_ask;
 mod fetch_law;
 mod fetch_refused;
 mod free_slabs;
@@ -26,6 +29,8 @@ mod rights;
 mod room;
 mod shelf;
 mod shelves;
+mod take_item;
+mod take_items;
 mod tallies;
 #[cfg(test)]
 mod tests;
@@ -33,6 +38,7 @@ mod undeeded;
 
 pub use census::Census;
 pub use counts::KegCounts;
+pub use fetch_ask::FetchAsk;
 pub use fetch_law::fetches_keep_their_bounds;
 pub use fetch_refused::FetchRefused;
 pub use keg::Keg;

@@ -1,0 +1,53 @@
+ghost use Rattle.std.specs.Prelude.{◌≡◌, ◌≤◌, ◌<◌, ◌^◌, ◌↔◌, ℕ, IsTrue, IfErr, OnOk};
+ghost use Rattle.uma_life.specs.Sum.{AreBelow};
+ghost use Rattle.uma_keg.specs.Places.{slab_count, free_count};
+ghost use Rattle.uma_keg.specs.Fetch.{IsNewSlabs};
+ghost use Rattle.uma_keg.specs.BringSlabs.{found_in, BringsSlabs, StopsAtSlab};
+ghost use Rattle.uma_keg.specs.Keg.{places_in, zones_in, rights_in, limit_in, refusals_in, reserve_in, buried_in, IsSameKeg, IsWithinLimits};
+
+use crate::counts::KegCounts;
+use crate::fetch_refused::FetchRefused;
+use crate::keg::Keg;
+use std::alloc::Global;
+use std::sync::Wait;
+use uma_life::{Body, Hooks};
+
+impl<T: Body, K: Hooks<T>> Keg<T, K> {
+    /// Brings in the least count of slabs with which some item is free beyond the reserve, or as many as may be. Where
+    /// one is refused, those before it stay.
+    pub(crate) fn bring_slabs<R: Wait>(
+        &mut self,
+        rt: &R,
+        alloc: Global,
+        domain: u8,
+    ) -> Result<(), FetchRefused>
+        requires { AreBelow (2 ^ 120) (buried_in self.old) }
+        ensures brings { OnOk result ((slabs : ℕ) × BringsSlabs self.old domain slabs self.new × ((zone : ℕ) → IsNewSlabs (found_in self.old zone) slabs)) }
+        ensures refused { IfErr result (λ why. StopsAtSlab self.old domain why self.new) }
+        ensures zones { zones_in self.new ≡ zones_in self.old }
+        ensures rights { rights_in self.new ≡ rights_in self.old }
+        ensures limits { (zone : ℕ) → limit_in self.new zone ≡ limit_in self.old zone }
+        ensures refusals { (zone : ℕ) → refusals_in self.new zone ≡ refusals_in self.old zone }
+        ensures same { IsSameKeg self.old self.new }
+        ensures within { IsWithinLimits self.new }
+    {
+        while self.wants_slab() {
+            self.bring_slab(rt, alloc, domain)?;
+        }
+        Ok(())
+    }
+
+    /// Whether no item is free beyond the reserve, and a further slab may be in.
+    fn wants_slab(&self) -> bool
+        ensures wants { IsTrue result ↔ ((free_count (places_in self.now) ≤ reserve_in self.now) × (slab_count (places_in self.now) < (places_in self.now).cap)) }
+        ensures within { slab_count (places_in self.now) ≤ (places_in self.now).cap }
+    {
+        let KegCounts {
+            slabs,
+            cap,
+            free,
+            ..
+        } = self.places.counts();
+        free <= self.reserve && slabs < cap
+    }
+}

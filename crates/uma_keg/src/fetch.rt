@@ -1,0 +1,162 @@
+ghost use Rattle.std.specs.Prelude.{◌≡◌, ◌≢◌, ◌≤◌, ◌<◌, ◌^◌, ◌+◌, ◌++◌, ◌∷◌, [], ℕ, true, false, Err, IfOk, IfErr, OnOk, OnErr, length};
+ghost use Rattle.uma_life.specs.Hook.{Hook};
+ghost use Rattle.uma_bucket.specs.Bucket.{items_of, size_of};
+ghost use Rattle.uma_keg.specs.Fetch.{is_at_limit, outcome_with, Refuses, Gives};
+ghost use Rattle.uma_keg.specs.BringSlabs.{found_in};
+ghost use Rattle.uma_keg.specs.Fetched.{wish_of, Fetches, FetchesInto, RefusesFetch, IsOfKeg, refusals_after};
+ghost use Rattle.uma_keg.specs.Keg.{zones_in, out_in, rights_in, limit_in, refusals_in, buried_in, total_in, HasZone, IsSameKeg, IsWithinLimits};
+
+use crate::bring::MOST_TALLIED;
+use crate::counts::KegCounts;
+use crate::fetch_ask::FetchAsk;
+use crate::fetch_refused::FetchRefused;
+use crate::keg::Keg;
+use std::alloc::Global;
+use std::sync::Wait;
+use uma_bucket::Bucket;
+use uma_life::{Body, Hooks};
+use zone_stats::Refusal;
+
+impl<T: Body, K: Hooks<T>> Keg<T, K> {
+    /// Takes items out of the keg for a zone, at most as many as are asked for, and puts them into the bucket. Answers
+    /// how many, which is at least one.
+    ///
+    /// A zone at its limit is refused. Else slabs are brought in until an item is free beyond the reserve, or as many
+    /// are in as may be. Then `Full` where no item is free. Where none is beyond the reserve, a request with the right to
+    /// it gets one, and any other is refused as `Reserved`. Else it gets as many as lie beyond the reserve and within
+    /// the limit. `Init` where `keg_init` refuses an item of a new slab, or the zone's `zone_init` the first item; a later
+    /// one that is refused ends the fetch. `Memory` where memory is wanting, or one of the sums of hooks is at 2^120. It
+    /// waits for `raw` and `bury` alone.
+    pub fn fetch<R: Wait>(
+        &mut self,
+        rt: &R,
+        alloc: Global,
+        hooks: &K,
+        ask: FetchAsk,
+        into: &mut Bucket<T>,
+    ) -> Result<u32, FetchRefused>
+        requires exists { HasZone self.old ask.zone }
+        requires some { 1 ≤ ask.most }
+        requires room { length (items_of into.old) + ask.most ≤ size_of into.old }
+        ensures fetched { IfOk result (λ count. FetchesInto self.old hooks.now ask count (items_of into.old) (items_of into.new) self.new) }
+        ensures refused { IfErr result (RefusesFetch self.old hooks.now ask self.new) }
+        ensures worn { (((hook : Hook) → total_in self.old hook < 2 ^ 120) → ⊥) → result ≡ Err FetchRefused.Memory }
+        ensures none { OnErr result (items_of into.new ≡ items_of into.old) }
+        ensures size { size_of into.new ≡ size_of into.old }
+        ensures out { IfOk result (λ count. out_in self.new ask.zone ≡ out_in self.old ask.zone + count) }
+        ensures zones { OnErr result (zones_in self.new ≡ zones_in self.old) }
+        ensures outs { (zone : ℕ) → zone ≢ ask.zone → out_in self.new zone ≡ out_in self.old zone }
+        ensures refusals { refusals_in self.new ask.zone ≡ refusals_after (refusals_in self.old ask.zone) result }
+        ensures other_refusals { (zone : ℕ) → zone ≢ ask.zone → refusals_in self.new zone ≡ refusals_in self.old zone }
+        ensures rights { rights_in self.new ≡ rights_in self.old }
+        ensures limits { (zone : ℕ) → limit_in self.new zone ≡ limit_in self.old zone }
+        ensures buried { OnOk result (buried_in self.new ≡ buried_in self.old) }
+        ensures same { IsSameKeg self.old self.new }
+        ensures within { IsWithinLimits self.new }
+    {
+        match self.fetch_items(rt, alloc, hooks, ask, into) {
+            Ok(count) => Ok(count),
+            Err(FetchRefused::Memory) => Err(FetchRefused::Memory),
+            Err(FetchRefused::Refused { refusal }) => {
+                self.refusals[ask.zone as usize].push(refusal);
+                Err(FetchRefused::Refused { refusal })
+            }
+        }
+    }
+
+    /// The same, with no refusal added to the zone's list.
+    fn fetch_items<R: Wait>(
+        &mut self,
+        rt: &R,
+        alloc: Global,
+        hooks: &K,
+        ask: FetchAsk,
+        into: &mut Bucket<T>,
+    ) -> Result<u32, FetchRefused>
+        requires exists { HasZone self.old ask.zone }
+        requires in_range { ask.zone < 8 }
+        requires some { 1 ≤ ask.most }
+        requires room { length (items_of into.old) + ask.most ≤ size_of into.old }
+        ensures fetched { IfOk result (λ count. FetchesInto self.old hooks.now ask count (items_of into.old) (items_of into.new) self.new) }
+        ensures refused { IfErr result (RefusesFetch self.old hooks.now ask self.new) }
+        ensures worn { (((hook : Hook) → total_in self.old hook < 2 ^ 120) → ⊥) → result ≡ Err FetchRefused.Memory }
+        ensures none { OnErr result (items_of into.new ≡ items_of into.old) }
+        ensures size { size_of into.new ≡ size_of into.old }
+        ensures out { IfOk result (λ count. out_in self.new ask.zone ≡ out_in self.old ask.zone + count) }
+        ensures zones { OnErr result (zones_in self.new ≡ zones_in self.old) }
+        ensures outs { (zone : ℕ) → zone ≢ ask.zone → out_in self.new zone ≡ out_in self.old zone }
+        ensures rights { rights_in self.new ≡ rights_in self.old }
+        ensures limits { (zone : ℕ) → limit_in self.new zone ≡ limit_in self.old zone }
+        ensures refusals { (zone : ℕ) → refusals_in self.new zone ≡ refusals_in self.old zone }
+        ensures buried { OnOk result (buried_in self.new ≡ buried_in self.old) }
+        ensures same { IsSameKeg self.old self.new }
+        ensures within { IsWithinLimits self.new }
+    {
+        if !self.wide_tally().are_below(MOST_TALLIED) {
+            return Err(FetchRefused::Memory);
+        }
+        self.check_limit(ask.zone)?;
+        self.bring_slabs(rt, alloc, ask.domain)?;
+        let count = self.count_given(ask)?;
+        match self.take_items(hooks, ask.zone, count, into) {
+            Ok(()) => Ok(count),
+            Err((0, code)) => Err(FetchRefused::Refused {
+                refusal: Refusal::Init { code },
+            }),
+            Err((taken, _)) => Ok(taken),
+        }
+    }
+
+    /// Refuses a zone that is at its limit.
+    fn check_limit(&self, zone: u8) -> Result<(), Refusal>
+        requires { zone < 8 }
+        ensures clear { OnOk result (is_at_limit (found_in self.now zone) ≡ false) }
+        ensures below { OnOk result (0 < limit_in self.now zone → out_in self.now zone < limit_in self.now zone) }
+        ensures at { IfErr result (λ refusal. (is_at_limit (found_in self.now zone) ≡ true) × (refusal ≡ Refusal.AtLimit (out_in self.now zone) (limit_in self.now zone))) }
+    {
+        let out = self.out(zone);
+        let limit = self.limit(zone);
+        if limit > 0 && out == limit {
+            return Err(Refusal::AtLimit { out, limit });
+        }
+        Ok(())
+    }
+
+    /// How many items a fetch gets that isn't at the limit, once no further slab is brought in, where `zone_init` refuses
+    /// none; or why it gets none.
+    fn count_given(&self, ask: FetchAsk) -> Result<u32, Refusal>
+        requires { ask.zone < 8 }
+        ensures gives { IfOk result (λ count. outcome_with (found_in self.now ask.zone) (wish_of ask) 0 ≡ Gives count) }
+        ensures refuses { IfErr result (λ refusal. outcome_with (found_in self.now ask.zone) (wish_of ask) 0 ≡ Refuses refusal) }
+        ensures which { IfErr result IsOfKeg }
+    {
+        let KegCounts {
+            slabs,
+            made,
+            free,
+            ..
+        } = self.places.counts();
+        if free == 0 {
+            return Err(Refusal::Full { slabs, made });
+        }
+        if free <= self.reserve {
+            return if ask.reserve {
+                Ok(1)
+            } else {
+                Err(Refusal::Reserved {
+                    free,
+                    reserve: self.reserve,
+                })
+            };
+        }
+        let beyond = free - self.reserve;
+        let limit = self.limit(ask.zone);
+        let most = u64::from(ask.most);
+        let allowed = if limit == 0 {
+            most
+        } else {
+            limit - self.out(ask.zone)
+        };
+        Ok(most.min(beyond.min(allowed)) as u32)
+    }
+}
