@@ -1,5 +1,5 @@
 -- The text of a report (own; its columns are those of FreeBSD's `vmstat -z`).
-use Rattle.std.specs.Prelude.{◌≡◌, ℕ, ◌-◌, false, if◌then◌else◌, List, [], ◌∷◌, ◌++◌, length, map, flat_map, replicate, Option, None, Some, codes, decimal}
+use Rattle.std.specs.Prelude.{ℕ, ◌-◌, if◌then◌else◌, List, [], ◌∷◌, ◌++◌, length, map, flat_map, replicate, Option, None, Some, codes, decimal}
 use Rattle.std.specs.List.{join_with_byte}
 use Rattle.zone_stats.specs.declared.report.ClockLine.{ClockLine}
 use Rattle.zone_stats.specs.declared.report.HookLine.{HookLine}
@@ -84,9 +84,3 @@ names_text (Some line) = words_line (codes "names"
 abbrev pub report_text : Report → List ℕ
 report_text report =
     zones_text report.lines ++ detail_text report ++ clock_text report.clock ++ names_text report.names
-
--- a report whose text is the table alone
-pub record IsTableOnly (report : Report) : Type 0 where
-  pub detail : report.detail ≡ false
-  pub clock : report.clock ≡ None
-  pub names : report.names ≡ None

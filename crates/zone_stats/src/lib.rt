@@ -18,3 +18,4 @@ mod name;
 mod refusal;
 mod report;
 mod table;
+mod words;
