@@ -35,6 +35,9 @@ pub TallyLaw-kept : (buried : TallySum) (places now : KegPlaces) → TallyLaw bu
 TallyLaw-kept buried places now law slabs each = record { each = λ hook. rw (slabs, each) (law.each hook) }
 
 -- the buried are few
+pub buried_few : (buried : TallySum) (places : KegPlaces) (hook : Hook) → TallyLaw buried places → sum_of buried hook ≤ 2 ^ 120 + 2 ^ 82
+buried_few buried places hook law = omega (arith, law.each hook)
+
 pub buried_below : (buried : TallySum) (places : KegPlaces) → TallyLaw buried places → AreBelow (2 ^ 126) buried
 buried_below buried places law hook = omega (arith, law.each hook)
 
@@ -48,6 +51,10 @@ sum_below-none f = refl
 
 few_items : (slabs per_slab most each : ℕ) → slabs ≤ most → per_slab ≤ each → slabs * per_slab ≤ most * each
 few_items slabs per_slab most each few small = mul-le-mul few small
+
+-- as many items as a keg has numbers add little to the buried
+pub totals_below : (sum items cap per_slab : ℕ) → cap ≤ 1024 → per_slab ≤ 256 → items ≤ cap * per_slab → sum ≤ 2 ^ 120 + 2 ^ 82 + items * 2 ^ 64 → sum < 2 ^ 121
+totals_below sum items cap per_slab few small within below = omega (arith, few_items cap per_slab 1024 256 few small)
 
 -- one slab more is in, and there were few slabs
 pub TallyLaw-brought : (buried : TallySum) (places now : KegPlaces) → AreBelow (2 ^ 120) buried → IsSound places → slab_count places < places.cap → slab_count now ≡ slab_count places + 1 → now.per_slab ≡ places.per_slab → TallyLaw buried now

@@ -1,4 +1,5 @@
-ghost use Rattle.std.specs.Prelude.{◌≡◌, ◌+◌, ◌*◌, sum_by};
+ghost use Rattle.std.specs.Prelude.{◌≡◌, ◌<◌, ◌+◌, ◌*◌, ◌^◌, sum_by};
+ghost use Rattle.uma_life.specs.Sum.{AreBelow};
 ghost use Rattle.uma_keg.specs.Paired.{ArePaired};
 
 use crate::counts::KegCounts;
@@ -9,7 +10,8 @@ use uma_life::TallySum;
 /// How a keg stands, with the items outside it and what its own items passed. [`crate::Keg::census`] alone makes one.
 ///
 /// The items of the slabs that are in are free or outside in one of the zones. In the tally, of the items at home and
-/// the buried, hooks come in pairs: in each zone inits and finis, and ctors and dtors, are equal modulo 2^64.
+/// the buried, hooks come in pairs: in each zone inits and finis, and ctors and dtors, are equal modulo 2^64. Each sum of
+/// the tally is below 2^121.
 #[derive(Drop)]
 pub struct Census {
     pub(crate) counts: KegCounts,
@@ -20,6 +22,7 @@ pub struct Census {
     pub(crate) book: Snapshot<Book>,
     pub ghost balanced: { counts.slabs * counts.per_slab ≡ counts.free + sum_by (λ out. out) outs },
     pub ghost paired: { ArePaired tally },
+    pub ghost bounded: { AreBelow (2 ^ 121) tally },
 }
 
 impl Census {
@@ -41,7 +44,8 @@ impl Census {
 
     /// How often the items passed each hook, summed up over those at home in the keg and the buried.
     pub fn tally(&self) -> &TallySum
-        ensures { result.now ≡ census_tally self.now }
+        ensures tally { result.now ≡ census_tally self.now }
+        ensures below { AreBelow (2 ^ 121) result.now }
     {
         &self.tally
     }

@@ -13,7 +13,8 @@ use uma_life::{Body, Hooks, Tally, TallySum};
 impl<T: Body, K: Hooks<T>> Keg<T, K> {
     /// How often the items passed each hook, summed up over those at home in the keg and the buried.
     pub fn wide_tally(&self) -> TallySum
-        ensures { (hook : Hook) → sum_of result hook ≡ total_in self.now hook }
+        ensures totals { (hook : Hook) → sum_of result hook ≡ total_in self.now hook }
+        ensures below { AreBelow (2 ^ 121) result }
     {
         let KegCounts { cap, per_slab, .. } = self.places.counts();
         let mut sums = self.buried;

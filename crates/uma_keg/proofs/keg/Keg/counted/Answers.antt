@@ -8,5 +8,6 @@ invariant_of-result g c =
     let keg = c.args.self.now in
     record {
       balanced = c.counts.ensures.balanced ∙ ap (λ outside. c.counts.result.free + outside) (sym c.outs.ensures.total);
-      paired = paired_total keg.buried c.wide_tally.result (item_at keg.shelves) (keg.places.cap * keg.places.per_slab) keg.paired c.wide_tally.ensures;
+      paired = paired_total keg.buried c.wide_tally.result (item_at keg.shelves) (keg.places.cap * keg.places.per_slab) keg.paired c.wide_tally.ensures.totals;
+      bounded = c.wide_tally.ensures.below;
     }

@@ -83,4 +83,4 @@ returns-in-Err-clause-refusals g c zone = c.in-Err.ensures.refusals zone ∙ c.i
 pub returns-in-Err-clause-worn : goal.returns-in-Err-clause-worn
 returns-in-Err-clause-worn g c worn =
     let below = c.if-not-are_below.ensures.0 refl in
-    absurd (worn (λ hook. omega (arith, below hook, c.wide_tally.ensures hook)))
+    absurd (worn (λ hook. omega (arith, below hook, c.wide_tally.ensures.totals hook)))

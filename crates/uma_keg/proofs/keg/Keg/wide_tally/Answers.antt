@@ -1,7 +1,7 @@
 use Rattle.std.proofs.Common.{arith}
 use Rattle.uma_keg.specs.Shelves.{item_at}
 use Rattle.uma_keg.specs.Tallies.{home_times}
-use Rattle.uma_keg.proofs.TallyLaws.{sum_below-more, sum_below-none, buried_below}
+use Rattle.uma_keg.proofs.TallyLaws.{sum_below-more, sum_below-none, buried_few, totals_below}
 use Rattle.uma_keg.proofs.keg.Keg.wide_tally.Goals as goal
 
 pub loop-no-init : goal.loop-no-init
@@ -9,7 +9,7 @@ loop-no-init g c =
     let keg = c.args.self.now in
     record {
       sums = λ hook. omega (arith, sum_below-none (λ n. home_times hook (item_at keg.shelves n)));
-      room = λ hook. omega (arith, buried_below keg.buried keg.places keg.tally_law hook);
+      room = λ hook. omega (arith, buried_few keg.buried keg.places hook keg.tally_law);
     }
 
 pub loop-no-preserved : goal.loop-no-preserved
@@ -19,3 +19,9 @@ loop-no-preserved g c =
       sums = λ hook. omega (arith, c.add_home.ensures.sums hook, c.loop-no.invariant.sums hook, sum_below-more (λ n. home_times hook (item_at keg.shelves n)) c.loop-no.no);
       room = λ hook. omega (arith, c.add_home.ensures.sums hook, c.add_home.ensures.counts hook, c.loop-no.invariant.room hook);
     }
+
+pub returns-clause-below : goal.returns-clause-below
+returns-clause-below g c hook =
+    let counts = c.counts-cap in
+    let sound = counts.ensures.sound in
+    totals_below _ c.loop-no.no counts.result.cap counts.result.per_slab (omega (arith, counts.ensures.cap, sound.few_slabs)) (omega (arith, counts.ensures.per_slab, sound.few_places)) (omega arith) (c.loop-no.invariant.room hook)

@@ -1,4 +1,4 @@
-use Rattle.std.proofs.Common.{◌≡◌, ◌<◌, ◌+◌, ◌*◌, ◌^◌}
+use Rattle.std.proofs.Common.{◌≡◌, ◌≤◌, ◌+◌, ◌*◌, ◌^◌}
 use Rattle.uma_life.specs.Hook.{Hook}
 use Rattle.uma_life.specs.Sum.{sum_of}
 use Rattle.uma_keg.specs.Shelves.{item_at}
@@ -8,5 +8,5 @@ use Rattle.uma_keg.proofs.keg.Keg.wide_tally.Given as goal
 abbrev pub invariant-loop-no : goal.invariant-loop-no
 invariant-loop-no g l = record {
   sums : (hook : Hook) → sum_of l.sums hook ≡ sum_of l.self.buried hook + sum_below (λ n. home_times hook (item_at l.self.shelves n)) l.no;
-  room : (hook : Hook) → sum_of l.sums hook < 2 ^ 126 + l.no * 2 ^ 64 + 1;
+  room : (hook : Hook) → sum_of l.sums hook ≤ 2 ^ 120 + 2 ^ 82 + l.no * 2 ^ 64;
 }
