@@ -1,9 +1,32 @@
 -- How a fetch ends, by its numbers.
-use Rattle.std.proofs.Common.{◌≡◌, ◌≤◌, ◌<◌, ◌+◌, ◌⊎◌, inl, inr, ℕ, Bool, true, false, not, ◌&&◌, ◌==◌, nat_le, cond, refl, arith}
+use Rattle.std.proofs.Common.{◌≡◌, ◌≤◌, ◌<◌, ◌+◌, ◌-◌, ◌⊎◌, inl, inr, ℕ, Bool, true, false, not, ◌&&◌, ◌==◌, nat_le, nat_lt, cond, min, refl, arith, sym, ap, ◌∙◌}
 use Rattle.std.proofs.lemmas.Bool.{cases_lt}
 use Rattle.std.proofs.lemmas.Bool.Decides.{nat_tests}
 use Rattle.zone_stats.specs.declared.refusal.Refusal.{Refusal}
-use Rattle.uma_keg.specs.Fetch.{Found, Wish, is_at_limit, free_with, IsNewSlabs, given, Outcome, Refuses, Gives, EndsAs, IsBelowLimit, FetchLaw}
+use Rattle.zone_stats.specs.declared.refusal.Refusal.TheVariants.{AtLimit, Reserved, Full}
+use Rattle.uma_keg.specs.Fetch.{Found, Wish, is_at_limit, free_with, IsEnough, IsNewSlabs, allowed, given, outcome_with, Outcome, Refuses, Gives, EndsAs, IsBelowLimit, FetchLaw}
+
+not_none : (n : ℕ) → (n == 0) ≡ false → 0 < n
+not_none n e = grind (arith, nat_tests)
+
+at_most : (m n : ℕ) → nat_le m n ≡ true → m ≤ n
+at_most m n e = grind (arith, nat_tests)
+
+above : (m n : ℕ) → nat_lt m n ≡ true → m < n
+above m n e = grind (arith, nat_tests)
+
+same_number : (m n : ℕ) → (m == n) ≡ true → m ≡ n
+same_number m n e = grind (arith, nat_tests)
+
+both_true : (a b : Bool) → (a && b) ≡ true → (a ≡ true) × (b ≡ true)
+both_true true true e = (refl, refl)
+both_true true false e = absurd cc
+both_true false b e = absurd cc
+
+first_only : (a b : Bool) → (a && not b) ≡ true → (a ≡ true) × (b ≡ false)
+first_only true false e = (refl, refl)
+first_only true true e = absurd cc
+first_only false b e = absurd cc
 
 one_count : (found : Found) (slabs other : ℕ) → IsNewSlabs found slabs → IsNewSlabs found other → slabs ≡ other
 one_count found slabs other a b = elim (cases_lt slabs other) [
@@ -68,5 +91,79 @@ complete found wish slabs lower enough free = record {
   below_limit = λ _. (slabs, enough, chosen (free_with found slabs) found.reserve wish.reserve _ _ _ free);
 }
 
+-- a fetch whose tests find none free, or none beyond the reserve, ends with the right as it does without, but where the right alone gives one
+by_right : (free reserve rest : ℕ) (full : Refusal) (none within : Bool) → (free == 0) ≡ none → nat_le free reserve ≡ within
+    → (cond none (Refuses full) (cond (within && not true) (Refuses (Reserved free reserve)) (Gives (cond within 1 rest))) ≡ cond none (Refuses full) (cond (within && not false) (Refuses (Reserved free reserve)) (Gives (cond within 1 rest))))
+    ⊎ ((0 < free) × (free ≤ reserve) × (cond none (Refuses full) (cond (within && not false) (Refuses (Reserved free reserve)) (Gives (cond within 1 rest))) ≡ Refuses (Reserved free reserve)) × (cond none (Refuses full) (cond (within && not true) (Refuses (Reserved free reserve)) (Gives (cond within 1 rest))) ≡ Gives 1))
+by_right free reserve rest full true within is_none is_within = inl refl
+by_right free reserve rest full false false is_none is_within = inl refl
+by_right free reserve rest full false true is_none is_within = inr (not_none free is_none, at_most free reserve is_within, refl, refl)
+
+with_reserve : (found : Found) (most : ℕ) (without with_right : Outcome) → EndsAs found (record { most = most; reserve = false }) without → EndsAs found (record { most = most; reserve = true }) with_right → (at : Bool) → is_at_limit found ≡ at
+    → (with_right ≡ without) ⊎ ((free : ℕ) × (0 < free) × (free ≤ found.reserve) × (without ≡ Refuses (Reserved free found.reserve)) × (with_right ≡ Gives 1))
+with_reserve found most without with_right ends ends_right true at = inl (ends_right.at_limit at ∙ sym (ends.at_limit at))
+with_reserve found most without with_right ends ends_right false at =
+    let by = ends.below_limit at in
+    let right = ends_right.below_limit at in
+    let same : right.0 ≡ by.0 = one_count found right.0 by.0 right.1 by.1 in
+    let ends_with : with_right ≡ outcome_with found (record { most = most; reserve = true }) by.0 = right.2 ∙ ap (outcome_with found (record { most = most; reserve = true })) same in
+    let free = free_with found by.0 in
+    elim (by_right free found.reserve (min most (min (free - found.reserve) (allowed found (record { most = most; reserve = true })))) (Full (found.slabs + by.0) (found.made + by.0)) (free == 0) (nat_le free found.reserve) refl refl) [
+      | inl as_without ↦ inl (ends_with ∙ as_without ∙ sym by.2)
+      | inr p ↦ inr (free, p.0, p.1, by.2 ∙ p.2, ends_with ∙ p.3)
+    ]
+
 pub fetch_law : FetchLaw
-fetch_law = record { one_count = one_count; some = some; limit = limited; complete = complete }
+fetch_law = record {
+  one_count = one_count;
+  some = some;
+  limit = limited;
+  complete = complete;
+  reserve = λ found most without with_right ends ends_right. with_reserve found most without with_right ends ends_right (is_at_limit found) refl;
+}
+
+-- ---- what a refusal says of the numbers
+
+-- none is free, or none beyond the reserve, to which the fetch has no right
+why : (none kept : Bool) (full reserved refusal : Refusal) (k : ℕ) → cond none (Refuses full) (cond kept (Refuses reserved) (Gives k)) ≡ Refuses refusal → ((none ≡ true) × (refusal ≡ full)) ⊎ ((none ≡ false) × (kept ≡ true) × (refusal ≡ reserved))
+why true kept full reserved refusal k e = inl (refl, cc)
+why false true full reserved refusal k e = inr (refl, refl, cc)
+why false false full reserved refusal k e = absurd cc
+
+pub names_limit : (found : Found) (wish : Wish) (out limit : ℕ) → is_at_limit found ≡ true → EndsAs found wish (Refuses (AtLimit out limit)) → (out ≡ found.out) × (limit ≡ found.limit) × (out ≡ limit) × (0 < limit)
+names_limit found wish out limit at ends =
+    let is = ends.at_limit at in
+    let same_out : out ≡ found.out = cc in
+    let same_limit : limit ≡ found.limit = cc in
+    let both = both_true (nat_lt 0 found.limit) (found.out == found.limit) at in
+    (same_out, same_limit, omega (arith, same_out, same_limit, same_number found.out found.limit both.1), omega (arith, same_limit, above 0 found.limit both.0))
+
+pub names_slabs : (found : Found) (wish : Wish) (slabs in_all made : ℕ) → IsEnough found slabs → outcome_with found wish slabs ≡ Refuses (Full in_all made) → (in_all ≡ found.cap) × (made + found.slabs ≡ found.made + in_all)
+names_slabs found wish slabs in_all made enough ends =
+    let free = free_with found slabs in
+    elim (why (free == 0) (nat_le free found.reserve && not wish.reserve) (Full (found.slabs + slabs) (found.made + slabs)) (Reserved free found.reserve) (Full in_all made) (given found wish free) ends) [
+      | inl p ↦ let is = p.1 in let same_in : in_all ≡ found.slabs + slabs = cc in let same_made : made ≡ found.made + slabs = cc in elim enough [
+          | inl beyond ↦ absurd (omega (arith, beyond, same_number free 0 p.0))
+          | inr all ↦ (omega (arith, all, same_in), omega (arith, same_in, same_made))
+        ]
+      | inr p ↦ let is = p.2 in absurd cc
+    ]
+
+pub names_reserve : (found : Found) (wish : Wish) (slabs free reserve : ℕ) → outcome_with found wish slabs ≡ Refuses (Reserved free reserve) → (reserve ≡ found.reserve) × (0 < free) × (free ≤ reserve) × (wish.reserve ≡ false)
+names_reserve found wish slabs free reserve ends =
+    let there = free_with found slabs in
+    elim (why (there == 0) (nat_le there found.reserve && not wish.reserve) (Full (found.slabs + slabs) (found.made + slabs)) (Reserved there found.reserve) (Reserved free reserve) (given found wish there) ends) [
+      | inl p ↦ let is = p.1 in absurd cc
+      | inr p ↦
+          let is = p.2 in
+          let same_free : free ≡ there = cc in
+          let same_reserve : reserve ≡ found.reserve = cc in
+          let kept = first_only (nat_le there found.reserve) wish.reserve p.1 in
+          (same_reserve, omega (arith, same_free, not_none there p.0), omega (arith, same_free, same_reserve, at_most there found.reserve kept.0), kept.1)
+    ]
+
+pub gives_few : (found : Found) (wish : Wish) (slabs n : ℕ) → 1 ≤ wish.most → outcome_with found wish slabs ≡ Gives n → n ≤ wish.most
+gives_few found wish slabs n most ends =
+    let free = free_with found slabs in
+    let p = picked (free == 0) (nat_le free found.reserve && not wish.reserve) (Full (found.slabs + slabs) (found.made + slabs)) (Reserved free found.reserve) (given found wish free) n (sym ends) in
+    omega (arith, p.2, given_most found wish free most)
