@@ -144,6 +144,7 @@ stops_bringing old mid new domain why before same none room refused places store
   slabs = before.slabs;
   left = mid;
   brings = before.brings;
+  same = same;
   fewer = unmet_more old mid domain before same none room;
   refused = refused;
   places = places;

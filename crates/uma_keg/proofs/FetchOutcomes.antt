@@ -143,9 +143,9 @@ names_slabs found wish slabs in_all made enough ends =
     let free = free_with found slabs in
     elim (why (free == 0) (nat_le free found.reserve && not wish.reserve) (Full (found.slabs + slabs) (found.made + slabs)) (Reserved free found.reserve) (Full in_all made) (given found wish free) ends) [
       | inl p ↦ let is = p.1 in let same_in : in_all ≡ found.slabs + slabs = cc in let same_made : made ≡ found.made + slabs = cc in elim enough [
-          | inl beyond ↦ absurd (omega (arith, beyond, same_number free 0 p.0))
-          | inr all ↦ (omega (arith, all, same_in), omega (arith, same_in, same_made))
-        ]
+        | inl beyond ↦ absurd (omega (arith, beyond, same_number free 0 p.0))
+        | inr all ↦ (omega (arith, all, same_in), omega (arith, same_in, same_made))
+      ]
       | inr p ↦ let is = p.2 in absurd cc
     ]
 

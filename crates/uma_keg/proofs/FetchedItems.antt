@@ -236,6 +236,7 @@ still_at_slab old mid new domain why same stops =
       slabs = stops.slabs;
       left = stops.left;
       brings = stops.brings;
+      same = stops.same;
       fewer = stops.fewer;
       refused = subst Refuses' (sym same.buried) stops.refused;
       places = same.places ∙ stops.places;

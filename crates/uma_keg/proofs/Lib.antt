@@ -34,3 +34,4 @@ mod TakenItem
 mod TakenItems
 mod BroughtSlabs
 mod FetchedItems
+mod FetchAnswers

@@ -7,7 +7,7 @@ use Rattle.uma_keg.specs.Places.{KegPlaces, IsIn, IsFree, place_at, domain_at, s
 use Rattle.uma_keg.specs.NewItems.{IsNewItem}
 use Rattle.uma_keg.specs.BringSlab.{AcceptsNumber, RefusesSlab}
 use Rattle.uma_keg.specs.Fetch.{Found, IsEnough}
-use Rattle.uma_keg.specs.Keg.{places_in, stored_in, buried_in, out_in, limit_in, reserve_in}
+use Rattle.uma_keg.specs.Keg.{places_in, stored_in, buried_in, out_in, limit_in, reserve_in, IsSameKeg}
 
 -- what a fetch of a zone finds in a keg
 abbrev pub found_in : {T K : Type 0} {g : _} {h : _} → Keg T K g h → ℕ → Found
@@ -54,6 +54,7 @@ pub record StopsAtSlab {T K : Type 0} {g : _} {h : _} (old : Keg T K g h) (domai
   pub slabs : ℕ
   pub left : Keg T K g h
   pub brings : BringsSlabs old domain slabs left
+  pub same : IsSameKeg old left
   pub fewer : (zone fewer : ℕ) → fewer ≤ slabs → IsEnough (found_in old zone) fewer → ⊥
   pub refused : RefusesSlab left (buried_in new) why
   pub places : places_in new ≡ places_in left

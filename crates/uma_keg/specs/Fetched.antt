@@ -1,6 +1,7 @@
 -- What becomes of a keg by a fetch: how it ends, by what it found, what it asked for and what the hooks refused, and what it changed. The order of its tests is own, as is that items taken before a refusal are given; that a refusal by a hook ends it, and the item stays in the keg, is FreeBSD's uma(9).
-use Rattle.std.specs.Prelude.{◌≡◌, ◌≤◌, ◌<◌, ◌^◌, ◌⊎◌, ℕ, true, false, List, [], ◌∷◌, ◌++◌, Result, Err, length}
+use Rattle.std.specs.Prelude.{◌≡◌, ◌≢◌, ◌≤◌, ◌<◌, ◌+◌, ◌^◌, ◌⊎◌, ℕ, true, false, Some, List, [], ◌∷◌, ◌++◌, Result, Err, All, length}
 use Rattle.uma_life.specs.declared.cached.Cached.{Cached}
+use Rattle.uma_life.specs.Cached.{cached_zone, cached_table}
 use Rattle.uma_life.specs.Hook.{Hook}
 use Rattle.zone_stats.specs.declared.refusal.Refusal.{Refusal}
 use Rattle.zone_stats.specs.declared.refusal.Refusal.TheVariants.{AtLimit, Reserved, Full, Init, Ctor}
@@ -9,7 +10,9 @@ use Rattle.uma_keg.specs.declared.fetch_refused.FetchRefused.{FetchRefused}
 use Rattle.uma_keg.specs.declared.fetch_refused.FetchRefused.TheVariants.{Refused, Memory}
 use Rattle.uma_keg.specs.declared.keg.Keg.{Keg}
 use Rattle.uma_keg.specs.Fetch.{Wish, is_at_limit, IsNewSlabs, outcome_with, Outcome, Refuses, Gives, EndsAs}
-use Rattle.uma_keg.specs.Keg.{places_in, zones_in, stored_in, buried_in, total_in, IsSameKeg}
+use Rattle.uma_keg.specs.Places.{slab_count}
+use Rattle.uma_keg.specs.Keg.{places_in, zones_in, out_in, table_in, limit_in, reserve_in, stored_in, buried_in, total_in, IsSameKeg}
+use Rattle.uma_keg.specs.BringSlab.{RefusesNumber}
 use Rattle.uma_keg.specs.BringSlabs.{found_in, BringsSlabs, StopsAtSlab}
 use Rattle.uma_keg.specs.TakeItem.{RefusesItem, KeepsItems}
 use Rattle.uma_keg.specs.TakeItems.{TakesItems}
@@ -90,3 +93,29 @@ abbrev pub IsOfKeg : Refusal → Type 0
 IsOfKeg (Full slabs made) = Unit {0}
 IsOfKeg (Reserved free reserve) = Unit {0}
 IsOfKeg _ = ⊥
+
+-- What a refusal tells the caller of the keg before the fetch and of the hooks, whatever its steps were:
+-- 1. The zone has a limit, and as many items outside.
+-- 2. Some items are free, none beyond the reserve, and the fetch has no right to it.
+-- 3. As many slabs are in as may be; those made are the earlier ones and those that are new.
+-- 4. The keg's own hooks refuse some raw body, or the fetch's hooks refuse some body in its zone, which isn't 0. So with hooks that refuse none it doesn't come.
+-- 5. No fetch runs ctor.
+abbrev pub NamesWhatItFound : {T K : Type 0} {g : _} {h : _} → Keg T K g h → K → FetchAsk → FetchRefused → Type 0
+NamesWhatItFound old hooks ask (Refused (AtLimit out limit)) = (out ≡ out_in old ask.zone) × (limit ≡ limit_in old ask.zone) × (out ≡ limit) × (0 < limit)
+NamesWhatItFound old hooks ask (Refused (Reserved free reserve)) = (reserve ≡ reserve_in old) × (0 < free) × (free ≤ reserve) × (ask.reserve ≡ false)
+NamesWhatItFound old hooks ask (Refused (Full slabs made)) = (slabs ≡ (places_in old).cap) × (made + slab_count (places_in old) ≡ (places_in old).made + slabs)
+NamesWhatItFound {T} {K} {g} {h} old hooks ask (Refused (Init code)) = ((n : ℕ) × RefusesNumber old n code) ⊎ ((ask.zone ≢ 0) × (body : T) × (h.refuses_init hooks body ask.zone ≡ Some code))
+NamesWhatItFound old hooks ask (Refused (Ctor code)) = ⊥
+NamesWhatItFound old hooks ask Memory = Unit {0}
+
+-- an item that is out in a zone of a keg
+pub record IsOutIn {T K : Type 0} {g : _} {h : _} (keg : Keg T K g h) (zone : ℕ) (item : Cached T g) : Type 0 where
+  pub of_zone : cached_zone item ≡ zone
+  pub of_book : cached_table item ≡ table_in keg
+
+-- What a caller is told of the items that a fetch put into the bucket, whatever its steps were: how many there are, at least one and no more than it asked for, and whose they are.
+pub record GivesItems {T K : Type 0} {g : _} {h : _} (old : Keg T K g h) (ask : FetchAsk) (count : ℕ) (items : List (Cached T g)) : Type 0 where
+  pub some : 1 ≤ count
+  pub few : count ≤ ask.most
+  pub counted : length items ≡ count
+  pub out : All (IsOutIn old ask.zone) items

@@ -1,9 +1,9 @@
-ghost use Rattle.std.specs.Prelude.{◌≡◌, ◌≢◌, ◌≤◌, ◌<◌, ◌^◌, ◌+◌, ◌++◌, ◌∷◌, [], ℕ, true, false, Err, IfOk, IfErr, OnOk, OnErr, length};
+ghost use Rattle.std.specs.Prelude.{◌≡◌, ◌≢◌, ◌≤◌, ◌<◌, ◌^◌, ◌+◌, ◌++◌, ◌∷◌, [], ℕ, true, false, Err, IfOk, IfErr, OnOk, OnErr, drop, length};
 ghost use Rattle.uma_life.specs.Hook.{Hook};
 ghost use Rattle.uma_bucket.specs.Bucket.{items_of, size_of};
 ghost use Rattle.uma_keg.specs.Fetch.{is_at_limit, outcome_with, Refuses, Gives};
 ghost use Rattle.uma_keg.specs.BringSlabs.{found_in};
-ghost use Rattle.uma_keg.specs.Fetched.{wish_of, Fetches, FetchesInto, RefusesFetch, IsOfKeg, refusals_after};
+ghost use Rattle.uma_keg.specs.Fetched.{wish_of, Fetches, FetchesInto, RefusesFetch, NamesWhatItFound, GivesItems, IsOfKeg, refusals_after};
 ghost use Rattle.uma_keg.specs.Keg.{zones_in, out_in, rights_in, limit_in, refusals_in, buried_in, total_in, HasZone, IsSameKeg, IsWithinLimits};
 
 use crate::bring::MOST_TALLIED;
@@ -27,6 +27,9 @@ impl<T: Body, K: Hooks<T>> Keg<T, K> {
     /// the limit. `Init` where `keg_init` refuses an item of a new slab, or the zone's `zone_init` the first item; a later
     /// one that is refused ends the fetch. `Memory` where memory is wanting, or one of the sums of hooks is at 2^120. It
     /// waits for `raw` and `bury` alone.
+    ///
+    /// The clauses `given` and `names` are for callers: what they say of the items, and of the keg that a refusal was found
+    /// at, follows from `fetched` and `refused`, which say each step.
     pub fn fetch<R: Wait>(
         &mut self,
         rt: &R,
@@ -40,6 +43,8 @@ impl<T: Body, K: Hooks<T>> Keg<T, K> {
         requires room { length (items_of into.old) + ask.most ≤ size_of into.old }
         ensures fetched { IfOk result (λ count. FetchesInto self.old hooks.now ask count (items_of into.old) (items_of into.new) self.new) }
         ensures refused { IfErr result (RefusesFetch self.old hooks.now ask self.new) }
+        ensures given { IfOk result (λ count. GivesItems self.old ask count (drop (length (items_of into.old)) (items_of into.new))) }
+        ensures names { IfErr result (NamesWhatItFound self.old hooks.now ask) }
         ensures worn { (((hook : Hook) → total_in self.old hook < 2 ^ 120) → ⊥) → result ≡ Err FetchRefused.Memory }
         ensures none { OnErr result (items_of into.new ≡ items_of into.old) }
         ensures size { size_of into.new ≡ size_of into.old }

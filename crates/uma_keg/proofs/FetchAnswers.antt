@@ -1,0 +1,52 @@
+-- What the answer of a fetch tells its caller.
+use Rattle.std.proofs.Common.{◌≡◌, ◌≤◌, ◌+◌, ◌*◌, ℕ, Some, List, drop, length, inl, inr, refl, arith, sym, ap, subst, ◌∙◌}
+use Rattle.std.proofs.Math.Seq.{drop-append_seam}
+use Rattle.std.proofs.lemmas.List.Elements.{All-weaker}
+use Rattle.uma_life.specs.declared.cached.Cached.{Cached}
+use Rattle.uma_life.specs.Stored.{stored_body}
+use Rattle.zone_stats.specs.declared.refusal.Refusal.TheVariants.{AtLimit, Reserved, Full, Init, Ctor}
+use Rattle.uma_keg.specs.declared.fetch_ask.FetchAsk.{FetchAsk}
+use Rattle.uma_keg.specs.declared.fetch_refused.FetchRefused.{FetchRefused}
+use Rattle.uma_keg.specs.declared.fetch_refused.FetchRefused.TheVariants.{Refused, Memory}
+use Rattle.uma_keg.specs.declared.keg.Keg.{Keg}
+use Rattle.uma_keg.specs.Keg.{places_in}
+use Rattle.uma_keg.specs.BringSlab.{RefusesNumber}
+use Rattle.uma_keg.specs.BringSlabs.{found_in, StopsAtSlab}
+use Rattle.uma_keg.specs.TakeItem.{IsTaken}
+use Rattle.uma_keg.specs.Fetched.{wish_of, Fetches, FetchesInto, RefusesFetch, NamesWhatItFound, IsOutIn, GivesItems}
+use Rattle.uma_keg.proofs.FetchOutcomes.{names_limit, names_slabs, names_reserve, gives_few}
+
+-- the hooks that refused a slab are those of the keg before
+refused_number : {T K : Type 0} {g : _} {h : _} (old new : Keg T K g h) (domain code : ℕ) → StopsAtSlab old domain (Refused (Init code)) new → (n : ℕ) × RefusesNumber old n code
+refused_number {T} {K} {g} {h} old new domain code stops =
+    let number = stops.refused.5 in
+    let Refuses' : K → Type 0 = λ hooks. h.refuses_init hooks number.0 0 ≡ Some code in
+    (stops.refused.1 * (places_in stops.left).per_slab + stops.refused.3, (number.0, number.1, subst Refuses' stops.same.hooks number.2))
+
+pub names_found : {T K : Type 0} {g : _} {h : _} (old new : Keg T K g h) (hooks : K) (ask : FetchAsk) (why : FetchRefused) → RefusesFetch old hooks ask new why → NamesWhatItFound old hooks ask why
+names_found old new hooks ask (Refused (AtLimit out limit)) is = names_limit (found_in old ask.zone) (wish_of ask) out limit is.1 is.0
+names_found old new hooks ask (Refused (Full slabs made)) is = names_slabs (found_in old ask.zone) (wish_of ask) is.proceeds.slabs slabs made is.proceeds.enough.enough is.proceeds.ends
+names_found old new hooks ask (Refused (Reserved free reserve)) is = names_reserve (found_in old ask.zone) (wish_of ask) is.proceeds.slabs free reserve is.proceeds.ends
+names_found old new hooks ask (Refused (Init code)) is = elim is [
+  | inl slab ↦ inl (refused_number old new ask.domain code slab.1)
+  | inr first ↦ inr (first.refused.secondary, stored_body first.refused.stored, first.refused.refused)
+]
+names_found old new hooks ask (Refused (Ctor code)) is = is
+names_found old new hooks ask Memory is = tt
+
+gives : {T K : Type 0} {g : _} {h : _} (old new : Keg T K g h) (hooks : K) (ask : FetchAsk) (items : List (Cached T g)) → 1 ≤ ask.most → Fetches old hooks ask items new → GivesItems old ask (length items) items
+gives {T} {K} {g} {h} old new hooks ask items some is =
+    let on = is.proceeds in
+    let few = gives_few (found_in old ask.zone) (wish_of ask) on.slabs is.whole some on.ends in
+    record {
+      some = is.some;
+      few = elim is.ends [ inl all ↦ omega (arith, all, few) | inr fewer ↦ omega (arith, fewer.0, few) ];
+      counted = refl;
+      out = All-weaker (IsTaken is.left hooks ask.zone) (IsOutIn old ask.zone) (λ item taken. record { of_zone = taken.of_zone; of_book = taken.of_book ∙ on.same.table }) items is.takes.each;
+    }
+
+pub gives_items : {T K : Type 0} {g : _} {h : _} (old new : Keg T K g h) (hooks : K) (ask : FetchAsk) (count : ℕ) (before after : List (Cached T g)) → 1 ≤ ask.most → FetchesInto old hooks ask count before after new → GivesItems old ask count (drop (length before) after)
+gives_items {T} {K} {g} {h} old new hooks ask count before after some is =
+    let Counts : ℕ → Type 0 = λ n. GivesItems old ask n is.items in
+    let Gives' : List (Cached T g) → Type 0 = λ items. GivesItems old ask count items in
+    subst Gives' (sym (ap (drop (length before)) is.pushed ∙ drop-append_seam before is.items)) (subst Counts is.counted (gives old new hooks ask is.items some is.fetches))
