@@ -1,5 +1,5 @@
 -- Each hook keeps an item on its trail.
-use Rattle.std.proofs.Common.{◌≡◌, ◌<◌, ◌==◌, ◌+◌, ◌≢◌, ℕ, Bool, true, false, cond, length, refl, sym, ◌∙◌, ap, subst, arith, eq-eqb, inl, inr}
+use Rattle.std.proofs.Common.{◌≡◌, ◌<◌, ◌==◌, ◌+◌, ◌≢◌, ℕ, ◌^◌, Bool, true, false, cond, length, refl, sym, ◌∙◌, ap, subst, arith, eq-eqb, inl, inr}
 use Rattle.std.proofs.lemmas.Bool.Decides.{eqb_tells}
 use Rattle.std.proofs.lemmas.Bool.{ne_eqb}
 use Rattle.std.proofs.lemmas.Grind.{common_steps}
@@ -9,6 +9,7 @@ use Rattle.uma_life.specs.declared.zone_tally.ZoneTally.{ZoneTally}
 use Rattle.uma_life.specs.declared.tally.Tally.{Tally}
 use Rattle.uma_life.specs.Life.{no_counts, no_tally}
 use Rattle.uma_life.specs.Hook.{Hook, KegInit, ZoneInit, Ctor, Dtor, ZoneFini, KegFini, HasItsZone, base_phase, first_phase, last_phase, counts_of, with_counts, raised, tally_after}
+use Rattle.uma_life.specs.Sum.{AreCounts}
 use Rattle.uma_life.specs.Trail.{OnTrail, ShowsSame, open_stays, open_builds, keg_inits_by, keg_finis_by}
 
 -- what holds of the counts of the other zones still does where one zone's are replaced by others of which it holds
@@ -52,6 +53,10 @@ one_more m n same = grind (arith, common_steps)
 one_less : (m n : ℕ) → ShowsSame m (n + 1) → ShowsSame m (raised n + 0)
 one_less m n same = grind (arith, common_steps)
 
+-- a raised count is one of 64 bits
+raised_count : (n : ℕ) → raised n < 2 ^ 64
+raised_count n = grind (arith, common_steps)
+
 one_here : (zone : ℕ) → open_builds (Built zone) zone ≡ 1
 one_here zone = let open_if : Bool → ℕ = λ b. cond b 1 0 in ap open_if (eq-eqb zone zone refl)
 
@@ -82,6 +87,10 @@ on_trail-ctor zone tally small on_trail =
           let Shows : ℕ → Type 0 = λ k. ShowsSame (counts_of tally z).ctors ((counts_of tally z).dtors + k) in
           subst Shows (sym (none_apart zone z apart)) (no_build z below));
       raw = λ is_raw. cc;
+      counts = let before = on_trail.counts zone small in
+          each_zone (λ z c. AreCounts c) tally zone built inside
+          (record { inits = before.inits; ctors = raised_count counts.ctors; dtors = before.dtors; finis = before.finis })
+          (λ z apart below. on_trail.counts z below);
     }
 
 on_trail-dtor : (zone : ℕ) (tally : Tally) → zone < 8 → OnTrail (Built zone) tally → OnTrail (base_phase zone) (tally_after (Dtor zone) tally)
@@ -107,6 +116,10 @@ on_trail-dtor zone tally small on_trail =
           let Shows : ℕ → Type 0 = λ k. ShowsSame (counts_of tally z).ctors ((counts_of tally z).dtors + k) in
           subst Shows (none_apart zone z apart ∙ sym (base_builds (zone == 0) zone z)) (on_trail.builds z below));
       raw = λ is_raw. absurd (base_is_not_raw (zone == 0) zone is_raw);
+      counts = let before = on_trail.counts zone small in
+          each_zone (λ z c. AreCounts c) tally zone finished inside
+          (record { inits = before.inits; ctors = before.ctors; dtors = raised_count counts.dtors; finis = before.finis })
+          (λ z apart below. on_trail.counts z below);
     }
 
 pub on_trail-after : (hook : Hook) (tally : Tally) → HasItsZone hook → OnTrail (first_phase hook) tally → OnTrail (last_phase hook) (tally_after hook tally)

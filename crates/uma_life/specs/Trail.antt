@@ -5,6 +5,7 @@ use Rattle.uma_life.specs.declared.body_phase.BodyPhase.TheVariants.{Raw, Zoned,
 use Rattle.uma_life.specs.declared.tally.Tally.{Tally}
 use Rattle.uma_life.specs.Life.{Life, no_tally}
 use Rattle.uma_life.specs.Hook.{counts_of}
+use Rattle.uma_life.specs.Sum.{AreCounts}
 
 -- how often keg_init was passed, by the phase
 abbrev pub keg_inits_by : BodyPhase → ℕ
@@ -34,6 +35,7 @@ ShowsSame m n = m % 2 ^ 64 ≡ n % 2 ^ 64
 -- 1. keg_init and keg_fini were passed as often as the phase says.
 -- 2. In each zone inits exceed finis by the stay that is open, and ctors exceed dtors by the build that is open. These counts wrap.
 -- 3. A raw body passed no hook.
+-- 4. Each count is one of 64 bits.
 pub record OnTrail (phase : BodyPhase) (tally : Tally) : Type 0 where
   pub keg_inits : tally.keg_inits ≡ keg_inits_by phase
   pub keg_finis : tally.keg_finis ≡ keg_finis_by phase
@@ -41,6 +43,7 @@ pub record OnTrail (phase : BodyPhase) (tally : Tally) : Type 0 where
   pub stays : (zone : ℕ) → zone < 8 → ShowsSame (counts_of tally zone).inits ((counts_of tally zone).finis + open_stays phase zone)
   pub builds : (zone : ℕ) → zone < 8 → ShowsSame (counts_of tally zone).ctors ((counts_of tally zone).dtors + open_builds phase zone)
   pub raw : phase ≡ Raw → tally ≡ no_tally
+  pub counts : (zone : ℕ) → zone < 8 → AreCounts (counts_of tally zone)
 
 -- the item stands at a phase, on its trail
 pub record IsAt (phase : BodyPhase) (life : Life) : Type 0 where
