@@ -35,3 +35,4 @@ mod TakenItems
 mod BroughtSlabs
 mod FetchedItems
 mod FetchAnswers
+mod HomeSums

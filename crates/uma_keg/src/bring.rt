@@ -37,7 +37,7 @@ impl<T: Body, K: Hooks<T>> Keg<T, K> {
         ensures same { IsSameKeg self.old self.new }
         ensures within { IsWithinLimits self.new }
     {
-        if !self.wide_tally().are_below(MOST_TALLIED) {
+        if !self.has_tally_room() {
             return Err(FetchRefused::Memory);
         }
         self.bring_slab(rt, alloc, domain)

@@ -6,7 +6,6 @@ ghost use Rattle.uma_keg.specs.BringSlabs.{found_in};
 ghost use Rattle.uma_keg.specs.Fetched.{wish_of, Fetches, FetchesInto, RefusesFetch, NamesWhatItFound, GivesItems, IsOfKeg, refusals_after};
 ghost use Rattle.uma_keg.specs.Keg.{zones_in, out_in, rights_in, limit_in, refusals_in, buried_in, total_in, HasZone, IsSameKeg, IsWithinLimits};
 
-use crate::bring::MOST_TALLIED;
 use crate::counts::KegCounts;
 use crate::fetch_ask::FetchAsk;
 use crate::fetch_refused::FetchRefused;
@@ -97,7 +96,7 @@ impl<T: Body, K: Hooks<T>> Keg<T, K> {
         ensures same { IsSameKeg self.old self.new }
         ensures within { IsWithinLimits self.new }
     {
-        if !self.wide_tally().are_below(MOST_TALLIED) {
+        if !self.has_tally_room() {
             return Err(FetchRefused::Memory);
         }
         self.check_limit(ask.zone)?;

@@ -1,10 +1,11 @@
-ghost use Rattle.std.specs.Prelude.{◌≡◌, ◌≤◌, ◌<◌, ◌+◌, ◌*◌, ◌-◌, ◌^◌, ◌/◌, ℕ, min};
+ghost use Rattle.std.specs.Prelude.{◌≡◌, ◌≤◌, ◌<◌, ◌+◌, ◌*◌, ◌-◌, ◌^◌, ◌/◌, ◌↔◌, ℕ, IsTrue, min};
 ghost use Rattle.uma_life.specs.Hook.{Hook};
 ghost use Rattle.uma_life.specs.Sum.{sum_of, times_of, AreBelow};
 ghost use Rattle.uma_keg.specs.Shelves.{item_at, shelf_count, places_each};
 ghost use Rattle.uma_keg.specs.Tallies.{home_times};
 ghost use Rattle.uma_keg.specs.Keg.{total_in};
 
+use crate::bring::MOST_TALLIED;
 use crate::counts::KegCounts;
 use crate::keg::Keg;
 use crate::shelves::Shelves;
@@ -24,7 +25,18 @@ impl<T: Body, K: Hooks<T>> Keg<T, K> {
         sums
     }
 
-    /// The same as counts of 64 bits, where a sum above 2^64 - 1 is 2^64 - 1.
+    /// Whether each sum is below 2^120, so that slabs and items may come.
+    pub(crate) fn has_tally_room(&self) -> bool
+        ensures { IsTrue result ↔ ((hook : Hook) → total_in self.now hook < 2 ^ 120) }
+    {
+        let KegCounts { cap, per_slab, .. } = self.places.counts();
+        // Each item at home adds less than 2^64, so it is seldom needed to go over them.
+        let most_at_home = u128::from(cap * per_slab) * (1 << 64);
+        self.buried.are_below(MOST_TALLIED - most_at_home)
+            || self.wide_tally().are_below(MOST_TALLIED)
+    }
+
+    /// `wide_tally` as counts of 64 bits, where a sum above 2^64 - 1 is 2^64 - 1.
     pub fn tally(&self) -> Tally
         ensures { (hook : Hook) → times_of result hook ≡ min (total_in self.now hook) (2 ^ 64 - 1) }
     {

@@ -82,5 +82,8 @@ returns-in-Err-clause-refusals g c zone = c.in-Err.ensures.refusals zone ∙ c.i
 -- the sums were tested first
 pub returns-in-Err-clause-worn : goal.returns-in-Err-clause-worn
 returns-in-Err-clause-worn g c worn =
-    let below = c.if-not-are_below.ensures.0 refl in
-    absurd (worn (λ hook. omega (arith, below hook, c.wide_tally.ensures.totals hook)))
+    absurd (worn (c.if-not-has_tally_room.ensures.0 refl))
+
+pub returns-in-Err-eq0-default-clause-worn : goal.returns-in-Err-eq0-default-clause-worn
+returns-in-Err-eq0-default-clause-worn g c worn =
+    absurd (worn (c.if-not-has_tally_room.ensures.0 refl))
