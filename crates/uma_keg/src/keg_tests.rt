@@ -1,8 +1,13 @@
 mod body;
+mod calls;
 mod census;
+mod endings;
+mod fetch_table;
 mod fetches;
 mod fetching;
 mod free_slabs;
+mod giving;
+mod lent;
 mod refusing;
 mod slabs;
 mod zones;

@@ -1,58 +1,9 @@
-ghost use Rattle.std.specs.Prelude.{◌≡◌, All};
-ghost use Rattle.deed_book.specs.Book.{book_table};
-ghost use Rattle.deed_book.specs.Deed.{deed_table};
-ghost use Rattle.uma_keg.specs.Keg.{rights_in};
-
-use crate::keg_tests::body::Plain;
+use crate::keg_tests::calls::{PlainKeg, adds_by_the_last, fetches, no_refusal, refused};
 use crate::keg_tests::refusing::RefusingHooks;
-use crate::{FetchAsk, FetchRefused, Keg, KegCounts};
-use deed_book::Deed;
-use std::alloc::Global;
-use std::sync::Wait;
+use crate::{FetchAsk, KegCounts};
 use std::test::Fail;
 use uma_bucket::Bucket;
 use zone_stats::Refusal;
-
-type PlainKeg = Keg<Plain, RefusingHooks>;
-
-/// Adds a zone by the last right.
-fn adds_by_the_last(keg: &mut PlainKeg, rights: &mut Vec<Deed>, limit: u64) -> Option<u8>
-    requires { All (λ right. deed_table right ≡ book_table (rights_in keg.old)) rights.old.items }
-    ensures { All (λ right. deed_table right ≡ book_table (rights_in keg.new)) rights.new.items }
-{
-    let right = rights.pop()?;
-    Some(keg.add_zone(right, limit))
-}
-
-/// Hooks that refuse no item of these kegs.
-fn no_refusal() -> RefusingHooks {
-    RefusingHooks {
-        number: 9999,
-        code: 1,
-    }
-}
-
-/// Fetches, where the zone exists and the bucket has room.
-fn fetches<R: Wait>(
-    rt: &R,
-    alloc: Global,
-    keg: &mut PlainKeg,
-    hooks: &RefusingHooks,
-    ask: FetchAsk,
-    into: &mut Bucket<Plain>,
-) -> Option<Result<u32, FetchRefused>> {
-    if ask.zone > 7 || !keg.has_zone(ask.zone) || ask.most == 0 {
-        return None;
-    }
-    if into.size() - into.len() < ask.most {
-        return None;
-    }
-    Some(keg.fetch(rt, alloc, hooks, ask, into))
-}
-
-fn refused(refusal: Refusal) -> Option<Result<u32, FetchRefused>> {
-    Some(Err(FetchRefused::Refused { refusal }))
-}
 
 /// Items of 2,048 bytes, two a slab, at most two slabs, and a limit of three items in zone 0.
 #[test]
@@ -164,5 +115,34 @@ fn a_refused_item_stays_in_the_keg(rt: HostRuntime) -> Result<(), Fail> {
         return Err(Fail::new("no item"));
     };
     assert_eq!(rt; (item.no(), item.zone(), item.domain()), (1, 1, 1));
+    Ok(())
+}
+
+/// Four items a slab. The keg's own hooks refuse the third item of the first slab, or the second one of the second slab:
+/// those made before it in its slab pass `keg_fini`, and the slabs before it stay.
+#[test]
+fn a_refused_slab_ends_a_fetch(rt: HostRuntime) -> Result<(), Fail> {
+    for (number, slabs, free, inits, finis) in [(2, 0, 0, 2, 2), (5, 1, 4, 5, 1)] {
+        let hooks = RefusingHooks { number, code: 9 };
+        let (mut keg, mut rights) = PlainKeg::new(rt.alloc(), 1024, 3, 4, hooks)?;
+        let mut into = Bucket::make(rt.alloc(), 4)?;
+        assert_eq!(rt; adds_by_the_last(&mut keg, &mut rights, 0), Some(0));
+        let ask = FetchAsk {
+            zone: 0,
+            most: 4,
+            reserve: true,
+            domain: 1,
+        };
+        let init = refused(Refusal::Init { code: 9 });
+        let fetched = fetches(&rt, rt.alloc(), &mut keg, &no_refusal(), ask, &mut into);
+        assert_eq!(rt; fetched, init);
+        let counts = keg.counts();
+        assert_eq!(rt;
+            (counts.slabs, counts.free, keg.out(0), into.len()),
+            (slabs, free, 0, 0)
+        );
+        let sums = keg.wide_tally();
+        assert_eq!(rt; (sums.keg_inits, sums.keg_finis), (inits, finis));
+    }
     Ok(())
 }

@@ -1,16 +1,12 @@
-ghost use Rattle.std.specs.Prelude.{◌≡◌, ◌≢◌, ◌+◌, All};
-ghost use Rattle.deed_book.specs.Book.{book_table};
-ghost use Rattle.deed_book.specs.Deed.{deed_table};
+ghost use Rattle.std.specs.Prelude.{◌≡◌, ◌+◌};
 ghost use Rattle.uma_life.specs.Cached.{cached_table, cached_zone};
-ghost use Rattle.uma_keg.specs.Keg.{table_in, out_in, rights_in};
+ghost use Rattle.uma_keg.specs.Keg.{table_in, out_in};
 
-use crate::keg_tests::body::{Plain, PlainHooks};
-use crate::{Keg, KegCounts, KegRefused};
-use deed_book::Deed;
+use crate::keg_tests::body::Plain;
+use crate::keg_tests::calls::{PlainKeg, adds_by_the_last, no_refusal};
+use crate::{KegCounts, KegRefused};
 use std::test::Fail;
 use uma_life::Cached;
-
-type PlainKeg = Keg<Plain, PlainHooks>;
 
 #[test]
 fn a_keg_refuses_what_is_out_of_range(rt: HostRuntime) -> Result<(), Fail> {
@@ -21,24 +17,15 @@ fn a_keg_refuses_what_is_out_of_range(rt: HostRuntime) -> Result<(), Fail> {
         (4096, 1025, KegRefused::Slabs { slabs: 1025 }),
     ];
     for (size, slabs, refused) in rows {
-        let keg = PlainKeg::new(rt.alloc(), size, slabs, 0, PlainHooks);
+        let keg = PlainKeg::new(rt.alloc(), size, slabs, 0, no_refusal());
         assert_eq!(rt; keg.err(), Some(refused));
     }
     Ok(())
 }
 
-/// Adds a zone by the last right.
-fn adds_by_the_last(keg: &mut PlainKeg, rights: &mut Vec<Deed>, limit: u64) -> Option<u8>
-    requires { All (λ right. deed_table right ≡ book_table (rights_in keg.old)) rights.old.items }
-    ensures { All (λ right. deed_table right ≡ book_table (rights_in keg.new)) rights.new.items }
-{
-    let right = rights.pop()?;
-    Some(keg.add_zone(right, limit))
-}
-
 #[test]
 fn zones_are_added_by_the_rights_of_the_keg(rt: HostRuntime) -> Result<(), Fail> {
-    let (mut keg, mut rights) = PlainKeg::new(rt.alloc(), 256, 4, 3, PlainHooks)?;
+    let (mut keg, mut rights) = PlainKeg::new(rt.alloc(), 256, 4, 3, no_refusal())?;
     let numbers = [7, 6, 5, 4, 3, 2, 1, 0];
     assert!(rt; rights.iter().map(|right| right.no()).eq(numbers));
     assert!(rt; !keg.has_zone(0));
@@ -67,6 +54,6 @@ pub fn gives_two(keg: &mut PlainKeg, one: Cached<Plain>, other: Cached<Plain>)
     requires zone { cached_zone other ≡ cached_zone one }
     ensures { out_in keg.new (cached_zone one) + 2 ≡ out_in keg.old (cached_zone one) }
 {
-    keg.give(&PlainHooks, one);
-    keg.give(&PlainHooks, other);
+    keg.give(&no_refusal(), one);
+    keg.give(&no_refusal(), other);
 }
