@@ -9,7 +9,7 @@ use Rattle.trace_text.specs.declared.between.Between.TheVariants.{Give}
 use Rattle.trace_text.specs.declared.trace.Trace.{Trace}
 use Rattle.trace_text.specs.CanonicalText.{canonical_text}
 use Rattle.trace_text.specs.Lines.{Line, Does, Moves}
-use Rattle.trace_text.specs.Narrow.{only_round}
+use Rattle.trace_text.specs.Built.{only_round}
 use Rattle.trace_text.specs.Reading.{held}
 
 box : ZoneHead

@@ -1,9 +1,9 @@
+pub mod Built
 pub mod CanonicalText
 pub mod Grammar
 pub mod Limits
 pub mod Lines
 pub mod NamedZones
-pub mod Narrow
 pub mod Reading
 pub mod ScheduleGrammar
 pub mod ScheduleShown

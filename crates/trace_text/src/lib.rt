@@ -8,10 +8,10 @@
 #![tactic(auto)]
 
 mod between;
+mod built;
 mod head;
 mod lines;
 mod memory;
-mod narrow;
 mod op;
 mod printing;
 mod round;
@@ -25,9 +25,9 @@ mod trace_laws;
 mod trace_reading;
 
 pub use between::{Between, Betweens};
+pub use built::is_built;
 pub use head::{ClockHead, Head, NamesHead, ZoneHead, ZoneHeads, ZoneKind};
 pub use memory::Memory;
-pub use narrow::is_narrow;
 pub use op::{Op, OpList, OpLists};
 pub use printing::print;
 pub use round::{Round, Rounds};

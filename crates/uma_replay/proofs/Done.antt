@@ -4,7 +4,7 @@ use Rattle.std.proofs.lemmas.List.{take_more, reverse-append, map-append}
 use Rattle.std.proofs.lemmas.Grind.{reverse_onto}
 use Rattle.trace_text.specs.declared.op.Op.{Op}
 use Rattle.trace_text.specs.Lines.{Line, Does, lines_of}
-use Rattle.trace_text.specs.Narrow.{only_round}
+use Rattle.trace_text.specs.Built.{only_round}
 use Rattle.trace_text.specs.Valid.{LinesFit, LineFits}
 
 abbrev pub done : List Op → ℕ → List Line

@@ -1,9 +1,12 @@
 -- The report stands for the trace: what the totals of a report have to do with the lines of its trace, whatever the
 -- workers' schedule was. It is counting over the trace and sums over the ledgers (own).
-use Rattle.std.specs.Prelude.{ℕ, ◌≡◌, ◌+◌, ◌<◌, ◌≤◌, List, [], length, map, reverse, Any, IsTrue, false, None, IsSome, IfSome, slice_get, slice_index_or}
+use Rattle.std.specs.Prelude.{ℕ, ◌≡◌, ◌+◌, ◌*◌, ◌<◌, ◌≤◌, ◌==◌, List, [], ◌∷◌, length, map, reverse, Any, IsTrue, IsSome, IfSome, is_some, if◌then◌else◌, slice_get, slice_index_or}
+use Rattle.std.specs.Option.{option_map_or}
 use Rattle.zone_stats.specs.declared.ledger.SeatLedger.{SeatLedger}
 use Rattle.zone_stats.specs.declared.refusal.Refusal.{Refusal}
 use Rattle.zone_stats.specs.declared.refusal.Refusal.TheVariants.{AtLimit, Reserved, Full, Init, Ctor}
+use Rattle.zone_stats.specs.declared.report.HookLine.{HookLine}
+use Rattle.zone_stats.specs.declared.report.KegLine.{KegLine}
 use Rattle.zone_stats.specs.declared.report.Report.{Report}
 use Rattle.zone_stats.specs.declared.report.ZoneLine.{ZoneLine}
 use Rattle.zone_stats.specs.Ledger.{LedgerLaw}
@@ -11,7 +14,9 @@ use Rattle.zone_stats.specs.Line.{zone_line, total_fails, total_frees}
 use Rattle.trace_text.specs.declared.head.ZoneHead.{ZoneHead}
 use Rattle.trace_text.specs.declared.trace.Trace.{Trace}
 use Rattle.trace_text.specs.Lines.{lines_of}
+use Rattle.uma_life.specs.Trail.{ShowsSame}
 use Rattle.uma_replay.specs.Counting.{report_zones, worker_ops, is_alloc_with, request_count, arg_count, free_count}
+use Rattle.uma_replay.specs.ZoneKeg.{per_slab}
 
 -- A kept refusal names what its zone has: the zone's own limit, its keg's reserve and capacity, or a constructor's
 -- argument of the worker's requests. Only the names zone's entries are ever refused by their init, with 255.
@@ -52,6 +57,29 @@ abbrev pub IsLineOf : ZoneHead → List SeatLedger → ZoneLine → Type 0
 IsLineOf head ledgers line = (out keg_free : ℕ) × (IsSome head.parent → keg_free ≡ 0)
     × (line ≡ zone_line head.name head.size head.limit ledgers out keg_free)
 
+-- The primary zones among these, by their places. Each has a keg, which the secondary zones over it share.
+abbrev pub primaries : List ZoneHead → ℕ → List (ℕ × ZoneHead)
+primaries [] place = []
+primaries (head ∷ heads) place = if is_some head.parent then primaries heads (place + 1) else (place, head) ∷ primaries heads (place + 1)
+
+-- the place of the zone whose keg the zone at place `z` has: its parent's, or its own
+abbrev pub keg_place : ℕ → ZoneHead → ℕ
+keg_place z head = option_map_or (λ parent. parent) head.parent z
+
+-- USED and FREE of the zones that share the keg of the zone at place `keg`, summed up; `z` is the place of the first
+abbrev pub items_of_keg : ℕ → ℕ → List ZoneHead → List ZoneLine → ℕ
+items_of_keg keg z (head ∷ heads) (line ∷ lines) =
+    (if keg_place z head == keg then line.used + line.free else 0) + items_of_keg keg (z + 1) heads lines
+items_of_keg keg z heads lines = 0
+
+-- each item of the slabs of a keg that are in is used or free in one of its zones
+abbrev pub KegAddsUp : Trace → Report → ℕ × ZoneHead → KegLine → Type 0
+KegAddsUp t report (place, head) line = items_of_keg place 0 t.head.zones report.lines ≡ line.slabs * per_slab head
+
+-- each item that is used, or whose free is deferred, passed a ctor more than dtors, as counters of 64 bits show it
+abbrev pub UsesAreBuilt : ZoneLine → HookLine → Type 0
+UsesAreBuilt line hooks = ShowsSame hooks.ctors (hooks.dtors + line.used + hooks.deferred)
+
 -- the name, size and limit of a line
 abbrev pub line_title : ZoneLine → List ℕ × ℕ × ℕ
 line_title line = (line.name, line.size, line.limit)
@@ -69,12 +97,11 @@ pub record StandsFor (t : Trace) (report : Report) : Type 0 where
   pub frees : (z : ℕ) → z < length t.head.zones → FreesFit t z (ledgers_at report z)
   -- each line is the sum of the ledgers
   pub lines : (z : ℕ) → IfSome (slice_get (report_zones t.head) z) (λ head. IfSome (slice_get report.lines z) (IsLineOf head (ledgers_at report z)))
-
--- a report without hook, keg, clock and names lines, of workers that never gave up
-pub record HasNoDetail (report : Report) : Type 0 where
-  pub hooks : report.hooks ≡ []
-  pub kegs : report.kegs ≡ []
-  pub clock : report.clock ≡ None
-  pub names : report.names ≡ None
-  pub detail : report.detail ≡ false
-  pub gave_up : report.gave_up ≡ 0
+  -- a hooks line a zone, and a keg line a primary zone, with their names
+  pub hook_names : map (λ line. line.name) report.hooks ≡ map (λ head. head.name) (report_zones t.head)
+  pub keg_names : map (λ line. line.name) report.kegs ≡ map (λ (place, head). head.name) (primaries (report_zones t.head) 0)
+  pub detail : report.detail ≡ t.head.detail
+  -- the items of each keg are used or free; of the names zone's this isn't said
+  pub kegs : (k : ℕ) → IfSome (slice_get (primaries t.head.zones 0) k) (λ primary. IfSome (slice_get report.kegs k) (KegAddsUp t report primary))
+  -- ctors and dtors come in pairs, but for the items that are used or deferred; of the names zone's this isn't said
+  pub uses : (z : ℕ) → z < length t.head.zones → IfSome (slice_get report.lines z) (λ line. IfSome (slice_get report.hooks z) (UsesAreBuilt line))

@@ -1,49 +1,49 @@
-ghost use Rattle.std.specs.Prelude.{◌≡◌, [], ◌∷◌, IfOk};
-ghost use Rattle.trace_text.specs.Narrow.{IsNarrow, only_round};
+ghost use Rattle.std.specs.Prelude.{◌≡◌, IfOk};
+ghost use Rattle.trace_text.specs.Built.{IsBuilt, only_round};
 ghost use Rattle.trace_text.specs.Valid.{IsValid};
-ghost use Rattle.uma_replay.specs.Fill.{FillsOnlyZone};
-ghost use Rattle.uma_replay.specs.Report.{StandsFor, HasNoDetail};
+ghost use Rattle.uma_replay.specs.Hall.{HallStands};
+ghost use Rattle.uma_replay.specs.Plays.{Plays};
+ghost use Rattle.uma_replay.specs.Report.{StandsFor};
 
+use crate::closing::close;
+use crate::hall::Played;
 use crate::memory::Memory;
 use crate::serial::Serial;
 use std::alloc::Global;
-use trace_text::{Op, Trace, ZoneHead};
-use zone_stats::Report;
+use std::sync::Wait;
+use trace_text::{Op, Trace};
 
-/// Replays a narrow trace on the calling thread, line by line, and reports what its ledger counted.
+/// Replays a trace of one worker, one domain and one round on the calling thread, line by line, and reports what its
+/// ledgers counted.
 ///
-/// An `alloc` line takes a number of the keg, which brings in a slab where no place is free; where the request is
-/// refused, the slot stays empty. A `free` line gives the slot's number back, or does nothing where there is none.
-/// `Memory` where memory is wanting; nothing else refuses a valid trace.
-pub fn replay_serial(alloc: Global, trace: &Trace) -> Result<Report, Memory>
+/// An `alloc` line fetches one item from its zone's keg and builds it; where the request is refused, the slot stays
+/// empty. A `free` line frees the slot's item, which goes back into its keg, or does nothing where there is none. After
+/// the last line a census of each keg is taken. `Memory` where memory is wanting; nothing else refuses a valid trace.
+pub fn replay_serial<R: Wait>(rt: &R, alloc: Global, trace: &Trace) -> Result<Played, Memory>
     requires valid { IsValid trace.now }
-    requires narrow { IsNarrow trace.now }
-    ensures stands { IfOk result (StandsFor trace.now) }
-    ensures fills { IfOk result (FillsOnlyZone trace.now) }
-    ensures plain { IfOk result HasNoDetail }
+    requires built { IsBuilt trace.now }
+    ensures stands { IfOk result (λ played. StandsFor trace.now played.report) }
+    ensures hall { IfOk result (λ played. HallStands trace.now played.report played.hall) }
+    ensures plays { IfOk result (λ played. Plays trace.now played.report played.hall) }
 {
-    let (zone, ops) = only_zone(trace);
-    let mut serial = Serial::new(alloc, zone)?;
+    let ops = only_ops(trace);
+    let mut serial = Serial::new(alloc, trace.head.zones.as_slice())?;
     for op in ops {
-        serial.perform(*op);
+        serial.perform(rt, alloc, *op)?;
     }
-    serial.report(alloc, zone)
+    close(alloc, &trace.head, serial)
 }
 
-/// The zone of a narrow trace, and its operations.
-fn only_zone(trace: &Trace) -> (&ZoneHead, &[Op])
-    requires { IsNarrow trace.now }
-    ensures zone { trace.now.head.zones ≡ result.0.now ∷ [] }
-    ensures ops { trace.now.rounds ≡ only_round result.1.now }
+/// The operations of a trace of one worker and one round.
+fn only_ops(trace: &Trace) -> &[Op]
+    requires { IsBuilt trace.now }
+    ensures { trace.now.rounds ≡ only_round result.now }
 {
-    let [zone] = trace.head.zones.as_slice() else {
-        unreachable!();
-    };
     let [round] = trace.rounds.as_slice() else {
         unreachable!();
     };
     let [ops] = round.ops.as_slice() else {
         unreachable!();
     };
-    (zone, ops.as_slice())
+    ops.as_slice()
 }

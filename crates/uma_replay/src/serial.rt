@@ -1,155 +1,105 @@
-ghost use Rattle.std.specs.Prelude.{◌≡◌, ◌≤◌, IfOk, IfErr, None, replicate};
-ghost use Rattle.trace_text.specs.Limits.{IsWithin, slots};
+ghost use Rattle.std.specs.Prelude.{◌≡◌, All, IfOk, None, option_map, replicate};
+ghost use Rattle.trace_text.specs.Limits.{slots};
+ghost use Rattle.trace_text.specs.Valid.{PrimaryFits};
+ghost use Rattle.uma_replay.specs.Serial.{holding};
 
+use crate::counted::Counted;
+use crate::held::Held;
 use crate::memory::Memory;
-use listed::Listed;
+use crate::serial_zone::SerialZone;
 use std::alloc::{AllocError, Global};
 use std::marker::Model;
+use std::sync::Wait;
 use trace_text::{Op, ZoneHead};
-use uma_keg::{KegRefused, Places};
-use zone_stats::{Refusal, Report, SeatLedger, sum};
+use uma_life::Live;
 
 /// How many slots a worker has.
 const SLOTS: usize = 65_536;
 
-/// The domain of a seat where there is one domain.
-const ONLY_DOMAIN: u8 = 0;
-
-/// The replay by one worker over one keg: the keg's places, the number that each slot holds, and the seat's ledger.
+/// The replay by one worker in one domain: the zones by their places, and what each slot holds.
 ///
-/// The slots hold all the numbers that are out, each in one slot. A slot whose request was refused is empty.
+/// Each item that a slot holds is of its zone's keg. A slot whose request was refused is empty.
 #[derive(Drop)]
 pub(crate) struct Serial {
-    places: Places,
-    slots: Vec<Option<u32>>,
-    ledger: SeatLedger,
+    pub zones: Vec<SerialZone>,
+    pub slots: Vec<Option<Held>>,
 }
 
 impl Model for Serial {
-    ghost use Rattle.uma_replay.specs.Serial.{SerialState, HoldsOut};
+    ghost use Rattle.uma_replay.specs.Serial.{SerialState, tables_of};
+    ghost use Rattle.uma_replay.specs.Slots.{SlotsFit};
 
     ghost Value = { SerialState };
 
-    ghost view = { λ s. record { places = s.places; slots = s.slots.items; ledger = s.ledger } };
+    ghost view = { λ s. record { zones = s.zones.items; slots = s.slots.items } };
 
-    ghost invariant = { λ s. HoldsOut s.places s.slots.items };
+    ghost invariant = { λ s. SlotsFit (tables_of s.zones.items) s.slots.items };
 }
 
 impl Serial {
-    ghost use Rattle.uma_replay.specs.Serial.{SerialState, Allocs, FreesSlot, CanPerform, Performs, number_in, IsUntouched, HoldsOut, one_zone_report};
-    ghost use Rattle.uma_replay.specs.Fill.{per_slab};
-    ghost use Rattle.zone_stats.specs.LedgerSteps.{HasRoom};
+    ghost use Rattle.uma_replay.specs.Serial.{CanPerform, HasRooms, Performs, IsUntouched, tables_of};
+    ghost use Rattle.uma_replay.specs.Slots.{SlotsFit};
 
     /// Nothing is done yet: no slab is in, and every slot is empty.
-    pub fn new(alloc: Global, zone: &ZoneHead) -> Result<Serial, Memory>
-        requires size { IsWithin 8 4096 zone.now.size }
-        requires slabs { IsWithin 1 1024 zone.now.slabs }
-        ensures { IfOk result (IsUntouched (per_slab zone.now) zone.now.slabs) }
+    pub fn new(alloc: Global, heads: &[ZoneHead]) -> Result<Serial, Memory>
+        requires { All PrimaryFits heads.now }
+        ensures { IfOk result (IsUntouched heads.now) }
     {
-        let places = match Places::new(alloc, zone.size, zone.slabs) {
-            Ok(places) => places,
-            Err(KegRefused::Memory) => return Err(Memory),
-            Err(_) => unreachable!(),
-        };
+        let mut zones = Vec::with_capacity(alloc, heads.len())?;
+        for head in heads {
+            zones.push(SerialZone::new(alloc, head)?)?;
+        }
         Ok(Serial {
-            places,
+            zones,
             slots: empty_slots(alloc)?,
-            ledger: SeatLedger::new(),
         })
     }
 
-    /// Does one operation of a narrow trace.
-    pub fn perform(&mut self, op: Op)
+    /// Does one line of a serial trace. After the Err, which is want of memory, the replay is over.
+    pub fn perform<R: Wait>(&mut self, rt: &R, alloc: Global, op: Op) -> Result<(), Memory>
         requires can { CanPerform self.old op }
-        requires room { HasRoom self.old.ledger }
-        ensures does { Performs self.old op self.new }
-        ensures holds { HoldsOut self.new.places self.new.slots }
+        requires room { HasRooms self.old }
+        ensures { IfOk result (λ _. Performs self.old op self.new) }
     {
         match op {
-            Op::Alloc { slot, .. } => self.alloc(slot),
-            Op::Free { slot } => self.free(slot),
+            Op::Alloc {
+                zone,
+                slot,
+                arg,
+                reserve,
+            } => {
+                let got = self.zones[zone as usize].request(rt, alloc, arg, reserve)?;
+                self.slots[slot as usize] = held_of(zone, got);
+            }
+            Op::Free { slot } => {
+                if let Some(held) = self.slots[slot as usize].take() {
+                    self.zones[held.zone as usize].free(held.item);
+                }
+            }
             _ => unreachable!(),
         }
+        Ok(())
     }
 
-    /// A request into an empty slot. A slab is brought in only where no place is free.
-    fn alloc(&mut self, slot: u32)
-        requires slot { slot ≤ 65535 }
-        requires empty { number_in self.old.slots slot ≡ None }
-        requires room { HasRoom self.old.ledger }
-        ensures does { Allocs self.old slot self.new }
-        ensures holds { HoldsOut self.new.places self.new.slots }
+    /// The zones and the slots.
+    pub fn into_parts(self) -> (Vec<SerialZone>, Vec<Option<Held>>)
+        ensures zones { result.0.items ≡ self.zones }
+        ensures slots { result.1.items ≡ self.slots }
+        ensures fit { SlotsFit (tables_of self.zones) self.slots }
     {
-        match take_number(&mut self.places) {
-            Ok(number) => {
-                self.slots[slot as usize] = Some(number);
-                self.ledger.count_alloc();
-            }
-            Err(refusal) => self.ledger.count_refused(refusal),
-        }
-    }
-
-    /// Gives back what the slot holds. Where its request was refused, nothing is done and nothing counted.
-    fn free(&mut self, slot: u32)
-        requires slot { slot ≤ 65535 }
-        requires room { HasRoom self.old.ledger }
-        ensures does { FreesSlot self.old slot self.new }
-        ensures holds { HoldsOut self.new.places self.new.slots }
-    {
-        let Some(number) = self.slots[slot as usize] else {
-            return;
-        };
-        self.slots[slot as usize] = None;
-        self.places.give(number);
-        self.ledger.count_free(false);
-    }
-
-    /// The report of the zone, with this worker's ledger alone.
-    pub fn report(&self, alloc: Global, zone: &ZoneHead) -> Result<Report, Memory>
-        ensures { IfOk result (λ report. report ≡ one_zone_report zone.now self.now) }
-    {
-        let counts = self.places.counts();
-        let out = u64::from(counts.slabs) * u64::from(counts.per_slab) - counts.free;
-        let ledgers = vec![in alloc; self.ledger]?;
-        let line = sum(
-            zone.name.copied(),
-            zone.size,
-            zone.limit,
-            &ledgers,
-            out,
-            counts.free,
-        );
-        Ok(Report {
-            lines: Listed::from_vec(vec![in alloc; line]?),
-            ledgers: Listed::from_vec(vec![in alloc; Listed::from_vec(ledgers)]?),
-            hooks: Listed::from_vec(Vec::new(alloc)),
-            kegs: Listed::from_vec(Vec::new(alloc)),
-            clock: None,
-            names: None,
-            detail: false,
-            gave_up: 0,
-        })
+        (self.zones, self.slots)
     }
 }
 
-ghost use Rattle.uma_replay.specs.Serial.{TakesNumber, HasNone};
-
-/// A number of the keg, which brings in a slab where no place is free.
-fn take_number(places: &mut Places) -> Result<u32, Refusal>
-    ensures taken { IfOk result (λ number. TakesNumber places.old number places.new) }
-    ensures refused { IfErr result (λ refusal. HasNone places.old refusal places.new) }
+/// What a slot holds after a request.
+fn held_of(zone: u32, got: Option<Live<Counted>>) -> Option<Held>
+    ensures { result ≡ option_map (holding zone) got }
 {
-    match places.take() {
-        Some(number) => Ok(number),
-        None => {
-            places.bring(ONLY_DOMAIN)?;
-            Ok(places.take().unwrap())
-        }
-    }
+    got.map(|item| Held { zone, item })
 }
 
-/// The slots of a worker, none of which holds a number.
-fn empty_slots(alloc: Global) -> Result<Vec<Option<u32>>, AllocError>
+/// The slots of a worker, all empty.
+fn empty_slots(alloc: Global) -> Result<Vec<Option<Held>>, AllocError>
     ensures { IfOk result (λ held. held.items ≡ replicate slots None) }
 {
     let mut held = Vec::with_capacity(alloc, SLOTS)?;

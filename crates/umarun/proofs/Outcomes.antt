@@ -11,14 +11,16 @@ use Rattle.trace_text.specs.declared.schedule.Schedule.{Schedule}
 use Rattle.trace_text.specs.declared.schedule_refused.ScheduleRefused.TheVariants as refusals
 use Rattle.trace_text.specs.declared.trace.Trace.{Trace}
 use Rattle.trace_text.specs.Grammar.{IsTraceText, trace_test}
-use Rattle.trace_text.specs.Narrow.{IsNarrow}
+use Rattle.trace_text.specs.Built.{IsBuilt}
 use Rattle.trace_text.specs.TraceLaws.{TextsAreOfOneTrace}
 use Rattle.trace_text.specs.ScheduleGrammar.{schedule_test, IsScheduleText}
 use Rattle.trace_text.specs.ScheduleLaws.{RefusedPrintsNothing}
 use Rattle.trace_text.specs.ScheduleText.{RefusesSchedule}
 use Rattle.uma_io.specs.Source.{HasMoreThan}
-use Rattle.uma_replay.specs.Fill.{FillsOnlyZone}
-use Rattle.uma_replay.specs.Report.{StandsFor, HasNoDetail}
+use Rattle.uma_replay.specs.declared.hall.Hall.{Hall}
+use Rattle.uma_replay.specs.Hall.{HallStands}
+use Rattle.uma_replay.specs.Plays.{Plays}
+use Rattle.uma_replay.specs.Report.{StandsFor}
 use Rattle.umarun.specs.Causes.{parse_fault}
 use Rattle.umarun.specs.declared.fault.Fault.{Fault}
 use Rattle.umarun.specs.declared.fault.Fault.TheVariants as faults
@@ -32,27 +34,27 @@ OneVerdict = (test : Test) (bytes : List ℕ) (spoke : List TextLine) (line : �
 
 -- ---- what `replay` does with the bytes
 
-input_not_bad : OneVerdict → TextsAreOfOneTrace → (refused : TraceRefused) (bytes : List ℕ) (trace : Trace) → IsTraceText bytes trace → IsNarrow trace → AreBad refused bytes → ⊥
-input_not_bad verdict one refused bytes trace text narrow (inl bad) = verdict trace_test bytes text.spoke refused.line refused.kind text.right bad
-input_not_bad verdict one refused bytes trace text narrow (inr unbuilt) =
-    let P : Trace → Type 0 = λ t. IsNarrow t in
-    unbuilt.1.2 (subst P (one bytes trace unbuilt.1.0 text unbuilt.1.1) narrow)
+input_not_bad : OneVerdict → TextsAreOfOneTrace → (refused : TraceRefused) (bytes : List ℕ) (trace : Trace) → IsTraceText bytes trace → IsBuilt trace → AreBad refused bytes → ⊥
+input_not_bad verdict one refused bytes trace text built (inl bad) = verdict trace_test bytes text.spoke refused.line refused.kind text.right bad
+input_not_bad verdict one refused bytes trace text built (inr unbuilt) =
+    let P : Trace → Type 0 = λ t. IsBuilt t in
+    unbuilt.1.2 (subst P (one bytes trace unbuilt.1.0 text unbuilt.1.1) built)
 
 pub input_not_refused : OneVerdict → TextsAreOfOneTrace → (refused : TraceRefused) (bytes : List ℕ) → RefusesTrace refused bytes → AreInput bytes → ⊥
 input_not_refused verdict one refused bytes refuses input = input_not_bad verdict one refused bytes input.1.0 input.1.1 input.1.2 refuses.why
 
-pub replayed_not_refused : OneVerdict → TextsAreOfOneTrace → (report : Report) (bytes : List ℕ) → Replays report bytes → AreRefused bytes → ⊥
-replayed_not_refused verdict one report bytes replays (inl long) = let within = replays.within in absurd (omega arith)
-replayed_not_refused verdict one report bytes replays (inr refused) = input_not_bad verdict one refused.0 bytes replays.trace replays.text replays.narrow refused.1.why
+pub replayed_not_refused : OneVerdict → TextsAreOfOneTrace → (report : Report) (hall : Hall) (bytes : List ℕ) → Replays report hall bytes → AreRefused bytes → ⊥
+replayed_not_refused verdict one report hall bytes replays (inl long) = let within = replays.within in absurd (omega arith)
+replayed_not_refused verdict one report hall bytes replays (inr refused) = input_not_bad verdict one refused.0 bytes replays.trace replays.text replays.built refused.1.why
 
 -- the bytes that were left are those that were read
-pub replays : (left : Option (List ℕ)) (read given : List ℕ) (trace : Trace) (report : Report) → IfSome left (λ all. read ≡ all) → given ≡ read → length read ≤ most_bytes
-    → IsTraceText given trace → IsNarrow trace → StandsFor trace report → FillsOnlyZone trace report → HasNoDetail report → IfSome left (Replays report)
-replays None read given trace report all same within text narrow stands fills plain = tt
-replays (Some left) read given trace report all same within text narrow stands fills plain =
-    let P : List ℕ → Type 0 = λ bytes. Replays report bytes in
+pub replays : (left : Option (List ℕ)) (read given : List ℕ) (trace : Trace) (report : Report) (hall : Hall) → IfSome left (λ all. read ≡ all) → given ≡ read → length read ≤ most_bytes
+    → IsTraceText given trace → IsBuilt trace → StandsFor trace report → HallStands trace report hall → Plays trace report hall → IfSome left (Replays report hall)
+replays None read given trace report hall all same within text built stands in_hall plays = tt
+replays (Some left) read given trace report hall all same within text built stands in_hall plays =
+    let P : List ℕ → Type 0 = λ bytes. Replays report hall bytes in
     let Q : List ℕ → Type 0 = λ bytes. IsTraceText bytes trace in
-    subst P all (record { within = within; trace = trace; text = subst Q same text; narrow = narrow; stands = stands; fills = fills; plain = plain })
+    subst P all (record { within = within; trace = trace; text = subst Q same text; built = built; stands = stands; hall_stands = in_hall; plays = plays })
 
 bad_by : (why : ParseRefused) (fault : Fault) (refused : TraceRefused) (bytes : List ℕ) → ((r : TraceRefused) → ◌≡◌ {A = Result Trace ParseRefused} (Err why) (Err (parsing.Trace r)) → AreBad r bytes)
     → fault ≡ parse_fault why → fault ≡ faults.Trace refused → AreBad refused bytes
@@ -92,14 +94,14 @@ pub one_refusal : OneVerdict → OneLine → OneKind → (refused other : TraceR
 one_refusal verdict line kind refused other bytes refuses again = one_reason verdict line kind refused other bytes refuses.why again.why
 
 -- bytes that were replayed are none that are refused
-pub none_refused : ((report : Report) (bytes : List ℕ) → Replays report bytes → AreRefused bytes → ⊥) → (report : Report) (left : Option (List ℕ)) → IfSome left (Replays report) → IsSomeAnd left AreRefused → ⊥
-none_refused law report None replays refused = refused
-none_refused law report (Some bytes) replays refused = law report bytes replays refused
+pub none_refused : ((report : Report) (hall : Hall) (bytes : List ℕ) → Replays report hall bytes → AreRefused bytes → ⊥) → (report : Report) (hall : Hall) (left : Option (List ℕ)) → IfSome left (Replays report hall) → IsSomeAnd left AreRefused → ⊥
+none_refused law report hall None replays refused = refused
+none_refused law report hall (Some bytes) replays refused = law report hall bytes replays refused
 
-pub none_named : ((report : Report) (bytes : List ℕ) → Replays report bytes → AreRefused bytes → ⊥) → (report : Report) (left : Option (List ℕ)) (refused : TraceRefused)
-    → IfSome left (Replays report) → IsSomeAnd left (RefusesTrace refused) → ⊥
-none_named law report None refused replays refuses = refuses
-none_named law report (Some bytes) refused replays refuses = law report bytes replays (inr (refused, refuses))
+pub none_named : ((report : Report) (hall : Hall) (bytes : List ℕ) → Replays report hall bytes → AreRefused bytes → ⊥) → (report : Report) (hall : Hall) (left : Option (List ℕ)) (refused : TraceRefused)
+    → IfSome left (Replays report hall) → IsSomeAnd left (RefusesTrace refused) → ⊥
+none_named law report hall None refused replays refuses = refuses
+none_named law report hall (Some bytes) refused replays refuses = law report hall bytes replays (inr (refused, refuses))
 
 -- what `replay` answers where it has no report
 pub record EndsReplay (left : Option (List ℕ)) (fault : Fault) : Type 0 where
@@ -110,7 +112,7 @@ pub record EndsReplay (left : Option (List ℕ)) (fault : Fault) : Type 0 where
   pub unwritten : fault ≡ faults.Write → ⊥
   pub unread : fault ≡ faults.Read → ⊥
 
--- a narrow text ends by want of memory
+-- a built text ends by want of memory
 pub replay_ends : (left : Option (List ℕ)) (fault : Fault) → ((refused : TraceRefused) (bytes : List ℕ) → RefusesTrace refused bytes → AreInput bytes → ⊥)
     → EndsReplay left fault → IsSomeAnd left AreInput → fault ≡ faults.Memory
 replay_ends None fault law ends input = absurd input

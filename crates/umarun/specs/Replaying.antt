@@ -5,28 +5,31 @@ use Rattle.text_lines.specs.declared.refused.TraceRefused.{TraceRefused}
 use Rattle.text_lines.specs.declared.refused.TraceKind.TheVariants.{Unbuilt}
 use Rattle.trace_text.specs.declared.trace.Trace.{Trace}
 use Rattle.trace_text.specs.Grammar.{IsTraceText, trace_test}
-use Rattle.trace_text.specs.Narrow.{IsNarrow}
-use Rattle.uma_replay.specs.Fill.{FillsOnlyZone}
-use Rattle.uma_replay.specs.Report.{StandsFor, HasNoDetail}
+use Rattle.trace_text.specs.Built.{IsBuilt}
+use Rattle.uma_replay.specs.declared.hall.Hall.{Hall}
+use Rattle.uma_replay.specs.Hall.{HallStands}
+use Rattle.uma_replay.specs.Plays.{Plays}
+use Rattle.uma_replay.specs.Report.{StandsFor}
 use Rattle.zone_stats.specs.declared.report.Report.{Report}
 
 -- the most bytes of an input
 abbrev pub most_bytes : ℕ
 most_bytes = 16777216
 
--- the bytes are the text of a narrow trace, at most so many, and the report stands for the trace
-pub record Replays (report : Report) (bytes : List ℕ) : Type 0 where
+-- The bytes are the text of a trace that is replayed so far, at most so many. The report stands for the trace, and for the
+-- hall; the hall is what the trace's lines left, one after another.
+pub record Replays (report : Report) (hall : Hall) (bytes : List ℕ) : Type 0 where
   pub within : length bytes ≤ most_bytes
   pub trace : Trace
   pub text : IsTraceText bytes trace
-  pub narrow : IsNarrow trace
+  pub built : IsBuilt trace
   pub stands : StandsFor trace report
-  pub fills : FillsOnlyZone trace report
-  pub plain : HasNoDetail report
+  pub hall_stands : HallStands trace report hall
+  pub plays : Plays trace report hall
 
--- the bytes are the text of a narrow trace, at most so many
+-- the bytes are the text of a trace that is replayed so far, at most so many
 abbrev pub AreInput : List ℕ → Type 0
-AreInput bytes = (length bytes ≤ most_bytes) × ((trace : Trace) × IsTraceText bytes trace × IsNarrow trace)
+AreInput bytes = (length bytes ≤ most_bytes) × ((trace : Trace) × IsTraceText bytes trace × IsBuilt trace)
 
 -- the refusal of a trace that isn't replayed yet
 abbrev pub unbuilt : TraceRefused
@@ -34,7 +37,7 @@ unbuilt = record { line = 0; kind = Unbuilt }
 
 -- the bytes are the text of a trace that isn't replayed yet
 abbrev pub AreUnbuilt : TraceRefused → List ℕ → Type 0
-AreUnbuilt refused bytes = (refused ≡ unbuilt) × ((trace : Trace) × IsTraceText bytes trace × (IsNarrow trace → ⊥))
+AreUnbuilt refused bytes = (refused ≡ unbuilt) × ((trace : Trace) × IsTraceText bytes trace × (IsBuilt trace → ⊥))
 
 -- a line of the bytes is bad, the first such, or they are the text of a trace that isn't replayed yet
 abbrev pub AreBad : TraceRefused → List ℕ → Type 0

@@ -1,6 +1,7 @@
 ghost use Rattle.std.specs.Prelude.{◌≡◌};
 
 use crate::fault::Fault;
+use uma_replay::{Hall, Played};
 use zone_stats::Report;
 
 /// How a run ended, for the program's exit status.
@@ -38,12 +39,14 @@ impl Status {
     }
 }
 
-/// What a run leaves behind: its status, the fault that goes with it, and the report once the replay is done.
+/// What a run leaves behind: its status, the fault that goes with it, and, once a replay is done, its report and all that it
+/// leaves behind, from which the report was made.
 #[derive(Drop)]
 pub struct Finish {
     pub status: Status,
     pub fault: Option<Fault>,
     pub report: Option<Report>,
+    pub hall: Option<Hall>,
 }
 
 impl Finish {
@@ -52,34 +55,37 @@ impl Finish {
 
     /// A run that ended before its report was done.
     pub(crate) fn refused(fault: Fault) -> Finish
-        ensures { result ≡ record { status = status_of fault; fault = Some fault; report = None } }
+        ensures { result ≡ record { status = status_of fault; fault = Some fault; report = None; hall = None } }
     {
         Finish {
             status: fault.status(),
             fault: Some(fault),
             report: None,
+            hall: None,
         }
     }
 
     /// A run that did what it was asked, and makes no report.
     pub(crate) fn good() -> Finish
-        ensures { result ≡ record { status = status_at None; fault = None; report = None } }
+        ensures { result ≡ record { status = status_at None; fault = None; report = None; hall = None } }
     {
         Finish {
             status: Status::Good,
             fault: None,
             report: None,
+            hall: None,
         }
     }
 
-    /// A run that made its report.
-    pub(crate) fn reported(report: Report, fault: Option<Fault>) -> Finish
-        ensures { result ≡ record { status = status_at fault; fault = fault; report = Some report } }
+    /// A run whose replay is done.
+    pub(crate) fn replayed(played: Played, fault: Option<Fault>) -> Finish
+        ensures { result ≡ record { status = status_at fault; fault = fault; report = Some played.report; hall = Some played.hall } }
     {
         Finish {
             status: fault.map_or(Status::Good, |fault| fault.status()),
             fault,
-            report: Some(report),
+            report: Some(played.report),
+            hall: Some(played.hall),
         }
     }
 }

@@ -14,6 +14,7 @@ use finish::Finish;
 use run::run;
 use std::process::ExitCode;
 use std::rt::Env;
+use std::sync::Wait;
 use std::{env, io};
 use uma_io::{StdSink, StdSource};
 use uma_replay::FreeGate;
@@ -28,7 +29,7 @@ fn main(rt: HostRuntime) -> ExitCode {
 }
 
 /// Runs on the words and the standard streams of the process.
-fn program<R: Env + AllocGlobal + Input + Print>(rt: &R) -> Finish {
+fn program<R: Env + AllocGlobal + Input + Print + Wait>(rt: &R) -> Finish {
     match words(rt) {
         Ok(words) => {
             let mut source = StdSource::new(rt.reader());

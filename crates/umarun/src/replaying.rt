@@ -2,30 +2,36 @@
 ghost use Rattle.std.specs.Prelude.{◌≡◌, ℕ, List, IfSome, IfOk, OnOk, IsErrOf};
 ghost use Rattle.text_lines.specs.declared.refused.TraceRefused.{TraceRefused as Refused};
 ghost use Rattle.trace_text.specs.Grammar.{IsTraceText};
-ghost use Rattle.trace_text.specs.Narrow.{IsNarrow};
+ghost use Rattle.trace_text.specs.Built.{IsBuilt};
 ghost use Rattle.trace_text.specs.Valid.{IsValid};
 ghost use Rattle.smr_core.specs.declared.step_refused.StepRefused.{StepRefused as Turned};
 ghost use Rattle.uma_io.specs.Faults.{Rose};
 ghost use Rattle.uma_io.specs.Source.{Exhausts, HasMoreThan};
 ghost use Rattle.umarun.specs.Replaying.{Replays, AreBad, AreInput, AreRefused, RefusesTrace, most_bytes};
 ghost use Rattle.zone_stats.specs.ReportText.{report_text};
+ghost use Rattle.uma_replay.specs.declared.hall.Hall.{Hall as HallValue};
 ghost use Rattle.zone_stats.specs.declared.report.Report.{Report as ReportValue};
 
 use crate::fault::Fault;
 use crate::run::MOST_BYTES;
 use std::alloc::Global;
+use std::sync::Wait;
 use text_lines::one_verdict;
 use trace_text::{
-    ParseRefused, Trace, TraceKind, TraceRefused, is_narrow, parse, texts_are_of_one_trace,
+    ParseRefused, Trace, TraceKind, TraceRefused, is_built, parse, texts_are_of_one_trace,
 };
 use uma_io::{Source, read_all};
-use uma_replay::replay_serial;
-use zone_stats::{Report, table_text};
+use uma_replay::{Played, replay_serial};
+use zone_stats::table_text;
 
-/// Reads a trace, replays it, and answers the report and its text.
-pub fn replay<S: Source>(alloc: Global, source: &mut S) -> Result<(Report, Vec<u8>), Fault>
-    ensures replays { IfOk result (λ done. IfSome (S.bytes_left source.old) (Replays done.0)) }
-    ensures text { IfOk result (λ done. done.1.items ≡ report_text done.0) }
+/// Reads a trace, replays it, and answers its report with what it leaves behind, and the report's text.
+pub fn replay<R: Wait, S: Source>(
+    rt: &R,
+    alloc: Global,
+    source: &mut S,
+) -> Result<(Played, Vec<u8>), Fault>
+    ensures replays { IfOk result (λ done. IfSome (S.bytes_left source.old) (Replays done.0.report done.0.hall)) }
+    ensures text { IfOk result (λ done. done.1.items ≡ report_text done.0.report) }
     ensures end { OnOk result (Exhausts (S.bytes_left source.old) (S.bytes_left source.new)) }
     ensures read { IsErrOf result Fault.Read → Rose (S.fault_count source.old) (S.fault_count source.new) }
     ensures too_long { (most : ℕ) → IsErrOf result (Fault.TooLong most)
@@ -37,21 +43,21 @@ pub fn replay<S: Source>(alloc: Global, source: &mut S) -> Result<(Report, Vec<u
     ensures unwritten { IsErrOf result Fault.Write → ⊥ }
 {
     let bytes = read_all(alloc, source, MOST_BYTES)?;
-    let trace = narrow_trace(alloc, &bytes)?;
-    let report = replay_serial(alloc, &trace)?;
-    let text = table_text(alloc, &report)?;
-    Ok((report, text))
+    let trace = built_trace(alloc, &bytes)?;
+    let played = replay_serial(rt, alloc, &trace)?;
+    let text = table_text(alloc, &played.report)?;
+    Ok((played, text))
 }
 
 /// The trace of a text, if it is one that is replayed so far.
-fn narrow_trace(alloc: Global, bytes: &[u8]) -> Result<Trace, ParseRefused>
+fn built_trace(alloc: Global, bytes: &[u8]) -> Result<Trace, ParseRefused>
     ensures read { IfOk result (IsTraceText bytes.now) }
     ensures valid { IfOk result IsValid }
-    ensures narrow { IfOk result IsNarrow }
+    ensures built { IfOk result IsBuilt }
     ensures refused { (refused : Refused) → IsErrOf result (ParseRefused.Trace refused) → AreBad refused bytes.now }
 {
     let trace = parse(alloc, bytes)?;
-    if !is_narrow(&trace) {
+    if !is_built(&trace) {
         return Err(UNBUILT);
     }
     Ok(trace)
@@ -68,7 +74,7 @@ const UNBUILT: ParseRefused = ParseRefused::Trace {
 /// Bytes that are replayed are refused for no reason, and other bytes for one reason at most. The call does nothing: its
 /// contract is the law.
 pub fn replayed_or_refused()
-    ensures report { (report : ReportValue) (bytes : List ℕ) → Replays report bytes → AreRefused bytes → ⊥ }
+    ensures report { (report : ReportValue) (hall : HallValue) (bytes : List ℕ) → Replays report hall bytes → AreRefused bytes → ⊥ }
     ensures input { (refused : Refused) (bytes : List ℕ) → RefusesTrace refused bytes → AreInput bytes → ⊥ }
     ensures one { (refused other : Refused) (bytes : List ℕ)
         → RefusesTrace refused bytes → RefusesTrace other bytes → refused ≡ other }

@@ -15,6 +15,7 @@ use crate::finish::Finish;
 use crate::replaying::{replay, replayed_or_refused};
 use crate::stepping::{played_or_refused, steps};
 use std::alloc::Global;
+use std::sync::Wait;
 use uma_io::{Sink, Source, write_all};
 use uma_replay::Gate;
 
@@ -23,18 +24,20 @@ pub const MOST_BYTES: u64 = 16_777_216;
 
 /// Does all that the program does: reads the words, then the whole source, then parses it, then replays or plays it, and
 /// writes the whole output. The first refusal ends it. `words` are those after the program's name.
-pub fn run<R, S: Source, K: Sink, G: Gate + Sync>(
-    _rt: &R,
+pub fn run<R: Wait, S: Source, K: Sink, G: Gate + Sync>(
+    rt: &R,
     alloc: Global,
     words: &[String],
     source: &mut S,
     sink: &mut K,
     _gate: &G,
 ) -> Finish
-    // The status is that of the fault, and a run without a fault is good. A report is there once a replay is done.
+    // The status is that of the fault, and a run without a fault is good. A report and its hall are there once a replay is
+    // done.
     ensures status { result.status ≡ status_at result.fault }
     ensures report { IsSome result.report ↔ ((command_of (map string_bytes words.now) ≡ Some Command.Replay)
         × (IsNone result.fault ⊎ (result.fault ≡ Some Fault.Write))) }
+    ensures hall { IsSome result.hall ↔ IsSome result.report }
 
     // Usage exactly where the words are no command; nothing is read then.
     ensures usage { result.fault ≡ Some Fault.Usage → command_of (map string_bytes words.now) ≡ None }
@@ -52,10 +55,11 @@ pub fn run<R, S: Source, K: Sink, G: Gate + Sync>(
     // Nothing is written before a refusal.
     ensures unwritten { IsSome result.fault → result.fault ≢ Some Fault.Write → sink.new ≡ sink.old }
 
-    // `replay`: a report stands for the trace that the bytes read are the text of, and its text is written, and nothing
-    // else. A text is refused only at its first bad line, for the first thing that is wrong with it, or, with line 0, where
-    // its trace isn't narrow.
-    ensures replays { IfSome result.report (λ report. IfSome (S.bytes_left source.old) (Replays report)) }
+    // `replay`: a report stands for the trace that the bytes read are the text of, and for the kegs, censuses and slots of
+    // its hall; its text is written, and nothing else. A text is refused only at its first bad line, for the first thing that
+    // is wrong with it, or, with line 0, where its trace isn't one of those that are replayed so far.
+    ensures replays { IfSome result.report (λ report. IfSome result.hall (λ hall.
+        IfSome (S.bytes_left source.old) (Replays report hall))) }
     ensures replay_written { IfNone result.fault (IfSome result.report (λ report.
         Adds (K.bytes_held sink.old) (report_text report) (K.bytes_held sink.new))) }
     ensures replay_part { result.fault ≡ Some Fault.Write → IfSome result.report (λ report.
@@ -99,11 +103,11 @@ pub fn run<R, S: Source, K: Sink, G: Gate + Sync>(
         None => Finish::refused(Fault::Usage),
         Some(Command::Replay) => {
             replayed_or_refused();
-            match replay(alloc, source) {
+            match replay(rt, alloc, source) {
                 Err(fault) => Finish::refused(fault),
-                Ok((report, text)) => match write_all(sink, &text) {
-                    Ok(()) => Finish::reported(report, None),
-                    Err(_) => Finish::reported(report, Some(Fault::Write)),
+                Ok((played, text)) => match write_all(sink, &text) {
+                    Ok(()) => Finish::replayed(played, None),
+                    Err(_) => Finish::replayed(played, Some(Fault::Write)),
                 },
             }
         }

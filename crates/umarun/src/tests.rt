@@ -12,6 +12,8 @@ mod bad_traces;
 mod bad_words;
 mod fault_order;
 mod faults;
+mod kegs;
+mod refusals;
 mod rows;
 mod schedules;
 mod texts;
@@ -21,6 +23,7 @@ mod usage;
 use crate::finish::Finish;
 use crate::run::run;
 use std::alloc::Global;
+use std::sync::Wait;
 use std::test::Fail;
 use uma_io::{MemSink, MemSource};
 use uma_replay::FreeGate;
@@ -49,35 +52,36 @@ impl Outside {
 }
 
 /// Runs with these words on this input, and answers the end and what was written.
-fn end_of(
-    alloc: Global,
+fn end_of<R: Wait + AllocGlobal>(
+    rt: &R,
     words: &[&str],
     input: &str,
     outside: Outside,
 ) -> Result<(Finish, String), Fail> {
-    let bytes = Vec::from_slice(alloc, input.as_bytes())?;
-    end_of_bytes(alloc, words, bytes, outside)
+    let bytes = Vec::from_slice(rt.alloc(), input.as_bytes())?;
+    end_of_bytes(rt, words, bytes, outside)
 }
 
 /// The same on these bytes.
-fn end_of_bytes(
-    alloc: Global,
+fn end_of_bytes<R: Wait + AllocGlobal>(
+    rt: &R,
     words: &[&str],
     bytes: Vec<u8>,
     outside: Outside,
 ) -> Result<(Finish, String), Fail> {
+    let alloc = rt.alloc();
     let mut owned = Vec::new(alloc);
     for word in words {
         owned.push(String::from_str(alloc, word)?)?;
     }
     let mut source = MemSource::new(bytes, outside.each, outside.failing_reads);
     let mut sink = MemSink::new(alloc, 4096, outside.failing_writes)?;
-    let finish = run(&(), alloc, &owned, &mut source, &mut sink, &FreeGate);
+    let finish = run(rt, alloc, &owned, &mut source, &mut sink, &FreeGate);
     let written = String::from_utf8_lossy(alloc, sink.bytes())?;
     Ok((finish, written))
 }
 
 /// Replays this input, where nothing of the outside fails.
-fn replayed(alloc: Global, input: &str) -> Result<(Finish, String), Fail> {
-    end_of(alloc, &["replay"], input, Outside::fine(alloc))
+fn replayed<R: Wait + AllocGlobal>(rt: &R, input: &str) -> Result<(Finish, String), Fail> {
+    end_of(rt, &["replay"], input, Outside::fine(rt.alloc()))
 }

@@ -41,6 +41,7 @@ impl Zones {
         }
     }
 
+    /// How many zones were named, at most 16.
     pub fn len(&self) -> usize
         ensures value { result ≡ length self.now }
         ensures few { length self.now ≤ 16 }

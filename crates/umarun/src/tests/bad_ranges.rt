@@ -1,5 +1,5 @@
 //! The two ends of each range on `run`: what is within is taken, what is one past is refused.
-use super::trace_rows::{BadRow, leaves_each, refuses_each, replays_each};
+use super::trace_rows::{BadRow, leaves_each, refuses_each, takes_each};
 use super::*;
 use trace_text::TraceKind;
 
@@ -232,13 +232,18 @@ fn past_the_ends_below() -> [BadRow; 26] {
     ]
 }
 
-/// Narrow traces, at the ends of each range.
-fn narrow_ends() -> &'static [&'static str] {
+/// Traces that are replayed, at the ends of each range.
+fn built_ends() -> &'static [&'static str] {
     &[
         "^zone box 256 1 4 0 0 plain\nend\n",
         "^zone box 256 1024 4 0 0 plain\nend\n",
         "^zone box 256 4 64 0 0 plain\nend\n",
         "^zone box 256 4 5 0 0 plain\nend\n",
+        "^zone box 256 4 4 1 0 plain\nend\n",
+        "^zone box 256 4 4 1000000 65535 plain\nend\n",
+        "^zone box 256 4 4 0 1 plain\nend\n",
+        "~alloc 0 box 65535 arg 1\nend\n",
+        "~alloc 0 box 0 arg 254\nend\n",
         "~alloc 0 box 65535\nfree 0 65535\nalloc 0 box 0\nfree 0 0\nend\n",
     ]
 }
@@ -251,15 +256,10 @@ fn ends() -> &'static [&'static str] {
         "^clock 1 4\nend\n",
         "^clock 1 1073741824\nend\n",
         "^clock 9223372036854775807 6\nend\n",
-        "^zone box 256 4 4 1 0 plain\nend\n",
-        "^zone box 256 4 4 1000000 65535 plain\nend\n",
-        "^zone box 256 4 4 0 1 plain\nend\n",
         "~second sub box 4 0 plain\nend\n",
         "~second sub box 64 1000000 plain\nend\n",
         "@names dir 1 1 4\nend\n",
         "@names dir 4096 1024 64\nend\n",
-        "~alloc 0 box 65535 arg 1\nend\n",
-        "~alloc 0 box 0 arg 254\nend\n",
         "~prealloc 0 box 0\nend\n",
         "~prealloc 0 box 262144\nend\n",
         "%bind 0 0 18446744073709551615\nlook 0 18446744073709551615\nend\n",
@@ -280,12 +280,10 @@ fn a_number_below_the_header_past_its_range_is_named(rt: HostRuntime) -> Result<
 #[test]
 fn a_number_at_an_end_of_its_range_is_taken(rt: HostRuntime) -> Result<(), Fail> {
     leaves_each(&rt, ends())?;
-    for text in narrow_ends() {
-        replays_each(&rt, text, &[text])?;
-    }
+    takes_each(&rt, built_ends())?;
     for size in [8, 9, 4095, 4096] {
         let text = format!(in rt.alloc(); "{HEADER}zone box {size} 4 4 0 0 plain\nend\n")?;
-        replays_each(&rt, text.as_str(), &[text.as_str()])?;
+        takes_each(&rt, &[text.as_str()])?;
     }
     Ok(())
 }

@@ -151,14 +151,14 @@ fn fields_and_ends() -> [Row; 26] {
 }
 
 /// Each text is refused at its line, and nothing is written.
-fn refuses_each<R: Abort + AllocGlobal>(rt: &R, rows: &[Row]) -> Result<(), Fail> {
+fn refuses_each<R: Abort + AllocGlobal + Wait>(rt: &R, rows: &[Row]) -> Result<(), Fail> {
     let alloc = rt.alloc();
     for (what, text, line, kind) in rows {
         let input = match text.strip_prefix('~') {
             Some(lines) => format!(in alloc; "smr 1\nclock 2 1 8\n{lines}")?,
             None => String::from_str(alloc, text)?,
         };
-        let (finish, written) = end_of(alloc, &["steps"], input.as_str(), Outside::fine(alloc))?;
+        let (finish, written) = end_of(rt, &["steps"], input.as_str(), Outside::fine(alloc))?;
         let refused = TraceRefused {
             line: *line,
             kind: *kind,
@@ -183,13 +183,13 @@ fn an_input_that_is_too_long_is_refused_exactly_there(rt: HostRuntime) -> Result
     let too_long = Fault::TooLong { most: 16_777_216 };
     for command in ["replay", "steps"] {
         let bytes = vec![in alloc; b'\n'; 16_777_217]?;
-        let (finish, written) = end_of_bytes(alloc, &[command], bytes, Outside::fine(alloc))?;
+        let (finish, written) = end_of_bytes(&rt, &[command], bytes, Outside::fine(alloc))?;
         assert_eq!(rt; finish.fault, Some(too_long), "{command}");
         assert_eq!(rt; finish.status, Status::Refused, "{command}");
         assert!(rt; written.is_empty(), "{command}");
     }
     let bytes = vec![in alloc; b'\n'; 16_777_216]?;
-    let (finish, _) = end_of_bytes(alloc, &["steps"], bytes, Outside::fine(alloc))?;
+    let (finish, _) = end_of_bytes(&rt, &["steps"], bytes, Outside::fine(alloc))?;
     let refused = TraceRefused {
         line: 16_777_217,
         kind: TraceKind::NoEnd,

@@ -1,5 +1,5 @@
 //! Slots, moves between them and sections on `run`.
-use super::trace_rows::{BadRow, leaves_each, refuses_each, replays_each};
+use super::trace_rows::{BadRow, leaves_each, refuses_each, replays_each, takes_each};
 use super::*;
 use trace_text::TraceKind;
 
@@ -249,8 +249,6 @@ fn allowed() -> &'static [&'static str] {
         "&alloc 0 box 0\nalloc 1 box 0\nround\ngive 0 0 1 1\ngive 1 0 0 0\ngive 1 1 1 0\nend\n",
         "&alloc 0 box 65535\nalloc 1 box 0\nfree 0 65535\nfree 1 0\nend\n",
         "&alloc 0 box 0\nround\ngive 0 0 1 0\nround\ngive 1 0 0 0\nround\nfree 0 0\nend\n",
-        // A request that may be refused fills its slot, too.
-        "~alloc 0 box 0 arg 7\nfree 0 0\nend\n",
         "@enter 0\nexit 0\nenter 0\nexit 0\nend\n",
         "@enter 0\nround\nexit 0\nend\n",
         "@round\nenter 0\nend\n",
@@ -277,6 +275,8 @@ fn an_open_or_a_closed_section_is_named(rt: HostRuntime) -> Result<(), Fail> {
 #[test]
 fn what_fits_the_slots_and_sections_is_taken(rt: HostRuntime) -> Result<(), Fail> {
     leaves_each(&rt, allowed())?;
+    // A request that is refused fills its slot, too.
+    takes_each(&rt, &["~alloc 0 box 0 arg 7\nfree 0 0\nend\n"])?;
     replays_each(
         &rt,
         "~alloc 0 box 0\nfree 0 0\nalloc 0 box 0\nfree 0 0\nend\n",

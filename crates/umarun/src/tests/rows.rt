@@ -1,6 +1,5 @@
 use super::*;
 use crate::finish::Status;
-use zone_stats::Refusal;
 
 /// The table of one line.
 const TITLES: &str =
@@ -29,7 +28,7 @@ fn the_table_is_that_of_the_worked_rows(rt: HostRuntime) -> Result<(), Fail> {
     ];
     for (lines, line) in rows {
         let input = format!(in rt.alloc(); "{HEADER}{lines}")?;
-        let (finish, written) = replayed(rt.alloc(), input.as_str())?;
+        let (finish, written) = replayed(&rt, input.as_str())?;
         assert_eq!(rt; finish.status, Status::Good, "{lines}");
         assert!(rt; finish.fault.is_none(), "{lines}");
         assert_eq!(rt;
@@ -38,20 +37,5 @@ fn the_table_is_that_of_the_worked_rows(rt: HostRuntime) -> Result<(), Fail> {
             "{lines}"
         );
     }
-    Ok(())
-}
-
-#[test]
-fn a_full_keg_is_the_refusal_kept(rt: HostRuntime) -> Result<(), Fail> {
-    let input = format!(in rt.alloc();
-        "{HEADER}zone box 4096 1 4 0 0 plain\nalloc 0 box 0\nalloc 0 box 1\nend\n"
-    )?;
-    let (finish, _) = replayed(rt.alloc(), input.as_str())?;
-    let report = finish.report.expect(&rt, "a report");
-    assert_eq!(rt; report.ledgers.len(), 1);
-    let ledgers = &report.ledgers.as_slice()[0];
-    assert_eq!(rt; ledgers.len(), 1);
-    let full = Refusal::Full { slabs: 1, made: 1 };
-    assert_eq!(rt; ledgers.as_slice()[0].last, Some(full));
     Ok(())
 }

@@ -258,7 +258,7 @@ fn each_schedule_prints_what_its_steps_see(rt: HostRuntime) -> Result<(), Fail> 
         old_tags(),
     ];
     for (lines, printed) in rows {
-        let (finish, written) = played(rt.alloc(), lines)?;
+        let (finish, written) = played(&rt, lines)?;
         assert_eq!(rt; finish.fault, None, "{lines}");
         assert_eq!(rt; finish.status, Status::Good, "{lines}");
         assert!(rt; finish.report.is_none(), "{lines}");
@@ -287,7 +287,7 @@ fn a_refused_step_is_named_and_nothing_is_written(rt: HostRuntime) -> Result<(),
     ];
     for (lines, refused, text) in rows {
         let fault = Fault::Step { line: 3, refused };
-        let (finish, written) = played(rt.alloc(), lines)?;
+        let (finish, written) = played(&rt, lines)?;
         assert_eq!(rt; finish.fault, Some(fault));
         assert_eq!(rt; finish.status.exit_code(), 3);
         assert!(rt; written.is_empty());
@@ -303,7 +303,7 @@ fn a_note_too_many_is_named_with_its_line(rt: HostRuntime) -> Result<(), Fail> {
         lines.push_str("note 0\n")?;
     }
     lines.push_str("end\n")?;
-    let (finish, written) = played(rt.alloc(), lines.as_str())?;
+    let (finish, written) = played(&rt, lines.as_str())?;
     let fault = Fault::Step {
         line: 65_538,
         refused: StepRefused::Crowded { holders: 65_536 },
@@ -316,7 +316,8 @@ fn a_note_too_many_is_named_with_its_line(rt: HostRuntime) -> Result<(), Fail> {
 }
 
 /// Plays the schedule of these lines behind the head.
-fn played(alloc: Global, lines: &str) -> Result<(Finish, String), Fail> {
+fn played<R: Wait + AllocGlobal>(rt: &R, lines: &str) -> Result<(Finish, String), Fail> {
+    let alloc = rt.alloc();
     let input = format!(in alloc; "smr 1\n{lines}")?;
-    end_of(alloc, &["steps"], input.as_str(), Outside::fine(alloc))
+    end_of(rt, &["steps"], input.as_str(), Outside::fine(alloc))
 }

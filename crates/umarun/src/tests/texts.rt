@@ -1,5 +1,5 @@
-//! Texts that are accepted: those of a narrow trace are replayed in every spelling, the others aren't replayed yet.
-use super::trace_rows::{leaves_each, replays_each};
+//! Texts that are accepted: some are replayed, in every spelling, and the others aren't replayed yet.
+use super::trace_rows::{leaves_each, replays_each, takes_each};
 use super::*;
 
 /// Spellings of a zone without operations.
@@ -53,10 +53,29 @@ fn spellings_of_a_request() -> &'static [&'static str] {
     ]
 }
 
-/// Header lines of traces that aren't narrow.
-fn headers_left() -> &'static [&'static str] {
+/// Traces that are replayed.
+fn built() -> &'static [&'static str] {
     &[
         "^end\n",
+        "^detail\nend\n",
+        "^detail\nzone box 256 4 4 0 0 plain\nend\n",
+        "^zone box 256 4 4 4 0 plain\nend\n",
+        "^zone box 256 4 4 1000000 0 plain\nend\n",
+        "^zone box 256 4 4 0 2 plain\nend\n",
+        "^zone box 256 4 4 0 65535 plain\nend\n",
+        "~zone bux 256 4 4 0 0 plain\nend\n",
+        "~alloc 0 box 0 arg 7\nend\n",
+        "~alloc 0 box 0 arg 254\nend\n",
+        "~alloc 0 box 0 reserve\nend\n",
+        "~alloc 0 box 0 arg 7 reserve\nend\n",
+        "~alloc 0 box 0 arg 0 reserve\nend\n",
+        "~zone bux 8 1 64 9 3 plain\nalloc 0 bux 0\nalloc 0 box 1\nfree 0 0\nend\n",
+    ]
+}
+
+/// Header lines of traces that aren't replayed yet.
+fn headers_left() -> &'static [&'static str] {
+    &[
         "&end\n",
         "@end\n",
         "%end\n",
@@ -66,16 +85,9 @@ fn headers_left() -> &'static [&'static str] {
         "uma 1\nworkers 1\ndomains 2\nzone box 256 4 4 0 0 plain\nend\n",
         "uma 1\nworkers 1\ndomains 4\nzone box 256 4 4 0 0 plain\nend\n",
         "uma 1\nworkers 2\ndomains 4\nend",
-        "^detail\nzone box 256 4 4 0 0 plain\nend\n",
         "^clock 1 8\ndetail\nzone box 256 4 4 0 0 plain\nend\n",
         "^clock 1 8\nend\n",
-        "^detail\nend\n",
-        "^zone box 256 4 4 4 0 plain\nend\n",
-        "^zone box 256 4 4 1000000 0 plain\nend\n",
-        "^zone box 256 4 4 0 2 plain\nend\n",
-        "^zone box 256 4 4 0 65535 plain\nend\n",
         "^clock 1 8\nzone box 256 4 4 0 0 smr\nend\n",
-        "~zone bux 256 4 4 0 0 plain\nend\n",
         "~second sub box 4 0 plain\nend\n",
         "@second sub box 4 0 smr\nend\n",
         "~second sub box 64 1000000 plain\nzone bux 8 1 4 0 0 plain\nsecond sum bux 4 0 plain\nend\n",
@@ -87,14 +99,9 @@ fn headers_left() -> &'static [&'static str] {
     ]
 }
 
-/// Operation lines of traces that aren't narrow.
+/// Operation lines of traces that aren't replayed yet.
 fn operations_left() -> &'static [&'static str] {
     &[
-        "~alloc 0 box 0 arg 7\nend\n",
-        "~alloc 0 box 0 arg 254\nend\n",
-        "~alloc 0 box 0 reserve\nend\n",
-        "~alloc 0 box 0 arg 7 reserve\nend\n",
-        "~alloc 0 box 0 arg 0 reserve\nend\n",
         "~trim 0 box\nend\n",
         "~drain 0 box\nend\n",
         "~drainseat 0 box\nend\n",
@@ -118,21 +125,26 @@ fn operations_left() -> &'static [&'static str] {
 }
 
 #[test]
-fn a_narrow_header_is_replayed_in_every_spelling(rt: HostRuntime) -> Result<(), Fail> {
+fn a_header_is_replayed_in_every_spelling(rt: HostRuntime) -> Result<(), Fail> {
     replays_each(&rt, "~end\n", spellings_of_the_header())
 }
 
 #[test]
-fn a_narrow_request_is_replayed_in_every_spelling(rt: HostRuntime) -> Result<(), Fail> {
+fn a_request_is_replayed_in_every_spelling(rt: HostRuntime) -> Result<(), Fail> {
     replays_each(&rt, "~alloc 0 box 0\nend\n", spellings_of_a_request())
 }
 
 #[test]
-fn a_header_that_is_not_narrow_is_not_replayed_yet(rt: HostRuntime) -> Result<(), Fail> {
+fn a_header_of_more_is_not_replayed_yet(rt: HostRuntime) -> Result<(), Fail> {
     leaves_each(&rt, headers_left())
 }
 
 #[test]
-fn operations_that_are_not_narrow_are_not_replayed_yet(rt: HostRuntime) -> Result<(), Fail> {
+fn other_operations_are_not_replayed_yet(rt: HostRuntime) -> Result<(), Fail> {
     leaves_each(&rt, operations_left())
+}
+
+#[test]
+fn plain_zones_of_one_worker_are_replayed(rt: HostRuntime) -> Result<(), Fail> {
+    takes_each(&rt, built())
 }

@@ -58,7 +58,7 @@ pub fn whole_text(alloc: Global, text: &str) -> Result<String, Fail> {
 }
 
 /// Each text is refused at its line, without a report, and nothing is written.
-pub fn refuses_each<R: Abort + AllocGlobal>(rt: &R, rows: &[BadRow]) -> Result<(), Fail> {
+pub fn refuses_each<R: Abort + AllocGlobal + Wait>(rt: &R, rows: &[BadRow]) -> Result<(), Fail> {
     for (what, text, line, kind) in rows {
         let refused = TraceRefused {
             line: *line,
@@ -70,7 +70,7 @@ pub fn refuses_each<R: Abort + AllocGlobal>(rt: &R, rows: &[BadRow]) -> Result<(
 }
 
 /// Each text is that of a trace that isn't replayed yet.
-pub fn leaves_each<R: Abort + AllocGlobal>(rt: &R, texts: &[&str]) -> Result<(), Fail> {
+pub fn leaves_each<R: Abort + AllocGlobal + Wait>(rt: &R, texts: &[&str]) -> Result<(), Fail> {
     let refused = TraceRefused {
         line: 0,
         kind: TraceKind::Unbuilt,
@@ -81,14 +81,14 @@ pub fn leaves_each<R: Abort + AllocGlobal>(rt: &R, texts: &[&str]) -> Result<(),
     Ok(())
 }
 
-fn refuses<R: Abort + AllocGlobal>(
+fn refuses<R: Abort + AllocGlobal + Wait>(
     rt: &R,
     what: &str,
     text: &str,
     refused: TraceRefused,
 ) -> Result<(), Fail> {
     let input = whole_text(rt.alloc(), text)?;
-    let (finish, written) = replayed(rt.alloc(), input.as_str())?;
+    let (finish, written) = replayed(rt, input.as_str())?;
     assert_eq!(rt;
         finish.fault,
         Some(Fault::Trace { refused }),
@@ -100,17 +100,30 @@ fn refuses<R: Abort + AllocGlobal>(
     Ok(())
 }
 
+/// Each text is replayed.
+pub fn takes_each<R: Abort + AllocGlobal + Wait>(rt: &R, texts: &[&str]) -> Result<(), Fail> {
+    for text in texts {
+        let input = whole_text(rt.alloc(), text)?;
+        let (finish, written) = replayed(rt, input.as_str())?;
+        assert_eq!(rt; finish.fault, None, "{text:?}");
+        assert_eq!(rt; finish.status, Status::Good, "{text:?}");
+        assert!(rt; finish.report.is_some(), "{text:?}");
+        assert!(rt; !written.is_empty(), "{text:?}");
+    }
+    Ok(())
+}
+
 /// Each text is replayed, and gives what the plain text gives.
-pub fn replays_each<R: Abort + AllocGlobal>(
+pub fn replays_each<R: Abort + AllocGlobal + Wait>(
     rt: &R,
     plain: &str,
     texts: &[&str],
 ) -> Result<(), Fail> {
     let input = whole_text(rt.alloc(), plain)?;
-    let (_, wanted) = replayed(rt.alloc(), input.as_str())?;
+    let (_, wanted) = replayed(rt, input.as_str())?;
     for text in texts {
         let input = whole_text(rt.alloc(), text)?;
-        let (finish, written) = replayed(rt.alloc(), input.as_str())?;
+        let (finish, written) = replayed(rt, input.as_str())?;
         assert_eq!(rt; finish.fault, None, "{text:?}");
         assert_eq!(rt; finish.status, Status::Good, "{text:?}");
         assert!(rt; finish.report.is_some(), "{text:?}");

@@ -17,7 +17,7 @@ fn words_that_are_no_command_are_usage(rt: HostRuntime) -> Result<(), Fail> {
         &["Replay"],
     ];
     for words in rows {
-        let (finish, written) = end_of(rt.alloc(), words, "uma 1\n", Outside::fine(rt.alloc()))?;
+        let (finish, written) = end_of(&rt, words, "uma 1\n", Outside::fine(rt.alloc()))?;
         assert_eq!(rt; finish.status, Status::Usage, "{words:?}");
         assert_eq!(rt; finish.fault, Some(Fault::Usage), "{words:?}");
         assert!(rt; written.is_empty(), "{words:?}");

@@ -13,7 +13,7 @@ returns-in-Ok-write_all-clause-replay_written g c =
     let after = g.K.Sink.bytes_held c.write_all.new.sink in
     let P : Finish → Type 0 = λ finish. IfNone finish.fault (IfSome finish.report (λ report. Adds held (report_text report) after)) in
     let Q : List ℕ → Type 0 = λ text. Adds held text after in
-    subst P (sym c.reported.ensures) (subst Q (c.deref.ensures.value ∙ c.in-Ok.ensures.text) c.in-Ok-write_all.ensures.written)
+    subst P (sym c.replayed.ensures) (subst Q (c.deref.ensures.value ∙ c.in-Ok.ensures.text) c.in-Ok-write_all.ensures.written)
 
 pub returns-in-Some-Replay-clause-replay_part : goal.returns-in-Some-Replay-clause-replay_part
 returns-in-Some-Replay-clause-replay_part g c = λ is.
@@ -21,13 +21,13 @@ returns-in-Some-Replay-clause-replay_part g c = λ is.
     let after = g.K.Sink.bytes_held c.write_all.new.sink in
     let P : Finish → Type 0 = λ finish. IfSome finish.report (λ report. AddsPart held (report_text report) after) in
     let Q : List ℕ → Type 0 = λ text. AddsPart held text after in
-    subst P (sym c.reported-in-Err-write_all.ensures) (subst Q (c.deref.ensures.value ∙ c.in-Ok.ensures.text) c.in-Err-write_all.ensures.part)
+    subst P (sym c.replayed-in-Err-write_all.ensures) (subst Q (c.deref.ensures.value ∙ c.in-Ok.ensures.text) c.in-Err-write_all.ensures.part)
 
 pub returns-in-Ok-write_all-clause-replay_refuses : goal.returns-in-Ok-write_all-clause-replay_refuses
-returns-in-Ok-write_all-clause-replay_refuses g c = λ refused. absurd (none_refused c.replayed_or_refused.ensures.report c.in-Ok.report (g.S.Source.bytes_left c.args.source.now) c.in-Ok.ensures.replays refused)
+returns-in-Ok-write_all-clause-replay_refuses g c = λ refused. absurd (none_refused c.replayed_or_refused.ensures.report c.in-Ok.played.report c.in-Ok.played.hall (g.S.Source.bytes_left c.args.source.now) c.in-Ok.ensures.replays refused)
 
 pub returns-in-Some-Replay-clause-replay_refuses : goal.returns-in-Some-Replay-clause-replay_refuses
-returns-in-Some-Replay-clause-replay_refuses g c = λ refused. absurd (none_refused c.replayed_or_refused.ensures.report c.in-Ok.report (g.S.Source.bytes_left c.args.source.now) c.in-Ok.ensures.replays refused)
+returns-in-Some-Replay-clause-replay_refuses g c = λ refused. absurd (none_refused c.replayed_or_refused.ensures.report c.in-Ok.played.report c.in-Ok.played.hall (g.S.Source.bytes_left c.args.source.now) c.in-Ok.ensures.replays refused)
 
 pub returns-in-Err-clause-replay_names : goal.returns-in-Err-clause-replay_names
 returns-in-Err-clause-replay_names g c = λ refused is refuses unread.
@@ -61,11 +61,11 @@ returns-in-Err-clause-replay_complete g c = λ is input unread unwritten.
 
 pub returns-in-Ok-write_all-clause-replay_names : goal.returns-in-Ok-write_all-clause-replay_names
 returns-in-Ok-write_all-clause-replay_names g c = λ refused is refuses unread.
-    absurd (none_named c.replayed_or_refused.ensures.report c.in-Ok.report (g.S.Source.bytes_left c.args.source.now) refused c.in-Ok.ensures.replays refuses)
+    absurd (none_named c.replayed_or_refused.ensures.report c.in-Ok.played.report c.in-Ok.played.hall (g.S.Source.bytes_left c.args.source.now) refused c.in-Ok.ensures.replays refuses)
 
 pub returns-in-Some-Replay-clause-replay_names : goal.returns-in-Some-Replay-clause-replay_names
 returns-in-Some-Replay-clause-replay_names g c = λ refused is refuses unread.
-    absurd (none_named c.replayed_or_refused.ensures.report c.in-Ok.report (g.S.Source.bytes_left c.args.source.now) refused c.in-Ok.ensures.replays refuses)
+    absurd (none_named c.replayed_or_refused.ensures.report c.in-Ok.played.report c.in-Ok.played.hall (g.S.Source.bytes_left c.args.source.now) refused c.in-Ok.ensures.replays refuses)
 
 pub returns-in-Err-steps-clause-steps_complete : goal.returns-in-Err-steps-clause-steps_complete
 returns-in-Err-steps-clause-steps_complete g c = λ is played unread unwritten.

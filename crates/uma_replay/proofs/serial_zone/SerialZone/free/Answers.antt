@@ -1,0 +1,20 @@
+use Rattle.std.proofs.Common.{◌≡◌, ap, ◌∙◌, subst}
+use Rattle.uma_life.specs.Cached.{cached_body, cached_zone}
+use Rattle.uma_life.specs.Live.{live_body}
+use Rattle.uma_life.specs.Hook.{Dtor, after}
+use Rattle.uma_replay.specs.Request.{life_of}
+use Rattle.uma_life.specs.Ticket.{ticket_zone}
+use Rattle.uma_replay.proofs.ZoneItems.{TakesBack-given}
+use Rattle.uma_replay.proofs.serial_zone.SerialZone.free.Goals as goal
+
+pub returns : goal.returns
+returns c =
+    let given = c.give.ensures in
+    let of_zone : cached_zone c.finish-item.result ≡ 0 = ap ticket_zone c.finish-item.ensures.ticket ∙ c.requires.of_zone in
+    record {
+      finished = c.finish-item.result;
+      same_item = c.finish-item.ensures.ticket;
+      passed = subst (λ zone. life_of (cached_body c.finish-item.result) ≡ after (Dtor zone) (life_of (live_body c.args.item))) c.requires.of_zone c.finish-item.ensures.finished;
+      back = TakesBack-given _ _ _ of_zone given.places given.was_outside given.zones given.primary given.stored (record { same = given.same; limits = given.limits; rights = given.rights });
+      counted = c.count_free.ensures;
+    }
