@@ -1,31 +1,13 @@
 -- What functions append to a text, field after field and line after line, against the lines that it is to have.
-use Rattle.std.proofs.Common.{◌≡◌, ℕ, List, [], ◌∷◌, ◌++◌, map, codes, sym, ap, ◌∙◌, append_assoc, decimal}
-use Rattle.std.specs.List.{flat_map, join_with_byte}
+use Rattle.std.proofs.Common.{◌≡◌, ℕ, List, [], ◌∷◌, ◌++◌, map, codes, ap, ◌∙◌, append_assoc, decimal}
+use Rattle.std.specs.List.{flat_map}
 use Rattle.std.proofs.lemmas.Grind.{flat_map-append}
 use Rattle.std.proofs.lemmas.List.{append-nil}
 use Rattle.trace_text.specs.declared.head.Head.{Head}
 use Rattle.trace_text.specs.declared.trace.Trace.{Trace}
-use Rattle.trace_text.specs.CanonicalText.{canonical_text, clock_text, detail_text, head_text, line, names_text, rounds_text, zone_line}
-
--- fields joined by one space: the first, and each of the others after a space
-spaced : (word : List ℕ) (fields : List (List ℕ))
-    → join_with_byte 32 (word ∷ fields) ≡ word ++ flat_map (λ (field : List ℕ). 32 ∷ field) fields
-spaced word [] = sym (append-nil word)
-spaced word (field ∷ fields) = ap (λ (l : List ℕ). word ++ 32 ∷ l) (spaced field fields)
-
--- the same of a word and numbers
-joined : (word : List ℕ) (numbers : List ℕ)
-    → join_with_byte 32 (word ∷ map decimal numbers) ≡ word ++ flat_map (λ (n : ℕ). 32 ∷ decimal n) numbers
-joined word [] = sym (append-nil word)
-joined word (n ∷ numbers) = ap (λ (l : List ℕ). word ++ 32 ∷ l) (joined (decimal n) numbers)
-
--- what a line of a word and numbers appends
-pub line_appended : (old word numbers : List ℕ)
-    → ((old ++ word) ++ flat_map (λ (n : ℕ). 32 ∷ decimal n) numbers) ++ 10 ∷ [] ≡ old ++ line (word ∷ map decimal numbers)
-line_appended old word numbers =
-    ap (λ (l : List ℕ). l ++ 10 ∷ []) (append_assoc old word (flat_map (λ (n : ℕ). 32 ∷ decimal n) numbers))
-    ∙ append_assoc old (word ++ flat_map (λ (n : ℕ). 32 ∷ decimal n) numbers) (10 ∷ [])
-    ∙ ap (λ (l : List ℕ). old ++ (l ++ 10 ∷ [])) (sym (joined word numbers))
+use Rattle.schedule_text.specs.CanonicalLine.{line}
+use Rattle.schedule_text.proofs.AppendedLines.{spaced, joined}
+use Rattle.trace_text.specs.CanonicalText.{canonical_text, clock_text, detail_text, head_text, names_text, rounds_text, zone_line}
 
 -- what a line of a word, a worker, a name and numbers appends
 pub named_appended : (old word : List ℕ) (worker : ℕ) (name numbers : List ℕ)

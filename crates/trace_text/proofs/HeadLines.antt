@@ -11,12 +11,12 @@ use Rattle.trace_text.specs.declared.trace_reading.said.Said.{Said}
 use Rattle.trace_text.specs.declared.trace_reading.said.Said.TheVariants as said
 use Rattle.trace_text.specs.declared.trace_reading.said.SecondHead.{SecondHead}
 use Rattle.trace_text.specs.Limits.{IsWithin}
-use Rattle.trace_text.specs.ScheduleGrammar.{start_in, window_in}
+use Rattle.schedule_text.specs.ScheduleGrammar.{start_in, window_in}
 use Rattle.trace_text.specs.TraceLine.{is_name, name_in, kind_in, clock_in, seven_fields, zone_in, second_in, names_in}
 use Rattle.trace_text.specs.Valid.{ClockFits, PrimaryFits}
 use Rattle.trace_text.proofs.Names.{IsName-from_is_name}
-use Rattle.trace_text.proofs.ScheduleRange.{start_fits, window_fits}
-use Rattle.trace_text.proofs.Steps.{any, step, from_ok, where_true}
+use Rattle.schedule_text.proofs.ScheduleRange.{start_fits, window_fits}
+use Rattle.schedule_text.proofs.Steps.{any, step, from_ok, where_true}
 
 -- ---- what a line of the header says by itself
 

@@ -1,10 +1,5 @@
 mod WorkedRows
 pub mod Names
-pub mod Steps
-pub mod ScheduleFollowing
-pub mod ScheduleLemmas
-pub mod ScheduleRange
-pub mod ScheduleLaws
 pub mod TraceFields
 pub mod TraceRounds
 pub mod TraceClash

@@ -25,7 +25,8 @@ use Rattle.trace_text.specs.declared.op.Op.{Op}
 use Rattle.trace_text.specs.declared.op.Op.TheVariants.{Alloc, Free, Enter, Exit, Bind, Unbind, Look, Trim, Drain, DrainSeat, Prealloc}
 use Rattle.trace_text.specs.declared.round.Round.{Round}
 use Rattle.trace_text.specs.declared.trace.Trace.{Trace}
-use Rattle.trace_text.specs.CanonicalText.{line, kind_word, zone_name, zone_fields, zone_line, clock_text, detail_text, names_text, head_text, arg_fields, reserve_fields, op_fields, op_line, ops_text, between_line, rounds_text, canonical_text}
+use Rattle.schedule_text.specs.CanonicalLine.{line}
+use Rattle.trace_text.specs.CanonicalText.{kind_word, zone_name, zone_fields, zone_line, clock_text, detail_text, names_text, head_text, arg_fields, reserve_fields, op_fields, op_line, ops_text, between_line, rounds_text, canonical_text}
 use Rattle.trace_text.specs.Valid.{BetweenFits, ClockFits, HeadFits, IsValid, KegFits, NamesFits, OpFits, RoundFits, ZoneFits}
 use Rattle.trace_text.proofs.CanonicalRows.{clock_rows, detail_rows, names_rows, head_rows, ops_rows, between_row, rounds_rows, trace_rows}
 use Rattle.trace_text.proofs.RowText.{IsRow, IsWord}

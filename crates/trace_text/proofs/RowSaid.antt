@@ -32,7 +32,7 @@ use Rattle.trace_text.specs.declared.trace_reading.word.WorkWord.TheVariants as 
 use Rattle.trace_text.specs.declared.trace_reading.word.ZoneWord.TheVariants as in_zone
 use Rattle.trace_text.specs.CanonicalText.{kind_word, zone_name, zone_fields, arg_fields, reserve_fields, op_fields}
 use Rattle.trace_text.specs.Limits.{IsWithin, last_slot}
-use Rattle.trace_text.specs.ScheduleGrammar.{start_in, window_in}
+use Rattle.schedule_text.specs.ScheduleGrammar.{start_in, window_in}
 use Rattle.trace_text.specs.TraceLine.{word_named, is_within, may_follow, name_in, kind_in, worker_in, slot_in, options, arg_in, said_by, says}
 use Rattle.trace_text.specs.Valid.{ClockFits, PrimaryFits, KegFits, ZoneFits, NamesFits, HeadFits, OpFits, BetweenFits}
 use Rattle.trace_text.proofs.CanonicalRows.{between_row}

@@ -32,8 +32,8 @@ use Rattle.trace_text.specs.TraceKnown.{is_last}
 use Rattle.trace_text.specs.TraceLine.{word_named, word_or_wrong, rank, may_follow, is_within, placed, name_in, worker_in, slot_in, clock_in, zone_in, second_in, names_in, head_said, alloc_fields, arg_in, alloc_said, worker_and_zone, prealloc_said, zone_said, only_worker, worker_and_key, free_said, bind_said, work_said, give_said, said_by, says}
 use Rattle.trace_text.specs.Valid.{ClockFits}
 use Rattle.trace_text.proofs.HeadLines.{HeadIsRead, ZoneIsRead, SecondIsRead, NamesAreRead, within_fits, clock_is_read, zone_is_read, second_is_read, names_are_read}
-use Rattle.trace_text.proofs.ScheduleFollowing.{ends_line, is_end_by, not_last}
-use Rattle.trace_text.proofs.Steps.{bound, step, any, where_true, is_some_value, is_true}
+use Rattle.schedule_text.proofs.ScheduleFollowing.{ends_line, is_end_by, not_last}
+use Rattle.schedule_text.proofs.Steps.{bound, step, any, where_true, is_some_value, is_true}
 
 -- ---- what is told of a line by what it says
 

@@ -12,7 +12,7 @@ use Rattle.trace_text.specs.declared.trace_reading.stage.Stage.TheVariants as st
 use Rattle.trace_text.specs.Grammar.{and_said, clash_after, head_wrong, last_stage, or_clash, sayings, stage_of, tells, trace_test, workers_of}
 use Rattle.trace_text.specs.TraceKnown.{is_last}
 use Rattle.trace_text.specs.TraceLine.{says}
-use Rattle.trace_text.proofs.Steps.{bound}
+use Rattle.schedule_text.proofs.Steps.{bound}
 use Rattle.trace_text.proofs.TraceSaying.{says_right}
 use Rattle.trace_text.proofs.TraceTold.{IsSaid, Told}
 

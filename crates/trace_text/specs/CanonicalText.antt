@@ -1,9 +1,10 @@
 -- The canonical text of any trace: header lines in their order, then the rounds, then `end`. Each line is its fields
 -- with one space between two of them, and LF. Nothing is skipped, and what has a default is left out (own).
 use Rattle.std.specs.Prelude.{ℕ, ◌+◌, List, [], ◌∷◌, ◌++◌, Bool, true, false, Option, Some, None, codes, if◌then◌else◌, ◌==◌, slice_get}
-use Rattle.std.specs.List.{join_with_byte, flat_map}
+use Rattle.std.specs.List.{flat_map}
 use Rattle.std.specs.Option.{option_map_or}
 use Rattle.std.specs.Fmt.{decimal}
+use Rattle.schedule_text.specs.CanonicalLine.{line}
 use Rattle.trace_text.specs.declared.head.ClockHead.{ClockHead}
 use Rattle.trace_text.specs.declared.head.Head.{Head}
 use Rattle.trace_text.specs.declared.head.NamesHead.{NamesHead}
@@ -16,10 +17,6 @@ use Rattle.trace_text.specs.declared.between.Between.{Between}
 use Rattle.trace_text.specs.declared.between.Between.TheVariants.{Give}
 use Rattle.trace_text.specs.declared.round.Round.{Round}
 use Rattle.trace_text.specs.declared.trace.Trace.{Trace}
-
--- a line: its fields with one space between two of them, and LF
-abbrev pub line : List (List ℕ) → List ℕ
-line fields = join_with_byte 32 fields ++ 10 ∷ []
 
 abbrev pub kind_word : ZoneKind → List ℕ
 kind_word Plain = codes "plain"

@@ -5,10 +5,6 @@ pub mod Limits
 pub mod Lines
 pub mod NamedZones
 pub mod Reading
-pub mod ScheduleGrammar
-pub mod ScheduleShown
-pub mod ScheduleText
-pub mod ScheduleLaws
 pub mod TraceHeard
 pub mod TraceKnown
 pub mod TraceLaws

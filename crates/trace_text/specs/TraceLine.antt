@@ -29,7 +29,7 @@ use Rattle.trace_text.specs.declared.trace_reading.word.WorkWord.TheVariants as 
 use Rattle.trace_text.specs.declared.trace_reading.word.ZoneWord.{ZoneWord}
 use Rattle.trace_text.specs.declared.trace_reading.word.ZoneWord.TheVariants as in_zone
 use Rattle.trace_text.specs.Limits.{last_slot}
-use Rattle.trace_text.specs.ScheduleGrammar.{start_in, window_in}
+use Rattle.schedule_text.specs.ScheduleGrammar.{start_in, window_in}
 
 -- ---- the word
 

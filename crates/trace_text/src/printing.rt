@@ -4,11 +4,11 @@ ghost use Rattle.trace_text.specs.CanonicalText.{canonical_text};
 ghost use Rattle.trace_text.specs.Grammar.{IsTraceText};
 ghost use Rattle.trace_text.specs.Valid.{IsValid};
 
-use crate::lines::push_line;
 use crate::trace_laws::valid_traces_have_texts;
 use crate::{Memory, Trace};
 use head::push_head;
 use rounds::push_rounds;
+use schedule_text::push_line;
 use std::alloc::Global;
 
 mod head;

@@ -7,15 +7,15 @@ use Rattle.text_lines.specs.declared.refused.TraceKind.{TraceKind}
 use Rattle.text_lines.specs.declared.refused.ParseRefused.{ParseRefused}
 use Rattle.text_lines.specs.declared.refused.ParseRefused.TheVariants as parsing
 use Rattle.text_lines.specs.declared.refused.TraceRefused.{TraceRefused}
-use Rattle.trace_text.specs.declared.schedule.Schedule.{Schedule}
-use Rattle.trace_text.specs.declared.schedule_refused.ScheduleRefused.TheVariants as refusals
+use Rattle.schedule_text.specs.declared.schedule.Schedule.{Schedule}
+use Rattle.schedule_text.specs.declared.refused.ScheduleRefused.TheVariants as refusals
+use Rattle.schedule_text.specs.ScheduleGrammar.{schedule_test, IsScheduleText}
+use Rattle.schedule_text.specs.ScheduleLaws.{RefusedPrintsNothing}
+use Rattle.schedule_text.specs.ScheduleText.{RefusesSchedule}
 use Rattle.trace_text.specs.declared.trace.Trace.{Trace}
 use Rattle.trace_text.specs.Grammar.{IsTraceText, trace_test}
 use Rattle.trace_text.specs.Built.{IsBuilt}
 use Rattle.trace_text.specs.TraceLaws.{TextsAreOfOneTrace}
-use Rattle.trace_text.specs.ScheduleGrammar.{schedule_test, IsScheduleText}
-use Rattle.trace_text.specs.ScheduleLaws.{RefusedPrintsNothing}
-use Rattle.trace_text.specs.ScheduleText.{RefusesSchedule}
 use Rattle.uma_io.specs.Source.{HasMoreThan}
 use Rattle.uma_replay.specs.declared.hall.Hall.{Hall}
 use Rattle.uma_replay.specs.Hall.{HallStands}

@@ -3,8 +3,8 @@ use Rattle.uma_io.specs.declared.reading.ReadRefused.{ReadRefused}
 use Rattle.uma_io.specs.declared.reading.ReadRefused.TheVariants as reading
 use Rattle.text_lines.specs.declared.refused.ParseRefused.{ParseRefused}
 use Rattle.text_lines.specs.declared.refused.ParseRefused.TheVariants as parsing
-use Rattle.trace_text.specs.declared.schedule_refused.ScheduleRefused.{ScheduleRefused}
-use Rattle.trace_text.specs.declared.schedule_refused.ScheduleRefused.TheVariants as stepping
+use Rattle.schedule_text.specs.declared.refused.ScheduleRefused.{ScheduleRefused}
+use Rattle.schedule_text.specs.declared.refused.ScheduleRefused.TheVariants as stepping
 use Rattle.umarun.specs.declared.fault.Fault.{Fault}
 use Rattle.umarun.specs.declared.fault.Fault.TheVariants as faults
 

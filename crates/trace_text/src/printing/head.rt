@@ -1,10 +1,11 @@
 //! The header lines.
 ghost use Rattle.std.specs.Prelude.{◌≡◌, ◌++◌, ◌∷◌, [], OnOk, codes, decimal};
-ghost use Rattle.trace_text.specs.CanonicalText.{line, head_text, clock_text, detail_text, names_text};
+ghost use Rattle.schedule_text.specs.CanonicalLine.{line};
+ghost use Rattle.trace_text.specs.CanonicalText.{head_text, clock_text, detail_text, names_text};
 
-use crate::lines::{push_field, push_line, push_numbers};
 use crate::printing::zones::push_zones;
 use crate::{ClockHead, Head, NamesHead};
+use schedule_text::{push_field, push_line, push_numbers};
 use std::alloc::{AllocError, Global};
 
 /// Appends the header lines, in their order.

@@ -1,11 +1,12 @@
 //! The lines of operations.
 ghost use Rattle.std.specs.Prelude.{◌≡◌, ◌++◌, ◌∷◌, OnOk, codes, decimal, map};
 ghost use Rattle.std.specs.List.{flat_map};
-ghost use Rattle.trace_text.specs.CanonicalText.{arg_fields, line, op_line, ops_text, reserve_fields};
+ghost use Rattle.schedule_text.specs.CanonicalLine.{line};
+ghost use Rattle.trace_text.specs.CanonicalText.{arg_fields, op_line, ops_text, reserve_fields};
 
-use crate::lines::{push_field, push_line, push_numbers};
 use crate::printing::zones::name_of;
 use crate::{Op, OpList, ZoneHead};
+use schedule_text::{push_field, push_line, push_numbers};
 use std::alloc::{AllocError, Global};
 
 /// Appends the lines of the workers from worker 0 on, each worker's in their order.

@@ -3,9 +3,9 @@ ghost use Rattle.std.specs.Prelude.{◌≡◌, ◌++◌, OnOk};
 ghost use Rattle.std.specs.List.{flat_map};
 ghost use Rattle.trace_text.specs.CanonicalText.{between_line, rounds_text};
 
-use crate::lines::push_line;
 use crate::printing::ops::push_workers;
 use crate::{Between, Round, ZoneHead};
+use schedule_text::push_line;
 use std::alloc::{AllocError, Global};
 
 /// Appends the lines of the rounds. A `round` line and what stands between two rounds follow all but the last.

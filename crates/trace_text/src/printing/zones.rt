@@ -3,8 +3,8 @@ ghost use Rattle.std.specs.Prelude.{◌≡◌, ◌++◌, OnOk};
 ghost use Rattle.std.specs.List.{flat_map};
 ghost use Rattle.trace_text.specs.CanonicalText.{kind_word, zone_line, zone_name};
 
-use crate::lines::{push_field, push_numbers};
 use crate::{ZoneHead, ZoneKind};
+use schedule_text::{push_field, push_numbers};
 use std::alloc::{AllocError, Global};
 
 /// Appends the lines of the zones, in their order.

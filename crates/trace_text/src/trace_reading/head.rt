@@ -1,15 +1,15 @@
 //! What the header lines say.
 ghost use Rattle.std.specs.Prelude.{◌≡◌, IfOk, ℕ};
 ghost use Rattle.text_lines.specs.TextLines.{fields_of};
-ghost use Rattle.trace_text.specs.ScheduleGrammar.{start_in, window_in};
+ghost use Rattle.schedule_text.specs.ScheduleGrammar.{start_in, window_in};
 ghost use Rattle.trace_text.specs.TraceLine.{clock_in, zone_in, second_in, names_in, head_said};
 ghost use Rattle.trace_text.specs.TraceShown.{NamesFit};
 
-use crate::schedule_reading::said::{start_in, window_in};
 use crate::trace_reading::fields::{kind_in, name_in, seven_fields};
 use crate::trace_reading::said::{Said, SecondHead};
 use crate::trace_reading::word::HeadWord;
 use crate::{ClockHead, NamesHead, TraceKind, ZoneHead};
+use schedule_text::{start_in, window_in};
 use text_lines::{five_fields, four_fields, no_field, number_within, one_field, two_fields};
 
 /// What a header line says behind the first one.

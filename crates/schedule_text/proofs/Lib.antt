@@ -1,0 +1,6 @@
+pub mod Steps
+pub mod AppendedLines
+pub mod ScheduleFollowing
+pub mod ScheduleLemmas
+pub mod ScheduleRange
+pub mod ScheduleLaws

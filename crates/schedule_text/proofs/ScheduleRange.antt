@@ -1,0 +1,113 @@
+-- The numbers of a schedule that has a text are in their ranges, and a text is one of one schedule.
+use Rattle.std.proofs.Common.{◌≡◌, ℕ, ◌^◌, ◌%◌, ◌<◌, ◌≤◌, Bool, eqb, ltb, leb, List, [], ◌∷◌, Option, Some, None, Result, Ok, Err, refl, sym, ap, subst, ◌∙◌, arith}
+use Rattle.std.specs.Prelude.{◌&&◌, is_some}
+use Rattle.std.proofs.lemmas.Bool.{ltb-true, leb-true, eqb-true, and_parts}
+use Rattle.smr_core.specs.declared.about.About.{About}
+use Rattle.smr_core.specs.ClockState.{IsInRange}
+use Rattle.text_lines.specs.declared.refused.TraceKind.{TraceKind}
+use Rattle.text_lines.specs.declared.refused.TraceKind.TheVariants as kinds
+use Rattle.text_lines.specs.Fields.{◌>>=◌, no_field, three_fields, number_in, ranged, number_within}
+use Rattle.text_lines.specs.TextLines.{TextLine}
+use Rattle.text_lines.proofs.OneVerdict.{one_right_reading}
+use Rattle.schedule_text.specs.declared.schedule.Schedule.{Schedule}
+use Rattle.schedule_text.specs.declared.reading.said.Said.{Said}
+use Rattle.schedule_text.specs.declared.reading.said.Said.TheVariants as said
+use Rattle.schedule_text.specs.declared.reading.word.Word.{Word}
+use Rattle.schedule_text.specs.declared.reading.word.Word.TheVariants as words
+use Rattle.schedule_text.specs.ScheduleGrammar.{clock_in, start_in, window_in, seat_in, two_numbers_in, seat_turn, pair_turn, said_by, says, clock_after, clock_of, turn_lines, schedule_test, IsScheduleText, IsValidSchedule}
+use Rattle.schedule_text.specs.ScheduleText.{about_of}
+use Rattle.schedule_text.proofs.ScheduleFollowing.{says_parts}
+use Rattle.schedule_text.proofs.Steps.{bound, is_true}
+
+seats_fit : (field : List ℕ) (n : ℕ) → number_within 1 64 field ≡ Ok n → (1 ≤ n) × (n ≤ 64)
+seats_fit field n e =
+    let b = bound (number_in field) (λ k. ranged (leb 1 k && leb k 64) k) n e in
+    let r = is_true (leb 1 b.0 && leb b.0 64) b.0 n kinds.Range b.2 in
+    let both = and_parts (leb 1 b.0) (leb b.0 64) r.0 in
+    let low : 1 ≤ b.0 = leb-true 1 b.0 both.0 in
+    let high : b.0 ≤ 64 = leb-true b.0 64 both.1 in
+    (omega (arith, r.1), omega (arith, r.1))
+
+pub start_fits : (field : List ℕ) (n : ℕ) → start_in field ≡ Ok n → (n % 2 ≡ 1) × (n < 2 ^ 63)
+start_fits field n e =
+    let b = bound (number_in field) (λ k. ranged (eqb (k % 2) 1 && ltb k 9223372036854775808) k) n e in
+    let r = is_true (eqb (b.0 % 2) 1 && ltb b.0 9223372036854775808) b.0 n kinds.Range b.2 in
+    let both = and_parts (eqb (b.0 % 2) 1) (ltb b.0 9223372036854775808) r.0 in
+    let odd : b.0 % 2 ≡ 1 = eqb-true (b.0 % 2) 1 both.0 in
+    let low : b.0 < 9223372036854775808 = ltb-true b.0 9223372036854775808 both.1 in
+    let P : ℕ → Type 0 = λ k. (k % 2 ≡ 1) × (k < 2 ^ 63) in
+    subst P r.1 (odd, low)
+
+pub window_fits : (field : List ℕ) (n : ℕ) → window_in field ≡ Ok n → (n % 2 ≡ 0) × (4 ≤ n) × (n ≤ 2 ^ 30)
+window_fits field n e =
+    let b = bound (number_in field) (λ k. ranged (eqb (k % 2) 0 && (leb 4 k && leb k 1073741824)) k) n e in
+    let r = is_true (eqb (b.0 % 2) 0 && (leb 4 b.0 && leb b.0 1073741824)) b.0 n kinds.Range b.2 in
+    let both = and_parts (eqb (b.0 % 2) 0) (leb 4 b.0 && leb b.0 1073741824) r.0 in
+    let ends = and_parts (leb 4 b.0) (leb b.0 1073741824) both.1 in
+    let even : b.0 % 2 ≡ 0 = eqb-true (b.0 % 2) 0 both.0 in
+    let low : 4 ≤ b.0 = leb-true 4 b.0 ends.0 in
+    let high : b.0 ≤ 1073741824 = leb-true b.0 1073741824 ends.1 in
+    let P : ℕ → Type 0 = λ k. (k % 2 ≡ 0) × (4 ≤ k) × (k ≤ 2 ^ 30) in
+    subst P r.1 (even, low, high)
+
+clock_fits : (fields : List (List ℕ)) (a : About) → clock_in fields ≡ Ok a → IsInRange a
+clock_fits fields a e =
+    let parts = bound (three_fields fields) (λ (p : List ℕ × List ℕ × List ℕ).
+    number_within 1 64 p.0 >>= λ seats. (start_in p.1 >>= λ start. (window_in p.2 >>= λ window. Ok (record { start = start; window = window; seats = seats })))) a e in
+    let seats = bound (number_within 1 64 parts.0.0) (λ seats. start_in parts.0.1 >>= λ start. (window_in parts.0.2 >>= λ window. Ok (record { start = start; window = window; seats = seats }))) a parts.2 in
+    let start = bound (start_in parts.0.1) (λ start. window_in parts.0.2 >>= λ window. Ok (record { start = start; window = window; seats = seats.0 })) a seats.2 in
+    let window = bound (window_in parts.0.2) (λ window. Ok (record { start = start.0; window = window; seats = seats.0 })) a start.2 in
+    let is : record { start = start.0; window = window.0; seats = seats.0 } ≡ a = let w = window.2 in cc in
+    let s = seats_fit parts.0.0 seats.0 seats.1 in
+    let b = start_fits parts.0.1 start.0 start.1 in
+    let w = window_fits parts.0.2 window.0 window.1 in
+    let P : About → Type 0 = λ about. IsInRange about in
+    subst P is (record { some_seat = s.0; few_seats = s.1; odd_start = b.0; low_start = b.1; even_window = w.0; least_window = w.1; greatest_window = w.2 })
+
+said_clock : (word : Word) (rest : List (List ℕ)) (a : About) → said_by word rest ≡ Ok (said.Clock a) → IsInRange a
+said_clock words.Smr rest a e = absurd cc
+said_clock words.Clock rest a e =
+    let b = bound (clock_in rest) (λ about. Ok (said.Clock about)) (said.Clock a) e in
+    let is : b.0 ≡ a = let f = b.2 in cc in
+    let P : About → Type 0 = λ about. IsInRange about in
+    subst P is (clock_fits rest b.0 b.1)
+said_clock (words.Seat word) rest a e = let b = bound (seat_in rest) (λ seat. Ok (said.Does (seat_turn word seat))) (said.Clock a) e in let f = b.2 in absurd cc
+said_clock (words.Pair word) rest a e =
+    let b = bound (two_numbers_in rest) (λ (n : ℕ × ℕ). Ok (said.Does (pair_turn word n.0 n.1))) (said.Clock a) e in let f = b.2 in absurd cc
+said_clock words.End rest a e = let b = bound (no_field rest) (λ none. Ok said.End) (said.Clock a) e in let f = b.2 in absurd cc
+
+says_clock : (clocked : Bool) (fields : List (List ℕ)) (a : About) → says clocked fields ≡ Ok (said.Clock a) → IsInRange a
+says_clock clocked [] a e = absurd cc
+says_clock clocked (first ∷ rest) a e = let p = says_parts clocked first rest (said.Clock a) e in said_clock p.0 rest a p.3
+
+after_clock : (r : Result Said TraceKind) (before : Option About) (a : About) → ((b : About) → r ≡ Ok (said.Clock b) → IsInRange b) → ((b : About) → before ≡ Some b → IsInRange b) → clock_after r before ≡ Some a → IsInRange a
+after_clock (Ok (said.Clock b)) before a f g e = f a (ap (λ (o : Option About). clock_said o) e) where
+  clock_said : Option About → Result Said TraceKind
+  clock_said (Some x) = Ok (said.Clock x)
+  clock_said None = Ok said.End
+after_clock (Ok (said.Does turn)) before a f g e = g a e
+after_clock (Ok said.End) before a f g e = g a e
+after_clock (Err why) before a f g e = g a e
+
+clock_in_range : (lines : List TextLine) (a : About) → clock_of lines ≡ Some a → IsInRange a
+clock_in_range [] a e = absurd cc
+clock_in_range (line ∷ before) a e =
+    after_clock (says (is_some (clock_of before)) line.fields) (clock_of before) a (λ b f. says_clock (is_some (clock_of before)) line.fields b f) (λ b f. clock_in_range before b f) e
+
+pub valid_in_range : (schedule : Schedule) → IsValidSchedule schedule → IsInRange (about_of schedule)
+valid_in_range schedule valid = clock_in_range valid.1.spoke (about_of schedule) valid.1.clock
+
+same_schedule : (a b : Schedule) → about_of a ≡ about_of b → a.lines ≡ b.lines → a ≡ b
+same_schedule a b numbers lines =
+    let seats : a.seats ≡ b.seats = ap (λ (x : About). x.seats) numbers in
+    let start : a.start ≡ b.start = ap (λ (x : About). x.start) numbers in
+    let window : a.window ≡ b.window = ap (λ (x : About). x.window) numbers in
+    let made : ◌≡◌ {A = Schedule} (record { seats = a.seats; start = a.start; window = a.window; lines = a.lines }) (record { seats = b.seats; start = b.start; window = b.window; lines = b.lines }) =
+    rw (seats, start, window, lines) refl in
+    made
+
+pub one_schedule : (bytes : List ℕ) (a b : Schedule) → IsScheduleText bytes a → IsScheduleText bytes b → a ≡ b
+one_schedule bytes a b x y =
+    let same : x.spoke ≡ y.spoke = one_right_reading schedule_test bytes x.spoke y.spoke x.right y.right in
+    let numbers : about_of a ≡ about_of b = let e = sym x.clock ∙ (ap clock_of same ∙ y.clock) in cc in
+    same_schedule a b numbers (x.lines ∙ (ap turn_lines same ∙ sym y.lines))

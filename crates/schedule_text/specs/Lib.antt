@@ -1,0 +1,5 @@
+pub mod CanonicalLine
+pub mod ScheduleGrammar
+pub mod ScheduleShown
+pub mod ScheduleText
+pub mod ScheduleLaws

@@ -1,0 +1,106 @@
+-- What a schedule prints (own): the line of each step that is taken, for what the step saw, and at last the hands. The
+-- steps are those of the core, from its opening. A schedule whose step is refused prints nothing.
+use Rattle.std.specs.Prelude.{ℕ, ◌≡◌, ◌≢◌, List, [], ◌∷◌, ◌++◌, map, take, slice_get, Bool, true, false, Some, codes}
+use Rattle.std.specs.List.{flat_map}
+use Rattle.std.specs.Fmt.{decimal}
+use Rattle.smr_core.specs.declared.about.About.{About}
+use Rattle.smr_core.specs.declared.seen.Seen.{Seen}
+use Rattle.smr_core.specs.declared.seen.Seen.TheVariants.{Hand, Done, Inside, Late, Spent, TooFar, Goal, Yes, No, Word, Holder}
+use Rattle.smr_core.specs.declared.step_refused.StepRefused.{StepRefused}
+use Rattle.smr_core.specs.declared.step_refused.StepRefused.TheVariants as refusals
+use Rattle.smr_core.specs.declared.turn.Turn.{Turn}
+use Rattle.smr_core.specs.ClockState.{read_hand, write_hand}
+use Rattle.smr_core.specs.CoreState.{State, opening}
+use Rattle.smr_core.specs.CoreStep.{Refuses}
+use Rattle.smr_core.specs.Turns.{IsTurn, TurnRun, first_step}
+use Rattle.schedule_text.specs.declared.schedule.Schedule.{Schedule}
+use Rattle.schedule_text.specs.declared.schedule.TurnLine.{TurnLine}
+use Rattle.schedule_text.specs.declared.refused.ScheduleRefused.{ScheduleRefused}
+use Rattle.schedule_text.specs.declared.refused.ScheduleRefused.TheVariants as schedule_refused
+use Rattle.schedule_text.specs.CanonicalLine.{line}
+
+-- ---- the lines that are printed
+
+-- whether it was this advance that moved the write hand to its goal
+abbrev pub moved_word : Bool → List ℕ
+moved_word true = codes "moved"
+moved_word false = codes "kept"
+
+-- the line of a step that saw this
+abbrev pub seen_line : Seen → List ℕ
+seen_line (Hand value) = line (codes "hand" ∷ decimal value ∷ [])
+seen_line Done = line (codes "done" ∷ [])
+seen_line (Inside loaded found) = line (codes "in" ∷ decimal loaded ∷ decimal found ∷ [])
+seen_line (Late loaded found) = line (codes "late" ∷ decimal loaded ∷ decimal found ∷ [])
+seen_line (Spent write) = line (codes "spent" ∷ decimal write ∷ [])
+seen_line (TooFar read write) = line (codes "toofar" ∷ decimal read ∷ decimal write ∷ [])
+seen_line (Goal goal moved) = line (codes "goal" ∷ decimal goal ∷ moved_word moved ∷ [])
+seen_line (Yes read) = line (codes "yes" ∷ decimal read ∷ [])
+seen_line (No read) = line (codes "no" ∷ decimal read ∷ [])
+seen_line (Word seat word least) =
+    line (codes "word" ∷ decimal seat ∷ decimal word ∷ codes "least" ∷ decimal least ∷ [])
+seen_line (Holder number) = line (codes "holder" ∷ decimal number ∷ [])
+
+-- the line of `end`: the read hand and the write hand
+abbrev pub hands_line : State → List ℕ
+hands_line s = line (codes "hands" ∷ decimal (read_hand s.words) ∷ decimal (write_hand s.words) ∷ [])
+
+-- ---- what a schedule prints
+
+-- the numbers of its clock
+abbrev pub about_of : Schedule → About
+about_of schedule = record { start = schedule.start; window = schedule.window; seats = schedule.seats }
+
+abbrev pub turns_of : List TurnLine → List Turn
+turns_of lines = map (λ (l : TurnLine). l.turn) lines
+
+-- From s the lines, one after another, print these bytes, and lead to s'.
+pub record Prints (s : State) (lines : List TurnLine) (bytes : List ℕ) (s' : State) : Type 0 where
+  pub sees : List (List Seen)
+  pub run : TurnRun s (turns_of lines) sees s'
+  pub text : bytes ≡ flat_map (λ (saw : List Seen). flat_map seen_line saw) sees
+
+-- The schedule's whole output is these bytes.
+pub record IsOutput (schedule : Schedule) (bytes : List ℕ) : Type 0 where
+  pub last : State
+  pub printed : List ℕ
+  pub prints : Prints (opening (about_of schedule)) schedule.lines printed last
+  pub text : bytes ≡ printed ++ hands_line last
+
+-- ---- the refusal of a step
+
+-- The line l is refused so in the state s.
+pub record RefusesLine (s : State) (l : TurnLine) (refused : StepRefused) : Type 0 where
+  pub step : Refuses s (first_step l.turn) refused
+  pub not_memory : refused ≢ refusals.Memory
+
+-- The line of place n is the first that is refused: the lines before it were taken.
+pub record RefusedAt (schedule : Schedule) (n : ℕ) (l : TurnLine) (refused : StepRefused) : Type 0 where
+  pub there : slice_get schedule.lines n ≡ Some l
+  pub mid : State
+  pub printed : List ℕ
+  pub before : Prints (opening (about_of schedule)) (take n schedule.lines) printed mid
+  pub refuses : RefusesLine mid l refused
+
+-- Why a schedule isn't played: a step is refused, the first one, which stands with its line; or memory was wanting.
+abbrev pub RefusesSchedule : Schedule → ScheduleRefused → Type 0
+RefusesSchedule schedule (schedule_refused.Step at refused) =
+    (n : ℕ) × ((l : TurnLine) × (l.line ≡ at) × RefusedAt schedule n l refused)
+RefusesSchedule schedule schedule_refused.Memory = Unit {0}
+
+-- ---- one line; no public clause cites these
+
+-- the refusal of a step at this line
+abbrev pub refused_at : ℕ → StepRefused → ScheduleRefused
+refused_at at refusals.Memory = schedule_refused.Memory
+refused_at at refused = schedule_refused.Step at refused
+
+-- The line was taken, and what it prints was appended.
+pub record PrintsLine (s : State) (l : TurnLine) (before bytes : List ℕ) (s' : State) : Type 0 where
+  pub saw : List Seen
+  pub turn : IsTurn s l.turn saw s'
+  pub text : bytes ≡ before ++ flat_map seen_line saw
+
+abbrev pub RefusesTurnLine : State → TurnLine → ScheduleRefused → Type 0
+RefusesTurnLine s l (schedule_refused.Step at refused) = (l.line ≡ at) × RefusesLine s l refused
+RefusesTurnLine s l schedule_refused.Memory = Unit {0}

@@ -1,0 +1,90 @@
+ghost use Rattle.std.specs.Prelude.{◌≡◌, [], IsSome, OnOk, IfErr};
+ghost use Rattle.schedule_text.specs.ScheduleGrammar.{schedule_test};
+ghost use Rattle.schedule_text.specs.ScheduleShown.{Shows, Hears, IsOf};
+
+use crate::reading::said::Said;
+use crate::{Schedule, TraceKind, TurnLine};
+use listed::Listed;
+use smr_core::About;
+use std::alloc::Global;
+use text_lines::{Grammar, LineRefused, is_head};
+
+/// The running state of a reading: what the lines so far have said.
+#[derive(Drop)]
+pub struct ScheduleReader {
+    /// The first line was there.
+    pub begun: bool,
+    pub clock: Option<About>,
+    pub turns: Vec<TurnLine>,
+    pub ended: bool,
+}
+
+impl ScheduleReader {
+    /// Before the first line.
+    pub fn new(alloc: Global) -> Self
+        ensures { Shows result [] }
+    {
+        ScheduleReader {
+            begun: false,
+            clock: None,
+            turns: Vec::new(alloc),
+            ended: false,
+        }
+    }
+
+    /// The schedule, once the last line was `end`.
+    pub fn schedule(self) -> Schedule
+        requires { IsSome self.clock }
+        ensures { IsOf result self }
+    {
+        let Some(clock) = self.clock else {
+            unreachable!();
+        };
+        Schedule {
+            seats: clock.seats,
+            start: clock.start,
+            window: clock.window,
+            lines: Listed::from_vec(self.turns),
+        }
+    }
+
+    /// Takes in what a line behind the first one says.
+    fn hear(&mut self, number: u64, said: Said) -> Result<(), LineRefused>
+        ensures heard { OnOk result (Hears number said self.old self.new) }
+        ensures memory { IfErr result (λ refused. refused ≡ LineRefused.Memory) }
+    {
+        match said {
+            Said::Clock { about } => self.clock = Some(about),
+            Said::Does { turn } => self.turns.push(TurnLine { line: number, turn })?,
+            Said::End => self.ended = true,
+        }
+        Ok(())
+    }
+}
+
+impl Grammar for ScheduleReader {
+    ghost test = { schedule_test };
+
+    ghost shows = { Shows };
+
+    ghost kept = { λ reader. Unit };
+
+    fn take(&mut self, number: u64, line: &[u8]) -> Result<(), LineRefused> {
+        if !self.begun {
+            if !is_head(line, b"smr") {
+                return Err(TraceKind::Head.into());
+            }
+            self.begun = true;
+            return Ok(());
+        }
+        if self.ended {
+            return Err(TraceKind::After.into());
+        }
+        let said = Said::by_line(self.clock.is_some(), line)?;
+        self.hear(number, said)
+    }
+
+    fn is_ended(&self) -> bool {
+        self.ended
+    }
+}

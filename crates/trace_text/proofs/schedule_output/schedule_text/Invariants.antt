@@ -1,9 +1,0 @@
-use Rattle.std.proofs.Common.{take}
-use Rattle.smr_core.specs.CoreState.{opening}
-use Rattle.trace_text.specs.ScheduleText.{Prints, about_of}
-use Rattle.trace_text.proofs.schedule_output.schedule_text.Given as goal
-
--- the lines so far print the text
-abbrev pub invariant-loop-line : goal.invariant-loop-line
-invariant-loop-line l =
-    Prints (opening (about_of l.schedule)) (take l.line-index l.schedule.lines) l.text.items l.core
