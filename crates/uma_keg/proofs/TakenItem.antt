@@ -145,6 +145,7 @@ on_some (Some y) P x is holds = holds
 pub record IsLent {T K : Type 0} {g : _} {h : _} (old : Keg T K g h) (hooks : K) (deed_zone : ℕ) (item : Cached T g) (stored : Stored T g) : Type 0 where
   pub primary : deed_zone ≡ 0 → cached_body item ≡ stored_body stored
   pub entered : deed_zone ≢ 0 → g.life (cached_body item) ≡ after (ZoneInit deed_zone) (g.life (stored_body stored))
+  pub left : deed_zone ≢ 0 → h.leaves_init hooks (stored_body stored) deed_zone (cached_body item)
   pub accepted : deed_zone ≢ 0 → h.refuses_init hooks (stored_body stored) deed_zone ≡ None
 
 pub takes_item : {T K : Type 0} {g : _} {h : _} (old new : Keg T K g h) (hooks : K) (zone n deed_zone : ℕ) (item : Cached T g) (stored : Stored T g) → cached_no item ≡ n → Takes (places_in old) n (places_in new) → CountsOneOut (places_in old) (places_in new)
@@ -165,6 +166,7 @@ takes_item {T} {K} {g} {h} old new hooks zone n deed_zone item stored e takes co
         was_home = ap (stored_in old) e ∙ was;
         primary = own.primary;
         entered = own.entered;
+        left = own.left;
         accepted = own.accepted;
       };
       zones = zones ∙ ap (λ (m : ℕ). set (zones_in old) m (Some zone)) (sym e);

@@ -57,6 +57,7 @@ taken_before old mid hooks zone item known same slabs is = record {
   was_home = elim (known.each (cached_no item)) [ inl gone ↦ absurd (cc (gone, is.was_home)) | inr kept ↦ sym kept ∙ is.was_home ];
   primary = is.primary;
   entered = is.entered;
+  left = is.left;
   accepted = is.accepted;
 }
 

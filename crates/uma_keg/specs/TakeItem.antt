@@ -10,7 +10,7 @@ use Rattle.uma_keg.specs.Places.{KegPlaces, place_at, domain_at, slab_count, fre
 use Rattle.uma_keg.specs.Taking.{Takes, IsPartlyUsed}
 use Rattle.uma_keg.specs.Keg.{places_in, zones_in, out_in, table_in, stored_in}
 
--- An item is out in a zone: its deed is of the keg's book, its domain is its slab's, and it is the one that was at home. Its body, if the zone isn't 0, passed zone_init.
+-- An item is out in a zone: its deed is of the keg's book, its domain is its slab's, and it is the one that was at home. Its body, if the zone isn't 0, passed zone_init, and is as these hooks left it.
 pub record IsTaken {T K : Type 0} {g : _} {h : _} (old : Keg T K g h) (hooks : K) (zone : ℕ) (item : Cached T g) : Type 0 where
   pub of_zone : cached_zone item ≡ zone
   pub of_book : cached_table item ≡ table_in old
@@ -19,6 +19,7 @@ pub record IsTaken {T K : Type 0} {g : _} {h : _} (old : Keg T K g h) (hooks : K
   pub was_home : stored_in old (cached_no item) ≡ Some stored
   pub primary : zone ≡ 0 → cached_body item ≡ stored_body stored
   pub entered : zone ≢ 0 → g.life (cached_body item) ≡ after (ZoneInit zone) (g.life (stored_body stored))
+  pub left : zone ≢ 0 → h.leaves_init hooks (stored_body stored) zone (cached_body item)
   pub accepted : zone ≢ 0 → h.refuses_init hooks (stored_body stored) zone ≡ None
 
 -- One item is out. Its number is the one of the taking rule, and all else stays.

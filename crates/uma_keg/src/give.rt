@@ -11,7 +11,8 @@ use crate::keg::Keg;
 use uma_life::{Body, Cached, Hooks};
 
 impl<T: Body, K: Hooks<T>> Keg<T, K> {
-    /// Takes an item of this keg back. It passes `zone_fini`, but for zone 0, and its place is free.
+    /// Takes an item of this keg back. It passes `zone_fini` of the hooks that are handed, those of its zone, but for zone 0,
+    /// and its place is free.
     pub fn give(&mut self, hooks: &K, item: Cached<T>)
         requires { cached_table item ≡ table_in self.old }
         ensures places { Gives (places_in self.old) (cached_no item) (places_in self.new) }
@@ -21,7 +22,8 @@ impl<T: Body, K: Hooks<T>> Keg<T, K> {
         ensures out { out_in self.new (cached_zone item) + 1 ≡ out_in self.old (cached_zone item) }
         ensures outs { (zone : ℕ) → zone ≢ cached_zone item → out_in self.new zone ≡ out_in self.old zone }
         ensures primary { cached_zone item ≡ 0 → IsSomeAnd (stored_in self.new (cached_no item)) (λ stored. stored_body stored ≡ cached_body item) }
-        ensures left { cached_zone item ≢ 0 → IsSomeAnd (stored_in self.new (cached_no item)) (λ stored. T.life (stored_body stored) ≡ after (ZoneFini (cached_zone item)) (T.life (cached_body item))) }
+        ensures left { cached_zone item ≢ 0 → IsSomeAnd (stored_in self.new (cached_no item)) (λ stored. K.leaves_fini hooks.now (cached_body item) (cached_zone item) (stored_body stored)) }
+        ensures passed { cached_zone item ≢ 0 → IsSomeAnd (stored_in self.new (cached_no item)) (λ stored. T.life (stored_body stored) ≡ after (ZoneFini (cached_zone item)) (T.life (cached_body item))) }
         ensures stored { (n : ℕ) → n ≢ cached_no item → stored_in self.new n ≡ stored_in self.old n }
         ensures rights { rights_in self.new ≡ rights_in self.old }
         ensures limits { (zone : ℕ) → limit_in self.new zone ≡ limit_in self.old zone }

@@ -64,6 +64,7 @@ impl<T: Body> Cached<T> {
     pub fn build<K: Hooks<T>>(self, hooks: &K, arg: u64) -> Result<Live<T>, (Cached<T>, u8)>
         ensures ticket { IfOk result (λ item. live_ticket item ≡ cached_ticket self) }
         ensures built { IfOk result (λ item. T.life (live_body item) ≡ after (Ctor (cached_zone self)) (T.life (cached_body self))) }
+        ensures left { IfOk result (λ item. K.leaves_ctor hooks.now (cached_body self) (cached_zone self) arg (live_body item)) }
         ensures accepted { IfOk result (λ _. K.refuses_ctor hooks.now (cached_body self) (cached_zone self) arg ≡ None) }
         ensures refused { IfErr result (λ (item, code). (K.refuses_ctor hooks.now (cached_body self) (cached_zone self) arg ≡ Some code) × IsCode code) }
         ensures unchanged { IfErr result (λ (item, code). item ≡ self) }
@@ -81,7 +82,8 @@ impl<T: Body> Cached<T> {
         ensures domain { stored_domain result.0 ≡ cached_domain self }
         ensures deed { result.1 ≡ ticket_deed (cached_ticket self) }
         ensures primary { cached_zone self ≡ 0 → stored_body result.0 ≡ cached_body self }
-        ensures left { cached_zone self ≢ 0 → T.life (stored_body result.0) ≡ after (ZoneFini (cached_zone self)) (T.life (cached_body self)) }
+        ensures passed { cached_zone self ≢ 0 → T.life (stored_body result.0) ≡ after (ZoneFini (cached_zone self)) (T.life (cached_body self)) }
+        ensures left { cached_zone self ≢ 0 → K.leaves_fini hooks.now (cached_body self) (cached_zone self) (stored_body result.0) }
     {
         let Cached { mut body, ticket } = self;
         let (deed, domain) = ticket.into_deed();

@@ -25,7 +25,9 @@ use std::sync::Wait;
 ///    count and not the number.
 /// 2. `keg_init`, `zone_init` and `ctor` may refuse, by the implementation's own meaning of refusal, with a code from 1
 ///    to 255. Then they change nothing.
-/// 3. `raw` and `bury` alone may wait.
+/// 3. What a hook leaves of a body, beyond its life, is by the implementation's own meaning: a relation of these hooks,
+///    the body before, the zone and the body after. It may say as much or as little as the implementation can.
+/// 4. `raw` and `bury` alone may wait.
 pub trait Hooks<T: Body>: Drop {
     /// The code with which `keg_init`, in zone 0, or `zone_init` refuses a body.
     ghost refuses_init: { Self → T → ℕ → Option ℕ };
@@ -33,14 +35,31 @@ pub trait Hooks<T: Body>: Drop {
     /// The code with which `ctor` refuses a body in a zone with an argument.
     ghost refuses_ctor: { Self → T → ℕ → ℕ → Option ℕ };
 
+    /// Which bodies `raw` makes of a number.
+    ghost makes: { Self → ℕ → T → Type 0 };
+
+    /// What `keg_init`, in zone 0, or `zone_init` leaves of a body that it takes.
+    ghost leaves_init: { Self → T → ℕ → T → Type 0 };
+
+    /// What `ctor` leaves of a body that it takes in a zone with an argument.
+    ghost leaves_ctor: { Self → T → ℕ → ℕ → T → Type 0 };
+
+    /// What `dtor` leaves of a body in a zone.
+    ghost leaves_dtor: { Self → T → ℕ → T → Type 0 };
+
+    /// What `keg_fini`, in zone 0, or `zone_fini` leaves of a body.
+    ghost leaves_fini: { Self → T → ℕ → T → Type 0 };
+
     /// Makes the body of a number, which passed no hook.
     fn raw<R: Wait>(&self, rt: &R, alloc: Global, no: u32) -> Result<T, Memory>
-        ensures { IfOk result (λ body. T.life body ≡ raw_life no) };
+        ensures raw { IfOk result (λ body. T.life body ≡ raw_life no) }
+        ensures made { IfOk result (λ body. makes self.now no body) };
 
     /// Runs when the item's slab is brought in.
     fn keg_init(&self, body: &mut T) -> Result<(), u8>
         requires { MayPass KegInit (T.life body.old) }
         ensures passed { IfOk result (λ _. T.life body.new ≡ after KegInit (T.life body.old)) }
+        ensures left { IfOk result (λ _. leaves_init self.now body.old 0 body.new) }
         ensures accepts { IfOk result (λ _. refuses_init self.now body.old 0 ≡ None) }
         ensures refuses { IfErr result (λ code. (refuses_init self.now body.old 0 ≡ Some code) × IsCode code) }
         ensures unchanged { IfErr result (λ _. body.new ≡ body.old) };
@@ -49,6 +68,7 @@ pub trait Hooks<T: Body>: Drop {
     fn zone_init(&self, zone: u8, body: &mut T) -> Result<(), u8>
         requires { MayPass (ZoneInit zone) (T.life body.old) }
         ensures passed { IfOk result (λ _. T.life body.new ≡ after (ZoneInit zone) (T.life body.old)) }
+        ensures left { IfOk result (λ _. leaves_init self.now body.old zone body.new) }
         ensures accepts { IfOk result (λ _. refuses_init self.now body.old zone ≡ None) }
         ensures refuses { IfErr result (λ code. (refuses_init self.now body.old zone ≡ Some code) × IsCode code) }
         ensures unchanged { IfErr result (λ _. body.new ≡ body.old) };
@@ -57,6 +77,7 @@ pub trait Hooks<T: Body>: Drop {
     fn ctor(&self, zone: u8, body: &mut T, arg: u64) -> Result<(), u8>
         requires { MayPass (Ctor zone) (T.life body.old) }
         ensures passed { IfOk result (λ _. T.life body.new ≡ after (Ctor zone) (T.life body.old)) }
+        ensures left { IfOk result (λ _. leaves_ctor self.now body.old zone arg body.new) }
         ensures accepts { IfOk result (λ _. refuses_ctor self.now body.old zone arg ≡ None) }
         ensures refuses { IfErr result (λ code. (refuses_ctor self.now body.old zone arg ≡ Some code) × IsCode code) }
         ensures unchanged { IfErr result (λ _. body.new ≡ body.old) };
@@ -64,17 +85,20 @@ pub trait Hooks<T: Body>: Drop {
     /// Runs once for each allocation that was freed, in its zone.
     fn dtor(&self, zone: u8, body: &mut T)
         requires { MayPass (Dtor zone) (T.life body.old) }
-        ensures { T.life body.new ≡ after (Dtor zone) (T.life body.old) };
+        ensures passed { T.life body.new ≡ after (Dtor zone) (T.life body.old) }
+        ensures left { leaves_dtor self.now body.old zone body.new };
 
     /// Runs when the item leaves a secondary zone, which is 1 to 7.
     fn zone_fini(&self, zone: u8, body: &mut T)
         requires { MayPass (ZoneFini zone) (T.life body.old) }
-        ensures { T.life body.new ≡ after (ZoneFini zone) (T.life body.old) };
+        ensures passed { T.life body.new ≡ after (ZoneFini zone) (T.life body.old) }
+        ensures left { leaves_fini self.now body.old zone body.new };
 
     /// Runs when the item's slab is given up.
     fn keg_fini(&self, body: &mut T)
         requires { MayPass KegFini (T.life body.old) }
-        ensures { T.life body.new ≡ after KegFini (T.life body.old) };
+        ensures passed { T.life body.new ≡ after KegFini (T.life body.old) }
+        ensures left { leaves_fini self.now body.old 0 body.new };
 
     /// Ends a body, and answers its tally. It passed no hook, or all.
     fn bury<R: Wait>(&self, rt: &R, body: T) -> Tally

@@ -62,6 +62,7 @@ impl<T: Body> Live<T> {
     pub fn finish<K: Hooks<T>>(self, hooks: &K) -> Cached<T>
         ensures ticket { cached_ticket result ≡ live_ticket self }
         ensures finished { T.life (cached_body result) ≡ after (Dtor (live_zone self)) (T.life (live_body self)) }
+        ensures left { K.leaves_dtor hooks.now (live_body self) (live_zone self) (cached_body result) }
     {
         let Live { mut body, ticket } = self;
         hooks.dtor(ticket.zone(), &mut body);

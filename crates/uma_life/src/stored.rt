@@ -80,6 +80,7 @@ impl<T: Body> Stored<T> {
         ensures domain { IfOk result (λ item. stored_domain item ≡ domain) }
         ensures brought { IfOk result (λ item. T.life (stored_body item) ≡ after KegInit (raw_life no)) }
         ensures accepted { IfOk result (λ _. (raw : T) × (T.life raw ≡ raw_life no) × (K.refuses_init hooks.now raw 0 ≡ None)) }
+        ensures left { IfOk result (λ item. (raw : T) × (T.life raw ≡ raw_life no) × K.makes hooks.now no raw × (K.refuses_init hooks.now raw 0 ≡ None) × K.leaves_init hooks.now raw 0 (stored_body item)) }
         ensures refused { IfErr result (RefusesToBring (λ code. (raw : T) × (T.life raw ≡ raw_life no) × (K.refuses_init hooks.now raw 0 ≡ Some code))) }
     {
         let mut body = hooks.raw(rt, alloc, no)?;
@@ -102,6 +103,7 @@ impl<T: Body> Stored<T> {
         ensures domain { IfOk result (λ item. ticket_domain (cached_ticket item) ≡ stored_domain self) }
         ensures primary { zone_of deed ≡ 0 → IsOkAnd result (λ item. cached_body item ≡ stored_body self) }
         ensures entered { zone_of deed ≢ 0 → IfOk result (λ item. T.life (cached_body item) ≡ after (ZoneInit (zone_of deed)) (T.life (stored_body self))) }
+        ensures left { zone_of deed ≢ 0 → IfOk result (λ item. K.leaves_init hooks.now (stored_body self) (zone_of deed) (cached_body item)) }
         ensures accepted { zone_of deed ≢ 0 → IfOk result (λ _. K.refuses_init hooks.now (stored_body self) (zone_of deed) ≡ None) }
         ensures refused { IfErr result (λ (item, back, code). (zone_of deed ≢ 0) × (K.refuses_init hooks.now (stored_body self) (zone_of deed) ≡ Some code) × IsCode code) }
         ensures unchanged { IfErr result (λ (item, back, code). (item ≡ self) × (back ≡ deed)) }
@@ -119,6 +121,7 @@ impl<T: Body> Stored<T> {
     /// Ends the item: it passes `keg_fini`, and its body is buried. Answers the tally of its whole life.
     pub fn end<K: Hooks<T>, R: Wait>(self, rt: &R, hooks: &K) -> Tally
         ensures finished { result ≡ (after KegFini (T.life (stored_body self))).tally }
+        ensures left { (gone : T) × K.leaves_fini hooks.now (stored_body self) 0 gone × (T.life gone ≡ after KegFini (T.life (stored_body self))) × (result ≡ (T.life gone).tally) }
         ensures whole { OnTrail Gone result }
     {
         let Stored {

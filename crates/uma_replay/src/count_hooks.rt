@@ -32,6 +32,17 @@ impl Hooks<Counted> for CountHooks {
 
     ghost refuses_ctor = { λ hooks body zone arg. refusal_of arg };
 
+    // A body's life says all of it.
+    ghost makes = { λ hooks number body. Unit {0} };
+
+    ghost leaves_init = { λ hooks body zone left. Unit {0} };
+
+    ghost leaves_ctor = { λ hooks body zone arg left. Unit {0} };
+
+    ghost leaves_dtor = { λ hooks body zone left. Unit {0} };
+
+    ghost leaves_fini = { λ hooks body zone left. Unit {0} };
+
     fn raw<R: Wait>(&self, _rt: &R, _alloc: Global, no: u32) -> Result<Counted, Memory> {
         let counts = ZoneTally {
             inits: 0,

@@ -48,6 +48,17 @@ impl Hooks<Plain> for PlainHooks {
 
     ghost refuses_ctor = { λ hooks body zone arg. None };
 
+    // A body's life says all of it.
+    ghost makes = { λ hooks number body. Unit {0} };
+
+    ghost leaves_init = { λ hooks body zone left. Unit {0} };
+
+    ghost leaves_ctor = { λ hooks body zone arg left. Unit {0} };
+
+    ghost leaves_dtor = { λ hooks body zone left. Unit {0} };
+
+    ghost leaves_fini = { λ hooks body zone left. Unit {0} };
+
     fn raw<R: Wait>(&self, _rt: &R, _alloc: Global, no: u32) -> Result<Plain, Memory> {
         let counts = ZoneTally {
             inits: 0,

@@ -5,12 +5,13 @@ use std::alloc::Global;
 use std::sync::Wait;
 use uma_life::{Body, BodyPhase, Hooks, Memory, Tally, ZoneTally};
 
-/// A body of its number, phase and tally alone.
+/// A body of its number, phase and tally, and the mark of the hooks that ran `fini` on it last, 0 at first.
 #[derive(Drop)]
 pub struct Plain {
     pub no: u32,
     pub phase: BodyPhase,
     pub tally: Tally,
+    pub mark: u8,
 }
 
 impl Body for Plain {
@@ -29,7 +30,7 @@ impl Body for Plain {
     }
 }
 
-/// Hooks that refuse nothing.
+/// Hooks that refuse nothing, and leave no mark.
 #[derive(Drop)]
 pub struct PlainHooks;
 
@@ -48,6 +49,16 @@ impl Hooks<Plain> for PlainHooks {
 
     ghost refuses_ctor = { λ hooks body zone arg. None };
 
+    ghost makes = { λ hooks number body. body.mark ≡ 0 };
+
+    ghost leaves_init = { λ hooks body zone left. left.mark ≡ body.mark };
+
+    ghost leaves_ctor = { λ hooks body zone arg left. left.mark ≡ body.mark };
+
+    ghost leaves_dtor = { λ hooks body zone left. left.mark ≡ body.mark };
+
+    ghost leaves_fini = { λ hooks body zone left. left.mark ≡ body.mark };
+
     fn raw<R: Wait>(&self, _rt: &R, _alloc: Global, no: u32) -> Result<Plain, Memory> {
         let counts = ZoneTally {
             inits: 0,
@@ -64,6 +75,7 @@ impl Hooks<Plain> for PlainHooks {
             no,
             phase: BodyPhase::Raw,
             tally,
+            mark: 0,
         })
     }
 

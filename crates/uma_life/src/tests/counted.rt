@@ -32,18 +32,31 @@ impl Body for Counted {
 }
 
 /// Hooks that refuse `zone_init` of zone 6 with 6, `ctor` at the argument 7 with 7, and `keg_init`, where they are told
-/// to, with 9. They count burials.
+/// to, with 9. They count burials. Those that leave a mark put it into the word, but for `ctor`, which puts its argument.
 #[derive(Drop)]
 pub struct CountedHooks {
     pub refuses_keg_init: bool,
+    pub mark: u64,
     pub buried: AtomicU64,
 }
 
 impl CountedHooks {
-    /// Hooks that refuse every `keg_init`, or none.
+    /// Hooks that refuse every `keg_init`, or none, with the mark 0.
     pub fn new(refuses_keg_init: bool) -> CountedHooks {
         CountedHooks {
             refuses_keg_init,
+            mark: 0,
+            buried: AtomicU64::new(0),
+        }
+    }
+
+    /// Hooks that refuse no `keg_init`, with this mark.
+    pub fn marking(mark: u64) -> CountedHooks
+        ensures { result.mark ≡ mark }
+    {
+        CountedHooks {
+            refuses_keg_init: false,
+            mark,
             buried: AtomicU64::new(0),
         }
     }
@@ -69,6 +82,16 @@ impl Hooks<Counted> for CountedHooks {
 
     ghost refuses_ctor = { λ hooks body zone arg. cond (arg == 7) (Some 7) None };
 
+    ghost makes = { λ hooks number body. body.word ≡ 0 };
+
+    ghost leaves_init = { λ hooks body zone left. left.word ≡ hooks.mark };
+
+    ghost leaves_ctor = { λ hooks body zone arg left. left.word ≡ arg };
+
+    ghost leaves_dtor = { λ hooks body zone left. left.word ≡ hooks.mark };
+
+    ghost leaves_fini = { λ hooks body zone left. left.word ≡ hooks.mark };
+
     fn raw<R: Wait>(&self, _rt: &R, _alloc: Global, no: u32) -> Result<Counted, Memory> {
         let counts = ZoneTally {
             inits: 0,
@@ -93,6 +116,7 @@ impl Hooks<Counted> for CountedHooks {
         if self.refuses_keg_init {
             return Err(9);
         }
+        body.word = self.mark;
         body.phase = BodyPhase::Kept;
         body.tally.keg_inits = body.tally.keg_inits.wrapping_add(1);
         Ok(())
@@ -102,6 +126,7 @@ impl Hooks<Counted> for CountedHooks {
         if zone == 6 {
             return Err(6);
         }
+        body.word = self.mark;
         body.phase = BodyPhase::Zoned { zone };
         let counts = &mut body.tally.zones[zone as usize];
         counts.inits = counts.inits.wrapping_add(1);
@@ -112,6 +137,7 @@ impl Hooks<Counted> for CountedHooks {
         if arg == 7 {
             return Err(7);
         }
+        body.word = arg;
         body.phase = BodyPhase::Built { zone };
         let counts = &mut body.tally.zones[zone as usize];
         counts.ctors = counts.ctors.wrapping_add(1);
@@ -119,18 +145,21 @@ impl Hooks<Counted> for CountedHooks {
     }
 
     fn dtor(&self, zone: u8, body: &mut Counted) {
+        body.word = self.mark;
         body.phase = unbuilt(zone);
         let counts = &mut body.tally.zones[zone as usize];
         counts.dtors = counts.dtors.wrapping_add(1);
     }
 
     fn zone_fini(&self, zone: u8, body: &mut Counted) {
+        body.word = self.mark;
         body.phase = BodyPhase::Kept;
         let counts = &mut body.tally.zones[zone as usize];
         counts.finis = counts.finis.wrapping_add(1);
     }
 
     fn keg_fini(&self, body: &mut Counted) {
+        body.word = self.mark;
         body.phase = BodyPhase::Gone;
         body.tally.keg_finis = body.tally.keg_finis.wrapping_add(1);
     }

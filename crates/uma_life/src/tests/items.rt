@@ -1,8 +1,10 @@
-ghost use Rattle.std.specs.Prelude.{◌≡◌};
+ghost use Rattle.std.specs.Prelude.{◌≡◌, ◌≢◌, IfOk};
+ghost use Rattle.uma_life.specs.Cached.{cached_body, cached_zone};
 ghost use Rattle.uma_life.specs.Live.{live_no, live_ticket};
+ghost use Rattle.uma_life.specs.Stored.{stored_body};
 
 use crate::tests::counted::{Counted, CountedHooks};
-use crate::{BringRefused, Live, Lives, Stored, Ticket, ZoneTally};
+use crate::{BringRefused, Cached, Live, Lives, Stored, Ticket, ZoneTally};
 use deed_book::Book;
 use std::test::Fail;
 use std::thread::{Threads, join};
@@ -42,6 +44,8 @@ fn a_body_that_keg_init_refuses_is_buried(rt: HostRuntime) -> Result<(), Fail> {
     let hooks = CountedHooks::new(true);
     let refused = Stored::<Counted>::bring(&rt, rt.alloc(), &hooks, 5, 0).err();
     assert!(rt; refused == Some(BringRefused::Init { code: 9 }));
+    let text = format!(in rt.alloc(); "{}", BringRefused::Init { code: 9 })?;
+    assert_eq!(rt; text.as_str(), "keg_init refused the item with code 9");
     assert!(rt; hooks.buried() == 1);
     Ok(())
 }
@@ -109,4 +113,37 @@ fn remade(ticket: Ticket) -> Ticket
 {
     let (deed, domain) = ticket.into_deed();
     Ticket::of(deed, domain)
+}
+
+// What an item's own hooks put into its word comes out of each step: the argument by `ctor`, their mark by `dtor`.
+fn used(hooks: &CountedHooks, item: Cached<Counted>, arg: u64) -> Result<Cached<Counted>, u8>
+    ensures { IfOk result (λ item. (cached_body item).word ≡ hooks.now.mark) }
+{
+    match item.build(hooks, arg) {
+        Ok(live) => Ok(live.finish(hooks)),
+        Err((_item, code)) => Err(code),
+    }
+}
+
+// And their mark by `zone_fini`, in a secondary zone.
+fn home(hooks: &CountedHooks, item: Cached<Counted>) -> Stored<Counted>
+    ensures { cached_zone item ≢ 0 → (stored_body result).word ≡ hooks.now.mark }
+{
+    item.give_back(hooks).0
+}
+
+#[test]
+fn a_body_is_as_the_hooks_left_it_that_ran(rt: HostRuntime) -> Result<(), Fail> {
+    let (keg, zone) = (CountedHooks::marking(10), CountedHooks::marking(20));
+    let mut book = Book::new(rt.alloc(), 8)?;
+    let stored = Stored::bring(&rt, rt.alloc(), &keg, 5, 0)?;
+    assert!(rt; stored.body().word == 10);
+    let Ok(cached) = stored.lend(&zone, book.issue(5, 1)) else {
+        panic!(rt; "zone_init refused")
+    };
+    assert!(rt; cached.body().word == 20);
+    let cached = used(&keg, cached, 30)?;
+    assert!(rt; cached.body().word == 10);
+    assert!(rt; home(&zone, cached).body().word == 20);
+    Ok(())
 }

@@ -84,7 +84,7 @@ returns-in-Ok-clause-takes g c =
     (ap no_of lent.deed ∙ c.issue-deed.ensures.deed.0) takes counts
     (ap zone_of lent.deed ∙ c.issue-deed.ensures.deed.1) (ap deed_table lent.deed ∙ c.issue-deed.ensures.deed_table)
     (free_domain keg.places _ keg.shelves no c.unwrap-item.result keg.places_law takes.free stands ∙ ap Some (sym lent.domain))
-    stands c.issue-deed.ensures.deed.1 (record { primary = lent.primary; entered = lent.entered; accepted = lent.accepted })
+    stands c.issue-deed.ensures.deed.1 (record { primary = lent.primary; entered = lent.entered; left = lent.left; accepted = lent.accepted })
     c.issue-deed.ensures.zones (free_home keg.places_law no below takes.free) taken.gone taken.others
 
 pub returns-in-Err-clause-keeps : goal.returns-in-Err-clause-keeps

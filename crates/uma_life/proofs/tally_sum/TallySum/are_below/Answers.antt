@@ -1,4 +1,4 @@
-use Rattle.std.proofs.Common.{◌≡◌, ◌<◌, true, false, arith, rules}
+use Rattle.std.proofs.Common.{arith}
 use Rattle.std.proofs.lemmas.Bool.Decides.{nat_tests}
 use Rattle.uma_life.specs.Hook.{KegInit, KegFini}
 use Rattle.uma_life.proofs.Sums.{zones_below, sums_below}
