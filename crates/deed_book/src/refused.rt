@@ -1,4 +1,6 @@
 use std::alloc::AllocError;
+use std::error::Error;
+use std::fmt;
 
 /// Why a book wasn't made.
 #[derive(Clone, Copy, Debug, PartialEq, Eq)]
@@ -11,6 +13,27 @@ pub enum BookRefused {
 /// There was no memory.
 #[derive(Clone, Copy, Debug, PartialEq, Eq)]
 pub struct Memory;
+
+impl fmt::Display for BookRefused {
+    fn fmt<W: fmt::Write>(&self, f: &mut fmt::Formatter<W>) -> fmt::Result {
+        match self {
+            BookRefused::Numbers { numbers } => {
+                write!(f, "a book of {numbers} numbers: it has 1 to 262144")
+            }
+            BookRefused::Memory => write!(f, "out of memory"),
+        }
+    }
+}
+
+impl Error for BookRefused {}
+
+impl fmt::Display for Memory {
+    fn fmt<W: fmt::Write>(&self, f: &mut fmt::Formatter<W>) -> fmt::Result {
+        write!(f, "out of memory")
+    }
+}
+
+impl Error for Memory {}
 
 impl From<AllocError> for BookRefused {
     ghost use Rattle.std.specs.Prelude.{◌≡◌};

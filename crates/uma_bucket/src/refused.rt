@@ -1,4 +1,6 @@
 use std::alloc::AllocError;
+use std::error::Error;
+use std::fmt;
 
 /// Why a bucket wasn't made.
 #[derive(Clone, Copy, Debug, PartialEq, Eq)]
@@ -7,6 +9,17 @@ pub enum BucketRefused {
     Size { size: u32 },
     Memory,
 }
+
+impl fmt::Display for BucketRefused {
+    fn fmt<W: fmt::Write>(&self, f: &mut fmt::Formatter<W>) -> fmt::Result {
+        match self {
+            BucketRefused::Size { size } => write!(f, "a bucket of {size} items: it has 4 to 64"),
+            BucketRefused::Memory => write!(f, "out of memory"),
+        }
+    }
+}
+
+impl Error for BucketRefused {}
 
 impl From<AllocError> for BucketRefused {
     ghost use Rattle.std.specs.Prelude.{◌≡◌};

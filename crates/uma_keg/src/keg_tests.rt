@@ -10,4 +10,5 @@ mod giving;
 mod lent;
 mod refusing;
 mod slabs;
+mod texts;
 mod zones;

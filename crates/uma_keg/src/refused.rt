@@ -3,6 +3,8 @@ ghost use Rattle.uma_keg.specs.declared.refused.KegRefused.TheVariants.{Memory};
 
 use deed_book::Memory;
 use std::alloc::AllocError;
+use std::error::Error;
+use std::fmt;
 
 /// Why no keg was made.
 #[derive(Clone, Copy, Debug, PartialEq, Eq)]
@@ -14,6 +16,18 @@ pub enum KegRefused {
     /// Memory is wanting.
     Memory,
 }
+
+impl fmt::Display for KegRefused {
+    fn fmt<W: fmt::Write>(&self, f: &mut fmt::Formatter<W>) -> fmt::Result {
+        match self {
+            KegRefused::Size { size } => write!(f, "an item of {size} bytes: it has 8 to 4096"),
+            KegRefused::Slabs { slabs } => write!(f, "a keg of {slabs} slabs: it has 1 to 1024"),
+            KegRefused::Memory => write!(f, "out of memory"),
+        }
+    }
+}
+
+impl Error for KegRefused {}
 
 impl From<AllocError> for KegRefused {
     ghost from_gives = { λ _ refused. refused ≡ Memory };

@@ -1,4 +1,6 @@
 use deed_book::Memory;
+use std::error::Error;
+use std::fmt;
 
 /// Why an item wasn't brought in.
 #[derive(Clone, Copy, Debug, PartialEq, Eq)]
@@ -7,6 +9,17 @@ pub enum BringRefused {
     Init { code: u8 },
     Memory,
 }
+
+impl fmt::Display for BringRefused {
+    fn fmt<W: fmt::Write>(&self, f: &mut fmt::Formatter<W>) -> fmt::Result {
+        match self {
+            BringRefused::Init { code } => write!(f, "keg_init refused the item with code {code}"),
+            BringRefused::Memory => write!(f, "out of memory"),
+        }
+    }
+}
+
+impl Error for BringRefused {}
 
 impl From<Memory> for BringRefused {
     ghost use Rattle.std.specs.Prelude.{◌≡◌};

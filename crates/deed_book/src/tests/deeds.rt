@@ -22,6 +22,13 @@ fn a_book_has_1_to_262144_numbers(rt: HostRuntime) -> Result<(), Fail> {
 }
 
 #[test]
+fn a_refusal_says_how_many_numbers_were_asked_for(rt: HostRuntime) -> Result<(), Fail> {
+    let text = format!(in rt.alloc(); "{}", BookRefused::Numbers { numbers: 0 })?;
+    assert_eq!(rt; text.as_str(), "a book of 0 numbers: it has 1 to 262144");
+    Ok(())
+}
+
+#[test]
 fn a_number_is_outside_until_its_deed_is_accepted(rt: HostRuntime) -> Result<(), Fail> {
     let mut book = Book::new(rt.alloc(), 8)?;
     let deed = book.issue(5, 2);

@@ -15,6 +15,8 @@ fn a_bucket_has_4_to_64_places(rt: HostRuntime) -> Result<(), Fail> {
         let refused = Bucket::<Plain>::make(rt.alloc(), size).err();
         assert_eq!(rt; refused, Some(BucketRefused::Size { size }));
     }
+    let text = format!(in rt.alloc(); "{}", BucketRefused::Size { size: 65 })?;
+    assert_eq!(rt; text.as_str(), "a bucket of 65 items: it has 4 to 64");
     for size in [4, 5, 63, 64] {
         let bucket = Bucket::<Plain>::make(rt.alloc(), size)?;
         assert_eq!(rt; (bucket.size(), bucket.len()), (size, 0));
