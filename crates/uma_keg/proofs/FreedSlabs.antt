@@ -6,8 +6,9 @@ use Rattle.uma_keg.specs.declared.keg.Keg.{Keg}
 use Rattle.uma_keg.specs.Places.{KegPlaces, domain_at, IsIn, IsFree, IsSound, CountsOneSlab}
 use Rattle.uma_keg.specs.Dropping.{IsWhollyFree, Drops}
 use Rattle.uma_keg.specs.Tallies.{sum_below}
-use Rattle.uma_keg.specs.Keg.{places_in, stored_in, IsSameKeg}
+use Rattle.uma_keg.specs.Keg.{places_in, stored_in, hooks_in, IsSameKeg}
 use Rattle.uma_keg.specs.FreeSlabs.{Goes, DropsFrom, CountsFewer, BuriesGone, FreesSlabs, FreesSlab, times_gone}
+use Rattle.uma_keg.proofs.EndedItems.{ended_before}
 use Rattle.uma_keg.proofs.GoneSums.{sum_below-add, same_sums, gone_twice}
 
 no_some : {X : Type 0} (o : Option X) → o ≡ None → IsSome o → ⊥
@@ -130,6 +131,7 @@ frees_none keg sound = record {
   places = drops_none (places_in keg) sound;
   counts = record { slabs = omega arith; free = omega arith; out = refl };
   gone = λ n goes. absurd (none_goes (places_in keg) (n / (places_in keg).per_slab) sound goes);
+  ended = λ n goes. absurd (none_goes (places_in keg) (n / (places_in keg).per_slab) sound goes);
   others = λ n no. refl;
   buried = λ hook. omega (arith, same_sums hook (stored_in keg) ((places_in keg).cap * (places_in keg).per_slab));
 }
@@ -156,8 +158,8 @@ buries_more {T} {K} {g} {h} old mid new count index leaves before one hook =
     omega (arith, before.buried hook, one.buried hook, ap (sum_below (λ n. times_gone hook (stored_in mid n) (stored_in new n))) size, both)
 
 -- one slab more
-pub frees_more : {T K : Type 0} {g : _} {h : _} (old mid new : Keg T K g h) (count index : ℕ) → Leaves old mid → FreesSlabs old count mid → FreesSlab mid index new → FreesSlabs old (count + 1) new
-frees_more old mid new count index leaves before one =
+pub frees_more : {T K : Type 0} {g : _} {h : _} (old mid new : Keg T K g h) (count index : ℕ) → hooks_in mid ≡ hooks_in old → Leaves old mid → FreesSlabs old count mid → FreesSlab mid index new → FreesSlabs old (count + 1) new
+frees_more old mid new count index hooks leaves before one =
     record {
       from = index;
       places = drops_more (places_in old) (places_in mid) (places_in new) before.from index before.places one.places;
@@ -167,6 +169,15 @@ frees_more old mid new count index leaves before one =
         | inr other ↦ elim (gone_or_before (places_in old) (places_in mid) (places_in new) before.from index (n / (places_in old).per_slab) before.places one.places goes) [
           | inl at ↦ absurd (other at)
           | inr went ↦ one.others n (slab_then n (places_in old).per_slab (places_in mid).per_slab before.places.per_slab index other) ∙ before.gone n went
+        ]
+      ];
+      ended = λ n goes. elim (cases_eq (n / (places_in old).per_slab) index) [
+        | inl at ↦
+            let lower : index < before.from = lower_index (places_in old) (places_in mid) before.from index before.places one.places.whole in
+            ended_before old mid (stored_in old n) (stored_in mid n) hooks (before.others n (λ went. omega (arith, went.above, at, lower))) (one.ended n (ap (λ p. n / p) before.places.per_slab ∙ at))
+        | inr other ↦ elim (gone_or_before (places_in old) (places_in mid) (places_in new) before.from index (n / (places_in old).per_slab) before.places one.places goes) [
+          | inl at ↦ absurd (other at)
+          | inr went ↦ before.ended n went
         ]
       ];
       others = λ n stays. one.others n (slab_then n (places_in old).per_slab (places_in mid).per_slab before.places.per_slab index (not_this (places_in old) (places_in mid) (places_in new) before.from index (n / (places_in old).per_slab) before.places one.places stays)) ∙ before.others n (not_before (places_in old) (places_in mid) (places_in new) before.from index (n / (places_in old).per_slab) before.places one.places stays);

@@ -25,6 +25,7 @@ mod TallyLaws
 mod NextSlab
 mod RefusedSlab
 mod GoneSums
+mod EndedItems
 mod FreedSlab
 mod FreedSlabs
 mod TakenIn

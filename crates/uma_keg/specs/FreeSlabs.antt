@@ -7,7 +7,8 @@ use Rattle.uma_keg.specs.declared.keg.Keg.{Keg}
 use Rattle.uma_keg.specs.Places.{KegPlaces, place_at, domain_at, slab_count, free_count, out_count, CountsOneSlab}
 use Rattle.uma_keg.specs.Dropping.{IsWhollyFree, IsWorn, HasNoneWhollyFree, Drops}
 use Rattle.uma_keg.specs.Tallies.{ended_times, sum_below}
-use Rattle.uma_keg.specs.Keg.{places_in, stored_in, buried_in, reserve_in}
+use Rattle.uma_keg.specs.Ended.{IsEndedAt}
+use Rattle.uma_keg.specs.Keg.{places_in, stored_in, hooks_in, buried_in, reserve_in}
 
 -- the slab of this index is wholly free, and its index is at least the one that the giving up went down to
 pub record Goes (old : KegPlaces) (from index : ℕ) : Type 0 where
@@ -40,12 +41,17 @@ abbrev pub BuriesGone : {T K : Type 0} {g : _} {h : _} → Keg T K g h → Keg T
 BuriesGone old new =
     (hook : Hook) → sum_of (buried_in new) hook ≡ sum_of (buried_in old) hook + sum_below (λ n. times_gone hook (stored_in old n) (stored_in new n)) ((places_in old).cap * (places_in old).per_slab)
 
+-- what keg_fini of the keg's own hooks leaves of a body
+abbrev pub FiniLeaves : {T K : Type 0} {g : _} {h : _} → Keg T K g h → T → T → Type 0
+FiniLeaves {T} {K} {g} {h} keg body gone = h.leaves_fini (hooks_in keg) body 0 gone
+
 -- So many slabs were given up: the wholly free ones from one index on. Their items were ended, and each other item is where it was.
 pub record FreesSlabs {T K : Type 0} {g : _} {h : _} (old : Keg T K g h) (count : ℕ) (new : Keg T K g h) : Type 0 where
   pub from : ℕ
   pub places : DropsFrom (places_in old) from (places_in new)
   pub counts : CountsFewer (places_in old) count (places_in new)
   pub gone : (n : ℕ) → Goes (places_in old) from (n / (places_in old).per_slab) → stored_in new n ≡ None
+  pub ended : (n : ℕ) → Goes (places_in old) from (n / (places_in old).per_slab) → IsEndedAt (FiniLeaves old) (stored_in old n)
   pub others : (n : ℕ) → (Goes (places_in old) from (n / (places_in old).per_slab) → ⊥) → stored_in new n ≡ stored_in old n
   pub buried : BuriesGone old new
 
@@ -58,5 +64,6 @@ pub record FreesSlab {T K : Type 0} {g : _} {h : _} (old : Keg T K g h) (index :
   pub places : Drops (places_in old) index (places_in new)
   pub counts : CountsOneSlab (places_in new) (places_in old)
   pub gone : (n : ℕ) → n / (places_in old).per_slab ≡ index → stored_in new n ≡ None
+  pub ended : (n : ℕ) → n / (places_in old).per_slab ≡ index → IsEndedAt (FiniLeaves old) (stored_in old n)
   pub others : (n : ℕ) → n / (places_in old).per_slab ≢ index → stored_in new n ≡ stored_in old n
   pub buried : BuriesGone old new

@@ -13,6 +13,7 @@ pub mod KegLaw
 pub mod Keg
 pub mod Fetch
 pub mod Tallies
+pub mod Ended
 pub mod NewItems
 pub mod BringSlab
 pub mod FreeSlabs

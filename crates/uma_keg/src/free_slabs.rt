@@ -13,7 +13,7 @@ impl<T: Body, K: Hooks<T>> Keg<T, K> {
     /// Gives up wholly free slabs, the greatest index first, and answers how many. It goes on while one is left and as
     /// many free items stay as the reserve has.
     ///
-    /// Their items pass `keg_fini` and are buried. None is given up where more than `2^40 - cap` slabs were ever brought
+    /// Their items pass `keg_fini` of the keg's own hooks and are buried. None is given up where more than `2^40 - cap` slabs were ever brought
     /// in. It waits for `bury` alone.
     pub fn free_slabs<R: Wait>(&mut self, rt: &R) -> u32
         ensures freed { FreesSlabs self.old result self.new }

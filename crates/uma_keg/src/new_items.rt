@@ -1,10 +1,11 @@
-ghost use Rattle.std.specs.Prelude.{◌≡◌, ◌≤◌, ◌<◌, ◌+◌, ◌*◌, ◌^◌, ℕ, None, Some, IfOk, IfErr, OnOk, length, sum_by, vec_len};
+ghost use Rattle.std.specs.Prelude.{◌≡◌, ◌≤◌, ◌<◌, ◌+◌, ◌*◌, ◌^◌, ℕ, None, Some, IfOk, IfErr, OnOk, All, length, sum_by, vec_len};
 ghost use Rattle.uma_life.specs.Hook.{Hook, IsCode};
 ghost use Rattle.uma_life.specs.Life.{raw_life};
 ghost use Rattle.uma_life.specs.Sum.{sum_of, AreBelow};
 ghost use Rattle.uma_life.specs.Bring.{RefusesToBring};
 ghost use Rattle.uma_keg.specs.Shelf.{shelf_items};
 ghost use Rattle.uma_keg.specs.Tallies.{ended_times};
+ghost use Rattle.uma_keg.specs.Ended.{IsEndedAt};
 ghost use Rattle.uma_keg.specs.NewItems.{AreNewItems, RefusesItems};
 
 use crate::shelf::Shelf;
@@ -48,6 +49,7 @@ impl<T: Body> Shelf<T> {
         requires room { AreBelow (2 ^ 126) buried.old }
         ensures sums { (hook : Hook) → sum_of buried.new hook ≡ sum_of buried.old hook + sum_by (ended_times hook) (shelf_items self) }
         ensures counts { (hook : Hook) → sum_by (ended_times hook) (shelf_items self) ≤ length (shelf_items self) * 2 ^ 64 }
+        ensures ended { All (IsEndedAt (λ body gone. K.leaves_fini hooks.now body 0 gone)) (shelf_items self) }
     {
         let Shelf { places } = self;
         end_all(rt, hooks, places, buried);
@@ -96,6 +98,7 @@ pub(crate) fn end_all<T: Body, K: Hooks<T>, R: Wait>(
     requires room { AreBelow (2 ^ 126) buried.old }
     ensures sums { (hook : Hook) → sum_of buried.new hook ≡ sum_of buried.old hook + sum_by (ended_times hook) places.items }
     ensures counts { (hook : Hook) → sum_by (ended_times hook) places.items ≤ vec_len places * 2 ^ 64 }
+    ensures ended { All (IsEndedAt (λ body gone. K.leaves_fini hooks.now body 0 gone)) places.items }
 {
     while let Some(place) = places.pop() {
         end_one(rt, hooks, place, buried);
@@ -113,6 +116,7 @@ fn end_one<T: Body, K: Hooks<T>, R: Wait>(
     requires { AreBelow (2 ^ 127) buried.old }
     ensures sums { (hook : Hook) → sum_of buried.new hook ≡ sum_of buried.old hook + ended_times hook place }
     ensures counts { (hook : Hook) → ended_times hook place < 2 ^ 64 }
+    ensures ended { IsEndedAt (λ body gone. K.leaves_fini hooks.now body 0 gone) place }
 {
     match place {
         Some(item) => buried.add(item.end(rt, hooks)),

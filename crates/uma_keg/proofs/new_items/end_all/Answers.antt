@@ -1,6 +1,17 @@
 use Rattle.std.proofs.Common.{◌≡◌, [], sum_by, ap, arith, rules}
+use Rattle.std.proofs.lemmas.Grind.{common_steps}
 use Rattle.uma_keg.specs.Tallies.{ended_times}
+use Rattle.uma_keg.proofs.EndedItems.{ended_with}
 use Rattle.uma_keg.proofs.new_items.end_all.Goals as goal
+
+pub loop-place-preserved : goal.loop-place-preserved
+loop-place-preserved g c =
+    record {
+      sums = λ hook. grind (arith, common_steps);
+      counts = λ hook. grind (arith, common_steps);
+      ended = λ rest. c.loop-place.invariant.ended (ended_with (λ body gone. g.K.Hooks.leaves_fini c.args.hooks.now body 0 gone) c.loop-place.places.items c.pop.new.self.items c.in-Some.place c.in-Some.ensures.items c.end_one.ensures.ended rest);
+      room = λ hook. grind (arith, common_steps);
+    }
 
 pub returns-clause-counts : goal.returns-clause-counts
 returns-clause-counts g c hook =

@@ -1,4 +1,5 @@
-use Rattle.std.proofs.Common.{◌≡◌, ◌≤◌, ◌+◌, ◌/◌, ◌%◌, ℕ, sum_by, length, sym, ap, subst, arith, ◌∙◌}
+use Rattle.std.proofs.Common.{◌≡◌, ◌≤◌, ◌+◌, ◌/◌, ◌%◌, ℕ, None, sum_by, length, sym, ap, subst, arith, ◌∙◌}
+use Rattle.std.proofs.Math.Nat.{mod-lt}
 use Rattle.uma_life.specs.Sum.{sum_of}
 use Rattle.uma_keg.specs.Shelf.{shelf_items}
 use Rattle.uma_keg.specs.ShelfLists.{item_on}
@@ -8,6 +9,8 @@ use Rattle.uma_keg.specs.Keg.{zones_in}
 use Rattle.uma_keg.specs.Shelves.{item_at}
 use Rattle.uma_keg.specs.Tallies.{ended_times, TallyLaw}
 use Rattle.uma_keg.proofs.FreedSlab.{PlacesLaw-dropped, TallyLaw-dropped}
+use Rattle.uma_keg.specs.FreeSlabs.{FiniLeaves}
+use Rattle.uma_keg.proofs.EndedItems.{ended_at}
 use Rattle.uma_keg.proofs.GoneSums.{slab_gone}
 use Rattle.uma_keg.proofs.PairedSums.{paired_gone}
 use Rattle.uma_keg.proofs.TallyLaws.{buried_below}
@@ -64,6 +67,10 @@ returns-clause-freed g c =
       places = drops;
       counts = c.in_ok-index.ensures.counts;
       gone = λ n at. removed.gone n (ap (λ p. n / p) each ∙ at);
+      ended = λ n at.
+          ended_at (FiniLeaves keg) (item_at keg.shelves n) (item_on (n % keg.places.per_slab) c.remove-shelf.result)
+          (removed.items n (ap (λ p. n / p) each ∙ at) ∙ ap (λ q. item_on (n % q) c.remove-shelf.result) each)
+          (c.end.ensures.ended (n % keg.places.per_slab) None (omega (arith, len, mod-lt n some)));
       others = λ n other. removed.others n (rw each other);
       buried = λ hook.
           c.end.ensures.sums hook

@@ -29,7 +29,7 @@ loop-self-preserved g c =
     let before = c.loop-self.invariant in
     let one = c.in-Some.ensures in
     record {
-      freed = frees_more old mid new c.loop-self.count c.in-Some.field-0 before.leaves before.freed one.freed;
+      freed = frees_more old mid new c.loop-self.count c.in-Some.field-0 before.same.hooks before.leaves before.freed one.freed;
       leaves = leaves_more old mid new c.in-Some.field-0 before.leaves one.freed;
       reserve = λ some. let spare : reserve_in mid + c.counts-per_slab.result.per_slab ≤ free_count (places_in mid) = c.can_spare.ensures.0 c.loop-self-test.true in omega (arith, spare, one.freed.counts.free, one.freed.places.per_slab, before.same.reserve, before.same.per_slab, c.counts-per_slab.ensures.per_slab);
       unworn = λ some worn. absurd (cc (one.none_exactly.1 (inl (omega (arith, worn, before.freed.places.cap, before.freed.places.made)))));
