@@ -4,11 +4,12 @@ ghost use Rattle.smr_core.specs.CoreStep.{IsStep, Refuses};
 ghost use Rattle.smr_core.specs.Works.{state_of};
 ghost use Rattle.smr_core.specs.declared.step.Step.{Step};
 
-use crate::holder::{exchanged, is_spent};
+use crate::hands::{exchanged, is_spent};
+use crate::places::{READ_PLACE, WRITE_PLACE};
 use crate::seen::Seen;
 use crate::step_refused::StepRefused;
 use crate::task::Task;
-use crate::works::{READ_PLACE, WRITE_PLACE, Works};
+use crate::works::Works;
 
 /// The steps of an advance.
 impl Works {

@@ -6,10 +6,11 @@ ghost use Rattle.smr_core.specs.Making.{RefusesNumbers};
 
 use crate::about::About;
 use crate::core_refused::CoreRefused;
+use crate::places::{READ_PLACE, WRITE_PLACE, seat_place};
 use crate::seen::Seen;
 use crate::step::Step;
 use crate::step_refused::StepRefused;
-use crate::works::{READ_PLACE, WRITE_PLACE, Works, seat_place};
+use crate::works::Works;
 use std::alloc::Global;
 use std::marker::Model;
 

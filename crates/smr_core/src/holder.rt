@@ -4,6 +4,7 @@ ghost use Rattle.smr_core.specs.ClockStep as clock;
 ghost use Rattle.smr_core.specs.CoreStep.{IsIdleWorker, IsIdleNote, MayPoll};
 
 use crate::about::About;
+use crate::hands::{exchanged, is_overtaken, is_spent, is_too_far, least_after};
 use crate::phase::Phase;
 use crate::task::Task;
 use smr_seq::Seq;
@@ -134,7 +135,7 @@ impl Holder {
     pub fn is_overtaken(&self, about: About, found: u64) -> bool
         ensures { result ≡ clock.is_overtaken about self.now.loaded found }
     {
-        about.window <= found.saturating_sub(self.loaded)
+        is_overtaken(about, self.loaded, found)
     }
 
     /// After the third step of an enter: own.
@@ -178,7 +179,7 @@ impl Holder {
         requires { found < 2 ^ 63 }
         ensures { result ≡ clock.is_too_far about self.now.read found }
     {
-        about.window < (found + 2).saturating_sub(self.read)
+        is_too_far(about, self.read, found)
     }
 
     /// After an advance's load of the write hand, which ends it where there is no room for two more.
@@ -251,18 +252,11 @@ impl Holder {
         }
     }
 
-    /// The least mark after a seat's word was loaded. An enter that is older than the poll's read
-    /// hand counts as one at the read hand; a word of 0 or without a reading counts for nothing.
+    /// The least mark after a seat's word was loaded.
     pub fn least_after(&self, word: u32) -> u64
         ensures { result ≡ clock.least_after self.now.read self.now.write self.now.least word }
     {
-        if word == 0 {
-            return self.least;
-        }
-        match (Seq { raw: word }).read(self.write) {
-            Some(entered) => self.least.min(entered.max(self.read)),
-            None => self.least,
-        }
+        least_after(self.read, self.write, self.least, word)
     }
 
     /// After a poll's load of a seat's word.
@@ -317,19 +311,4 @@ impl Holder {
             ..self
         }
     }
-}
-
-/// Whether two more than this write hand would be past the end of its range: own.
-pub fn is_spent(write: u64) -> bool
-    requires { write < 2 ^ 63 }
-    ensures { result ≡ clock.is_spent write }
-{
-    write + 2 >= 1 << 63
-}
-
-/// A word after a compare-exchange that found this.
-pub fn exchanged(old: u64, new: u64, found: u64) -> u64
-    ensures { result ≡ clock.exchanged old new found }
-{
-    if found == old { new } else { found }
 }

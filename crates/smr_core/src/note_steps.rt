@@ -6,9 +6,10 @@ ghost use Rattle.smr_core.specs.declared.step.Step.{Step};
 
 use crate::actor::Actor;
 use crate::holder::Holder;
+use crate::places::WRITE_PLACE;
 use crate::seen::Seen;
 use crate::step_refused::StepRefused;
-use crate::works::{WRITE_PLACE, Works};
+use crate::works::Works;
 
 /// The most holders that a core may have.
 pub const MOST_HOLDERS: usize = 65_536;

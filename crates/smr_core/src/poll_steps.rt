@@ -5,10 +5,11 @@ ghost use Rattle.smr_core.specs.Works.{state_of};
 ghost use Rattle.smr_core.specs.declared.step.Step.{Step};
 
 use crate::actor::Actor;
+use crate::places::{READ_PLACE, WRITE_PLACE, seat_place};
 use crate::seen::Seen;
 use crate::step_refused::StepRefused;
 use crate::task::Task;
-use crate::works::{READ_PLACE, WRITE_PLACE, Works, seat_place};
+use crate::works::Works;
 use smr_seq::Seq;
 
 /// The steps of a poll.

@@ -5,9 +5,10 @@ ghost use Rattle.smr_core.specs.Works.{state_of};
 ghost use Rattle.smr_core.specs.declared.step.Step.{Step};
 
 use crate::phase::Phase;
+use crate::places::{WRITE_PLACE, seat_place};
 use crate::seen::Seen;
 use crate::step_refused::StepRefused;
-use crate::works::{WRITE_PLACE, Works, seat_place};
+use crate::works::Works;
 
 /// The steps of enter and exit.
 impl Works {

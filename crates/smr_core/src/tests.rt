@@ -6,6 +6,7 @@ use std::test::Fail;
 mod making;
 mod refusals;
 mod schedules;
+mod texts;
 mod turns;
 mod yes;
 

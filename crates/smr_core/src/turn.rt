@@ -1,6 +1,3 @@
-ghost use Rattle.std.specs.Prelude.{◌≡◌};
-ghost use Rattle.smr_core.specs.Turns.{first_step};
-
 use crate::step::Step;
 
 /// What a schedule does at once: a step, or a whole operation, which goes on until it ends.
@@ -15,18 +12,4 @@ pub enum Turn {
     /// The loads of both hands, and where the tag isn't known to be expired then, each seat's word
     /// and the exchange.
     Poll { seat: u32, tag: u32 },
-}
-
-impl Turn {
-    /// The step with which it begins.
-    pub fn first_step(self) -> Step
-        ensures { result ≡ first_step self }
-    {
-        match self {
-            Turn::One { step } => step,
-            Turn::Enter { seat } => Step::EnterLoad { seat },
-            Turn::Advance { seat } => Step::AdvanceRead { seat },
-            Turn::Poll { seat, tag } => Step::PollRead { seat, tag },
-        }
-    }
 }

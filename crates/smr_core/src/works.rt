@@ -5,35 +5,11 @@ ghost use Rattle.smr_core.specs.Works.{state_of};
 
 use crate::about::About;
 use crate::actor::Actor;
+use crate::places::opening_words;
 use crate::seen::Seen;
 use crate::step::Step;
 use crate::step_refused::StepRefused;
 use std::alloc::{AllocError, Global};
-
-/// Where the write hand is among the words.
-pub const WRITE_PLACE: usize = 0;
-
-/// Where the read hand is among the words.
-pub const READ_PLACE: usize = 1;
-
-/// Where the word of a seat is among the words.
-pub fn seat_place(seat: u32) -> usize
-    ensures { result ≡ 2 + seat }
-{
-    2 + seat as usize
-}
-
-/// The words before any step.
-#[tactic(auto, using(crate::proofs::OpeningLemmas::opening_words))]
-fn opening_words(alloc: Global, about: About) -> Result<Vec<u64>, AllocError>
-    requires { about.seats ≤ 64 }
-    ensures { IfOk result (λ words. words.items ≡ about.start ∷ about.start ∷ replicate about.seats 0) }
-{
-    let mut words = vec![in alloc; 0; seat_place(about.seats)]?;
-    words[WRITE_PLACE] = about.start;
-    words[READ_PLACE] = about.start;
-    Ok(words)
-}
 
 /// The actors before any step.
 #[tactic(auto, using(crate::proofs::OpeningLemmas::first_workers_more))]
