@@ -36,3 +36,11 @@ module _ (a : About) (ws : List ℕ) (hs : List Holder) (id : ℕ) (h : Holder) 
         not_lower = f.floor;
         in_exchange = λ e. (in_task a ws h task.Scanning f e).1;
       }
+
+  -- what a holder knows of the read hand is at most the write hand
+  pub above_read : ClockLaw a ws hs → get_elem? hs id ≡ some h → h.floor ≤ write_hand ws
+  above_read law at =
+      let f : HolderFits a ws h = law.holders id h at in
+      let order : read_hand ws ≤ write_hand ws = law.hands.in_order in
+      let floor : h.floor ≤ read_hand ws = f.floor in
+      omega arith

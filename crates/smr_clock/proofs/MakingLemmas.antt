@@ -1,14 +1,15 @@
 -- The workers of a clock are split off in order.
-use Rattle.std.proofs.Common.{◌≡◌, ℕ, List, [], ◌∷◌, ◌++◌, length, sym, ap, ◌∙◌, subst, ⊎_elim}
+use Rattle.std.proofs.Common.{◌≡◌, ℕ, zero, suc, ◌<◌, List, [], ◌∷◌, ◌++◌, length, sym, refl, ap, ◌∙◌, subst, ⊎_elim, arith, Some}
 use mathlib.Core.Option.{some, some-ne-none}
 use lib.ListN.{get_elem?}
 use Rattle.atomic_table.specs.Seated.{TableId}
-use Rattle.smr_core.proofs.PlaceLemmas.{at_push, at_end, at_longer}
+use Rattle.smr_core.proofs.PlaceLemmas.{at_push, at_end, at_longer, place_within}
 use Rattle.smr_clock.specs.declared.setup.Setup.{Setup}
+use Rattle.smr_clock.specs.declared.view.View.{View}
 use Rattle.smr_clock.specs.declared.host.Host.{Ghosts}
 use Rattle.smr_clock.specs.declared.pass.Pass.{Pass}
-use Rattle.smr_clock.specs.Belongs.{view}
-use Rattle.smr_clock.specs.Making.{fresh_view, AreSplitOff}
+use Rattle.smr_clock.specs.Belongs.{view, holder}
+use Rattle.smr_clock.specs.Making.{fresh_view, AreSplitOff, OneForEachSeat}
 
 module _ {H P : Type 0} {g : Ghosts H P} (table : TableId) (copied : P → P) (a : Setup) (first : P) where
   pub none_yet : AreSplitOff {H = H} {P = P} {g = g} table copied a first []
@@ -25,6 +26,30 @@ module _ {H P : Type 0} {g : Ghosts H P} (table : TableId) (copied : P → P) (a
             (λ t. before.fresh seat p t)
             (λ t. subst (λ (x : Pass H P g). view x ≡ fresh_view copied a first seat) t.1 (fresh ∙ ap (λ (n : ℕ). fresh_view copied a first n) (sym t.0)))
             (at_push passes pass p seat there);
+      }
+
+-- ---- each seat has one worker
+
+-- each place of a list has its element
+there : {A : Type 0} (l : List A) (i : ℕ) → i < length l → (x : A) × (get_elem? l i ≡ some x)
+there [] i h = absurd (omega arith)
+there (x ∷ xs) zero h = (x, refl)
+there (x ∷ xs) (suc i) h = there xs i (omega arith)
+
+some_number : (n m : ℕ) → Some n ≡ Some m → n ≡ m
+some_number n m e = cc
+
+module _ {H P : Type 0} {g : Ghosts H P} (table : TableId) (copied : P → P) (a : Setup) (first : P) (passes : List (Pass H P g)) (made : AreSplitOff table copied a first passes) where
+  seat_at : (at : ℕ) (pass : Pass H P g) → get_elem? passes at ≡ some pass → (holder pass).seat ≡ Some at
+  seat_at at pass is = ap (λ (v : View P). v.holder.seat) (made.fresh at pass is)
+
+  pub one-for-each-seat : length passes ≡ a.about.seats → OneForEachSeat a.about.seats passes
+  one-for-each-seat many =
+      record {
+        of_a_seat = λ at pass is. (at, seat_at at pass is, let within = place_within passes at pass is in omega arith);
+        has_one = λ seat below. let t : (x : Pass H P g) × (get_elem? passes seat ≡ some x) = there passes seat (omega arith) in (seat, t.0, t.1, seat_at seat t.0 t.1);
+        no_other = λ at else seat pass other is other_is mine its.
+            some_number at seat (sym (seat_at at pass is) ∙ mine) ∙ sym (some_number else seat (sym (seat_at else other other_is) ∙ its));
       }
 
 -- ---- the last two of a list

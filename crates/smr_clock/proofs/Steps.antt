@@ -1,5 +1,5 @@
 -- Each kind of step may be taken, whoever the host is.
-use Rattle.std.proofs.Common.{◌≡◌, ℕ, ◌<◌, refl, sym, subst, arith, Bool, true, false, cond, Option, Some, ◌⊎◌, IsSome}
+use Rattle.std.proofs.Common.{◌≡◌, ℕ, ◌<◌, ◌≤◌, refl, sym, subst, arith, Bool, true, false, cond, Option, Some, ◌⊎◌, IsSome}
 use Rattle.std.specs.Prelude.{◌==◌}
 use prog.Atomic.{either}
 use Rattle.smr_core.specs.declared.about.About.{About}
@@ -27,10 +27,10 @@ use Rattle.smr_clock.specs.Views.{plain}
 use Rattle.smr_clock.specs.HostLaws.{Rule, Includes, FrameLaw}
 use Rattle.smr_clock.specs.Steps as step
 use Rattle.smr_clock.specs.Steps.{IsWriteFound, IsReadFound}
-use Rattle.smr_clock.proofs.Found.{write_found, read_found}
+use Rattle.smr_clock.proofs.Found.{write_found, read_found, above_read}
 use Rattle.smr_clock.proofs.Kept.{SameAside, allowed}
 
-aside : {P : Type 0} (v v' : View P) → v'.setup ≡ v.setup → v'.made ≡ v.made → v'.host ≡ v.host → v'.holder.seat ≡ v.holder.seat → SameAside v v'
+pub aside : {P : Type 0} (v v' : View P) → v'.setup ≡ v.setup → v'.made ≡ v.made → v'.host ≡ v.host → v'.holder.seat ≡ v.holder.seat → SameAside v v'
 aside v v' s m h n = record { setup = s; made = m; host = h; seat = n }
 
 -- an advance's load leaves the seat, whether or not the advance goes on
@@ -38,7 +38,7 @@ by_test : (b : Bool) (h k : Holder) (s : Option ℕ) → h.seat ≡ s → k.seat
 by_test true h k s p q = p
 by_test false h k s p q = q
 
-advance_seat : (a : About) (h : Holder) (found : ℕ) → (clock.advance_loaded a h found).seat ≡ h.seat
+pub advance_seat : (a : About) (h : Holder) (found : ℕ) → (clock.advance_loaded a h found).seat ≡ h.seat
 advance_seat a h found =
     by_test (clock.is_spent found) (clock.advance_ended a h found) _ h.seat refl
     (by_test (clock.is_too_far a h.read found) (clock.advance_ended a h found) (record (clock.write_loaded a h found) { task = task.AdvLoaded; write = found }) h.seat refl refl)
@@ -62,8 +62,11 @@ module _ {P : Type 0} (holds : Rule P) (includes : Includes holds) (frame : Fram
       allowed holds includes frame a slots id me read_place same next (λ found after. IsReadFound me.0.holder found × (after ≡ (next found, me.1))) own (omega arith) aside lawful remembers
       (λ ws hs law at. (read_found me.0.setup.about ws hs id me.0.holder law at, refl))
 
-  pub write_looks : Mine 0 (λ n. n) (λ found after. IsWriteFound me.0.holder found × (after ≡ (step.write_looking me.0 found, me.1)))
-  write_looks = write_load (step.write_looking me.0) (λ found. aside _ _ refl refl refl refl) (write_look-keeps me.0.setup.about id me.0.holder) (write_look-remembers me.0.setup.about id (plain me.0))
+  pub write_looks : Mine 0 (λ n. n) (λ found after. IsWriteFound me.0.holder found × (me.0.holder.floor ≤ found) × (after ≡ (step.write_looking me.0 found, me.1)))
+  write_looks =
+      allowed holds includes frame a slots id me write_place same (step.write_looking me.0) (λ found after. IsWriteFound me.0.holder found × (me.0.holder.floor ≤ found) × (after ≡ (step.write_looking me.0 found, me.1))) own (omega arith)
+      (λ found. aside _ _ refl refl refl refl) (write_look-keeps me.0.setup.about id me.0.holder) (write_look-remembers me.0.setup.about id (plain me.0))
+      (λ ws hs law at. (write_found me.0.setup.about ws hs id me.0.holder law at, above_read me.0.setup.about ws hs id me.0.holder law at, refl))
 
   pub read_looks : Mine 1 (λ n. n) (λ found after. IsReadFound me.0.holder found × (after ≡ (step.read_looking me.0 found, me.1)))
   read_looks = read_load (step.read_looking me.0) (λ found. aside _ _ refl refl refl refl) (read_look-keeps me.0.setup.about id me.0.holder) (read_look-remembers me.0.setup.about id (plain me.0))

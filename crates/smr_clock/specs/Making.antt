@@ -1,5 +1,5 @@
 -- How a clock begins.
-use Rattle.std.specs.Prelude.{◌≡◌, ℕ, List, [], ◌∷◌, ◌++◌, replicate, length, Some}
+use Rattle.std.specs.Prelude.{◌≡◌, ℕ, ◌<◌, List, [], ◌∷◌, ◌++◌, replicate, length, Some}
 use mathlib.Core.Option.{some}
 use lib.ListN.{get_elem?}
 use Rattle.atomic_table.specs.Seated.{TableId}
@@ -9,7 +9,7 @@ use Rattle.smr_clock.specs.declared.view.View.{View}
 use Rattle.smr_clock.specs.declared.host.Host.{Ghosts}
 use Rattle.smr_clock.specs.declared.clock.Clock.{Clock}
 use Rattle.smr_clock.specs.declared.pass.Pass.{Pass}
-use Rattle.smr_clock.specs.Belongs.{IsOf, view}
+use Rattle.smr_clock.specs.Belongs.{IsOf, view, holder}
 use Rattle.smr_clock.specs.Views.{first_view}
 use Rattle.smr_clock.specs.Steps.{worker_view}
 use Rattle.smr_clock.specs.HostLaws.{Rule}
@@ -44,3 +44,10 @@ module _ {H P : Type 0} {g : Ghosts H P} where
   pub record AreSplitOff (table : TableId) (copied : P → P) (a : Setup) (first : P) (passes : List (Pass H P g)) : Type 0 where
     pub here : (seat : ℕ) (pass : Pass H P g) → get_elem? passes seat ≡ some pass → pass.seat.table_id ≡ table
     pub fresh : (seat : ℕ) (pass : Pass H P g) → get_elem? passes seat ≡ some pass → view pass ≡ fresh_view copied a first seat
+
+  -- Among so many seats, each has one pass alone: each pass is the worker of a seat, no two of the same, and no seat is without.
+  pub record OneForEachSeat (count : ℕ) (passes : List (Pass H P g)) : Type 0 where
+    pub of_a_seat : (at : ℕ) (pass : Pass H P g) → get_elem? passes at ≡ some pass → (seat : ℕ) × ((holder pass).seat ≡ Some seat) × (seat < count)
+    pub has_one : (seat : ℕ) → seat < count → (at : ℕ) × (pass : Pass H P g) × (get_elem? passes at ≡ some pass) × ((holder pass).seat ≡ Some seat)
+    pub no_other : (at else seat : ℕ) (pass other : Pass H P g) → get_elem? passes at ≡ some pass → get_elem? passes else ≡ some other
+        → (holder pass).seat ≡ Some seat → (holder other).seat ≡ Some seat → at ≡ else

@@ -1,33 +1,18 @@
-ghost use Rattle.std.specs.Prelude.{◌≡◌, ◌^◌, ◌<◌, ◌+◌, IfOk, IfErr, ◌-◌, nat_lt};
-ghost use Rattle.smr_core.specs.ClockStep.{is_spent};
+ghost use Rattle.std.specs.Prelude.{◌≡◌, ◌^◌, ◌<◌, ◌+◌, IfOk, IfErr};
 ghost use Rattle.smr_core.specs.declared.task.Task.{Task};
 ghost use Rattle.smr_clock.specs.Belongs.{IsOf, view, holder};
 ghost use Rattle.smr_clock.specs.Goals.{number_of};
 ghost use Rattle.smr_clock.specs.Advances.{Advances, Refuses};
 ghost use Rattle.smr_clock.specs.Steps.{IsReadFound, IsWriteFound, advance_reading, advance_loading, advance_swapping};
 
-use crate::clock::{Clock, READ_PLACE, WRITE_PLACE};
+use crate::clock::Clock;
 use crate::goal::Goal;
 use crate::host::Host;
 use crate::pass::Pass;
 use crate::plays::{AdvanceLoads, AdvanceReads, AdvanceSwaps};
 use crate::refused::AdvanceRefused;
-
-// Whether two more than the write hand would be past the greatest hand.
-fn is_spent(write: u64) -> bool
-    requires { write < 2 ^ 63 }
-    ensures { result ≡ is_spent write }
-{
-    write + 2 >= 1 << 63
-}
-
-// Whether two more than the write hand would be above the read hand by more than the window.
-fn is_too_far(window: u64, read: u64, write: u64) -> bool
-    requires { write < 2 ^ 63 }
-    ensures { result ≡ nat_lt window (write + 2 - read) }
-{
-    window < (write + 2).saturating_sub(read)
-}
+use smr_core::hands::{is_spent, is_too_far};
+use smr_core::places::{READ_PLACE, WRITE_PLACE};
 
 /// Advances: a pass moves the write hand on, and learns of a goal.
 impl<H: Host> Clock<H> {
@@ -45,7 +30,7 @@ impl<H: Host> Clock<H> {
         if is_spent(write) {
             return Err(AdvanceRefused::Spent { write });
         }
-        if is_too_far(self.setup.about.window, read, write) {
+        if is_too_far(self.setup.about, read, write) {
             return Err(AdvanceRefused::TooFar { read, write });
         }
         self.exchange_write_hand(pass, write);

@@ -4,11 +4,12 @@ ghost use Rattle.smr_clock.specs.HostSteps.{SplitKeeps, JoinKeeps, HostSplits};
 ghost use Rattle.smr_clock.specs.Notes.{IsSeatOf, seat_knows};
 ghost use Rattle.smr_clock.specs.Steps.{IsWriteFound, write_looking, joined_view};
 
-use crate::clock::{Clock, WRITE_PLACE};
+use crate::clock::Clock;
 use crate::host::Host;
 use crate::host_play::{HostJoin, HostSplit, SeatJoins, SeatSplits};
 use crate::host_seat::HostSeat;
 use crate::plays::WriteLooks;
+use smr_core::places::WRITE_PLACE;
 
 /// Seats of the host's own, split and joined.
 impl<H: Host> Clock<H> {

@@ -8,10 +8,10 @@ use std::marker::PhantomData;
 pub(crate) struct WriteLooks;
 
 impl<P> Play<(), View<P>> for WriteLooks {
-    ghost use Rattle.std.specs.Prelude.{◌≡◌};
+    ghost use Rattle.std.specs.Prelude.{◌≡◌, ◌≤◌};
     ghost use Rattle.smr_clock.specs.Steps.{IsWriteFound, write_looking};
 
-    ghost then = { λ _ before found after. IsWriteFound before.0.holder found × (after ≡ (write_looking before.0 found, before.1)) };
+    ghost then = { λ _ before found after. IsWriteFound before.0.holder found × (before.0.holder.floor ≤ found) × (after ≡ (write_looking before.0 found, before.1)) };
 }
 
 /// A load of the read hand alone.

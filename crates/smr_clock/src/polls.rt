@@ -8,26 +8,13 @@ ghost use Rattle.smr_clock.specs.Notes.{IsNoteOf, note_knows, note_holder};
 ghost use Rattle.smr_clock.specs.Polls.{scanned_view, Polls, SaysNo};
 ghost use Rattle.smr_clock.specs.Steps.{IsReadFound, IsWriteFound, poll_reading, poll_loading, poll_scanning, poll_swapping};
 
-use crate::clock::{Clock, READ_PLACE, WRITE_PLACE, seat_place};
+use crate::clock::Clock;
 use crate::goal::Goal;
 use crate::host::Host;
 use crate::note::Note;
 use crate::plays::{PollLoads, PollReads, PollScans, PollSwaps};
-use smr_seq::Seq;
-
-// The least mark with a seat's word: an enter that is older than the poll's read hand counts as one
-// at the read hand; a word of 0 or without a reading counts for nothing.
-fn least_after(read: u64, write: u64, least: u64, word: u32) -> u64
-    ensures { result ≡ clock.least_after read write least word }
-{
-    if word == 0 {
-        return least;
-    }
-    match (Seq { raw: word }).read(write) {
-        Some(entered) => least.min(entered.max(read)),
-        None => least,
-    }
-}
+use smr_core::hands::{exchanged, least_after};
+use smr_core::places::{READ_PLACE, WRITE_PLACE, seat_place};
 
 /// Polls: a note asks whether a goal is expired, and moves the read hand on where it may.
 impl<H: Host> Clock<H> {
@@ -86,7 +73,7 @@ impl<H: Host> Clock<H> {
     {
         let least = self.scan(note, read, write);
         let found = self.exchange_read_hand(note, read, least);
-        if found == read { least } else { found }
+        exchanged(read, least, found)
     }
 
     // Loads each seat's word in order, and answers the least mark.

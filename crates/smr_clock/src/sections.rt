@@ -4,12 +4,14 @@ ghost use Rattle.smr_clock.specs.Belongs.{IsOf, view, holder};
 ghost use Rattle.smr_clock.specs.Sections.{Checks, IsOvertaken, Enters, Misses};
 ghost use Rattle.smr_clock.specs.Steps.{enter_loading, enter_storing, enter_checking, clearing, IsWriteFound};
 
-use crate::clock::{Clock, WRITE_PLACE, seat_place};
+use crate::clock::Clock;
 use crate::host::Host;
 use crate::pass::Pass;
 use crate::plays::{Clears, EnterChecks, EnterLoads, EnterStores};
 use crate::refused::Overtaken;
 use smr_core::Phase;
+use smr_core::hands::is_overtaken;
+use smr_core::places::{WRITE_PLACE, seat_place};
 use smr_seq::Seq;
 
 /// Sections: a pass enters one in three steps, and leaves it.
@@ -95,7 +97,7 @@ impl<H: Host> Clock<H> {
             .table
             .shared
             .load::<EnterChecks>(&mut pass.seat, WRITE_PLACE);
-        pass.phase = if found - pass.loaded >= self.setup.about.window {
+        pass.phase = if is_overtaken(self.setup.about, pass.loaded, found) {
             Phase::Late
         } else {
             Phase::Inside

@@ -4,11 +4,21 @@ ghost use Rattle.smr_clock.specs.Belongs.{table_of, setup_of};
 use crate::clock::Clock;
 use crate::host::Host;
 use std::alloc::{AllocError, Global};
+use std::error::Error;
+use std::fmt;
 use std::sync::Arc;
 
 /// No memory, or too many handles.
 #[derive(Clone, Copy, Debug, PartialEq, Eq)]
 pub struct Memory;
+
+impl fmt::Display for Memory {
+    fn fmt<W: fmt::Write>(&self, f: &mut fmt::Formatter<W>) -> fmt::Result {
+        f.write_str("out of memory, or too many handles")
+    }
+}
+
+impl Error for Memory {}
 
 impl From<AllocError> for Memory {
     ghost from_gives = { λ _ _. Unit {0} };

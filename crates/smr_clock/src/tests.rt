@@ -10,6 +10,7 @@ use std::test::Fail;
 mod counting;
 mod making;
 mod schedules;
+mod texts;
 mod turns;
 
 // A clock of two seats, with the workers of seat 0 and 1.

@@ -6,7 +6,7 @@ use Rattle.smr_clock.specs.declared.pass.Pass.{Pass}
 use Rattle.smr_clock.specs.Steps.{one_more_made, worker_view}
 use Rattle.smr_clock.specs.Making.{fresh_view, AreSplitOff}
 use Rattle.smr_clock.proofs.Splits.{worker_splits}
-use Rattle.smr_clock.proofs.MakingLemmas.{one_more}
+use Rattle.smr_clock.proofs.MakingLemmas.{one_more, one-for-each-seat}
 use Rattle.smr_clock.proofs.making.make_passes.Goals as goal
 
 pub split_seat-seat-requires : goal.split_seat-seat-requires
@@ -39,3 +39,8 @@ loop-number-preserved g c =
           (ap (λ (m : Me (Unit {0}) (View g.row.H-Part.Denot)). m.0) split.4 ∙ ap (λ (m : Me (Unit {0}) (View g.row.H-Part.Denot)). worker_view copied m.0) at.knows
           ∙ ap (λ (n : ℕ). fresh_view copied c.args.setup first n) (sym at.count)));
     }
+
+pub returns-clause-each_seat : goal.returns-clause-each_seat
+returns-clause-each_seat g c =
+    let at = c.loop-number.invariant in
+    one-for-each-seat c.args.table.now.shared.table_id g.H.Host.copied c.args.setup (g.H.Host.first c.args.setup) c.loop-number.passes.items at.workers (search rules)
