@@ -6,6 +6,7 @@ pub mod HostClocked
 pub mod AdvanceLemmas
 pub mod MakingLemmas
 pub mod PollLemmas
+pub mod MomentLemmas
 pub mod ReuseLemmas
 pub mod CompleteLemmas
 pub mod HostAllowed

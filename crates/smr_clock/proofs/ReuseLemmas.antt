@@ -5,8 +5,10 @@ use Rattle.smr_core.proofs.KindLemmas.{marks_above_read}
 use Rattle.smr_clock.specs.declared.setup.Setup.{Setup}
 use Rattle.smr_clock.specs.Views.{holders_of}
 use Rattle.smr_clock.specs.Clocked.{Clocked}
-use Rattle.smr_clock.specs.SafeReuse.{Moment, Follow, NoSectionBefore, StaysOver, KnownIsOver}
+use Rattle.smr_clock.specs.Moments.{Moment, Run}
+use Rattle.smr_clock.specs.SafeReuse.{Follow, RunsFollow, NoSectionBefore, StaysOver, KnownIsOver, KnownStaysOver}
 use Rattle.smr_clock.proofs.Kept.{holder_there}
+use Rattle.smr_clock.proofs.MomentLemmas.{steps-lower-no-hand}
 
 module _ {P : Type 0} (a : Setup) where
   none_before : (now : Moment P) (goal : ℕ) → Clocked a now.0 now.1 → goal ≤ read_hand now.0 → NoSectionBefore now goal
@@ -30,3 +32,10 @@ module _ {P : Type 0} (a : Setup) where
       let c : Clocked a now.0 now.1 = first_clocked now following follow in
       let floor = (c.law.holders id v.holder (holder_there a now.1 id v v there)).floor in
       stays now following goal follow (omega arith)
+
+  pub runs-follow : RunsFollow P a
+  runs-follow now [] c run = c
+  runs-follow now (next ∷ rest) c run = let n = steps-lower-no-hand a now next c run.0 in (c, n.read_not_lower, runs-follow next rest n.law run.1)
+
+  pub known-stays-over : KnownStaysOver P a
+  known-stays-over now following id v goal c run there known = known-is-over now following id v goal (runs-follow now following c run) there known

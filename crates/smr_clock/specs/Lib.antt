@@ -9,6 +9,7 @@ pub mod Advances
 pub mod Notes
 pub mod Making
 pub mod Polls
+pub mod Moments
 pub mod SafeReuse
 pub mod Complete
 pub mod HostSteps

@@ -3,7 +3,8 @@
 ghost use Rattle.smr_clock.specs.declared.setup.Setup.{Setup};
 ghost use Rattle.smr_clock.specs.HostLaws.{Includes, IncludesMemory};
 ghost use Rattle.smr_clock.specs.Complete.{AdvancesWithRoom, SaysYesOfKnown, SaysYesOfNoSection};
-ghost use Rattle.smr_clock.specs.SafeReuse.{KnownIsOver};
+ghost use Rattle.smr_clock.specs.Moments.{StepsLowerNoHand};
+ghost use Rattle.smr_clock.specs.SafeReuse.{KnownIsOver, KnownStaysOver, RunsFollow};
 
 use crate::host::Host;
 
@@ -15,10 +16,20 @@ pub fn every_rule_has_the_law<H: Host>()
     ensures memory { IncludesMemory H.holds }
 {}
 
+/// No step of a clock lowers a hand, whoever takes it and whatever becomes of the host's words and
+/// parts; the clock's law holds after it. So the moments that a run of steps comes to follow one
+/// another.
+pub fn no_step_lowers_a_hand<H: Host>()
+    ensures steps { (setup : Setup) → StepsLowerNoHand H.Part setup }
+    ensures runs { (setup : Setup) → RunsFollow H.Part setup }
+{}
+
 /// Safe reuse: from a poll's yes on, whose note knows a floor at or above the goal, the goal is expired
-/// at every later moment of that clock, and no open section is before it.
+/// at every later moment of that clock, and no open section is before it: over any moments that follow
+/// one another, and so over every run of steps.
 pub fn no_section_is_before_a_known_goal<H: Host>()
-    ensures { (setup : Setup) → KnownIsOver H.Part setup }
+    ensures known { (setup : Setup) → KnownIsOver H.Part setup }
+    ensures runs { (setup : Setup) → KnownStaysOver H.Part setup }
 {}
 
 /// An advance is refused only for want of room, and a poll may not say no where its note knew that the
