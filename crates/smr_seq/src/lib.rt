@@ -13,11 +13,14 @@ pub mod laws;
 
 /// Half of the circle of 2^32 sequences.
 ///
-/// The two laws of `laws` hold below this distance, and neither holds at it:
+/// What the four laws of `laws` say of it:
 ///
-/// 1. A hand less than this below a known hand is read back from its low half.
-/// 2. Two hands that differ by less than this are ordered as their low halves are. At exactly this
-///    distance each of two sequences is before the other.
+/// 1. A hand less than this below a known hand is read back from its low half (`reading_of_low`). At
+///    this distance it isn't.
+/// 2. Two hands that differ by less than this are ordered as their low halves are, and their difference
+///    is that of their low halves (`order_of_low`).
+/// 3. The difference of two sequences is from minus this to one less than this (`delta_is_congruent`).
+/// 4. At exactly this distance each of two sequences is before the other (`both_before_at_half`).
 const HALF_CIRCLE: u32 = 1 << 31;
 
 /// The low half of a hand of the clock, as FreeBSD's `smr_seq_t`.
