@@ -1,10 +1,9 @@
 -- Each step of a clock's table keeps the clock's law, and lowers no hand.
 use Rattle.std.proofs.Math.Nat.{le_refl}
 use Rattle.std.proofs.lemmas.List.{set-get_or}
-use Rattle.std.proofs.Common.{◌≡◌, ℕ, ◌<◌, ◌≤◌, List, ◌∷◌, ◌++◌, set, slice_index, sym, refl, ap, ◌∙◌, subst, arith, Some, []}
+use Rattle.std.proofs.Common.{◌≡◌, ℕ, ◌<◌, ◌≤◌, List, ◌∷◌, ◌++◌, set, slice_index, sym, refl, subst, Some, []}
 use mathlib.Core.Option.{some}
 use lib.ListN.{get_elem?}
-use Rattle.smr_core.specs.declared.holder.Holder.{Holder}
 use Rattle.smr_core.specs.ClockState.{place_after_seats, write_hand, read_hand}
 use Rattle.smr_core.specs.ClockLaw.{ClockLaw, Later}
 use Rattle.smr_core.specs.Remembered.{RememberedLaw}
@@ -21,11 +20,11 @@ use Rattle.smr_core.proofs.Keeps.OtherWords.{other_word-keeps}
 use Rattle.smr_core.proofs.Keeps.Memory.{write_look-remembers, read_look-remembers, enter_load-remembers, enter_store-remembers, enter_check-remembers, clear-remembers, advance_read-remembers, advance_load-remembers, advance_swap-remembers, poll_read-remembers, poll_load-remembers, poll_scan-remembers, poll_swap-remembers}
 use Rattle.smr_clock.specs.declared.setup.Setup.{Setup}
 use Rattle.smr_clock.specs.declared.view.View.{View}
-use Rattle.smr_clock.specs.Views.{plain, plain_views, holders_of, spent_view}
+use Rattle.smr_clock.specs.Views.{plain, plain_views, holders_of}
 use Rattle.smr_clock.specs.Clocked.{Clocked}
-use Rattle.smr_clock.specs.Steps.{note_view, one_more_made, worker_view, joined_view}
+use Rattle.smr_clock.specs.Steps.{one_more_made, worker_view}
 use Rattle.smr_clock.specs.HostSteps.{with_host, looked}
-use Rattle.smr_clock.specs.Moments.{Moment, Kind, WriteLook, ReadLook, EnterLoad, EnterStore, EnterCheck, Clear, AdvanceRead, AdvanceLoad, AdvanceSwap, PollRead, PollLoad, PollScan, PollSwap, Needs, place, leaves, view_after, Acts, HostActs, HandLoads, SplitsOff, MakesWorker, TakesIn, IsStep, acts, host_acts, hand_loads, splits_off, makes_worker, takes_in, NoLower, StepsLowerNoHand}
+use Rattle.smr_clock.specs.Moments.{Moment, Kind, WriteLook, ReadLook, EnterLoad, EnterStore, EnterCheck, Clear, AdvanceRead, AdvanceLoad, AdvanceSwap, PollRead, PollLoad, PollScan, PollSwap, Needs, place, leaves, view_after, IsStep, acts, host_acts, hand_loads, splits_off, makes_worker, takes_in, NoLower, StepsLowerNoHand}
 use Rattle.smr_clock.proofs.Kept.{SameAside, clocked_after, holder_there, plain_there, law_plain}
 use Rattle.smr_clock.proofs.Steps.{aside, advance_seat}
 use Rattle.smr_clock.proofs.HostClocked.{step_clocked, look_clocked, split_clocked}

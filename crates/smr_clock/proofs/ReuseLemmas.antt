@@ -5,7 +5,7 @@ use Rattle.smr_core.proofs.KindLemmas.{marks_above_read}
 use Rattle.smr_clock.specs.declared.setup.Setup.{Setup}
 use Rattle.smr_clock.specs.Views.{holders_of}
 use Rattle.smr_clock.specs.Clocked.{Clocked}
-use Rattle.smr_clock.specs.Moments.{Moment, Run}
+use Rattle.smr_clock.specs.Moments.{Moment}
 use Rattle.smr_clock.specs.SafeReuse.{Follow, RunsFollow, NoSectionBefore, StaysOver, KnownIsOver, KnownStaysOver}
 use Rattle.smr_clock.proofs.Kept.{holder_there}
 use Rattle.smr_clock.proofs.MomentLemmas.{steps-lower-no-hand}
