@@ -3,12 +3,12 @@ use Rattle.std.proofs.Common.{◌≡◌, ◌≢◌, ◌≤◌, ◌<◌, ◌+◌,
 use Rattle.std.proofs.Math.Nat.{mod-lt}
 use Rattle.std.proofs.lemmas.Nat.{div-add-mod'}
 use Rattle.std.proofs.lemmas.Bool.{cases_eq}
-use Rattle.uma_keg.proofs.Slabs.{slab_of, domain_at-in}
+use Rattle.uma_places.proofs.Slabs.{slab_of, domain_at-in}
 use Rattle.uma_life.specs.declared.stored.Stored.{Stored}
 use Rattle.uma_life.specs.Stored.{stored_no, stored_domain}
 use Rattle.uma_keg.specs.declared.shelf.Shelf.{Shelf}
 use Rattle.uma_keg.specs.declared.shelves.Shelves.{Shelves}
-use Rattle.uma_keg.specs.Places.{KegPlaces, place_at, domain_at, Brings}
+use Rattle.uma_places.specs.Places.{KegPlaces, place_at, domain_at, Brings}
 use Rattle.uma_keg.specs.ShelfLists.{item_on}
 use Rattle.uma_keg.specs.Shelves.{item_at, has_shelf, shelf_count, places_each}
 use Rattle.uma_keg.specs.KegLaw.{PlacesLaw, is_used_place, is_free_place}

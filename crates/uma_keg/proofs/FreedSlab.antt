@@ -5,8 +5,8 @@ use Rattle.uma_life.specs.declared.tally_sum.TallySum.{TallySum}
 use Rattle.uma_life.specs.Hook.{Hook}
 use Rattle.uma_life.specs.Sum.{sum_of}
 use Rattle.uma_keg.specs.declared.shelves.Shelves.{Shelves}
-use Rattle.uma_keg.specs.Places.{KegPlaces, domain_at, slab_count}
-use Rattle.uma_keg.specs.Dropping.{Drops}
+use Rattle.uma_places.specs.Places.{KegPlaces, domain_at, slab_count}
+use Rattle.uma_places.specs.Dropping.{Drops}
 use Rattle.uma_keg.specs.Shelves.{item_at, has_shelf, shelf_count, places_each}
 use Rattle.uma_keg.specs.Tallies.{TallyLaw}
 use Rattle.uma_keg.specs.KegLaw.{PlacesLaw, is_used_place, is_free_place}

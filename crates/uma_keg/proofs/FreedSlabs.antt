@@ -3,8 +3,8 @@ use Rattle.std.proofs.Common.{◌≡◌, ◌≢◌, ◌<◌, ◌+◌, ◌*◌, �
 use Rattle.std.proofs.lemmas.Bool.{cases_eq, cases_lt}
 use Rattle.std.proofs.lemmas.Nat.{div_below, div-mul-add}
 use Rattle.uma_keg.specs.declared.keg.Keg.{Keg}
-use Rattle.uma_keg.specs.Places.{KegPlaces, domain_at, IsIn, IsFree, IsSound, CountsOneSlab}
-use Rattle.uma_keg.specs.Dropping.{IsWhollyFree, Drops}
+use Rattle.uma_places.specs.Places.{KegPlaces, domain_at, IsIn, IsFree, IsSound, CountsOneSlab}
+use Rattle.uma_places.specs.Dropping.{IsWhollyFree, Drops}
 use Rattle.uma_keg.specs.Tallies.{sum_below}
 use Rattle.uma_keg.specs.Keg.{places_in, stored_in, hooks_in, IsSameKeg}
 use Rattle.uma_keg.specs.FreeSlabs.{Goes, DropsFrom, CountsFewer, BuriesGone, FreesSlabs, FreesSlab, times_gone}

@@ -7,12 +7,12 @@ use Rattle.std.proofs.lemmas.Option.{get_or_from_slice_get}
 use Rattle.uma_life.specs.declared.stored.Stored.{Stored}
 use Rattle.uma_life.specs.Stored.{stored_no, stored_domain}
 use Rattle.uma_keg.specs.declared.shelves.Shelves.{Shelves}
-use Rattle.uma_keg.specs.Places.{KegPlaces, place_at, domain_at, IsOut, Gives}
+use Rattle.uma_places.specs.Places.{KegPlaces, place_at, domain_at, IsOut, Gives}
 use Rattle.uma_keg.specs.Shelves.{item_at, has_shelf, shelf_count, places_each}
 use Rattle.uma_keg.specs.Outs.{out_of}
 use Rattle.uma_keg.specs.KegLaw.{PlacesLaw, ZonesLaw, zone_at, is_used_place, is_free_place}
 use Rattle.uma_keg.proofs.Outs.{out_accepted, tick_same, tick_other}
-use Rattle.uma_keg.proofs.Slabs.{slab_of}
+use Rattle.uma_places.proofs.Slabs.{slab_of}
 
 used : (place : Option Bool) → is_used_place place ≡ true → place ≡ Some false
 used None is = cc

@@ -1,18 +1,3 @@
-pub mod Bringing
-pub mod Changes
-pub mod Choice
-pub mod Dropping
-pub mod EmptyKeg
-pub mod KeptRooms
-pub mod Marks
-pub mod Puts
-pub mod RoomBits
-pub mod RoomBrings
-pub mod RoomDrops
-pub mod RoomPuts
-pub mod RoomTakes
-pub mod Rooms
-pub mod Slabs
 mod Outs
 mod ShelfItems
 mod RightsOut

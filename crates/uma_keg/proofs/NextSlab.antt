@@ -11,13 +11,13 @@ use Rattle.uma_life.specs.Life.{Life}
 use Rattle.uma_keg.specs.declared.shelf.Shelf.{Shelf}
 use Rattle.uma_keg.specs.declared.shelves.Shelves.{Shelves}
 use Rattle.uma_keg.specs.Shelf.{shelf_items}
-use Rattle.uma_keg.specs.Places.{KegPlaces, Slab, slab_at, domain_at, slab_count, Brings}
+use Rattle.uma_places.specs.Places.{KegPlaces, Slab, slab_at, domain_at, slab_count, Brings}
 use Rattle.uma_keg.specs.ShelfLists.{item_on}
 use Rattle.uma_keg.specs.Shelves.{item_at, has_shelf, shelf_count, places_each}
 use Rattle.uma_keg.specs.KegLaw.{PlacesLaw}
 use Rattle.uma_keg.specs.NewItems.{IsNewItem, AreNewItems}
 use Rattle.uma_keg.specs.BringSlab.{IsNextIndex}
-use Rattle.uma_keg.proofs.Slabs.{domain_at-absent}
+use Rattle.uma_places.proofs.Slabs.{domain_at-absent}
 use Rattle.uma_keg.proofs.BroughtSlab.{IsBrought, IsAdded}
 
 none_of : {X : Type 0} (o : Option X) → is_some o ≡ false → o ≡ None

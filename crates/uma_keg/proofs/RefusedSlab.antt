@@ -5,7 +5,7 @@ use Rattle.uma_life.specs.declared.refused.BringRefused.TheVariants.{Init, Memor
 use Rattle.uma_life.specs.declared.tally_sum.TallySum.{TallySum}
 use Rattle.uma_life.specs.Sum.{AreBelow}
 use Rattle.uma_keg.specs.declared.keg.Keg.{Keg}
-use Rattle.uma_keg.specs.Places.{KegPlaces, IsSound, slab_count}
+use Rattle.uma_places.specs.Places.{KegPlaces, IsSound, slab_count}
 use Rattle.uma_keg.specs.Keg.{places_in, buried_in}
 use Rattle.uma_keg.specs.NewItems.{RefusesItems}
 use Rattle.uma_keg.specs.Tallies.{TallyLaw}

@@ -12,14 +12,14 @@ use Rattle.uma_life.specs.Cached.{cached_body, cached_no, cached_zone, cached_do
 use Rattle.uma_life.specs.Hook.{ZoneInit, after}
 use Rattle.uma_keg.specs.declared.keg.Keg.{Keg}
 use Rattle.uma_keg.specs.Keg.{places_in, zones_in, table_in, stored_in}
-use Rattle.uma_keg.specs.Places.{KegPlaces, domain_at, IsFree, Gives, CountsOneOut}
-use Rattle.uma_keg.specs.Taking.{Takes}
+use Rattle.uma_places.specs.Places.{KegPlaces, domain_at, IsFree, Gives, CountsOneOut}
+use Rattle.uma_places.specs.Taking.{Takes}
 use Rattle.uma_keg.specs.TakeItem.{TakesItem, SamePlaces}
 use Rattle.uma_keg.specs.Shelves.{item_at, has_shelf, shelf_count, places_each}
 use Rattle.uma_keg.specs.Outs.{out_of}
 use Rattle.uma_keg.specs.KegLaw.{PlacesLaw, ZonesLaw, zone_at, is_used_place, is_free_place}
 use Rattle.uma_keg.proofs.Outs.{out_issued, tick_same, tick_other}
-use Rattle.uma_keg.proofs.Slabs.{IsIn-place_at}
+use Rattle.uma_places.proofs.Slabs.{IsIn-place_at}
 
 no_zone : (o : Option ℕ) → is_some o ≡ false → o ≡ None
 no_zone None is = refl

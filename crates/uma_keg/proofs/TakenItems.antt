@@ -6,8 +6,8 @@ use Rattle.std.proofs.lemmas.List.Elements.{All-nil, All-push}
 use Rattle.uma_life.specs.declared.cached.Cached.{Cached}
 use Rattle.uma_life.specs.Cached.{cached_no}
 use Rattle.uma_keg.specs.declared.keg.Keg.{Keg}
-use Rattle.uma_keg.specs.Places.{KegPlaces, domain_at, KeepsSlabs}
-use Rattle.uma_keg.specs.Taking.{Takes}
+use Rattle.uma_places.specs.Places.{KegPlaces, domain_at, KeepsSlabs}
+use Rattle.uma_places.specs.Taking.{Takes}
 use Rattle.uma_keg.specs.Keg.{places_in, zones_in, stored_in, IsSameKeg}
 use Rattle.uma_keg.specs.TakeItem.{IsTaken, TakesItem, KeepsItems}
 use Rattle.uma_keg.specs.TakeItems.{TakesAll, zones_with, IsAmong, numbers_of, TakesItems, TakesInto}

@@ -1,39 +1,14 @@
 -- The numbers that are out by a keg's places are those that are outside by its book.
 use Rattle.std.proofs.Common.{◌≡◌, ◌<◌, ◌+◌, ◌*◌, ◌/◌, ℕ, zero, suc, Bool, true, false, not, cond, List, [], ◌∷◌, Option, Some, None, is_some, length, get_or, sum_by, count_by, refl, arith, sym, ap, ◌∙◌}
-use Rattle.std.proofs.lemmas.List.{get_or-map, length-map}
 use Rattle.std.proofs.lemmas.List.Sums.{sum_by-cons}
 use Rattle.std.proofs.lemmas.Option.{slice_get-get_or}
 use Rattle.uma_keg.specs.declared.shelves.Shelves.{Shelves}
-use Rattle.uma_keg.specs.declared.places.Places.TheInside.{Inside}
-use Rattle.uma_keg.specs.Kept.{places_of, IsKept}
-use Rattle.uma_keg.specs.Places.{KegPlaces, Slab, slab_at, place_at, places_by, out_count}
-use Rattle.uma_keg.specs.Room.{RoomState, slab_in}
+use Rattle.uma_places.specs.Places.{KegPlaces, Slab, slab_at, place_at, places_by, out_count}
 use Rattle.uma_keg.specs.KegLaw.{PlacesLaw, is_used_place}
 use Rattle.uma_keg.specs.Tallies.{sum_below}
-use Rattle.uma_keg.specs.UsedPlaces.{AreEven}
-use Rattle.uma_keg.proofs.Slabs.{place_at-absent, place_at-number, slab_of-number, slab_at-within}
+use Rattle.uma_places.specs.UsedPlaces.{AreEven}
+use Rattle.uma_places.proofs.Slabs.{place_at-absent, place_at-number, slab_of-number}
 use Rattle.uma_keg.proofs.TallyLaws.{sum_below-more, sum_below-none}
-
--- rooms are alike, and so are their slabs
-
-abbrev free_of : Option Slab → List Bool
-free_of None = []
-free_of (Some slab) = slab.free
-
-room_places : (p : ℕ) (d : Option ℕ) (free : List Bool) (s : Slab) → length free ≡ p → slab_in (record { domain = d; free = free }) ≡ Some s → length s.free ≡ p
-room_places p None free s long is = cc
-room_places p (Some d) free s long is = ap (λ (o : Option Slab). length (free_of o)) (sym is) ∙ long
-
-pub kept_even : (a : Inside) → IsKept a → AreEven (places_of a)
-kept_even a kept = record {
-  indices = length-map a.rooms.items slab_in ∙ kept.rooms;
-  places = λ index slab is.
-      let within : index < length a.rooms.items = rw (length-map a.rooms.items slab_in) at (slab_at-within (places_of a) index slab is) in
-      let d : RoomState = record { domain = None; free = [] } in
-      let room = get_or a.rooms.items index d in
-      let in_room : slab_in room ≡ Some slab = sym (get_or-map slab_in a.rooms.items index d None within) ∙ is in
-      room_places a.per_slab room.domain room.free slab (kept.places index d within) in_room;
-}
 
 -- sums over the numbers below one
 

@@ -10,7 +10,7 @@ use Rattle.zone_stats.specs.declared.refusal.Refusal.TheVariants.{Full, Init}
 use Rattle.uma_keg.specs.declared.fetch_refused.FetchRefused.{FetchRefused}
 use Rattle.uma_keg.specs.declared.fetch_refused.FetchRefused.TheVariants.{Refused, Memory}
 use Rattle.uma_keg.specs.declared.keg.Keg.{Keg}
-use Rattle.uma_keg.specs.Places.{KegPlaces, IsIn, domain_at, slab_count, Brings, CountsOneSlab}
+use Rattle.uma_places.specs.Places.{KegPlaces, IsIn, domain_at, slab_count, Brings, CountsOneSlab}
 use Rattle.uma_keg.specs.NewItems.{IsNewItem, StopsAt}
 use Rattle.uma_keg.specs.Tallies.{AddsVain}
 use Rattle.uma_keg.specs.Keg.{places_in, stored_in, hooks_in, buried_in}

@@ -3,7 +3,7 @@ use Rattle.std.specs.Prelude.{◌≡◌, ◌≤◌, ◌<◌, ◌+◌, ◌*◌, �
 use Rattle.std.specs.Option.{IsSomeAnd}
 use Rattle.uma_keg.specs.declared.fetch_refused.FetchRefused.{FetchRefused}
 use Rattle.uma_keg.specs.declared.keg.Keg.{Keg}
-use Rattle.uma_keg.specs.Places.{KegPlaces, IsIn, IsFree, place_at, domain_at, slab_count, free_count, out_count}
+use Rattle.uma_places.specs.Places.{KegPlaces, IsIn, IsFree, place_at, domain_at, slab_count, free_count, out_count}
 use Rattle.uma_keg.specs.NewItems.{IsNewItem}
 use Rattle.uma_keg.specs.BringSlab.{AcceptsNumber, RefusesSlab}
 use Rattle.uma_keg.specs.Fetch.{Found, IsEnough}

@@ -3,10 +3,10 @@ use Rattle.std.specs.Prelude.{ℕ, List, slice_index_or}
 use Rattle.deed_book.specs.Deed.{TableId}
 use Rattle.deed_book.specs.Book.{book_table}
 use Rattle.uma_life.specs.declared.tally_sum.TallySum.{TallySum}
-use Rattle.uma_keg.specs.declared.counts.KegCounts.{KegCounts}
+use Rattle.uma_places.specs.declared.counts.KegCounts.{KegCounts}
 use Rattle.uma_keg.specs.declared.census.Census.{Census}
 use Rattle.uma_keg.specs.declared.keg.Keg.{Keg}
-use Rattle.uma_keg.specs.Places.{slab_count, free_count}
+use Rattle.uma_places.specs.Places.{slab_count, free_count}
 use Rattle.uma_keg.specs.Keg.{places_in, reserve_in}
 
 abbrev pub census_counts : Census → KegCounts

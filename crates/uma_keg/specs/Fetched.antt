@@ -10,7 +10,7 @@ use Rattle.uma_keg.specs.declared.fetch_refused.FetchRefused.{FetchRefused}
 use Rattle.uma_keg.specs.declared.fetch_refused.FetchRefused.TheVariants.{Refused, Memory}
 use Rattle.uma_keg.specs.declared.keg.Keg.{Keg}
 use Rattle.uma_keg.specs.Fetch.{Wish, is_at_limit, IsNewSlabs, outcome_with, Outcome, Refuses, Gives, EndsAs}
-use Rattle.uma_keg.specs.Places.{slab_count}
+use Rattle.uma_places.specs.Places.{slab_count}
 use Rattle.uma_keg.specs.Keg.{places_in, zones_in, out_in, table_in, limit_in, reserve_in, stored_in, buried_in, total_in, IsSameKeg}
 use Rattle.uma_keg.specs.BringSlab.{RefusesNumber}
 use Rattle.uma_keg.specs.BringSlabs.{found_in, BringsSlabs, StopsAtSlab}

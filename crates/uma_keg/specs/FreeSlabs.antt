@@ -4,8 +4,8 @@ use Rattle.uma_life.specs.declared.stored.Stored.{Stored}
 use Rattle.uma_life.specs.Hook.{Hook}
 use Rattle.uma_life.specs.Sum.{sum_of}
 use Rattle.uma_keg.specs.declared.keg.Keg.{Keg}
-use Rattle.uma_keg.specs.Places.{KegPlaces, place_at, domain_at, slab_count, free_count, out_count, CountsOneSlab}
-use Rattle.uma_keg.specs.Dropping.{IsWhollyFree, IsWorn, HasNoneWhollyFree, Drops}
+use Rattle.uma_places.specs.Places.{KegPlaces, place_at, domain_at, slab_count, free_count, out_count, CountsOneSlab}
+use Rattle.uma_places.specs.Dropping.{IsWhollyFree, IsWorn, HasNoneWhollyFree, Drops}
 use Rattle.uma_keg.specs.Tallies.{ended_times, sum_below}
 use Rattle.uma_keg.specs.Ended.{IsEndedAt}
 use Rattle.uma_keg.specs.Keg.{places_in, stored_in, hooks_in, buried_in, reserve_in}

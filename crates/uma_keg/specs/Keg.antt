@@ -8,7 +8,7 @@ use Rattle.deed_book.specs.BookLaw.{IsHome}
 use Rattle.uma_life.specs.declared.stored.Stored.{Stored}
 use Rattle.uma_life.specs.declared.tally_sum.TallySum.{TallySum}
 use Rattle.uma_keg.specs.declared.keg.Keg.{Keg}
-use Rattle.uma_keg.specs.Places.{KegPlaces}
+use Rattle.uma_places.specs.Places.{KegPlaces}
 use Rattle.uma_keg.specs.Shelves.{item_at}
 use Rattle.uma_keg.specs.Outs.{out_of}
 use Rattle.uma_keg.specs.Tallies.{home_times, sum_below}

@@ -4,7 +4,7 @@ use Rattle.deed_book.specs.BookLaw.{IsHome}
 use Rattle.uma_life.specs.declared.stored.Stored.{Stored}
 use Rattle.uma_life.specs.Stored.{stored_no, stored_domain}
 use Rattle.uma_keg.specs.declared.shelves.Shelves.{Shelves}
-use Rattle.uma_keg.specs.Places.{KegPlaces, place_at, domain_at}
+use Rattle.uma_places.specs.Places.{KegPlaces, place_at, domain_at}
 use Rattle.uma_keg.specs.Shelves.{item_at, has_shelf, shelf_count, places_each}
 use Rattle.uma_keg.specs.Outs.{out_of}
 

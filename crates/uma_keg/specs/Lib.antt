@@ -1,9 +1,3 @@
-pub mod Dropping
-pub mod Kept
-pub mod Places
-pub mod Refused
-pub mod Room
-pub mod Taking
 pub mod Outs
 pub mod Outside
 pub mod Shelf
@@ -18,7 +12,6 @@ pub mod NewItems
 pub mod BringSlab
 pub mod FreeSlabs
 pub mod Lent
-pub mod UsedPlaces
 pub mod Paired
 pub mod Census
 pub mod TakeItem

@@ -3,8 +3,8 @@ use Rattle.std.specs.Prelude.{◌≡◌, ◌≢◌, ◌<◌, ◌+◌, ◌⊎◌,
 use Rattle.uma_life.specs.declared.cached.Cached.{Cached}
 use Rattle.uma_life.specs.Cached.{cached_no}
 use Rattle.uma_keg.specs.declared.keg.Keg.{Keg}
-use Rattle.uma_keg.specs.Places.{KegPlaces, slab_count, free_count, out_count, KeepsSlabs}
-use Rattle.uma_keg.specs.Taking.{Takes}
+use Rattle.uma_places.specs.Places.{KegPlaces, slab_count, free_count, out_count, KeepsSlabs}
+use Rattle.uma_places.specs.Taking.{Takes}
 use Rattle.uma_keg.specs.Keg.{places_in, zones_in, out_in, stored_in}
 use Rattle.uma_keg.specs.TakeItem.{IsTaken, RefusesItem, KeepsItems}
 

@@ -1,17 +1,17 @@
 ghost use Rattle.std.specs.Prelude.{◌≡◌, ◌<◌, ◌^◌, ℕ, Err, IfErr, OnOk, OnErr};
 ghost use Rattle.uma_life.specs.Hook.{Hook};
 ghost use Rattle.uma_life.specs.Sum.{AreBelow};
-ghost use Rattle.uma_keg.specs.Places.{slab_count};
+ghost use Rattle.uma_places.specs.Places.{slab_count};
 ghost use Rattle.uma_keg.specs.BringSlab.{BringsSlab, RefusesSlab};
 ghost use Rattle.uma_keg.specs.Keg.{places_in, zones_in, rights_in, stored_in, limit_in, refusals_in, buried_in, total_in, IsSameKeg, IsWithinLimits};
 
-use crate::counts::KegCounts;
 use crate::fetch_refused::FetchRefused;
 use crate::keg::Keg;
 use crate::shelf::Shelf;
 use std::alloc::Global;
 use std::sync::Wait;
 use uma_life::{Body, Hooks};
+use uma_places::KegCounts;
 use zone_stats::Refusal;
 
 /// A slab is brought in while each sum of hooks is below this (own), so that no sum comes to its end.

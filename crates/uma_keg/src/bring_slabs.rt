@@ -1,16 +1,16 @@
 ghost use Rattle.std.specs.Prelude.{◌≡◌, ◌≤◌, ◌<◌, ◌^◌, ◌↔◌, ℕ, IsTrue, IfErr, OnOk};
 ghost use Rattle.uma_life.specs.Sum.{AreBelow};
-ghost use Rattle.uma_keg.specs.Places.{slab_count, free_count};
+ghost use Rattle.uma_places.specs.Places.{slab_count, free_count};
 ghost use Rattle.uma_keg.specs.Fetch.{IsNewSlabs};
 ghost use Rattle.uma_keg.specs.BringSlabs.{found_in, BringsSlabs, StopsAtSlab};
 ghost use Rattle.uma_keg.specs.Keg.{places_in, zones_in, rights_in, limit_in, refusals_in, reserve_in, buried_in, IsSameKeg, IsWithinLimits};
 
-use crate::counts::KegCounts;
 use crate::fetch_refused::FetchRefused;
 use crate::keg::Keg;
 use std::alloc::Global;
 use std::sync::Wait;
 use uma_life::{Body, Hooks};
+use uma_places::KegCounts;
 
 impl<T: Body, K: Hooks<T>> Keg<T, K> {
     /// Brings in the least count of slabs with which some item is free beyond the reserve, or as many as may be. Where

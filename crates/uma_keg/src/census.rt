@@ -2,10 +2,10 @@ ghost use Rattle.std.specs.Prelude.{◌≡◌, ◌<◌, ◌+◌, ◌*◌, ◌^�
 ghost use Rattle.uma_life.specs.Sum.{AreBelow};
 ghost use Rattle.uma_keg.specs.Paired.{ArePaired};
 
-use crate::counts::KegCounts;
 use deed_book::Book;
 use std::snapshot::Snapshot;
 use uma_life::TallySum;
+use uma_places::KegCounts;
 
 /// How a keg stands, with the items outside it and what its own items passed. [`crate::Keg::census`] alone makes one.
 ///

@@ -6,7 +6,6 @@ ghost use Rattle.uma_keg.specs.BringSlabs.{found_in};
 ghost use Rattle.uma_keg.specs.Fetched.{wish_of, Fetches, FetchesInto, RefusesFetch, NamesWhatItFound, GivesItems, IsOfKeg, refusals_after};
 ghost use Rattle.uma_keg.specs.Keg.{zones_in, out_in, rights_in, limit_in, refusals_in, buried_in, total_in, HasZone, IsSameKeg, IsWithinLimits};
 
-use crate::counts::KegCounts;
 use crate::fetch_ask::FetchAsk;
 use crate::fetch_refused::FetchRefused;
 use crate::keg::Keg;
@@ -14,6 +13,7 @@ use std::alloc::Global;
 use std::sync::Wait;
 use uma_bucket::Bucket;
 use uma_life::{Body, Hooks};
+use uma_places::KegCounts;
 use zone_stats::Refusal;
 
 impl<T: Body, K: Hooks<T>> Keg<T, K> {

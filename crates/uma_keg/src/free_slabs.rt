@@ -1,13 +1,13 @@
 ghost use Rattle.std.specs.Prelude.{◌≡◌, ◌≤◌, ◌<◌, ◌+◌, ◌⊎◌, ◌↔◌, ℕ, IsTrue, IsNone, IfSome, IfNone};
-ghost use Rattle.uma_keg.specs.Places.{free_count};
-ghost use Rattle.uma_keg.specs.Dropping.{IsWorn, HasNoneWhollyFree};
+ghost use Rattle.uma_places.specs.Places.{free_count};
+ghost use Rattle.uma_places.specs.Dropping.{IsWorn, HasNoneWhollyFree};
 ghost use Rattle.uma_keg.specs.FreeSlabs.{FreesSlab, FreesSlabs, GivesNoMore};
 ghost use Rattle.uma_keg.specs.Keg.{places_in, zones_in, rights_in, stored_in, limit_in, refusals_in, reserve_in, buried_in, IsSameKeg, IsWithinLimits};
 
-use crate::counts::KegCounts;
 use crate::keg::Keg;
 use std::sync::Wait;
 use uma_life::{Body, Hooks};
+use uma_places::KegCounts;
 
 impl<T: Body, K: Hooks<T>> Keg<T, K> {
     /// Gives up wholly free slabs, the greatest index first, and answers how many. It goes on while one is left and as

@@ -4,7 +4,7 @@ ghost use Rattle.deed_book.specs.BookLaw.{IsOutside};
 ghost use Rattle.uma_life.specs.Cached.{cached_body, cached_no, cached_zone, cached_table};
 ghost use Rattle.uma_life.specs.Stored.{stored_body};
 ghost use Rattle.uma_life.specs.Hook.{ZoneFini, after};
-ghost use Rattle.uma_keg.specs.Places.{Gives, CountsOneOut};
+ghost use Rattle.uma_places.specs.Places.{Gives, CountsOneOut};
 ghost use Rattle.uma_keg.specs.Keg.{places_in, zones_in, out_in, table_in, rights_in, stored_in, limit_in, refusals_in, buried_in, IsSameKeg, IsWithinLimits};
 
 use crate::keg::Keg;

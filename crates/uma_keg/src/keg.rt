@@ -2,16 +2,13 @@ ghost use Rattle.std.specs.Prelude.{◌≡◌, ◌≢◌, ℕ, ◌+◌, ◌*◌,
 ghost use Rattle.deed_book.specs.Book.{book_table, zones_of};
 ghost use Rattle.deed_book.specs.Deed.{deed_table, no_of};
 ghost use Rattle.uma_life.specs.Sum.{no_sums};
-ghost use Rattle.uma_keg.specs.Places.{IsNew, slab_count, free_count};
-ghost use Rattle.uma_keg.specs.Refused.{IsItemSize, IsSlabCount, IsRefusedFor};
+ghost use Rattle.uma_places.specs.Places.{IsNew, slab_count, free_count};
+ghost use Rattle.uma_places.specs.Refused.{IsItemSize, IsSlabCount, IsRefusedFor};
 ghost use Rattle.uma_keg.specs.KegLaw.{PlacesLaw, ZonesLaw};
 ghost use Rattle.uma_keg.specs.Tallies.{TallyLaw};
 ghost use Rattle.uma_keg.specs.Paired.{ArePaired};
 
-use crate::counts::KegCounts;
 use crate::outside::Outside;
-use crate::places::Places;
-use crate::refused::KegRefused;
 use crate::rights::new_rights;
 use crate::shelves::Shelves;
 use deed_book::{Book, Deed};
@@ -19,6 +16,7 @@ use ghost_log::Log;
 use std::alloc::Global;
 use std::snapshot::Snapshot;
 use uma_life::{Body, Hooks, TallySum};
+use uma_places::{KegCounts, KegRefused, Places};
 use zone_stats::Refusal;
 
 /// The store of items that a primary zone and its secondary zones share.

@@ -9,7 +9,6 @@
 mod bring;
 mod bring_slabs;
 mod census;
-mod counts;
 mod fetch;
 mod fetch_ask;
 mod fetch_law;
@@ -22,25 +21,18 @@ mod keg_census;
 mod keg_tests;
 mod new_items;
 mod outside;
-mod places;
 mod recount;
-mod refused;
 mod rights;
-mod room;
 mod shelf;
 mod shelves;
 mod take_item;
 mod take_items;
 mod tallies;
-#[cfg(test)]
-mod tests;
 mod undeeded;
 
 pub use census::Census;
-pub use counts::KegCounts;
 pub use fetch_ask::FetchAsk;
 pub use fetch_law::fetches_keep_their_bounds;
 pub use fetch_refused::FetchRefused;
 pub use keg::Keg;
-pub use places::Places;
-pub use refused::KegRefused;
+pub use uma_places::{KegCounts, KegRefused, Places};

@@ -1,5 +1,5 @@
 ghost use Rattle.std.specs.Prelude.{◌≡◌, ◌<◌, ℕ, IfOk, IfErr, OnErr};
-ghost use Rattle.uma_keg.specs.Places.{free_count};
+ghost use Rattle.uma_places.specs.Places.{free_count};
 ghost use Rattle.uma_keg.specs.TakeItem.{TakesItem, RefusesItem, KeepsItems};
 ghost use Rattle.uma_keg.specs.Keg.{places_in, out_in, rights_in, limit_in, refusals_in, buried_in, HasZone, IsSameKeg, IsWithinLimits};
 

@@ -1,7 +1,7 @@
 ghost use Rattle.std.specs.Prelude.{◌≡◌, ◌≤◌, ◌<◌, ◌+◌, ◌++◌, ℕ, List, IfErr, OnOk, length};
 ghost use Rattle.uma_life.specs.declared.cached.Cached.{Cached};
 ghost use Rattle.uma_bucket.specs.Bucket.{items_of, size_of};
-ghost use Rattle.uma_keg.specs.Places.{free_count};
+ghost use Rattle.uma_places.specs.Places.{free_count};
 ghost use Rattle.uma_keg.specs.TakeItem.{RefusesItem, KeepsItems};
 ghost use Rattle.uma_keg.specs.TakeItems.{TakesItems, TakesInto, StopsAtItem};
 ghost use Rattle.uma_keg.specs.Keg.{places_in, out_in, rights_in, limit_in, refusals_in, buried_in, HasZone, IsSameKeg, IsWithinLimits};

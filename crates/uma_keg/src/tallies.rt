@@ -6,10 +6,10 @@ ghost use Rattle.uma_keg.specs.Tallies.{home_times};
 ghost use Rattle.uma_keg.specs.Keg.{total_in};
 
 use crate::bring::MOST_TALLIED;
-use crate::counts::KegCounts;
 use crate::keg::Keg;
 use crate::shelves::Shelves;
 use uma_life::{Body, Hooks, Tally, TallySum};
+use uma_places::KegCounts;
 
 impl<T: Body, K: Hooks<T>> Keg<T, K> {
     /// How often the items passed each hook, summed up over those at home in the keg and the buried.

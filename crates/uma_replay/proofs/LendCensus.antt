@@ -9,7 +9,7 @@ use Rattle.uma_keg.specs.declared.census.Census.{Census}
 use Rattle.uma_keg.specs.Census.{counts_in}
 use Rattle.uma_keg.specs.Keg.{total_in}
 use Rattle.uma_keg.specs.Outs.{out_of}
-use Rattle.uma_keg.specs.Places.{slab_count, free_count}
+use Rattle.uma_places.specs.Places.{slab_count, free_count}
 use Rattle.uma_keg.specs.Tallies.{home_times, sum_below}
 use Rattle.uma_replay.specs.Closing.{IsCensusOf, IsCounted}
 use Rattle.uma_replay.specs.Items.{CountedKeg}

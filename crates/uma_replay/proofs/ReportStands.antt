@@ -15,7 +15,7 @@ use Rattle.zone_stats.specs.declared.report.Report.{Report}
 use Rattle.zone_stats.specs.declared.report.ZoneLine.{ZoneLine}
 use Rattle.zone_stats.specs.Line.{zone_line, used_items}
 use Rattle.uma_keg.specs.Census.{census_counts, census_outs, census_out, census_tally}
-use Rattle.uma_keg.specs.declared.counts.KegCounts.{KegCounts}
+use Rattle.uma_places.specs.declared.counts.KegCounts.{KegCounts}
 use Rattle.uma_life.specs.Hook.{Ctor, Dtor}
 use Rattle.uma_life.specs.Sum.{sum_of}
 use Rattle.uma_life.specs.Trail.{ShowsSame}

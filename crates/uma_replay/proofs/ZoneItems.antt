@@ -4,7 +4,7 @@ use Rattle.std.specs.Option.{IsSomeAnd}
 use Rattle.deed_book.specs.BookLaw.{IsOutside}
 use Rattle.uma_life.specs.Cached.{cached_body, cached_no, cached_zone}
 use Rattle.uma_life.specs.Stored.{stored_body}
-use Rattle.uma_keg.specs.Places.{Gives}
+use Rattle.uma_places.specs.Places.{Gives}
 use Rattle.uma_keg.specs.Keg.{places_in, zones_in, stored_in}
 use Rattle.uma_replay.specs.Items.{CachedItem, CountedKeg}
 use Rattle.uma_replay.specs.Request.{KeepsKeg, TakesBack}

@@ -9,7 +9,7 @@ use Rattle.uma_life.specs.Live.{live_body, live_zone, live_table, live_ticket}
 use Rattle.uma_life.specs.Stored.{stored_body}
 use Rattle.uma_keg.specs.declared.fetch_ask.FetchAsk.{FetchAsk}
 use Rattle.uma_keg.specs.declared.fetch_refused.FetchRefused.TheVariants.{Refused}
-use Rattle.uma_keg.specs.Places.{Gives}
+use Rattle.uma_places.specs.Places.{Gives}
 use Rattle.uma_keg.specs.Keg.{places_in, zones_in, table_in, stored_in, rights_in, limit_in, IsSameKeg}
 use Rattle.uma_keg.specs.Fetched.{FetchesInto, RefusesFetch}
 use Rattle.uma_life.specs.Life.{Life}

@@ -1,7 +1,7 @@
 -- Zones of the serial replay before the first line (own).
 use Rattle.std.specs.Prelude.{◌≡◌, []}
 use Rattle.trace_text.specs.declared.head.ZoneHead.{ZoneHead}
-use Rattle.uma_keg.specs.Places.{IsNew}
+use Rattle.uma_places.specs.Places.{IsNew}
 use Rattle.uma_keg.specs.Keg.{places_in, refusals_in}
 use Rattle.uma_life.specs.Sum.{no_sums}
 use Rattle.uma_keg.specs.Keg.{buried_in}

@@ -1,7 +1,7 @@
 use Rattle.std.proofs.Common.{◌≡◌, ◌<◌, ◌+◌, ◌*◌, ℕ, length, subst, sym, arith, rules, ◌∙◌}
 use Rattle.uma_life.specs.declared.tally_sum.TallySum.{TallySum}
 use Rattle.uma_keg.specs.Shelf.{shelf_items}
-use Rattle.uma_keg.specs.Places.{slab_count}
+use Rattle.uma_places.specs.Places.{slab_count}
 use Rattle.uma_keg.specs.Tallies.{TallyLaw}
 use Rattle.uma_keg.specs.Paired.{ArePaired}
 use Rattle.uma_keg.specs.NewItems.{AreNewItems, RefusesItems}

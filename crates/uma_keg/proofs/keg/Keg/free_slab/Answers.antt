@@ -3,7 +3,7 @@ use Rattle.std.proofs.Math.Nat.{mod-lt}
 use Rattle.uma_life.specs.Sum.{sum_of}
 use Rattle.uma_keg.specs.Shelf.{shelf_items}
 use Rattle.uma_keg.specs.ShelfLists.{item_on}
-use Rattle.uma_keg.specs.Places.{KegPlaces}
+use Rattle.uma_places.specs.Places.{KegPlaces}
 use Rattle.uma_keg.specs.KegLaw.{PlacesLaw}
 use Rattle.uma_keg.specs.Keg.{zones_in}
 use Rattle.uma_keg.specs.Shelves.{item_at}

@@ -1,5 +1,5 @@
 use Rattle.std.proofs.Common.{◌≤◌, ◌+◌, refl, inl, arith, ◌∙◌}
-use Rattle.uma_keg.specs.Places.{free_count}
+use Rattle.uma_places.specs.Places.{free_count}
 use Rattle.uma_keg.specs.Keg.{places_in, reserve_in}
 use Rattle.uma_keg.proofs.FreedSlabs.{frees_none, frees_more, leaves_more, same_more}
 use Rattle.uma_keg.proofs.keg.Keg.free_slabs.Goals as goal

@@ -4,7 +4,7 @@ use Rattle.deed_book.specs.Deed.{zone_of}
 use Rattle.uma_life.specs.Stored.{stored_no}
 use Rattle.uma_life.specs.Cached.{cached_zone}
 use Rattle.uma_keg.specs.Keg.{zones_in}
-use Rattle.uma_keg.specs.Places.{IsOut}
+use Rattle.uma_places.specs.Places.{IsOut}
 use Rattle.uma_keg.proofs.GivenItem.{out_place, PlacesLaw-given, ZonesLaw-given, out_given, outs_given}
 use Rattle.uma_keg.proofs.TallyLaws.{TallyLaw-kept}
 use Rattle.uma_keg.proofs.keg.Keg.give.Goals as goal

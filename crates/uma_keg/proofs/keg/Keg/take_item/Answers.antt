@@ -2,9 +2,9 @@ use Rattle.std.proofs.Common.{◌≡◌, ◌<◌, ◌*◌, ◌/◌, ℕ, Some, N
 use Rattle.deed_book.specs.Deed.{no_of, zone_of, deed_table}
 use Rattle.deed_book.specs.Book.{zones_of}
 use Rattle.uma_life.specs.Stored.{stored_no, stored_domain}
-use Rattle.uma_keg.specs.Places.{domain_at, CountsOneOut, Gives}
+use Rattle.uma_places.specs.Places.{domain_at, CountsOneOut, Gives}
 use Rattle.uma_keg.specs.Shelves.{item_at}
-use Rattle.uma_keg.specs.Taking.{Takes}
+use Rattle.uma_places.specs.Taking.{Takes}
 use Rattle.uma_keg.specs.KegLaw.{PlacesLaw}
 use Rattle.uma_keg.proofs.GivenItem.{out_shelf, PlacesLaw-given, ZonesLaw-given}
 use Rattle.uma_keg.proofs.TakenItem.{free_home, free_domain, PlacesLaw-taken, ZonesLaw-taken, same_again, zones_again, items_again, if_some, on_some, takes_item}

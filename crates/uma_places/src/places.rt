@@ -1,0 +1,272 @@
+ghost use Rattle.std.specs.Prelude.{◌≡◌, ◌≢◌, ℕ, ◌*◌, ◌/◌, ◌<◌, ◌≤◌, ◌⊎◌, ◌↔◌, min, false, IsSome, IsNone, IsOk, IfSome, IfNone, IfOk, IfErr, OnSome, OnOk, OnErr, position, replicate};
+ghost use Rattle.std.specs.Option.{option_or};
+ghost use Rattle.uma_places.specs.Places.{place_at, domain_at, slab_count, free_count, out_count, IsFree, IsOut, IsSound, IsNew, Brings, Gives, CountsOneOut, CountsOneSlab};
+ghost use Rattle.uma_places.specs.UsedPlaces.{AreEven};
+ghost use Rattle.uma_places.specs.Refused.{IsItemSize, IsSlabCount, IsRefusedFor};
+ghost use Rattle.uma_places.specs.Dropping.{Drops, IsWorn, HasNoneWhollyFree};
+ghost use Rattle.uma_places.specs.Room.{is_absent, can_take, is_partly_used, is_wholly_free, IsLastThat, NonePassFrom};
+ghost use Rattle.uma_places.specs.Taking.{Takes};
+
+use crate::counts::KegCounts;
+use crate::refused::KegRefused;
+use crate::room::Room;
+use std::alloc::{AllocError, Global};
+use std::marker::Model;
+use zone_stats::Refusal;
+
+/// The bytes of a slab (own).
+const SLAB_BYTES: u32 = 4096;
+
+/// The greatest number of places of a slab (own).
+const MOST_PLACES: u32 = 256;
+
+/// The least size of an item, in bytes (own).
+const LEAST_SIZE: u32 = 8;
+
+/// The greatest number of slabs of a keg (own).
+const MOST_SLABS: u32 = 1024;
+
+/// Slabs are given up while at most this less `cap` were ever brought in, so that bringing one in never finds their
+/// count at its end (own).
+const MOST_MADE: u64 = 1 << 40;
+
+/// The slabs and free places of one keg, without the items themselves.
+///
+/// It takes all its memory when it is made. A slab of items of `size` bytes has `min(256, 4096 / size)` places, and a
+/// number stands for the place `number % per_slab` of the slab of index `number / per_slab`.
+///
+/// The law that each call keeps:
+///
+/// 1. At most `cap` slabs are in. Each has the same number of places, and each place of it is free, or else its number
+///    is out. So the free places and the numbers out are together `slabs * per_slab`.
+/// 2. `made + cap - slabs` is at most 2^40, so the count of slabs ever made never comes to its end.
+#[derive(Debug, Drop)]
+pub struct Places {
+    rooms: Vec<Room>,
+    per_slab: u32,
+    cap: u32,
+    slabs: u32,
+    free: u64,
+    made: u64,
+}
+
+impl Model for Places {
+    ghost use Rattle.uma_places.specs.Places.{KegPlaces};
+
+    ghost Value = { KegPlaces };
+
+    ghost use Rattle.uma_places.specs.Kept.{places_of, IsKept};
+
+    ghost view = { places_of };
+
+    ghost invariant = { IsKept };
+}
+
+impl Places {
+    ghost use Rattle.uma_places.specs.Kept.{IsSize};
+
+    /// A keg of items of `size` bytes, 8 to 4,096, with room for `slabs` slabs, 1 to 1,024, and none in.
+    ///
+    /// The size is tested first. `Memory` where memory is wanting.
+    pub fn new(alloc: Global, size: u32, slabs: u32) -> Result<Places, KegRefused>
+        ensures new { IfOk result (IsNew (min 256 (4096 / size)) slabs) }
+        ensures sound { IfOk result IsSound }
+        ensures accepted { OnOk result (IsItemSize size × IsSlabCount slabs) }
+        ensures refused { IfErr result (IsRefusedFor size slabs) }
+    {
+        if !(LEAST_SIZE..=SLAB_BYTES).contains(&size) {
+            return Err(KegRefused::Size { size });
+        }
+        if !(1..=MOST_SLABS).contains(&slabs) {
+            return Err(KegRefused::Slabs { slabs });
+        }
+        Ok(Places::empty(alloc, places_of_slab(size), slabs)?)
+    }
+
+    /// A keg of so many places a slab, with room for `cap` slabs, and none in.
+    fn empty(alloc: Global, per_slab: u32, cap: u32) -> Result<Places, AllocError>
+        requires { IsSize per_slab cap }
+        ensures new { IfOk result (IsNew per_slab cap) }
+        ensures sound { IfOk result IsSound }
+    {
+        Ok(Places {
+            rooms: empty_rooms(alloc, cap, per_slab)?,
+            per_slab,
+            cap,
+            slabs: 0,
+            free: 0,
+            made: 0,
+        })
+    }
+
+    /// Brings in a new slab with this domain, all of whose places are free, at the least index that isn't in, and
+    /// answers that index. `Full` exactly where as many slabs are in as may be.
+    pub fn bring(&mut self, domain: u8) -> Result<u32, Refusal>
+        ensures brings { IfOk result (λ index. Brings self.old domain index self.new) }
+        ensures counts { OnOk result (CountsOneSlab self.old self.new) }
+        ensures outs { OnOk result ((n : ℕ) → IsOut self.new n ↔ IsOut self.old n) }
+        ensures room { IsOk result ↔ (slab_count self.old < self.old.cap) }
+        ensures full { IfErr result (λ why. (why ≡ Refusal.Full self.old.cap self.old.made) × (slab_count self.old ≡ self.old.cap)) }
+        ensures unchanged { OnErr result (self.new ≡ self.old) }
+        ensures sound { IsSound self.new }
+    {
+        let Some(index) = first_absent(&self.rooms) else {
+            return Err(Refusal::Full {
+                slabs: self.slabs,
+                made: self.made,
+            });
+        };
+        self.rooms[index].bring(domain);
+        self.slabs += 1;
+        self.free += self.per_slab as u64;
+        self.made += 1;
+        Ok(index as u32)
+    }
+
+    /// Takes the least free place of a slab, and answers its number. A partly used slab is taken from before a wholly
+    /// free one; which of several partly used slabs it is isn't promised. None exactly where no place is free.
+    pub fn take(&mut self) -> Option<u32>
+        ensures takes { IfSome result (λ n. Takes self.old n self.new) }
+        ensures counts { OnSome result (CountsOneOut self.old self.new) }
+        ensures outs { IfSome result (λ n. (other : ℕ) → IsOut self.new other ↔ (IsOut self.old other ⊎ (other ≡ n))) }
+        ensures within { IfSome result (λ n. n < self.new.cap * self.new.per_slab) }
+        ensures none_exactly { IsNone result ↔ (free_count self.old ≡ 0) }
+        ensures none { IfNone result ((n : ℕ) → IsFree self.old n → ⊥) }
+        ensures unchanged { IfNone result (self.new ≡ self.old) }
+        ensures sound { IsSound self.new }
+    {
+        let index = room_to_take(&self.rooms)?;
+        let place = self.rooms[index].take();
+        self.free -= 1;
+        Some(index as u32 * self.per_slab + place)
+    }
+
+    /// Gives back a number that is out.
+    pub fn give(&mut self, no: u32)
+        requires { IsOut self.old no }
+        ensures gives { Gives self.old no self.new }
+        ensures counts { CountsOneOut self.new self.old }
+        ensures outs { (other : ℕ) → IsOut self.new other ↔ (IsOut self.old other × (other ≢ no)) }
+        ensures sound { IsSound self.new }
+    {
+        let index = (no / self.per_slab) as usize;
+        self.rooms[index].give(no % self.per_slab);
+        self.free += 1;
+    }
+
+    /// Gives up the wholly free slab of greatest index, and answers that index. None exactly where no slab is wholly
+    /// free, or more than `2^40 - cap` were ever brought in; nothing changes then.
+    pub fn drop_slab(&mut self) -> Option<u32>
+        ensures drops { IfSome result (λ index. Drops self.old index self.new) }
+        ensures counts { OnSome result (CountsOneSlab self.new self.old) }
+        ensures outs { OnSome result ((n : ℕ) → IsOut self.new n ↔ IsOut self.old n) }
+        ensures none_exactly { IsNone result ↔ (IsWorn self.old ⊎ HasNoneWhollyFree self.old) }
+        ensures unchanged { IfNone result (self.new ≡ self.old) }
+        ensures sound { IsSound self.new }
+    {
+        if self.made > MOST_MADE - self.cap as u64 {
+            return None;
+        }
+        let index = last_wholly_free(&self.rooms)?;
+        self.rooms[index].give_up();
+        self.slabs -= 1;
+        self.free -= self.per_slab as u64;
+        Some(index as u32)
+    }
+
+    /// How the keg stands. The reserve is 0, and the rest are kept values.
+    pub fn counts(&self) -> KegCounts
+        ensures slabs { result.slabs ≡ slab_count self.now }
+        ensures cap { result.cap ≡ self.now.cap }
+        ensures made { result.made ≡ self.now.made }
+        ensures free { result.free ≡ free_count self.now }
+        ensures per_slab { result.per_slab ≡ self.now.per_slab }
+        ensures reserve { result.reserve ≡ 0 }
+        ensures sound { IsSound self.now }
+        ensures even { AreEven self.now }
+    {
+        KegCounts {
+            slabs: self.slabs,
+            cap: self.cap,
+            made: self.made,
+            free: self.free,
+            per_slab: self.per_slab,
+            reserve: 0,
+        }
+    }
+
+    /// The memory domain of the slab that this number is a place of.
+    pub fn domain(&self, no: u32) -> u8
+        requires { IsSome (place_at self.now no) }
+        ensures { domain_at self.now (no / self.now.per_slab) ≡ Some result }
+    {
+        let index = (no / self.per_slab) as usize;
+        self.rooms[index].domain().unwrap()
+    }
+}
+
+/// How many items of `size` bytes a slab has.
+fn places_of_slab(size: u32) -> u32
+    requires { IsItemSize size }
+    ensures places { result ≡ min 256 (4096 / size) }
+    ensures some { 1 ≤ result }
+    ensures few { result ≤ 256 }
+{
+    MOST_PLACES.min(SLAB_BYTES / size)
+}
+
+/// So many rooms for slabs of so many places, and no slab in.
+fn empty_rooms(alloc: Global, slabs: u32, places: u32) -> Result<Vec<Room>, AllocError>
+    requires { places ≤ 256 }
+    ensures { IfOk result (λ rooms. rooms.items ≡ replicate slabs (record { domain = None; free = replicate places false })) }
+{
+    let mut rooms = Vec::with_capacity(alloc, slabs as usize)?;
+    for _ in 0..slabs {
+        rooms.push(Room::new(places))?;
+    }
+    Ok(rooms)
+}
+
+/// The least index of a room with no slab.
+fn first_absent(rooms: &[Room]) -> Option<usize>
+    ensures { result ≡ position is_absent rooms.now }
+{
+    rooms.iter().position(|room| room.domain().is_none())
+}
+
+/// The least index of a room whose slab is partly used.
+fn first_partly_used(rooms: &[Room]) -> Option<usize>
+    ensures { result ≡ position is_partly_used rooms.now }
+{
+    rooms.iter().position(|room| room.is_partly_used())
+}
+
+/// The least index of a room with a free place.
+fn first_with_free(rooms: &[Room]) -> Option<usize>
+    ensures { result ≡ position can_take rooms.now }
+{
+    rooms.iter().position(|room| room.can_take())
+}
+
+/// The greatest index of a room whose slab is wholly free.
+fn last_wholly_free(rooms: &[Room]) -> Option<usize>
+    ensures last { IfSome result (IsLastThat is_wholly_free rooms.now) }
+    ensures none { IfNone result (NonePassFrom is_wholly_free rooms.now 0) }
+{
+    for index in (0..rooms.len()).rev() {
+        if rooms[index].is_wholly_free() {
+            return Some(index);
+        }
+    }
+    None
+}
+
+/// The index of a room to take from: the first whose slab is partly used, or else the first with a free place.
+fn room_to_take(rooms: &[Room]) -> Option<usize>
+    ensures { result ≡ option_or (position is_partly_used rooms.now) (position can_take rooms.now) }
+{
+    match first_partly_used(rooms) {
+        None => first_with_free(rooms),
+        index => index,
+    }
+}
