@@ -20,7 +20,7 @@ no_member words place clear = place_at words place ∙ ap (λ (b : ℕ). b == 1)
 abbrev pub AreClear : List ℕ → ℕ → ℕ → Type 0
 AreClear words start end = (k : ℕ) → start ≤ k → k < end → get_or words k 0 ≡ 0
 
-clear_word : (words : List ℕ) (place : ℕ) → get_or words (place / 64) 0 ≡ 0 → IsNoMember (places_of words) place
+pub clear_word : (words : List ℕ) (place : ℕ) → get_or words (place / 64) 0 ≡ 0 → IsNoMember (places_of words) place
 clear_word words place clear = no_member words place (rw clear (bit_at-zero (place % 64)))
 
 -- the lowest bit of the first word that isn't clear

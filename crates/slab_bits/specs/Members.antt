@@ -1,5 +1,5 @@
--- A set of places below 256 as a list of 256 truth values, which says of each place whether it is a member (own). No
--- place past the list's end is one.
+-- A set of places as a list of truth values, which says of each place whether it is a member (own): 256 of them, or 1,024
+-- in a wide set. No place past the list's end is one.
 use Rattle.std.specs.Prelude.{◌≡◌, ℕ, ◌<◌, ◌≤◌, Bool, true, false, List, length, slice_index_or}
 
 -- this place is a member, or it isn't one
@@ -24,6 +24,7 @@ pub record IsEmpty (members : List Bool) : Type 0 where
   pub places : length members ≡ 256
   pub none : (place : ℕ) → IsNoMember members place
 
--- each place is a member of both or of neither
-abbrev pub HaveSame : List Bool → List Bool → Type 0
-HaveSame one other = (place : ℕ) → slice_index_or one place false ≡ slice_index_or other place false
+-- the place is the greatest member
+pub record IsGreatest (members : List Bool) (place : ℕ) : Type 0 where
+  pub member : IsMember members place
+  pub greatest : (higher : ℕ) → place < higher → IsNoMember members higher

@@ -1,6 +1,6 @@
 -- How words hold a set of places: bit i of word k says whether place 64 * k + i is a member.
 use lib.Lanes.{mask_l}
-use Rattle.std.specs.Prelude.{◌≡◌, ℕ, zero, suc, ◌^◌, ◌<◌, Bool, ◌==◌, List, [], ◌∷◌, ◌++◌, map, take, drop, length, slice_index_or}
+use Rattle.std.specs.Prelude.{◌≡◌, ℕ, zero, suc, ◌^◌, ◌<◌, Bool, ◌==◌, nat_lt, List, [], ◌∷◌, ◌++◌, map, take, drop, length, slice_index_or}
 use Rattle.std.specs.Int.{bit_at}
 use Rattle.std.specs.List.{range_with_len}
 
@@ -21,6 +21,12 @@ places_of (word ∷ words) = word_places 64 word ++ places_of words
 pub record AreWords (words : List ℕ) : Type 0 where
   pub four : length words ≡ 4
   pub fit : (k : ℕ) → slice_index_or words k 0 < 2 ^ 64
+
+-- sixteen words, and one more that sums them up: its bit k says whether word k has a bit
+pub record AreSummed (summary : ℕ) (words : List ℕ) : Type 0 where
+  pub sixteen : length words ≡ 16
+  pub fit : (k : ℕ) → slice_index_or words k 0 < 2 ^ 64
+  pub summed : (k : ℕ) → is_set summary k ≡ nat_lt 0 (slice_index_or words k 0)
 
 -- the words that hold these places, so many of them
 unfoldable pub words_of : ℕ → List Bool → List ℕ

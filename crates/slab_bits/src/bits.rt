@@ -1,5 +1,5 @@
-ghost use Rattle.std.specs.Prelude.{◌≡◌, ℕ, ◌+◌, ◌-◌, ◌*◌, ◌/◌, ◌%◌, ◌^◌, ◌<◌, ◌≤◌, ◌↔◌, true, false, length, slice_index_or, slice_set, replicate, count_by, sum_by, count_ones, min, All, IsTrue, IfSome, IfNone, ◌++◌};
-ghost use Rattle.slab_bits.specs.Members.{HasNoneFrom, IsLeastFrom, IsEmpty, HaveSame};
+ghost use Rattle.std.specs.Prelude.{◌≡◌, ℕ, ◌+◌, ◌-◌, ◌*◌, ◌/◌, ◌%◌, ◌^◌, ◌<◌, ◌≤◌, true, false, length, slice_index_or, slice_set, replicate, count_by, sum_by, count_ones, min, All, IfSome, IfNone, ◌++◌};
+ghost use Rattle.slab_bits.specs.Members.{HasNoneFrom, IsLeastFrom, IsEmpty};
 ghost use Rattle.slab_bits.specs.Words.{places_of};
 
 use std::marker::Model;
@@ -102,14 +102,6 @@ impl Bits {
             count += word.count_ones();
         }
         count
-    }
-
-    /// Whether both have the same members, which is to be equal.
-    pub fn has_same(&self, other: &Bits) -> bool
-        ensures equal { IsTrue result ↔ (self.now ≡ other.now) }
-        ensures members { IsTrue result ↔ HaveSame self.now other.now }
-    {
-        self.words == other.words
     }
 
     /// The least member at or above `from`. None exactly where there is none.

@@ -1,6 +1,6 @@
 //! Rows at the borders of words, and counts against the plain sum.
 
-use crate::{Bits, count_lanes};
+use crate::{Bits, Wide, count_lanes};
 use std::test::Fail;
 
 /// The set of these places, those past the end left out.
@@ -63,8 +63,6 @@ fn sets_and_clears_at_the_borders_of_words(rt: HostRuntime) {
     for (place, member) in rows {
         assert_eq!(rt; bits.has(place), member);
     }
-    assert!(rt; bits.has_same(&set_of(&[64, 0])));
-    assert!(rt; !bits.has_same(&set_of(&[64, 1])));
 }
 
 #[test]
@@ -75,7 +73,6 @@ fn takes_the_places_below_a_number(rt: HostRuntime) {
         assert_eq!(rt; bits.has(n), false);
         assert_eq!(rt; bits.next(n), None);
     }
-    assert!(rt; Bits::first_n(0).has_same(&Bits::empty()));
 }
 
 #[test]
@@ -89,4 +86,27 @@ fn counts_lanes_as_the_plain_sum_does(rt: HostRuntime) -> Result<(), Fail> {
     }
     assert_eq!(rt; count_lanes(&[u64::MAX, 0, 1, 1 << 63]), 66);
     Ok(())
+}
+
+#[test]
+fn finds_the_ends_of_a_wide_set_at_the_borders_of_words(rt: HostRuntime) {
+    let mut wide = Wide::empty();
+    assert_eq!(rt; (wide.first(), wide.last(), wide.count()), (None, None, 0));
+    wide.set(63);
+    wide.set(64);
+    wide.set(1023);
+    assert_eq!(rt;
+        (wide.first(), wide.last(), wide.count()),
+        (Some(63), Some(1023), 3)
+    );
+    assert_eq!(rt; (wide.has(1023), wide.has(1024)), (true, false));
+    wide.clear(63);
+    assert_eq!(rt; (wide.first(), wide.last()), (Some(64), Some(1023)));
+    wide.clear(1023);
+    assert_eq!(rt;
+        (wide.first(), wide.last(), wide.count()),
+        (Some(64), Some(64), 1)
+    );
+    wide.clear(64);
+    assert_eq!(rt; (wide.first(), wide.last(), wide.count()), (None, None, 0));
 }
