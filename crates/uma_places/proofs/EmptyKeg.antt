@@ -7,17 +7,14 @@ use Rattle.std.proofs.lemmas.List.Folds.{sum_by-replicate}
 use Rattle.uma_places.specs.declared.places.Places.TheInside.{Inside}
 use Rattle.uma_places.specs.Places.{KegPlaces, Slab, slab_at, place_at, domain_at, places_by, slab_count, free_count, out_count, IsSound, IsNew}
 use Rattle.uma_places.specs.Kept.{keg_of, places_of, IsKept, IsSize}
-use Rattle.uma_places.specs.Room.{RoomState, slab_in}
+use Rattle.uma_places.specs.Room.{RoomState, empty_room, slab_in}
 use Rattle.uma_places.proofs.Slabs.{place_at-absent, domain_at-absent}
 
--- a room with no slab, and a keg of such rooms
-abbrev pub empty_room : ℕ → RoomState
-empty_room places = record { domain = None; free = replicate places false }
-
+-- a keg of rooms with no slab
 abbrev pub empty_keg : ℕ → ℕ → KegPlaces
 empty_keg places most = keg_of places most 0 (replicate most (empty_room places))
 
-map-replicate : {A B : Type 0} (f : A → B) (n : ℕ) (x : A) → map f (replicate n x) ≡ replicate n (f x)
+pub map-replicate : {A B : Type 0} (f : A → B) (n : ℕ) (x : A) → map f (replicate n x) ≡ replicate n (f x)
 map-replicate f zero x = refl
 map-replicate f (suc n) x = ap (λ t. f x ∷ t) (map-replicate f n x)
 
@@ -80,10 +77,10 @@ IsSound-empty places most size =
     }
 
 -- the rooms that are made keep such a keg
-pub keeps_empty : (a : Inside) → IsSize a.per_slab a.cap → a.made ≡ 0 → a.slabs ≡ 0 → a.free ≡ 0 → a.rooms.items ≡ replicate a.cap (empty_room a.per_slab) → places_of a ≡ empty_keg a.per_slab a.cap
+pub keeps_empty : (a : Inside) → IsSize a.per_slab a.cap → a.made ≡ 0 → a.slabs ≡ 0 → a.free ≡ 0 → a.rooms ≡ replicate a.cap (empty_room a.per_slab) → places_of a ≡ empty_keg a.per_slab a.cap
 keeps_empty a size made slabs free rooms = rw (made, rooms) refl
 
-pub IsKept-empty : (a : Inside) → IsSize a.per_slab a.cap → a.made ≡ 0 → a.slabs ≡ 0 → a.free ≡ 0 → a.rooms.items ≡ replicate a.cap (empty_room a.per_slab) → IsKept a
+pub IsKept-empty : (a : Inside) → IsSize a.per_slab a.cap → a.made ≡ 0 → a.slabs ≡ 0 → a.free ≡ 0 → a.rooms ≡ replicate a.cap (empty_room a.per_slab) → IsKept a
 IsKept-empty a size made slabs free rooms =
     let is = keeps_empty a size made slabs free rooms in
     record {

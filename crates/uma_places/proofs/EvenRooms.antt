@@ -18,11 +18,11 @@ room_places p (Some d) free s long is = ap (λ (o : Option Slab). length (free_o
 
 pub kept_even : (a : Inside) → IsKept a → AreEven (places_of a)
 kept_even a kept = record {
-  indices = length-map a.rooms.items slab_in ∙ kept.rooms;
+  indices = length-map a.rooms slab_in ∙ kept.rooms;
   places = λ index slab is.
-      let within : index < length a.rooms.items = rw (length-map a.rooms.items slab_in) at (slab_at-within (places_of a) index slab is) in
+      let within : index < length a.rooms = rw (length-map a.rooms slab_in) at (slab_at-within (places_of a) index slab is) in
       let d : RoomState = record { domain = None; free = [] } in
-      let room = get_or a.rooms.items index d in
-      let in_room : slab_in room ≡ Some slab = sym (get_or-map slab_in a.rooms.items index d None within) ∙ is in
+      let room = get_or a.rooms index d in
+      let in_room : slab_in room ≡ Some slab = sym (get_or-map slab_in a.rooms index d None within) ∙ is in
       room_places a.per_slab room.domain room.free slab (kept.places index d within) in_room;
 }

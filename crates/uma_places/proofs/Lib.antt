@@ -1,6 +1,5 @@
 pub mod Bringing
 pub mod Changes
-pub mod Choice
 pub mod Dropping
 pub mod EmptyKeg
 pub mod EvenRooms
@@ -12,5 +11,6 @@ pub mod RoomBrings
 pub mod RoomDrops
 pub mod RoomPuts
 pub mod RoomTakes
-pub mod Rooms
+pub mod RoomTests
 pub mod Slabs
+pub mod StandingSets

@@ -60,7 +60,7 @@ take-empty places free few empty =
     get_or-take places free k false below ∙ empty.none k ∙ sym (get_or-replicate places k false false below))
 
 -- each place of the first so many is free
-replicate_false : (m j : ℕ) → get_or (replicate m false) j false ≡ false
+pub replicate_false : (m j : ℕ) → get_or (replicate m false) j false ≡ false
 replicate_false m j =
     elim (cases_lt j m) [
       | inl below ↦ get_or-replicate m j false false below

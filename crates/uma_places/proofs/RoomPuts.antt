@@ -1,25 +1,24 @@
 -- A change in one room of a keg is a change of one place.
 use Rattle.std.proofs.Common.{◌≡◌, ◌≢◌, ◌↔◌, ℕ, ◌+◌, ◌*◌, ◌/◌, ◌%◌, ◌<◌, Bool, true, false, List, map, length, set, get_or, Option, Some, None, option_map, refl, sym, ap, subst, ◌∙◌}
 use Rattle.std.specs.List.{slice_get}
-use Rattle.std.specs.Vec.{with_item}
 use Rattle.std.proofs.Math.Nat.{mod-lt}
 use Rattle.std.proofs.lemmas.Nat.{div-add-mod'}
-use Rattle.std.proofs.lemmas.List.{map-set, length-set}
+use Rattle.std.proofs.lemmas.List.{map-set, length-set, get_or_default}
 use Rattle.std.proofs.lemmas.List.Elements.{All-set}
 use Rattle.uma_places.specs.declared.places.Places.TheInside.{Inside}
 use Rattle.uma_places.specs.Places.{KegPlaces, Slab, slab_count, free_count, IsSound, IsOut, Gives, CountsOneOut}
 use Rattle.uma_places.specs.Kept.{keg_of, places_of, IsKept}
-use Rattle.uma_places.specs.Room.{RoomState, slab_in}
+use Rattle.uma_places.specs.Room.{RoomState, room_at, slab_in}
 use Rattle.uma_places.proofs.Changes.{outs_given, IsSound-given}
 use Rattle.uma_places.proofs.KeptRooms.{room_within}
 use Rattle.uma_places.proofs.Puts.{slab_put, put, IsPlace, place_at-put, KeepsOthers-put, KeepsSlabs-put, CountsOneOut-give}
-use Rattle.uma_places.proofs.Rooms.{slab_at-room}
+use Rattle.uma_places.proofs.RoomTests.{slab_at-room}
 use Rattle.uma_places.proofs.Slabs.{slab_of}
 
 -- r is the room of index i, and s the slab in it
 pub record HoldsSlab (a : Inside) (i : ℕ) (r : RoomState) (s : Slab) : Type 0 where
-  pub within : i < length a.rooms.items
-  pub room : r ≡ get_or a.rooms.items i r
+  pub within : i < length a.rooms
+  pub room : r ≡ get_or a.rooms i r
   pub slab : slab_in r ≡ Some s
 
 free_of : (d : Option ℕ) (free : List Bool) (s : Slab) → slab_in (record { domain = d; free = free }) ≡ Some s → s.free ≡ free
@@ -42,32 +41,32 @@ slab_in-put : (r : RoomState) (s : Slab) (q : ℕ) (b : Bool) → slab_in r ≡ 
 slab_in-put r s q b e = sym (put_in r.domain r.free q b) ∙ ap (λ (o : Option Slab). option_map (λ s. slab_put s q b) o) e
 
 -- the keg with the room's place changed
-pub keg_of-set : (a : Inside) (i q : ℕ) (r r' : RoomState) (s : Slab) (b : Bool) → slab_in r ≡ Some s → r' ≡ record r { free = set r.free q b } → keg_of a.per_slab a.cap a.made (set a.rooms.items i r') ≡ put (places_of a) i q s b
+pub keg_of-set : (a : Inside) (i q : ℕ) (r r' : RoomState) (s : Slab) (b : Bool) → slab_in r ≡ Some s → r' ≡ record r { free = set r.free q b } → keg_of a.per_slab a.cap a.made (set a.rooms i r') ≡ put (places_of a) i q s b
 keg_of-set a i q r r' s b e changed =
     let slab : slab_in r' ≡ Some (slab_put s q b) = rw changed (slab_in-put r s q b e) in
-    let slabs = map-set slab_in a.rooms.items i r' ∙ ap (set (map slab_in a.rooms.items) i) slab in
+    let slabs = map-set slab_in a.rooms i r' ∙ ap (set (map slab_in a.rooms) i) slab in
     ap (λ (xs : List (Option Slab)). record { per_slab = a.per_slab; cap = a.cap; made = a.made; slabs = xs }) slabs
 
 -- the room has as many places as a slab
-pub places_of-room : (a : Inside) → IsKept a → (i : ℕ) (r : RoomState) → i < length a.rooms.items → r ≡ get_or a.rooms.items i r → length r.free ≡ a.per_slab
+pub places_of-room : (a : Inside) → IsKept a → (i : ℕ) (r : RoomState) → i < length a.rooms → r ≡ get_or a.rooms i r → length r.free ≡ a.per_slab
 places_of-room a kept i r within room = rw room (kept.places i r within)
 
 pub IsPlace-room : (a : Inside) → IsKept a → (i q : ℕ) (r : RoomState) (s : Slab) → HoldsSlab a i r s → q < a.per_slab → IsPlace (places_of a) i q s
 IsPlace-room a kept i q r s holds below = record {
-  in_keg = slab_at-room a.per_slab a.cap a.made a.rooms.items i r holds.within holds.room ∙ holds.slab;
+  in_keg = slab_at-room a.per_slab a.cap a.made a.rooms i r holds.within holds.room ∙ holds.slab;
   within = below;
   places = ap length (free_of-slab r s holds.slab) ∙ places_of-room a kept i r holds.within holds.room;
 }
 
 -- what is kept stays so where one room changes
 pub IsKept-set : (a : Inside) → IsKept a → (i : ℕ) (r' : RoomState) → length r'.free ≡ a.per_slab → (free : ℕ)
-    → a.slabs ≡ slab_count (keg_of a.per_slab a.cap a.made (set a.rooms.items i r'))
-    → free ≡ free_count (keg_of a.per_slab a.cap a.made (set a.rooms.items i r'))
-    → IsSound (keg_of a.per_slab a.cap a.made (set a.rooms.items i r'))
-    → IsKept (record a { rooms = with_item a.rooms i r'; free = free })
+    → a.slabs ≡ slab_count (keg_of a.per_slab a.cap a.made (set a.rooms i r'))
+    → free ≡ free_count (keg_of a.per_slab a.cap a.made (set a.rooms i r'))
+    → IsSound (keg_of a.per_slab a.cap a.made (set a.rooms i r'))
+    → IsKept (record a { rooms = set a.rooms i r'; free = free })
 IsKept-set a kept i r' len free slabs counted sound = record {
-  rooms = length-set a.rooms.items i r' ∙ kept.rooms;
-  places = All-set (λ room. length room.free ≡ a.per_slab) a.rooms.items i r' len kept.places;
+  rooms = length-set a.rooms i r' ∙ kept.rooms;
+  places = All-set (λ room. length room.free ≡ a.per_slab) a.rooms i r' len kept.places;
   slabs = slabs;
   free = counted;
   sound = sound;
@@ -102,11 +101,11 @@ pub record IsOutIn (a : Inside) (n : ℕ) (r : RoomState) : Type 0 where
   pub used : slice_get slab.free (n % a.per_slab) ≡ Some false
   pub used_room : slice_get r.free (n % a.per_slab) ≡ Some false
 
-pub IsOutIn-room : (a : Inside) → IsKept a → (n : ℕ) (r : RoomState) → IsOut (places_of a) n → r ≡ get_or a.rooms.items (n / a.per_slab) r → IsOutIn a n r
+pub IsOutIn-room : (a : Inside) → IsKept a → (n : ℕ) (r : RoomState) → IsOut (places_of a) n → r ≡ get_or a.rooms (n / a.per_slab) r → IsOutIn a n r
 IsOutIn-room a kept n r out room =
     let has = slab_of (places_of a) n false out in
     let within = room_within a kept n (rw out refl) in
-    let in_room = sym (slab_at-room a.per_slab a.cap a.made a.rooms.items (n / a.per_slab) r within room) ∙ has.in_keg in
+    let in_room = sym (slab_at-room a.per_slab a.cap a.made a.rooms (n / a.per_slab) r within room) ∙ has.in_keg in
     record {
       slab = has.slab;
       holds = record { within = within; room = room; slab = in_room };
@@ -115,9 +114,22 @@ IsOutIn-room a kept n r out room =
       used_room = rw (← free_of-slab r has.slab in_room) has.value;
     }
 
-pub gives_back : (a : Inside) → IsKept a → (n : ℕ) (r r' : RoomState) → IsOut (places_of a) n → r ≡ get_or a.rooms.items (n / a.per_slab) r
+-- the room of a number that is out
+pub record IsOutRoom (a : Inside) (n : ℕ) : Type 0 where
+  pub within : n / a.per_slab < length a.rooms
+  pub room : room_at a.rooms (n / a.per_slab) ≡ get_or a.rooms (n / a.per_slab) (room_at a.rooms (n / a.per_slab))
+  pub used : slice_get (room_at a.rooms (n / a.per_slab)).free (n % a.per_slab) ≡ Some false
+
+pub out_room : (a : Inside) → IsKept a → (n : ℕ) → IsOut (places_of a) n → IsOutRoom a n
+out_room a kept n out =
+    let within = room_within a kept n (rw out refl) in
+    let r = room_at a.rooms (n / a.per_slab) in
+    let room : r ≡ get_or a.rooms (n / a.per_slab) r = get_or_default a.rooms (n / a.per_slab) _ r within in
+    record { within = within; room = room; used = (IsOutIn-room a kept n r out room).used_room }
+
+pub gives_back : (a : Inside) → IsKept a → (n : ℕ) (r r' : RoomState) → IsOut (places_of a) n → r ≡ get_or a.rooms (n / a.per_slab) r
     → r' ≡ record r { free = set r.free (n % a.per_slab) true }
-    → GivesBack (places_of a) n (keg_of a.per_slab a.cap a.made (set a.rooms.items (n / a.per_slab) r'))
+    → GivesBack (places_of a) n (keg_of a.per_slab a.cap a.made (set a.rooms (n / a.per_slab) r'))
 gives_back a kept n r r' out room changed =
     let here = IsOutIn-room a kept n r out room in
     let number : n / a.per_slab * a.per_slab + n % a.per_slab ≡ n = div-add-mod' n a.per_slab in
@@ -126,9 +138,9 @@ gives_back a kept n r r' out room changed =
     let Back : ℕ → Type 0 = λ m. GivesBack (places_of a) m (put (places_of a) (n / a.per_slab) (n % a.per_slab) here.slab true) in
     rw (keg_of-set a (n / a.per_slab) (n % a.per_slab) r r' here.slab true here.holds.slab changed) (subst Back number done)
 
-pub IsKept-given : (a : Inside) (kept : IsKept a) (n : ℕ) (r r' : RoomState) → IsOut (places_of a) n → r ≡ get_or a.rooms.items (n / a.per_slab) r
+pub IsKept-given : (a : Inside) (kept : IsKept a) (n : ℕ) (r r' : RoomState) → IsOut (places_of a) n → r ≡ get_or a.rooms (n / a.per_slab) r
     → r' ≡ record r { free = set r.free (n % a.per_slab) true }
-    → IsKept (record a { rooms = with_item a.rooms (n / a.per_slab) r'; free = a.free + 1 })
+    → IsKept (record a { rooms = set a.rooms (n / a.per_slab) r'; free = a.free + 1 })
 IsKept-given a kept n r r' out room changed =
     let back = gives_back a kept n r r' out room changed in
     let within = room_within a kept n (rw out refl) in

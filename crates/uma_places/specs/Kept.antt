@@ -10,7 +10,7 @@ keg_of per_slab cap made rooms = record { per_slab = per_slab; cap = cap; made =
 
 -- what contracts see of the fields
 abbrev pub places_of : Inside → KegPlaces
-places_of a = keg_of a.per_slab a.cap a.made a.rooms.items
+places_of a = keg_of a.per_slab a.cap a.made a.rooms
 
 -- the bounds of a keg's size (own)
 pub record IsSize (per_slab cap : ℕ) : Type 0 where
@@ -21,8 +21,8 @@ pub record IsSize (per_slab cap : ℕ) : Type 0 where
 
 -- there is a room for each index, with a truth value for each place, and the counts are those of the slabs
 pub record IsKept (a : Inside) : Type 0 where
-  pub rooms : length a.rooms.items ≡ a.cap
-  pub places : All (λ room. length room.free ≡ a.per_slab) a.rooms.items
+  pub rooms : length a.rooms ≡ a.cap
+  pub places : All (λ room. length room.free ≡ a.per_slab) a.rooms
   pub slabs : a.slabs ≡ slab_count (places_of a)
   pub free : a.free ≡ free_count (places_of a)
   pub sound : IsSound (places_of a)

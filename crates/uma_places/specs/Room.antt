@@ -1,11 +1,19 @@
 -- The room that a keg keeps for the slab of one index.
-use Rattle.std.specs.Prelude.{◌≡◌, ℕ, ◌+◌, ◌<◌, ◌≤◌, Bool, true, false, ◌&&◌, ◌==◌, nat_lt, List, Option, length, slice_index_or, is_some, is_none, option_map, count_by}
+use Rattle.std.specs.Prelude.{◌≡◌, ℕ, ◌+◌, ◌<◌, ◌≤◌, Bool, true, false, ◌&&◌, ◌==◌, nat_lt, List, [], Option, None, length, replicate, slice_index_or, is_some, is_none, option_map, count_by}
 use Rattle.uma_places.specs.Places.{Slab}
 
 -- the domain of the slab, while one is in, and of each place whether it is free
 pub record RoomState : Type 0 where
   pub domain : Option ℕ
   pub free : List Bool
+
+-- the room of an index, where there is one
+abbrev pub room_at : List RoomState → ℕ → RoomState
+room_at rooms index = slice_index_or rooms index (record { domain = None; free = [] })
+
+-- a room for so many places with no slab
+abbrev pub empty_room : ℕ → RoomState
+empty_room places = record { domain = None; free = replicate places false }
 
 -- the slab that is in the room
 abbrev pub slab_in : RoomState → Option Slab
@@ -40,6 +48,12 @@ pub record IsRoom (places : ℕ) (free : List Bool) : Type 0 where
 -- no room from this index on passes the test
 abbrev pub NonePassFrom : (RoomState → Bool) → List RoomState → ℕ → Type 0
 NonePassFrom test rooms index = (k : ℕ) (d : RoomState) → index ≤ k → k < length rooms → test (slice_index_or rooms k d) ≡ false
+
+-- the room of this index is the first that passes the test
+pub record IsFirstThat (test : RoomState → Bool) (rooms : List RoomState) (index : ℕ) : Type 0 where
+  pub within : index < length rooms
+  pub passes : (d : RoomState) → test (slice_index_or rooms index d) ≡ true
+  pub earlier : (k : ℕ) (d : RoomState) → k < index → test (slice_index_or rooms k d) ≡ false
 
 -- the room of this index is the last that passes the test
 pub record IsLastThat (test : RoomState → Bool) (rooms : List RoomState) (index : ℕ) : Type 0 where

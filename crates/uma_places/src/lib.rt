@@ -8,6 +8,8 @@ mod counts;
 mod places;
 mod refused;
 mod room;
+mod rooms;
+mod standings;
 #[cfg(test)]
 mod tests;
 

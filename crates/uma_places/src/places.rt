@@ -1,15 +1,13 @@
-ghost use Rattle.std.specs.Prelude.{◌≡◌, ◌≢◌, ℕ, ◌*◌, ◌/◌, ◌<◌, ◌≤◌, ◌⊎◌, ◌↔◌, min, false, IsSome, IsNone, IsOk, IfSome, IfNone, IfOk, IfErr, OnSome, OnOk, OnErr, position, replicate};
-ghost use Rattle.std.specs.Option.{option_or};
+ghost use Rattle.std.specs.Prelude.{◌≡◌, ◌≢◌, ℕ, ◌*◌, ◌/◌, ◌<◌, ◌≤◌, ◌⊎◌, ◌↔◌, min, IsSome, IsNone, IsOk, IfSome, IfNone, IfOk, IfErr, OnSome, OnOk, OnErr};
 ghost use Rattle.uma_places.specs.Places.{place_at, domain_at, slab_count, free_count, out_count, IsFree, IsOut, IsSound, IsNew, Brings, Gives, CountsOneOut, CountsOneSlab};
 ghost use Rattle.uma_places.specs.UsedPlaces.{AreEven};
 ghost use Rattle.uma_places.specs.Refused.{IsItemSize, IsSlabCount, IsRefusedFor};
 ghost use Rattle.uma_places.specs.Dropping.{Drops, IsWorn, HasNoneWhollyFree};
-ghost use Rattle.uma_places.specs.Room.{is_absent, can_take, is_partly_used, is_wholly_free, IsLastThat, NonePassFrom};
 ghost use Rattle.uma_places.specs.Taking.{Takes};
 
 use crate::counts::KegCounts;
 use crate::refused::KegRefused;
-use crate::room::Room;
+use crate::rooms::Rooms;
 use std::alloc::{AllocError, Global};
 use std::marker::Model;
 use zone_stats::Refusal;
@@ -42,7 +40,7 @@ const MOST_MADE: u64 = 1 << 40;
 /// 2. `made + cap - slabs` is at most 2^40, so the count of slabs ever made never comes to its end.
 #[derive(Debug, Drop)]
 pub struct Places {
-    rooms: Vec<Room>,
+    rooms: Rooms,
     per_slab: u32,
     cap: u32,
     slabs: u32,
@@ -90,7 +88,7 @@ impl Places {
         ensures sound { IfOk result IsSound }
     {
         Ok(Places {
-            rooms: empty_rooms(alloc, cap, per_slab)?,
+            rooms: Rooms::new(alloc, cap, per_slab)?,
             per_slab,
             cap,
             slabs: 0,
@@ -110,17 +108,17 @@ impl Places {
         ensures unchanged { OnErr result (self.new ≡ self.old) }
         ensures sound { IsSound self.new }
     {
-        let Some(index) = first_absent(&self.rooms) else {
+        let Some(index) = self.rooms.first_absent() else {
             return Err(Refusal::Full {
                 slabs: self.slabs,
                 made: self.made,
             });
         };
-        self.rooms[index].bring(domain);
+        self.rooms.bring(index, domain);
         self.slabs += 1;
         self.free += self.per_slab as u64;
         self.made += 1;
-        Ok(index as u32)
+        Ok(index)
     }
 
     /// Takes the least free place of a slab, and answers its number. A partly used slab is taken from before a wholly
@@ -135,10 +133,10 @@ impl Places {
         ensures unchanged { IfNone result (self.new ≡ self.old) }
         ensures sound { IsSound self.new }
     {
-        let index = room_to_take(&self.rooms)?;
-        let place = self.rooms[index].take();
+        let index = self.rooms.to_take()?;
+        let place = self.rooms.take(index);
         self.free -= 1;
-        Some(index as u32 * self.per_slab + place)
+        Some(index * self.per_slab + place)
     }
 
     /// Gives back a number that is out.
@@ -149,8 +147,7 @@ impl Places {
         ensures outs { (other : ℕ) → IsOut self.new other ↔ (IsOut self.old other × (other ≢ no)) }
         ensures sound { IsSound self.new }
     {
-        let index = (no / self.per_slab) as usize;
-        self.rooms[index].give(no % self.per_slab);
+        self.rooms.give(no / self.per_slab, no % self.per_slab);
         self.free += 1;
     }
 
@@ -167,11 +164,11 @@ impl Places {
         if self.made > MOST_MADE - self.cap as u64 {
             return None;
         }
-        let index = last_wholly_free(&self.rooms)?;
-        self.rooms[index].give_up();
+        let index = self.rooms.last_wholly_free()?;
+        self.rooms.give_up(index);
         self.slabs -= 1;
         self.free -= self.per_slab as u64;
-        Some(index as u32)
+        Some(index)
     }
 
     /// How the keg stands. The reserve is 0, and the rest are kept values.
@@ -200,8 +197,7 @@ impl Places {
         requires { IsSome (place_at self.now no) }
         ensures { domain_at self.now (no / self.now.per_slab) ≡ Some result }
     {
-        let index = (no / self.per_slab) as usize;
-        self.rooms[index].domain().unwrap()
+        self.rooms.domain(no / self.per_slab).unwrap()
     }
 }
 
@@ -213,60 +209,4 @@ fn places_of_slab(size: u32) -> u32
     ensures few { result ≤ 256 }
 {
     MOST_PLACES.min(SLAB_BYTES / size)
-}
-
-/// So many rooms for slabs of so many places, and no slab in.
-fn empty_rooms(alloc: Global, slabs: u32, places: u32) -> Result<Vec<Room>, AllocError>
-    requires { places ≤ 256 }
-    ensures { IfOk result (λ rooms. rooms.items ≡ replicate slabs (record { domain = None; free = replicate places false })) }
-{
-    let mut rooms = Vec::with_capacity(alloc, slabs as usize)?;
-    for _ in 0..slabs {
-        rooms.push(Room::new(places))?;
-    }
-    Ok(rooms)
-}
-
-/// The least index of a room with no slab.
-fn first_absent(rooms: &[Room]) -> Option<usize>
-    ensures { result ≡ position is_absent rooms.now }
-{
-    rooms.iter().position(|room| room.domain().is_none())
-}
-
-/// The least index of a room whose slab is partly used.
-fn first_partly_used(rooms: &[Room]) -> Option<usize>
-    ensures { result ≡ position is_partly_used rooms.now }
-{
-    rooms.iter().position(|room| room.is_partly_used())
-}
-
-/// The least index of a room with a free place.
-fn first_with_free(rooms: &[Room]) -> Option<usize>
-    ensures { result ≡ position can_take rooms.now }
-{
-    rooms.iter().position(|room| room.can_take())
-}
-
-/// The greatest index of a room whose slab is wholly free.
-fn last_wholly_free(rooms: &[Room]) -> Option<usize>
-    ensures last { IfSome result (IsLastThat is_wholly_free rooms.now) }
-    ensures none { IfNone result (NonePassFrom is_wholly_free rooms.now 0) }
-{
-    for index in (0..rooms.len()).rev() {
-        if rooms[index].is_wholly_free() {
-            return Some(index);
-        }
-    }
-    None
-}
-
-/// The index of a room to take from: the first whose slab is partly used, or else the first with a free place.
-fn room_to_take(rooms: &[Room]) -> Option<usize>
-    ensures { result ≡ option_or (position is_partly_used rooms.now) (position can_take rooms.now) }
-{
-    match first_partly_used(rooms) {
-        None => first_with_free(rooms),
-        index => index,
-    }
 }

@@ -157,3 +157,30 @@ fn drops_the_greatest_of_many_slabs(rt: HostRuntime) -> Result<(), Fail> {
     assert_eq!(rt; places.bring(0), Ok(1));
     Ok(())
 }
+
+/// Takes what is left beside a number that is out, and gives that number back.
+fn takes_the_rest_and_gives_back(places: &mut Places, held: u32)
+    requires { IsOut places.old held }
+{
+    for _ in 0..1024 {
+        let _ = places.take();
+    }
+    places.give(held);
+}
+
+#[test]
+fn takes_what_came_home_to_a_full_keg(rt: HostRuntime) -> Result<(), Fail> {
+    let mut places = Places::new(rt.alloc(), 4096, 1024)?;
+    for _ in 0..1024 {
+        places.bring(0)?;
+    }
+    for no in 0..700 {
+        assert_eq!(rt; places.take(), Some(no));
+    }
+    let held = places.take().ok_or("no place is free")?;
+    assert_eq!(rt; held, 700);
+    takes_the_rest_and_gives_back(&mut places, held);
+    assert_eq!(rt; places.take(), Some(700));
+    assert_eq!(rt; places.take(), None);
+    Ok(())
+}

@@ -1,18 +1,18 @@
-use Rattle.std.proofs.Common.{◌≡◌, ℕ, ◌+◌, set, None, arith, refl, sym, ap, ◌∙◌}
+use Rattle.std.proofs.Common.{◌≡◌, ℕ, ◌+◌, Option, arith, refl, ap, subst, ◌∙◌}
 use Rattle.zone_stats.specs.declared.refusal.Refusal.TheVariants.{Full}
-use Rattle.std.specs.List.{position}
+use Rattle.std.specs.Option.{IfNone}
 use Rattle.uma_places.specs.Kept.{keg_of, places_of}
 use Rattle.uma_places.specs.Places.{slab_count}
-use Rattle.uma_places.specs.Room.{is_absent}
+use Rattle.uma_places.specs.Room.{room_at, is_absent, NonePassFrom}
 use Rattle.uma_places.proofs.Bringing.{BringsIn}
-use Rattle.uma_places.proofs.RoomBrings.{IsBrought, brings_room, IsKept-brought, slab_count-full}
+use Rattle.uma_places.proofs.RoomBrings.{IsBrought, brought_at, brought_room, brings_room, IsKept-brought, slab_count-full}
 use Rattle.uma_places.proofs.places.Places.bring.Goals as goal
 
 -- as many slabs are in as may be, where no room was found
 full : (c : goal.In_default) → slab_count (places_of c.self.inside) ≡ c.self.inside.cap
 full c =
-    let none : position is_absent c.self.inside.rooms.items ≡ None = rw (← c.deref.ensures.value) (sym c.first_absent.ensures ∙ c.in_default.is) in
-    slab_count-full c.self.inside c.self.invariant none
+    let At : Option ℕ → Type 0 = λ o. IfNone o (NonePassFrom is_absent c.self.inside.rooms 0) in
+    slab_count-full c.self.inside c.self.invariant (subst At c.in_default.is c.first_absent.ensures.none)
 
 pub returns-in_default-clause-room : goal.returns-in_default-clause-room
 returns-in_default-clause-room c =
@@ -23,21 +23,17 @@ pub returns-in_default-clause-full : goal.returns-in_default-clause-full
 returns-in_default-clause-full c =
     rw (← c.self.view_is) (ap (λ (slabs : ℕ). Full slabs c.self.inside.made) (c.self.invariant.slabs ∙ full c), full c)
 
-brought : (c : goal.After-self-4-1) → IsBrought c.self.inside c.args.domain c.in-Some.index c.index_mut.result.now c.bring.new.self
-brought c = record {
-  found = rw (← c.deref.ensures.value) (sym c.first_absent.ensures ∙ c.in-Some.is);
-  room = c.index_mut.ensures.value;
-  changed = c.bring.ensures;
-}
+brought : (c : goal.After-self-3-1) → IsBrought c.self.inside c.args.domain c.in-Some.index (room_at c.self.inside.rooms c.in-Some.index) (brought_room c.args.domain (room_at c.self.inside.rooms c.in-Some.index))
+brought c = brought_at c.self.inside c.args.domain c.in-Some.index c.in-Some.ensures.first
 
 pub invariant_of-self : goal.invariant_of-self
-invariant_of-self c = IsKept-brought c.self.inside c.self.invariant c.args.domain c.in-Some.index c.index_mut.result.now c.bring.new.self (brought c)
+invariant_of-self c = rw c.bring.ensures (IsKept-brought c.self.inside c.self.invariant c.args.domain c.in-Some.index (room_at c.self.inside.rooms c.in-Some.index) (brought_room c.args.domain (room_at c.self.inside.rooms c.in-Some.index)) (brought c))
 
 -- the change of the fields, as a change of the keg
-in_keg : (c : goal.After-self-4-1) → BringsIn c.args.self.now c.args.domain c.in-Some.index (keg_of c.self.inside.per_slab c.self.inside.cap (c.self.inside.made + 1) (set c.self.inside.rooms.items c.in-Some.index c.bring.new.self))
+in_keg : (c : goal.After-self-3-1) → BringsIn c.args.self.now c.args.domain c.in-Some.index (keg_of c.self.inside.per_slab c.self.inside.cap (c.self.inside.made + 1) c.bring.new.self)
 in_keg c =
-    let done = brings_room c.self.inside c.self.invariant c.args.domain c.in-Some.index c.index_mut.result.now c.bring.new.self (brought c) in
-    rw (← c.self.view_is) done
+    let done = brings_room c.self.inside c.self.invariant c.args.domain c.in-Some.index (room_at c.self.inside.rooms c.in-Some.index) (brought_room c.args.domain (room_at c.self.inside.rooms c.in-Some.index)) (brought c) in
+    rw (← c.self.view_is, c.bring.ensures) done
 
 pub returns-clause-brings : goal.returns-clause-brings
 returns-clause-brings c = (in_keg c).brings

@@ -1,53 +1,47 @@
-use Rattle.std.proofs.Common.{◌≡◌, ℕ, ◌+◌, ◌^◌, ◌≤◌, List, get_or, set, None, arith, refl, inl, inr}
-use Rattle.uma_places.specs.declared.places.Places.TheInside.{Inside}
+use Rattle.std.proofs.Common.{◌+◌, ◌^◌, ◌≤◌, arith, refl, inl, inr}
 use Rattle.uma_places.specs.Dropping.{IsWorn}
 use Rattle.uma_places.specs.Kept.{keg_of}
 use Rattle.uma_places.specs.Places.{KegPlaces}
-use Rattle.uma_places.specs.Room.{RoomState, is_wholly_free, IsLastThat}
+use Rattle.uma_places.specs.Room.{room_at}
 use Rattle.uma_places.proofs.Dropping.{DropsSlab}
-use Rattle.uma_places.proofs.RoomDrops.{IsGivenUp, drops_room, IsKept-dropped, HasNoneWhollyFree-rooms}
+use Rattle.uma_places.proofs.RoomDrops.{IsGivenUp, given_up_at, no_slab_in, drops_room, IsKept-dropped, HasNoneWhollyFree-rooms}
 use Rattle.uma_places.proofs.places.Places.drop_slab.Goals as goal
-use Rattle.uma_places.proofs.places.Places.drop_slab.Goals.{After-self-3-1}
+use Rattle.uma_places.proofs.places.Places.drop_slab.Goals.{After-self-2-1}
 
 pub returns-in_err-index-clause-none_exactly : goal.returns-in_err-index-clause-none_exactly
 returns-in_err-index-clause-none_exactly c =
-    let none = rw c.deref.ensures.value at c.in_err-index.ensures.none in
+    let none = c.in_err-index.ensures.none in
     (λ _. inr (rw (← c.self.view_is) (HasNoneWhollyFree-rooms c.self.inside c.self.invariant none)), λ _. rw c.from_residual.ensures refl)
-
--- what is known of the room whose slab is given up
-last_room : (a : Inside) (i : ℕ) (r r' : RoomState) (rooms : List RoomState) → rooms ≡ a.rooms.items → IsLastThat is_wholly_free rooms i → r ≡ get_or a.rooms.items i r
-    → r' ≡ record r { domain = None } → a.made + a.cap ≤ 2 ^ 40 → IsGivenUp a i r r'
-last_room a i r r' rooms same last room changed unworn = record { last = rw (← same) last; room = room; changed = changed; unworn = unworn }
 
 pub overflow_sub-self : goal.overflow_sub-self
 overflow_sub-self c =
     let few = c.self.invariant.sound.few_slabs in
-    let is = last_room c.self.inside c.in_ok-index.index c.index_mut.result.now c.give_up.new.self c.deref.result.now c.deref.ensures.value c.in_ok-index.ensures.last c.index_mut.ensures.value c.give_up.ensures (omega arith) in
-    let counted = (drops_room c.self.inside c.self.invariant c.in_ok-index.index c.index_mut.result.now c.give_up.new.self is).counts.slabs in
+    let is = given_up_at c.self.inside c.in_ok-index.index c.in_ok-index.ensures.last (omega arith) in
+    let counted = (drops_room c.self.inside c.self.invariant c.in_ok-index.index (room_at c.self.inside.rooms c.in_ok-index.index) (no_slab_in (room_at c.self.inside.rooms c.in_ok-index.index)) is).counts.slabs in
     let kept = c.self.invariant.slabs in
     omega arith
 
 pub overflow_sub-self-2 : goal.overflow_sub-self-2
 overflow_sub-self-2 c =
     let few = c.self.invariant.sound.few_slabs in
-    let is = last_room c.self.inside c.in_ok-index.index c.index_mut.result.now c.give_up.new.self c.deref.result.now c.deref.ensures.value c.in_ok-index.ensures.last c.index_mut.ensures.value c.give_up.ensures (omega arith) in
-    let counted = (drops_room c.self.inside c.self.invariant c.in_ok-index.index c.index_mut.result.now c.give_up.new.self is).counts.free in
+    let is = given_up_at c.self.inside c.in_ok-index.index c.in_ok-index.ensures.last (omega arith) in
+    let counted = (drops_room c.self.inside c.self.invariant c.in_ok-index.index (room_at c.self.inside.rooms c.in_ok-index.index) (no_slab_in (room_at c.self.inside.rooms c.in_ok-index.index)) is).counts.free in
     let kept = c.self.invariant.free in
     omega arith
 
-given_up : (c : After-self-3-1) → IsGivenUp c.self.inside c.in_ok-index.index c.index_mut.result.now c.give_up.new.self
+given_up : (c : After-self-2-1) → IsGivenUp c.self.inside c.in_ok-index.index (room_at c.self.inside.rooms c.in_ok-index.index) (no_slab_in (room_at c.self.inside.rooms c.in_ok-index.index))
 given_up c =
     let few = c.self.invariant.sound.few_slabs in
-    last_room c.self.inside c.in_ok-index.index c.index_mut.result.now c.give_up.new.self c.deref.result.now c.deref.ensures.value c.in_ok-index.ensures.last c.index_mut.ensures.value c.give_up.ensures (omega arith)
+    given_up_at c.self.inside c.in_ok-index.index c.in_ok-index.ensures.last (omega arith)
 
 pub invariant_of-self : goal.invariant_of-self
-invariant_of-self c = IsKept-dropped c.self.inside c.self.invariant c.in_ok-index.index c.index_mut.result.now c.give_up.new.self (given_up c)
+invariant_of-self c = rw c.give_up.ensures (IsKept-dropped c.self.inside c.self.invariant c.in_ok-index.index (room_at c.self.inside.rooms c.in_ok-index.index) (no_slab_in (room_at c.self.inside.rooms c.in_ok-index.index)) (given_up c))
 
 -- the change of the fields, as a change of the keg
-gone : (c : After-self-3-1) → DropsSlab c.args.self.now c.in_ok-index.index (keg_of c.self.inside.per_slab c.self.inside.cap c.self.inside.made (set c.self.inside.rooms.items c.in_ok-index.index c.give_up.new.self))
+gone : (c : After-self-2-1) → DropsSlab c.args.self.now c.in_ok-index.index (keg_of c.self.inside.per_slab c.self.inside.cap c.self.inside.made c.give_up.new.self)
 gone c =
-    let done = drops_room c.self.inside c.self.invariant c.in_ok-index.index c.index_mut.result.now c.give_up.new.self (given_up c) in
-    rw (← c.self.view_is) done
+    let done = drops_room c.self.inside c.self.invariant c.in_ok-index.index (room_at c.self.inside.rooms c.in_ok-index.index) (no_slab_in (room_at c.self.inside.rooms c.in_ok-index.index)) (given_up c) in
+    rw (← c.self.view_is, c.give_up.ensures) done
 
 pub returns-clause-drops : goal.returns-clause-drops
 returns-clause-drops c = (gone c).drops

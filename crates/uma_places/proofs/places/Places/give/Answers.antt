@@ -1,24 +1,32 @@
-use Rattle.std.proofs.Common.{◌/◌, set}
+use Rattle.std.proofs.Common.{◌/◌, refl}
 use Rattle.uma_places.specs.Kept.{keg_of}
-use Rattle.uma_places.proofs.RoomPuts.{IsOutIn-room, gives_back, GivesBack, IsKept-given}
+use Rattle.uma_places.specs.Room.{room_at}
+use Rattle.uma_places.proofs.RoomPuts.{out_room, gives_back, GivesBack, IsKept-given}
 use Rattle.uma_places.proofs.places.Places.give.Goals as goal
 
-pub give-requires : goal.give-requires
-give-requires c =
+pub give-requires-clause-within : goal.give-requires-clause-within
+give-requires-clause-within c =
     let out = rw (← c.self.view_is) at c.requires in
-    (IsOutIn-room c.self.inside c.self.invariant c.args.no c.index_mut.result.now out c.index_mut.ensures.value).used_room
+    (out_room c.self.inside c.self.invariant c.args.no out).within
+
+pub give-requires-clause-used : goal.give-requires-clause-used
+give-requires-clause-used c =
+    let out = rw (← c.self.view_is) at c.requires in
+    (out_room c.self.inside c.self.invariant c.args.no out).used
 
 pub invariant_of-self : goal.invariant_of-self
 invariant_of-self c =
     let out = rw (← c.self.view_is) at c.requires in
-    IsKept-given c.self.inside c.self.invariant c.args.no c.index_mut.result.now c.give.new.self out c.index_mut.ensures.value c.give.ensures
+    let here = out_room c.self.inside c.self.invariant c.args.no out in
+    rw c.give.ensures (IsKept-given c.self.inside c.self.invariant c.args.no (room_at c.self.inside.rooms (c.args.no / c.self.inside.per_slab)) _ out here.room refl)
 
 -- the change of the fields, as a change of the keg
-back : (c : goal.After-self-2-1) → GivesBack c.args.self.now c.args.no (keg_of c.self.inside.per_slab c.self.inside.cap c.self.inside.made (set c.self.inside.rooms.items (c.args.no / c.self.inside.per_slab) c.give.new.self))
+back : (c : goal.After-self-1) → GivesBack c.args.self.now c.args.no (keg_of c.self.inside.per_slab c.self.inside.cap c.self.inside.made c.give.new.self)
 back c =
     let out = rw (← c.self.view_is) at c.requires in
-    let done = gives_back c.self.inside c.self.invariant c.args.no c.index_mut.result.now c.give.new.self out c.index_mut.ensures.value c.give.ensures in
-    rw (← c.self.view_is) done
+    let here = out_room c.self.inside c.self.invariant c.args.no out in
+    let done = gives_back c.self.inside c.self.invariant c.args.no (room_at c.self.inside.rooms (c.args.no / c.self.inside.per_slab)) _ out here.room refl in
+    rw (← c.self.view_is, c.give.ensures) done
 
 pub returns-clause-gives : goal.returns-clause-gives
 returns-clause-gives c = (back c).gives

@@ -3,7 +3,7 @@ use Rattle.std.specs.Option.{IfSome, IfNone}
 use Rattle.slab_bits.specs.Members.{HasNoneFrom, IsLeastFrom}
 use Rattle.uma_places.specs.Room.{RoomState, free_in}
 use Rattle.uma_places.proofs.RoomBits.{IsRoom-set, count_of-room, count_of-none, least_within, least_free, least_least, take-set_at, with_free}
-use Rattle.uma_places.proofs.Rooms.{can_take-counts}
+use Rattle.uma_places.proofs.RoomTests.{can_take-counts}
 use Rattle.uma_places.proofs.room.Room.take.Goals as goal
 
 is_least : (o : Option ℕ) (place : ℕ) (free : List Bool) → o ≡ Some place → IfSome o (IsLeastFrom free 0) → IsLeastFrom free 0 place

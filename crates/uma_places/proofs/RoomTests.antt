@@ -6,11 +6,11 @@ use Rattle.uma_places.specs.Kept.{keg_of}
 use Rattle.uma_places.specs.Places.{Slab, slab_at, domain_at, places_by}
 use Rattle.uma_places.specs.Room.{RoomState, slab_in, free_in, can_take, is_partly_used}
 
-and_left : (a b : Bool) → a && b ≡ true → a ≡ true
+pub and_left : (a b : Bool) → a && b ≡ true → a ≡ true
 and_left true b e = refl
 and_left false b e = absurd (cc)
 
-and_right : (a b : Bool) → a && b ≡ true → b ≡ true
+pub and_right : (a b : Bool) → a && b ≡ true → b ≡ true
 and_right true b e = e
 and_right false b e = cc
 
