@@ -1,5 +1,5 @@
 mod Same
 mod Words
 mod Passing
-mod Tallies
+pub mod Tallies
 mod Sums

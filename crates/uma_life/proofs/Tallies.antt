@@ -40,7 +40,7 @@ counts_same word zone other init ctor dtor fini = λ i. record {
 
 -- reads and writes of a list by zones
 
-get_by_zone : (f : ℕ → ZoneTally) (zone : ℕ) → zone < 8 → slice_index_or (by_zone f) zone no_counts ≡ f zone
+pub get_by_zone : (f : ℕ → ZoneTally) (zone : ℕ) → zone < 8 → slice_index_or (by_zone f) zone no_counts ≡ f zone
 get_by_zone f zero small = refl
 get_by_zone f (suc zero) small = refl
 get_by_zone f (suc (suc zero)) small = refl
@@ -51,7 +51,7 @@ get_by_zone f (suc (suc (suc (suc (suc (suc zero)))))) small = refl
 get_by_zone f (suc (suc (suc (suc (suc (suc (suc zero))))))) small = refl
 get_by_zone f (suc (suc (suc (suc (suc (suc (suc (suc zone)))))))) small = absurd (omega arith)
 
-set_by_zone : (f g : ℕ → ZoneTally) (zone : ℕ) (counts : ZoneTally) → zone < 8 → counts ≡ g zone → ((other : ℕ) → other ≢ zone → f other ≡ g other) → slice_set (by_zone f) zone counts ≡ by_zone g
+pub set_by_zone : (f g : ℕ → ZoneTally) (zone : ℕ) (counts : ZoneTally) → zone < 8 → counts ≡ g zone → ((other : ℕ) → other ≢ zone → f other ≡ g other) → slice_set (by_zone f) zone counts ≡ by_zone g
 set_by_zone f g zero counts small here others = λ i. here i ∷ others 1 (λ e. absurd (omega arith)) i ∷ others 2 (λ e. absurd (omega arith)) i ∷ others 3 (λ e. absurd (omega arith)) i ∷ others 4 (λ e. absurd (omega arith)) i ∷ others 5 (λ e. absurd (omega arith)) i ∷ others 6 (λ e. absurd (omega arith)) i ∷ others 7 (λ e. absurd (omega arith)) i ∷ []
 set_by_zone f g (suc zero) counts small here others = λ i. others 0 (λ e. absurd (omega arith)) i ∷ here i ∷ others 2 (λ e. absurd (omega arith)) i ∷ others 3 (λ e. absurd (omega arith)) i ∷ others 4 (λ e. absurd (omega arith)) i ∷ others 5 (λ e. absurd (omega arith)) i ∷ others 6 (λ e. absurd (omega arith)) i ∷ others 7 (λ e. absurd (omega arith)) i ∷ []
 set_by_zone f g (suc (suc zero)) counts small here others = λ i. others 0 (λ e. absurd (omega arith)) i ∷ others 1 (λ e. absurd (omega arith)) i ∷ here i ∷ others 3 (λ e. absurd (omega arith)) i ∷ others 4 (λ e. absurd (omega arith)) i ∷ others 5 (λ e. absurd (omega arith)) i ∷ others 6 (λ e. absurd (omega arith)) i ∷ others 7 (λ e. absurd (omega arith)) i ∷ []

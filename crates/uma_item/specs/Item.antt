@@ -1,0 +1,27 @@
+-- Own: what contracts see of an item that carries its trail.
+use Rattle.std.specs.Prelude.{ℕ, List}
+use Rattle.uma_life.specs.Life.{Life}
+use Rattle.uma_life.specs.declared.body_phase.BodyPhase.{BodyPhase}
+use Rattle.uma_life.specs.declared.tally.Tally.{Tally}
+use Rattle.uma_life.specs.declared.zone_tally.ZoneTally.{ZoneTally}
+use Rattle.uma_item.specs.declared.item.Item.{Item}
+use Rattle.uma_item.specs.declared.stay_counts.StayCounts.{StayCounts}
+use Rattle.uma_item.specs.Counts.{counts_by, kept_stays, tally_by}
+
+-- the user's data
+abbrev pub item_data : {B : Type 0} → Item B → B
+item_data item = item.data
+
+-- the kept counts of the secondary zones: none where the item has no box
+abbrev pub item_stays : {B : Type 0} → Item B → List StayCounts
+item_stays item = kept_stays item.stays
+
+abbrev pub item_counts : {B : Type 0} → Item B → ℕ → ZoneTally
+item_counts item zone = counts_by item.phase item.ctors (item_stays item) zone
+
+abbrev pub item_tally : {B : Type 0} → Item B → Tally
+item_tally item = tally_by item.phase item.ctors (item_stays item)
+
+-- the item's life: its number, its phase, and its tally
+abbrev pub item_life : {B : Type 0} → Item B → Life
+item_life item = record { no = item.no; phase = item.phase; tally = item_tally item }

@@ -1,0 +1,195 @@
+ghost use Rattle.std.specs.Prelude.{◌≡◌, ◌<◌, ◌≤◌};
+ghost use Rattle.uma_item.specs.Counts.{stay_at, kept_stays, KeepsItsStays};
+ghost use Rattle.uma_life.specs.Trail.{keg_inits_by, keg_finis_by, open_builds, open_stays};
+
+use crate::stay_counts::StayCounts;
+use uma_life::{Body, BodyPhase, Tally, ZoneTally};
+
+/// An item that keeps the user's data with its own trail, which takes at most 32 bytes.
+///
+/// 1. What the life trail lets one derive isn't kept: the keg's counts follow from the phase, a zone's dtors from its
+///    ctors and the phase, its finis from its inits and the phase.
+/// 2. An item that never enters a secondary zone keeps the count of its ctors alone. One that may has its other counts
+///    in a box, which is taken when the item is made.
+#[derive(Drop)]
+pub struct Item<B> {
+    pub(crate) data: B,
+    pub(crate) no: u32,
+    pub(crate) phase: BodyPhase,
+    /// The ctors of the primary zone.
+    pub(crate) ctors: u64,
+    /// The counts of zones 1 to 7, each at one place less.
+    pub(crate) stays: Option<Box<[StayCounts; 7]>>,
+    pub ghost counted: { KeepsItsStays phase (kept_stays stays) },
+}
+
+/// 1 where an item of this phase is built in the zone, else 0.
+fn builds(phase: BodyPhase, zone: u8) -> u64
+    ensures { result ≡ open_builds phase zone }
+{
+    match phase {
+        BodyPhase::Built { zone: of } if of == zone => 1,
+        _ => 0,
+    }
+}
+
+/// 1 where an item of this phase stays in the secondary zone, else 0.
+fn stays(phase: BodyPhase, zone: u8) -> u64
+    requires { 1 ≤ zone }
+    ensures { result ≡ open_stays phase zone }
+{
+    match phase {
+        BodyPhase::Zoned { zone: of } if of == zone => 1,
+        BodyPhase::Built { zone: of } if of == zone => 1,
+        _ => 0,
+    }
+}
+
+/// 1 where an item of this phase passed `keg_init`, else 0.
+fn keg_inits(phase: BodyPhase) -> u64
+    ensures { result ≡ keg_inits_by phase }
+{
+    match phase {
+        BodyPhase::Raw => 0,
+        _ => 1,
+    }
+}
+
+/// 1 where an item of this phase passed `keg_fini`, else 0.
+fn keg_finis(phase: BodyPhase) -> u64
+    ensures { result ≡ keg_finis_by phase }
+{
+    match phase {
+        BodyPhase::Gone => 1,
+        _ => 0,
+    }
+}
+
+impl<B> Item<B> {
+    ghost use Rattle.uma_item.specs.Item.{item_data, item_life, item_stays, item_counts, item_tally};
+
+    /// The user's data.
+    pub fn data(&self) -> &B
+        ensures { result.now ≡ item_data self.now }
+    {
+        &self.data
+    }
+
+    /// The data, and the item without it.
+    pub(crate) fn part(self) -> (B, Item<()>)
+        ensures data { result.0 ≡ item_data self }
+        ensures life { item_life result.1 ≡ item_life self }
+    {
+        let Item {
+            data,
+            no,
+            phase,
+            ctors,
+            stays,
+        } = self;
+        let trail = Item {
+            data: (),
+            no,
+            phase,
+            ctors,
+            stays,
+        };
+        (data, trail)
+    }
+
+    /// The kept counts of a secondary zone; 0 where the item keeps none.
+    fn stay(&self, zone: u8) -> StayCounts
+        requires { 1 ≤ zone }
+        ensures { result ≡ stay_at (item_stays self.now) zone }
+    {
+        let none = StayCounts { inits: 0, ctors: 0 };
+        match &self.stays {
+            Some(counts) => counts.get(zone as usize - 1).copied().unwrap_or(none),
+            None => none,
+        }
+    }
+
+    /// How often the item passed each hook of a zone.
+    fn counts(&self, zone: u8) -> ZoneTally
+        ensures { result ≡ item_counts self.now zone }
+    {
+        if zone == 0 {
+            return ZoneTally {
+                inits: 0,
+                ctors: self.ctors,
+                dtors: self.ctors.wrapping_sub(builds(self.phase, 0)),
+                finis: 0,
+            };
+        }
+        let stay = self.stay(zone);
+        ZoneTally {
+            inits: stay.inits,
+            ctors: stay.ctors,
+            dtors: stay.ctors.wrapping_sub(builds(self.phase, zone)),
+            finis: stay.inits.wrapping_sub(stays(self.phase, zone)),
+        }
+    }
+
+    /// How often the item passed each hook.
+    pub(crate) fn whole_tally(&self) -> Tally
+        ensures { result ≡ item_tally self.now }
+    {
+        Tally {
+            keg_inits: keg_inits(self.phase),
+            keg_finis: keg_finis(self.phase),
+            zones: [
+                self.counts(0),
+                self.counts(1),
+                self.counts(2),
+                self.counts(3),
+                self.counts(4),
+                self.counts(5),
+                self.counts(6),
+                self.counts(7),
+            ],
+        }
+    }
+}
+
+impl Item<()> {
+    ghost use Rattle.uma_item.specs.Item.{item_data, item_life};
+
+    /// The item with data in it.
+    pub(crate) fn with_data<B>(self, data: B) -> Item<B>
+        ensures data { item_data result ≡ «data» }
+        ensures life { item_life result ≡ item_life self }
+    {
+        let Item {
+            data: _,
+            no,
+            phase,
+            ctors,
+            stays,
+        } = self;
+        Item {
+            data,
+            no,
+            phase,
+            ctors,
+            stays,
+        }
+    }
+}
+
+impl<B> Body for Item<B> {
+    ghost use Rattle.uma_item.specs.Item.{item_life};
+
+    ghost life = { λ item. item_life item };
+
+    fn no(&self) -> u32 {
+        self.no
+    }
+
+    fn phase(&self) -> BodyPhase {
+        self.phase
+    }
+
+    fn tally(&self) -> Tally {
+        self.whole_tally()
+    }
+}
