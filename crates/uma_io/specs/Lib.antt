@@ -4,3 +4,4 @@ pub mod MemSource
 pub mod Reading
 pub mod Sink
 pub mod Source
+pub mod StdStream

@@ -6,6 +6,7 @@
 //! seen by contracts alone, and only where the object tells it: memory does, a file does not.
 #![tactic(auto)]
 
+mod counted;
 mod failed;
 mod mem_sink;
 mod mem_source;

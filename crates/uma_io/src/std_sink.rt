@@ -1,6 +1,8 @@
 ghost use Rattle.std.specs.Prelude.{◌≡◌, ◌<◌, ◌≤◌, if◌then◌else◌, length, is_ok, IfOk, OnErr};
+ghost use Rattle.std.specs.Io.KnownBytes.{WriteAppends};
 ghost use Rattle.uma_io.specs.Faults.{Rose, raised};
 
+use crate::counted::{counted, fault};
 use crate::failed::Failed;
 use crate::sink::Sink;
 use std::io::Write;
@@ -17,19 +19,19 @@ pub struct StdSink<W> {
     faults: u64,
 }
 
-// Contracts see the count of faults.
+// Contracts see the writer and the count of faults.
 impl<W> Model for StdSink<W> {
-    ghost use Rattle.std.specs.Prelude.{ℕ};
+    ghost use Rattle.uma_io.specs.StdStream.{StdStream};
 
-    ghost Value = { ℕ };
+    ghost Value = { StdStream W };
 
-    ghost view = { λ s. s.faults };
+    ghost view = { λ s. record { inner = s.writer; faults = s.faults } };
 }
 
 impl<W: Write> StdSink<W> {
     /// A sink into the writer, with no fault yet.
     pub fn new(writer: W) -> StdSink<W>
-        ensures { result ≡ 0 }
+        ensures { result ≡ record { inner = writer; faults = 0 } }
     {
         StdSink { writer, faults: 0 }
     }
@@ -40,23 +42,23 @@ impl<W: Write> Sink for StdSink<W> {
 
     ghost bytes_held = { λ _. None };
 
-    ghost fault_count = { λ s. s };
+    ghost fault_count = { λ s. s.faults };
 
     fn write(&mut self, piece: &[u8]) -> Result<usize, Failed>
         ensures within { IfOk result (λ n. n ≤ length piece.now) }
         ensures some { IfOk result (λ n. 0 < length piece.now → 0 < n) }
-        ensures rose { OnErr result (Rose self.old self.new) }
-        ensures never_falls { self.old ≤ self.new }
+        ensures rose { OnErr result (Rose self.old.faults self.new.faults) }
+        ensures never_falls { self.old.faults ≤ self.new.faults }
 
         // Exactly an `Err` of the writer, or a write that takes nothing, raises the count, by one.
-        ensures counts { self.new ≡ (if is_ok result then self.old else raised self.old) }
+        ensures counts { self.new.faults ≡ (if is_ok result then self.old.faults else raised self.old.faults) }
+
+        // The answer is the writer's: what it is known to hold grows by what was taken, and by nothing where it failed.
+        ensures writes { WriteAppends (W.contents self.old.inner) (W.contents self.new.inner) result piece.now }
     {
-        match self.writer.write(piece) {
-            Ok(taken) if taken > 0 || piece.is_empty() => Ok(taken),
-            _ => {
-                self.faults = self.faults.saturating_add(1);
-                Err(Failed)
-            }
+        match counted(self.writer.write(piece), &mut self.faults) {
+            Ok(0) if !piece.is_empty() => Err(fault(&mut self.faults)),
+            answer => answer,
         }
     }
 

@@ -1,6 +1,8 @@
 ghost use Rattle.std.specs.Prelude.{◌≡◌, ◌≤◌, if◌then◌else◌, length, is_ok, IfOk, OnErr};
+ghost use Rattle.std.specs.Io.KnownBytes.{ReadConsumes};
 ghost use Rattle.uma_io.specs.Faults.{Rose, raised};
 
+use crate::counted::counted;
 use crate::failed::Failed;
 use crate::source::Source;
 use std::io::Read;
@@ -15,19 +17,19 @@ pub struct StdSource<R> {
     faults: u64,
 }
 
-// Contracts see the count of faults.
+// Contracts see the reader and the count of faults.
 impl<R> Model for StdSource<R> {
-    ghost use Rattle.std.specs.Prelude.{ℕ};
+    ghost use Rattle.uma_io.specs.StdStream.{StdStream};
 
-    ghost Value = { ℕ };
+    ghost Value = { StdStream R };
 
-    ghost view = { λ s. s.faults };
+    ghost view = { λ s. record { inner = s.reader; faults = s.faults } };
 }
 
 impl<R: Read> StdSource<R> {
     /// A source of what the reader gives from here on, with no fault yet.
     pub fn new(reader: R) -> StdSource<R>
-        ensures { result ≡ 0 }
+        ensures { result ≡ record { inner = reader; faults = 0 } }
     {
         StdSource { reader, faults: 0 }
     }
@@ -38,23 +40,21 @@ impl<R: Read> Source for StdSource<R> {
 
     ghost bytes_left = { λ _. None };
 
-    ghost fault_count = { λ s. s };
+    ghost fault_count = { λ s. s.faults };
 
     fn read(&mut self, room: &mut [u8]) -> Result<usize, Failed>
         ensures within { IfOk result (λ n. n ≤ length room.new) }
-        ensures rose { OnErr result (Rose self.old self.new) }
-        ensures never_falls { self.old ≤ self.new }
+        ensures rose { OnErr result (Rose self.old.faults self.new.faults) }
+        ensures never_falls { self.old.faults ≤ self.new.faults }
 
         // Exactly an `Err` of the reader raises the count, by one.
-        ensures counts { self.new ≡ (if is_ok result then self.old else raised self.old) }
+        ensures counts { self.new.faults ≡ (if is_ok result then self.old.faults else raised self.old.faults) }
+
+        // The answer is the reader's: bytes that it is known to have are given where it gave them, and kept where it failed;
+        // the end is answered only where it is at its end.
+        ensures reads { ReadConsumes (R.remaining self.old.inner) (R.remaining self.new.inner) result room.new }
     {
-        match self.reader.read(room) {
-            Ok(taken) => Ok(taken),
-            Err(_) => {
-                self.faults = self.faults.saturating_add(1);
-                Err(Failed)
-            }
-        }
+        counted(self.reader.read(room), &mut self.faults)
     }
 
     fn faults(&self) -> u64 {
