@@ -39,6 +39,15 @@ impl Status {
     }
 }
 
+/// What the process shows of a run.
+#[derive(Clone, Copy, Debug, PartialEq, Eq)]
+pub struct Ending {
+    /// The exit status.
+    pub code: u8,
+    /// The fault that standard error is told before.
+    pub told: Option<Fault>,
+}
+
 /// What a run leaves behind: its status, the fault that goes with it, and, once a replay is done, its report and all that it
 /// leaves behind, from which the report was made.
 #[derive(Drop)]
@@ -51,7 +60,17 @@ pub struct Finish {
 
 impl Finish {
     ghost use Rattle.std.specs.Prelude.{Some, None};
-    ghost use Rattle.umarun.specs.Ending.{status_of, status_at};
+    ghost use Rattle.umarun.specs.Ending.{status_of, status_at, exit_code};
+
+    /// How the process ends after the run: with the status's number, and no fault is hidden.
+    pub fn ending(&self) -> Ending
+        ensures { result ≡ record { code = exit_code self.now.status; told = self.now.fault } }
+    {
+        Ending {
+            code: self.status.exit_code(),
+            told: self.fault,
+        }
+    }
 
     /// A run that ended before its report was done.
     pub(crate) fn refused(fault: Fault) -> Finish

@@ -2,6 +2,10 @@
 //! reclamation clock, and prints what each step sees.
 #![tactic(auto)]
 
+ghost use Rattle.std.specs.Prelude.{◌≡◌, ◌≢◌};
+ghost use Rattle.std.specs.Process.{exit_status};
+ghost use Rattle.umarun.specs.Ending.{exit_code};
+
 mod command;
 mod fault;
 mod finish;
@@ -10,8 +14,9 @@ mod run;
 mod stepping;
 
 use fault::Fault;
-use finish::Finish;
+use finish::{Ending, Finish};
 use run::run;
+use std::io::ErrorKind;
 use std::process::ExitCode;
 use std::rt::Env;
 use std::sync::Wait;
@@ -20,12 +25,19 @@ use uma_io::{StdSink, StdSource};
 use uma_replay::FreeGate;
 
 fn main(rt: HostRuntime) -> ExitCode {
-    let finish = program(&rt);
-    if let Some(fault) = finish.fault {
+    end(&rt, &program(&rt))
+}
+
+/// Tells standard error the fault of the run, if there is one, and answers how the process ends.
+fn end<R: Eprint>(rt: &R, finish: &Finish) -> ExitCode
+    ensures { exit_status result ≡ exit_code finish.now.status }
+{
+    let Ending { code, told } = finish.ending();
+    if let Some(fault) = told {
         // Where standard error takes nothing either, the exit status alone tells.
         let _ = eprintln!(rt; "umarun: {fault}");
     }
-    ExitCode::from(finish.status.exit_code())
+    ExitCode::from(code)
 }
 
 /// Runs on the words and the standard streams of the process.
@@ -40,13 +52,21 @@ fn program<R: Env + AllocGlobal + Input + Print + Wait>(rt: &R) -> Finish {
     }
 }
 
-/// The words after the program's name. One that is no UTF-8 is no command's.
+/// The words after the program's name.
 fn words<R: Env + AllocGlobal>(rt: &R) -> Result<Vec<String>, Fault> {
-    let args = env::args(rt).map_err(|error| match error.kind() {
-        io::ErrorKind::InvalidData => Fault::Usage,
-        _ => Fault::Memory,
-    })?;
+    let args = env::args(rt).map_err(|error| words_fault(error.kind()))?;
     Ok(args.skip(1).collect(rt.alloc())?)
+}
+
+/// Why the words weren't taken. One that is no UTF-8 is no command's; else memory was wanting.
+fn words_fault(kind: ErrorKind) -> Fault
+    ensures usage { kind ≡ ErrorKind.InvalidData → result ≡ Fault.Usage }
+    ensures memory { kind ≢ ErrorKind.InvalidData → result ≡ Fault.Memory }
+{
+    match kind {
+        ErrorKind::InvalidData => Fault::Usage,
+        _ => Fault::Memory,
+    }
 }
 
 #[cfg(test)]

@@ -2,22 +2,10 @@
 
 ghost use Rattle.std.specs.Prelude.{◌≤◌};
 
-mod bad_fields;
-mod bad_numbers;
-mod bad_places;
-mod bad_ranges;
-mod bad_schedules;
-mod bad_slots;
-mod bad_traces;
-mod bad_words;
-mod fault_order;
 mod faults;
-mod kegs;
 mod refusals;
 mod rows;
 mod schedules;
-mod texts;
-mod trace_rows;
 mod usage;
 
 use crate::finish::Finish;

@@ -296,25 +296,6 @@ fn a_refused_step_is_named_and_nothing_is_written(rt: HostRuntime) -> Result<(),
     Ok(())
 }
 
-#[test]
-fn a_note_too_many_is_named_with_its_line(rt: HostRuntime) -> Result<(), Fail> {
-    let mut lines = String::from_str(rt.alloc(), "clock 1 1 8\n")?;
-    for _ in 0..65_536 {
-        lines.push_str("note 0\n")?;
-    }
-    lines.push_str("end\n")?;
-    let (finish, written) = played(&rt, lines.as_str())?;
-    let fault = Fault::Step {
-        line: 65_538,
-        refused: StepRefused::Crowded { holders: 65_536 },
-    };
-    assert_eq!(rt; finish.fault, Some(fault));
-    assert!(rt; written.is_empty());
-    let text = format!(in rt.alloc(); "{fault}")?;
-    assert_eq!(rt; text.as_str(), "line 65538: too many holders");
-    Ok(())
-}
-
 /// Plays the schedule of these lines behind the head.
 fn played<R: Wait + AllocGlobal>(rt: &R, lines: &str) -> Result<(Finish, String), Fail> {
     let alloc = rt.alloc();

@@ -58,3 +58,14 @@ fn each_fault_has_its_text_and_its_status(rt: HostRuntime) -> Result<(), Fail> {
     }
     Ok(())
 }
+
+#[test]
+fn an_input_of_one_byte_too_many_is_refused(rt: HostRuntime) -> Result<(), Fail> {
+    let alloc = rt.alloc();
+    let bytes = vec![in alloc; b'\n'; 16_777_217]?;
+    let (finish, written) = end_of_bytes(&rt, &["replay"], bytes, Outside::fine(alloc))?;
+    assert_eq!(rt; finish.fault, Some(Fault::TooLong { most: 16_777_216 }));
+    assert_eq!(rt; finish.status, Status::Refused);
+    assert!(rt; written.is_empty());
+    Ok(())
+}
