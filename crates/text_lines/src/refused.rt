@@ -126,6 +126,19 @@ impl fmt::Display for TraceRefused {
     }
 }
 
+impl Error for TraceRefused {}
+
+impl fmt::Display for LineRefused {
+    fn fmt<W: fmt::Write>(&self, f: &mut fmt::Formatter<W>) -> fmt::Result {
+        match self {
+            LineRefused::Kind { kind } => write!(f, "{kind}"),
+            LineRefused::Memory => f.write_str("out of memory"),
+        }
+    }
+}
+
+impl Error for LineRefused {}
+
 impl fmt::Display for ParseRefused {
     fn fmt<W: fmt::Write>(&self, f: &mut fmt::Formatter<W>) -> fmt::Result {
         match self {
