@@ -1,5 +1,4 @@
 pub mod Steps
-pub mod AppendedLines
 pub mod ScheduleFollowing
 pub mod ScheduleLemmas
 pub mod ScheduleRange

@@ -62,7 +62,7 @@ clock_fits fields a e =
     let b = start_fits parts.0.1 start.0 start.1 in
     let w = window_fits parts.0.2 window.0 window.1 in
     let P : About → Type 0 = λ about. IsInRange about in
-    subst P is (record { some_seat = s.0; few_seats = s.1; odd_start = b.0; low_start = b.1; even_window = w.0; least_window = w.1; greatest_window = w.2 })
+    subst P {x = record { start = start.0; window = window.0; seats = seats.0 }} is (record { some_seat = s.0; few_seats = s.1; odd_start = b.0; low_start = b.1; even_window = w.0; least_window = w.1; greatest_window = w.2 })
 
 said_clock : (word : Word) (rest : List (List ℕ)) (a : About) → said_by word rest ≡ Ok (said.Clock a) → IsInRange a
 said_clock words.Smr rest a e = absurd cc

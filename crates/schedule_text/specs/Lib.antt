@@ -1,4 +1,3 @@
-pub mod CanonicalLine
 pub mod ScheduleGrammar
 pub mod ScheduleShown
 pub mod ScheduleText

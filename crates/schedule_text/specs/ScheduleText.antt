@@ -17,7 +17,7 @@ use Rattle.schedule_text.specs.declared.schedule.Schedule.{Schedule}
 use Rattle.schedule_text.specs.declared.schedule.TurnLine.{TurnLine}
 use Rattle.schedule_text.specs.declared.refused.ScheduleRefused.{ScheduleRefused}
 use Rattle.schedule_text.specs.declared.refused.ScheduleRefused.TheVariants as schedule_refused
-use Rattle.schedule_text.specs.CanonicalLine.{line}
+use Rattle.printed_lines.specs.CanonicalLine.{line}
 
 -- ---- the lines that are printed
 

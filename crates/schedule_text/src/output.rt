@@ -1,14 +1,15 @@
 //! What a schedule prints.
-ghost use Rattle.std.specs.Prelude.{◌≡◌, ◌++◌, IfOk, IfErr, OnOk};
+ghost use Rattle.std.specs.Prelude.{◌≡◌, ◌++◌, ◌∷◌, [], IfOk, IfErr, OnOk, decimal};
 ghost use Rattle.std.specs.List.{flat_map};
+ghost use Rattle.printed_lines.specs.CanonicalLine.{line};
 ghost use Rattle.smr_core.specs.ClockState.{IsInRange};
 ghost use Rattle.smr_core.specs.CoreState.{opening};
 ghost use Rattle.schedule_text.specs.ScheduleGrammar.{IsValidSchedule};
 ghost use Rattle.schedule_text.specs.ScheduleLaws.{NoneIsRefused};
 ghost use Rattle.schedule_text.specs.ScheduleText.{seen_line, about_of, IsOutput, PrintsLine, RefusesSchedule, RefusesTurnLine, hands_line};
 
-use crate::lines::{push_line, push_numbers};
 use crate::{Schedule, ScheduleRefused, TurnLine};
+use printed_lines::{push_line, push_numbers};
 use smr_core::{Core, Seen};
 use std::alloc::{AllocError, Global};
 
@@ -25,7 +26,7 @@ pub fn schedule_text(alloc: Global, schedule: &Schedule) -> Result<Vec<u8>, Sche
     for line in schedule.lines.as_slice() {
         print_line(alloc, &mut core, &mut text, line)?;
     }
-    let hands = [core.read_hand(), core.write_hand()];
+    let hands = [u128::from(core.read_hand()), u128::from(core.write_hand())];
     push_line(alloc, &mut text, b"hands", &hands)?;
     Ok(text)
 }
@@ -77,18 +78,31 @@ fn push_seen(alloc: Global, text: &mut Vec<u8>, seen: Seen) -> Result<(), AllocE
     ensures { OnOk result (text.new.items ≡ text.old.items ++ seen_line seen) }
 {
     match seen {
-        Seen::Hand { value } => push_line(alloc, text, b"hand", &[value]),
+        Seen::Hand { value } => push_line(alloc, text, b"hand", &[u128::from(value)]),
         Seen::Done => push_line(alloc, text, b"done", &[]),
-        Seen::Inside { loaded, found } => push_line(alloc, text, b"in", &[loaded, found]),
-        Seen::Late { loaded, found } => push_line(alloc, text, b"late", &[loaded, found]),
-        Seen::Spent { write } => push_line(alloc, text, b"spent", &[write]),
-        Seen::TooFar { read, write } => push_line(alloc, text, b"toofar", &[read, write]),
+        Seen::Inside { loaded, found } => push_pair(alloc, text, b"in", loaded, found),
+        Seen::Late { loaded, found } => push_pair(alloc, text, b"late", loaded, found),
+        Seen::Spent { write } => push_line(alloc, text, b"spent", &[u128::from(write)]),
+        Seen::TooFar { read, write } => push_pair(alloc, text, b"toofar", read, write),
         Seen::Goal { goal, moved } => push_goal(alloc, text, goal, moved),
-        Seen::Yes { read } => push_line(alloc, text, b"yes", &[read]),
-        Seen::No { read } => push_line(alloc, text, b"no", &[read]),
+        Seen::Yes { read } => push_line(alloc, text, b"yes", &[u128::from(read)]),
+        Seen::No { read } => push_line(alloc, text, b"no", &[u128::from(read)]),
         Seen::Word { seat, word, least } => push_word(alloc, text, seat, word, least),
-        Seen::Holder { number } => push_line(alloc, text, b"holder", &[u64::from(number)]),
+        Seen::Holder { number } => push_line(alloc, text, b"holder", &[u128::from(number)]),
     }
+}
+
+/// Appends a line of a word and two numbers.
+fn push_pair(
+    alloc: Global,
+    text: &mut Vec<u8>,
+    word: &[u8],
+    first: u64,
+    second: u64,
+) -> Result<(), AllocError>
+    ensures { OnOk result (text.new.items ≡ text.old.items ++ line (word.now ∷ decimal first ∷ decimal second ∷ [])) }
+{
+    push_line(alloc, text, word, &[u128::from(first), u128::from(second)])
 }
 
 /// Appends the line of an advance's goal.
@@ -96,7 +110,7 @@ fn push_goal(alloc: Global, text: &mut Vec<u8>, goal: u64, moved: bool) -> Resul
     ensures { OnOk result (text.new.items ≡ text.old.items ++ seen_line (Seen.Goal goal moved)) }
 {
     text.extend_from_slice(b"goal")?;
-    push_numbers(alloc, text, &[goal])?;
+    push_numbers(alloc, text, &[u128::from(goal)])?;
     text.extend_from_slice(if moved { b" moved\n" } else { b" kept\n" })
 }
 
@@ -111,9 +125,9 @@ fn push_word(
     ensures { OnOk result (text.new.items ≡ text.old.items ++ seen_line (Seen.Word seat word least)) }
 {
     text.extend_from_slice(b"word")?;
-    push_numbers(alloc, text, &[u64::from(seat), u64::from(word)])?;
+    push_numbers(alloc, text, &[u128::from(seat), u128::from(word)])?;
     text.extend_from_slice(b" least")?;
-    push_numbers(alloc, text, &[least])?;
+    push_numbers(alloc, text, &[u128::from(least)])?;
     text.push(b'\n')?;
     Ok(())
 }

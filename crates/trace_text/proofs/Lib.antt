@@ -8,7 +8,6 @@ pub mod TraceSlots
 pub mod TraceTexts
 pub mod TraceTold
 pub mod TraceParts
-pub mod CanonicalRows
 pub mod LineOrder
 pub mod WorkerOrder
 pub mod TraceOrder
@@ -20,17 +19,6 @@ pub mod TraceEntries
 pub mod HeadLines
 pub mod HeadZones
 pub mod TraceHead
-pub mod RowText
-pub mod RowFields
 pub mod RowZones
-pub mod RowSaid
-pub mod TraceSaid
-pub mod RoundEntries
 pub mod TraceFollowing
-pub mod TraceRebuilt
-pub mod TraceRebuiltZones
-pub mod TraceRebuiltHead
-pub mod TraceRebuiltRounds
-pub mod TraceRebuiltText
-pub mod AppendedLines
 pub mod NamedZones

@@ -13,7 +13,7 @@ use Rattle.trace_text.specs.declared.head.Head.{Head}
 use Rattle.trace_text.specs.declared.head.NamesHead.{NamesHead}
 use Rattle.trace_text.specs.declared.head.ZoneHead.{ZoneHead}
 use Rattle.trace_text.specs.declared.head.ZoneKind.TheVariants.{Plain}
-use Rattle.trace_text.specs.CanonicalText.{zone_name}
+use Rattle.trace_text.specs.NamedZones.{zone_name}
 use Rattle.trace_text.specs.Grammar.{zone_named, primary_named}
 use Rattle.trace_text.specs.Valid.{zone_names}
 use Rattle.trace_text.proofs.HeadZones.{called, slice_get_front}

@@ -1,5 +1,4 @@
 pub mod Built
-pub mod CanonicalText
 pub mod Grammar
 pub mod Limits
 pub mod Lines

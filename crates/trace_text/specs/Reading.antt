@@ -1,7 +1,7 @@
 -- The reading of a trace's text (own): which slot is filled and who is in a section, by looking back over the lines.
 -- A list of earlier lines has the last one first. Where a request is refused, its slot is filled in the reading all the
 -- same: the reading speaks of the text, not of a run.
-use Rattle.std.specs.Prelude.{ℕ, ◌+◌, zero, suc, List, [], ◌∷◌, Bool, true, false, Option, Some, None, if◌then◌else◌, ◌==◌, ◌&&◌}
+use Rattle.std.specs.Prelude.{ℕ, List, [], ◌∷◌, Bool, true, false, Option, Some, None, if◌then◌else◌, ◌==◌, ◌&&◌}
 use Rattle.trace_text.specs.declared.op.Op.{Op}
 use Rattle.trace_text.specs.declared.op.Op.TheVariants.{Alloc, Free, Enter, Exit}
 use Rattle.trace_text.specs.declared.between.Between.TheVariants.{Give}
@@ -32,8 +32,3 @@ abbrev pub in_section : List Line → ℕ → Bool
 in_section [] w = false
 in_section (Does v op ∷ earlier) w = if v == w then open_after op (in_section earlier w) else in_section earlier w
 in_section (Moves between ∷ earlier) w = in_section earlier w
-
--- how many numbers below `n` pass
-unfoldable pub count_below : (ℕ → Bool) → ℕ → ℕ
-count_below passes zero = 0
-count_below passes (suc n) = count_below passes n + (if passes n then 1 else 0)

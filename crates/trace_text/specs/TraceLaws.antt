@@ -1,7 +1,6 @@
 -- The laws of traces and their texts (own).
 use Rattle.std.specs.Prelude.{ℕ, ◌≡◌, List}
 use Rattle.trace_text.specs.declared.trace.Trace.{Trace}
-use Rattle.trace_text.specs.CanonicalText.{canonical_text}
 use Rattle.trace_text.specs.Grammar.{IsTraceText}
 use Rattle.trace_text.specs.Valid.{IsValid}
 
@@ -12,7 +11,3 @@ TextsAreOfOneTrace = (bytes : List ℕ) (trace other : Trace) → IsTraceText by
 -- the trace of a text is valid
 abbrev pub TextsAreOfValidTraces : Type 0
 TextsAreOfValidTraces = (bytes : List ℕ) (trace : Trace) → IsTraceText bytes trace → IsValid trace
-
--- each valid trace has a text, its canonical one
-abbrev pub ValidTracesHaveTexts : Type 0
-ValidTracesHaveTexts = (trace : Trace) → IsValid trace → IsTraceText (canonical_text trace) trace

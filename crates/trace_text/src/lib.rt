@@ -1,7 +1,7 @@
 //! Traces of a zone allocator, as text and as values.
 //!
 //! A trace is a header and rounds of operations for each worker. `Trace` is the value, and the specs give
-//! its canonical text, what makes it valid, and which slots its lines fill and empty.
+//! what makes it valid, and which slots its lines fill and empty.
 //!
 //! Schedules of its clock are handed on.
 #![tactic(auto)]
@@ -9,9 +9,8 @@
 mod between;
 mod built;
 mod head;
-mod memory;
+mod limits;
 mod op;
-mod printing;
 mod round;
 mod trace;
 mod trace_laws;
@@ -20,9 +19,8 @@ mod trace_reading;
 pub use between::{Between, Betweens};
 pub use built::is_built;
 pub use head::{ClockHead, Head, NamesHead, ZoneHead, ZoneHeads, ZoneKind};
-pub use memory::Memory;
+pub use limits::SLOTS;
 pub use op::{Op, OpList, OpLists};
-pub use printing::print;
 pub use round::{Round, Rounds};
 pub use schedule_text::{
     Schedule, ScheduleRefused, Turn, TurnLine, TurnLines, one_schedule_reading, parse_schedule,
@@ -30,5 +28,5 @@ pub use schedule_text::{
 };
 pub use text_lines::{ParseRefused, TraceKind, TraceRefused, parse_number};
 pub use trace::Trace;
-pub use trace_laws::{texts_are_of_one_trace, texts_are_of_valid_traces, valid_traces_have_texts};
+pub use trace_laws::{texts_are_of_one_trace, texts_are_of_valid_traces};
 pub use trace_reading::parse;

@@ -1,5 +1,5 @@
 //! The laws of traces and their texts. Each call does nothing: its contract is the law.
-ghost use Rattle.trace_text.specs.TraceLaws.{TextsAreOfOneTrace, TextsAreOfValidTraces, ValidTracesHaveTexts};
+ghost use Rattle.trace_text.specs.TraceLaws.{TextsAreOfOneTrace, TextsAreOfValidTraces};
 
 /// Bytes are a text of one trace at most.
 pub fn texts_are_of_one_trace()
@@ -9,9 +9,4 @@ pub fn texts_are_of_one_trace()
 /// The trace of a text is valid.
 pub fn texts_are_of_valid_traces()
     ensures { TextsAreOfValidTraces }
-{}
-
-/// Each valid trace has a text: its canonical one is a text of it.
-pub fn valid_traces_have_texts()
-    ensures { ValidTracesHaveTexts }
 {}

@@ -1,5 +1,6 @@
 //! The end of the serial replay: a census of each keg, and the report.
 ghost use Rattle.std.specs.Prelude.{◌≡◌, ◌≤◌, ◌+◌, All, IfOk, OnOk, length, map};
+ghost use Rattle.trace_text.specs.Limits.{slots as most_slots};
 ghost use Rattle.uma_keg.specs.Keg.{table_in};
 ghost use Rattle.uma_life.specs.Live.{live_table, live_zone};
 ghost use Rattle.uma_life.specs.Sum.{sum_of};
@@ -12,7 +13,7 @@ use crate::closed_zone::ClosedZone;
 use crate::hall::{Hall, Played};
 use crate::held::Held;
 use crate::lending::take_census;
-use crate::memory::Memory;
+use crate::Memory;
 use crate::serial::Serial;
 use crate::serial_zone::SerialZone;
 use listed::Listed;
@@ -49,7 +50,7 @@ fn close_zone(
     requires made { IsKegOf head.now zone.keg }
     requires of_keg { All (λ item. live_table item ≡ table_in zone.keg) (lives_of place slots.old.items) }
     requires of_zone { All (λ item. live_zone item ≡ 0) (lives_of place slots.old.items) }
-    requires few { length slots.old.items ≤ 65536 }
+    requires few { length slots.old.items ≤ most_slots }
     ensures closed { IfOk result (IsClosed place head.now slots.new.items) }
     ensures ledger { IfOk result (λ closed. closed.ledger ≡ zone.ledger) }
     ensures keg { IfOk result (λ closed. IsCounted zone.keg closed.keg) }

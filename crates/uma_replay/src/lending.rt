@@ -1,5 +1,6 @@
 //! The slots lend a zone's live items to the census of its keg.
 ghost use Rattle.std.specs.Prelude.{◌≡◌, ◌≤◌, ◌+◌, ◌^◌, All, IfOk, OnOk, length, map};
+ghost use Rattle.trace_text.specs.Limits.{slots as most_slots};
 ghost use Rattle.uma_keg.specs.Census.{census_out, census_tally};
 ghost use Rattle.uma_keg.specs.Keg.{table_in};
 ghost use Rattle.uma_life.specs.Hook.{Hook};
@@ -12,7 +13,7 @@ ghost use Rattle.uma_replay.specs.Slots.{lives_of, seen_slot};
 use crate::count_hooks::CountHooks;
 use crate::counted::Counted;
 use crate::held::Held;
-use crate::memory::Memory;
+use crate::Memory;
 use std::alloc::Global;
 use uma_keg::{Census, Keg};
 use uma_life::{Body, Live, Lives, TallySum};
@@ -27,7 +28,7 @@ pub(crate) fn take_census(
 ) -> Result<(Census, TallySum), Memory>
     requires of_keg { All (λ item. live_table item ≡ table_in keg.old) (lives_of zone slots.old.items) }
     requires of_zone { All (λ item. live_zone item ≡ 0) (lives_of zone slots.old.items) }
-    requires few { length slots.old.items ≤ 65536 }
+    requires few { length slots.old.items ≤ most_slots }
     ensures counted { OnOk result (IsCounted keg.old keg.new) }
     ensures census { IfOk result (λ (census, sums). IsCensusOf census keg.new) }
     ensures lent { IfOk result (λ (census, sums). length (lives_of zone slots.old.items) ≤ census_out census 0) }
@@ -85,7 +86,7 @@ fn put_back(zone: u32, marks: &[bool], lives: Vec<Live<Counted>>, slots: &mut Ve
 /// These sums with the tallies of live items.
 fn with_lives(sums: TallySum, lives: &[Live<Counted>]) -> TallySum
     requires below { AreBelow (2 ^ 121) sums }
-    requires few { length lives.now ≤ 65536 }
+    requires few { length lives.now ≤ most_slots }
     ensures { (hook : Hook) → sum_of result hook ≡ sum_of sums hook + live_sum hook lives.now }
 {
     let mut sums = sums;

@@ -7,7 +7,7 @@ ghost use Rattle.uma_replay.specs.Report.{StandsFor};
 
 use crate::closing::close;
 use crate::hall::Played;
-use crate::memory::Memory;
+use crate::Memory;
 use crate::serial::Serial;
 use std::alloc::Global;
 use std::sync::Wait;

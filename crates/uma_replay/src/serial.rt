@@ -5,16 +5,13 @@ ghost use Rattle.uma_replay.specs.Serial.{holding};
 
 use crate::counted::Counted;
 use crate::held::Held;
-use crate::memory::Memory;
+use crate::Memory;
 use crate::serial_zone::SerialZone;
 use std::alloc::{AllocError, Global};
 use std::marker::Model;
 use std::sync::Wait;
-use trace_text::{Op, ZoneHead};
+use trace_text::{Op, SLOTS, ZoneHead};
 use uma_life::Live;
-
-/// How many slots a worker has.
-const SLOTS: usize = 65_536;
 
 /// The replay by one worker in one domain: the zones by their places, and what each slot holds.
 ///

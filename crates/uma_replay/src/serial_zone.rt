@@ -8,7 +8,7 @@ ghost use Rattle.zone_stats.specs.LedgerSteps.{HasRoom};
 
 use crate::count_hooks::CountHooks;
 use crate::counted::Counted;
-use crate::memory::Memory;
+use crate::Memory;
 use std::alloc::Global;
 use std::sync::Wait;
 use trace_text::ZoneHead;

@@ -102,17 +102,6 @@ impl From<ScheduleRefused> for Fault {
     }
 }
 
-impl From<uma_replay::Memory> for Fault {
-    ghost use Rattle.std.specs.Prelude.{◌≡◌};
-    ghost use Rattle.umarun.specs.declared.fault.Fault.TheVariants.{Memory};
-
-    ghost from_gives = { λ _ fault. fault ≡ Memory };
-
-    fn from(_: uma_replay::Memory) -> Fault {
-        Fault::Memory
-    }
-}
-
 impl From<zone_stats::Memory> for Fault {
     ghost use Rattle.std.specs.Prelude.{◌≡◌};
     ghost use Rattle.umarun.specs.declared.fault.Fault.TheVariants.{Memory};

@@ -1,8 +1,17 @@
 -- The line of a zone, from what its seats counted (own).
 use Rattle.std.specs.Prelude.{ℕ, ◌+◌, ◌-◌, List, sum_by}
 use Rattle.zone_stats.specs.declared.ledger.SeatLedger.{SeatLedger}
+use Rattle.zone_stats.specs.declared.line.Count.{Count}
+use Rattle.zone_stats.specs.declared.line.Count.TheVariants.{Allocs, Fails, Frees, Cross}
 use Rattle.zone_stats.specs.declared.name.ZoneName.{ZoneName}
 use Rattle.zone_stats.specs.declared.report.ZoneLine.{ZoneLine}
+
+-- what a ledger counted of it
+abbrev pub count_of : Count → SeatLedger → ℕ
+count_of Allocs ledger = ledger.allocs
+count_of Fails ledger = ledger.fails
+count_of Frees ledger = ledger.frees
+count_of Cross ledger = ledger.cross
 
 -- what the seats counted together
 abbrev pub total_allocs : List SeatLedger → ℕ

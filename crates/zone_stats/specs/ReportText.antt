@@ -1,6 +1,6 @@
 -- The text of a report (own; its columns are those of FreeBSD's `vmstat -z`).
 use Rattle.std.specs.Prelude.{ℕ, ◌-◌, if◌then◌else◌, List, [], ◌∷◌, ◌++◌, length, map, flat_map, replicate, Option, None, Some, codes, decimal}
-use Rattle.std.specs.List.{join_with_byte}
+use Rattle.printed_lines.specs.CanonicalLine.{line as words_line}
 use Rattle.zone_stats.specs.declared.report.ClockLine.{ClockLine}
 use Rattle.zone_stats.specs.declared.report.HookLine.{HookLine}
 use Rattle.zone_stats.specs.declared.report.KegLine.{KegLine}
@@ -51,10 +51,6 @@ zone_text line = table_line line.name (λ column. decimal (column.value line))
 -- the table: the header, and one line a zone
 abbrev pub zones_text : List ZoneLine → List ℕ
 zones_text lines = header_text ++ flat_map zone_text lines
-
--- words with one space between them, and the line's end
-abbrev pub words_line : List (List ℕ) → List ℕ
-words_line words = join_with_byte 32 words ++ 10 ∷ []
 
 -- the lines of the hooks
 abbrev pub hook_text : HookLine → List ℕ

@@ -1,6 +1,6 @@
 //! The line of a zone, summed up from its seats' ledgers.
-ghost use Rattle.std.specs.Prelude.{◌≡◌};
-ghost use Rattle.zone_stats.specs.Line.{zone_line, total_allocs, total_fails, total_frees, total_cross};
+ghost use Rattle.std.specs.Prelude.{◌≡◌, sum_by};
+ghost use Rattle.zone_stats.specs.Line.{count_of, zone_line};
 
 use crate::{SeatLedger, ZoneLine, ZoneName};
 
@@ -17,8 +17,8 @@ pub fn sum(
 ) -> ZoneLine
     ensures { result ≡ zone_line name size limit ledgers.now out keg_free }
 {
-    let req = allocs(ledgers);
-    let used = req.saturating_sub(frees(ledgers));
+    let req = total(Count::Allocs, ledgers);
+    let used = req.saturating_sub(total(Count::Frees, ledgers));
     let items = u128::from(keg_free) + u128::from(out);
     ZoneLine {
         name,
@@ -27,51 +27,41 @@ pub fn sum(
         used,
         free: items.saturating_sub(used),
         req,
-        fail: fails(ledgers),
-        xdomain: cross(ledgers),
+        fail: total(Count::Fails, ledgers),
+        xdomain: total(Count::Cross, ledgers),
     }
 }
 
-/// Requests that got an item.
-fn allocs(ledgers: &[SeatLedger]) -> u128
-    ensures { result ≡ total_allocs ledgers.now }
-{
-    let mut total = 0;
-    for ledger in ledgers {
-        total += u128::from(ledger.allocs);
-    }
-    total
+/// One of a ledger's counts.
+#[derive(Clone, Copy)]
+enum Count {
+    Allocs,
+    Fails,
+    Frees,
+    Cross,
 }
 
-/// Requests that were refused.
-fn fails(ledgers: &[SeatLedger]) -> u128
-    ensures { result ≡ total_fails ledgers.now }
-{
-    let mut total = 0;
-    for ledger in ledgers {
-        total += u128::from(ledger.fails);
+impl Count {
+    /// What a ledger counted of it.
+    fn of(self, ledger: &SeatLedger) -> u64
+        ensures { result ≡ count_of self ledger.now }
+    {
+        match self {
+            Count::Allocs => ledger.allocs,
+            Count::Fails => ledger.fails,
+            Count::Frees => ledger.frees,
+            Count::Cross => ledger.cross,
+        }
     }
-    total
 }
 
-/// Items that were freed.
-fn frees(ledgers: &[SeatLedger]) -> u128
-    ensures { result ≡ total_frees ledgers.now }
+/// What the seats counted of it together.
+fn total(count: Count, ledgers: &[SeatLedger]) -> u128
+    ensures { result ≡ sum_by (count_of count) ledgers.now }
 {
     let mut total = 0;
     for ledger in ledgers {
-        total += u128::from(ledger.frees);
-    }
-    total
-}
-
-/// Freed items of another domain than the seat's.
-fn cross(ledgers: &[SeatLedger]) -> u128
-    ensures { result ≡ total_cross ledgers.now }
-{
-    let mut total = 0;
-    for ledger in ledgers {
-        total += u128::from(ledger.cross);
+        total += u128::from(count.of(ledger));
     }
     total
 }

@@ -1,6 +1,9 @@
 //! Why a request of an item got none.
 ghost use Rattle.std.specs.Prelude.{◌≡◌};
 
+use std::error::Error;
+use std::fmt;
+
 /// Why a zone gave no item to a request, kept in the seat's ledger. Want of memory is none of these: it isn't counted.
 #[derive(Clone, Copy, Debug, PartialEq, Eq)]
 pub enum Refusal {
@@ -8,9 +11,11 @@ pub enum Refusal {
     AtLimit { out: u64, limit: u64 },
     /// The keg has `free` items free, and none beyond its `reserve`.
     Reserved { free: u64, reserve: u64 },
-    /// The keg has all the `slabs` that it may have, and none of the `made` items is free.
+    /// The keg has all the `slabs` that it may have, and a request found no item in them free. `made` slabs were ever
+    /// brought in.
     Full { slabs: u32, made: u64 },
-    /// The `init` of the zone refused an item that came from the keg, with this code.
+    /// The `keg_init` of a new slab's item refused it, or the `zone_init` of an item that came from the keg, with this
+    /// code.
     Init { code: u8 },
     /// The `ctor` of the zone refused the item, with this code.
     Ctor { code: u8 },
@@ -32,6 +37,22 @@ impl Refusal {
         }
     }
 }
+
+impl fmt::Display for Refusal {
+    fn fmt<W: fmt::Write>(&self, f: &mut fmt::Formatter<W>) -> fmt::Result {
+        match self {
+            Refusal::AtLimit { out, limit } => write!(f, "{out} items out at a limit of {limit}"),
+            Refusal::Reserved { free, reserve } => {
+                write!(f, "{free} items free in a reserve of {reserve}")
+            }
+            Refusal::Full { slabs, .. } => write!(f, "all {slabs} slabs are in use"),
+            Refusal::Init { code } => write!(f, "refused by init with code {code}"),
+            Refusal::Ctor { code } => write!(f, "refused by ctor with code {code}"),
+        }
+    }
+}
+
+impl Error for Refusal {}
 
 #[cfg(test)]
 mod tests {

@@ -12,7 +12,7 @@ pub struct ZoneLine {
     pub limit: u64,
     /// Items that are allocated.
     pub used: u128,
-    /// Items that are ready: those free in the keg and those cached.
+    /// Items that aren't allocated: those free in the keg, those cached, and those whose free is deferred.
     pub free: u128,
     /// Requests that got an item.
     pub req: u128,
@@ -89,6 +89,6 @@ pub struct Report {
     pub names: Option<NamesLine>,
     /// Whether the text has the lines of hooks and kegs.
     pub detail: bool,
-    /// Workers that ended before their part was done.
+    /// Waits for a gate that were given up.
     pub gave_up: u64,
 }

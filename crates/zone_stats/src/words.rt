@@ -1,8 +1,9 @@
 //! The lines below a report's table: words, with one space between two of them.
-ghost use Rattle.std.specs.Prelude.{◌≡◌, ◌++◌, ◌∷◌, OnOk, decimal, flat_map, map};
-ghost use Rattle.zone_stats.specs.ReportText.{clock_text, detail_text, hook_text, keg_text, names_text, words_line};
+ghost use Rattle.std.specs.Prelude.{◌≡◌, ◌++◌, OnOk, flat_map};
+ghost use Rattle.zone_stats.specs.ReportText.{clock_text, detail_text, hook_text, keg_text, names_text};
 
 use crate::{ClockLine, HookLine, KegLine, NamesLine, Report};
+use printed_lines::push_line;
 use std::alloc::{AllocError, Global};
 
 /// Appends the lines of the hooks and then those of the kegs, if the report shows them.
@@ -33,7 +34,7 @@ fn push_hook(alloc: Global, text: &mut Vec<u8>, line: &HookLine) -> Result<(), A
     let deferred = u128::from(line.deferred);
     let numbers = [line.inits, line.ctors, line.dtors, line.finis, deferred];
     text.extend_from_slice(b"hooks ")?;
-    push_words(alloc, text, line.name.as_bytes(), &numbers)
+    push_line(alloc, text, line.name.as_bytes(), &numbers)
 }
 
 /// Appends the lines of the kegs.
@@ -53,7 +54,7 @@ fn push_keg(alloc: Global, text: &mut Vec<u8>, line: &KegLine) -> Result<(), All
     let slabs = u128::from(line.slabs);
     let free = u128::from(line.free);
     text.extend_from_slice(b"keg ")?;
-    push_words(
+    push_line(
         alloc,
         text,
         line.name.as_bytes(),
@@ -78,7 +79,7 @@ pub fn push_clock(
         u128::from(clock.entered),
         u128::from(clock.late),
     ];
-    push_words(alloc, text, b"clock", &numbers)
+    push_line(alloc, text, b"clock", &numbers)
 }
 
 /// Appends the line of the name cache, if there is one.
@@ -101,40 +102,5 @@ pub fn push_names(
         u128::from(names.unbound),
         u128::from(names.refused),
     ];
-    push_words(alloc, text, b"names", &numbers)
-}
-
-/// Appends a word and numbers, with one space between two of them, and ends the line.
-#[tactic(auto, using(crate::proofs::WordsLine::words_appended))]
-fn push_words(
-    alloc: Global,
-    text: &mut Vec<u8>,
-    word: &[u8],
-    numbers: &[u128],
-) -> Result<(), AllocError>
-    ensures { OnOk result (text.new.items ≡ text.old.items ++ words_line (word.now ∷ map decimal numbers.now)) }
-{
-    text.extend_from_slice(word)?;
-    push_numbers(alloc, text, numbers)?;
-    text.push(b'\n')?;
-    Ok(())
-}
-
-/// Appends numbers, each after one space.
-fn push_numbers(alloc: Global, text: &mut Vec<u8>, numbers: &[u128]) -> Result<(), AllocError>
-    ensures { OnOk result (text.new.items ≡ text.old.items ++ flat_map (λ number. 32 ∷ decimal number) numbers.now) }
-{
-    for &number in numbers {
-        push_number(alloc, text, number)?;
-    }
-    Ok(())
-}
-
-/// Appends a number after one space.
-fn push_number(alloc: Global, text: &mut Vec<u8>, number: u128) -> Result<(), AllocError>
-    ensures { OnOk result (text.new.items ≡ text.old.items ++ 32 ∷ decimal number) }
-{
-    let digits = format!(in alloc; "{number}")?;
-    text.push(b' ')?;
-    text.extend_from_slice(digits.as_bytes())
+    push_line(alloc, text, b"names", &numbers)
 }

@@ -20,7 +20,7 @@ const LEAST_WINDOW: u64 = 4;
 const GREATEST_WINDOW: u64 = 1 << 30;
 
 /// What a line says behind the head.
-#[derive(Clone, Copy, Debug, PartialEq, Eq)]
+#[derive(Clone, Copy)]
 pub enum Said {
     /// The numbers of the clock.
     Clock { about: About },

@@ -5,7 +5,7 @@ use crate::Turn;
 use smr_core::Step;
 
 /// The word with which a line of a schedule begins.
-#[derive(Clone, Copy, Debug, PartialEq, Eq)]
+#[derive(Clone, Copy)]
 pub enum Word {
     Smr,
     Clock,
@@ -16,7 +16,7 @@ pub enum Word {
     End,
 }
 
-#[derive(Clone, Copy, Debug, PartialEq, Eq)]
+#[derive(Clone, Copy)]
 pub enum SeatWord {
     Load,
     Store,
@@ -33,7 +33,7 @@ pub enum SeatWord {
     Advance,
 }
 
-#[derive(Clone, Copy, Debug, PartialEq, Eq)]
+#[derive(Clone, Copy)]
 pub enum PairWord {
     Pread,
     Absorb,

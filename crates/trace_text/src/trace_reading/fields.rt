@@ -6,6 +6,7 @@ ghost use Rattle.text_lines.specs.TextLines.{fields_of};
 ghost use Rattle.trace_text.specs.Limits.{last_slot};
 ghost use Rattle.trace_text.specs.TraceLine.{name_in, kind_in, worker_in, slot_in, arg_in, seven_fields, reserve_option, arg_option, options, alloc_fields, only_worker, worker_and_key, worker_and_zone};
 
+use crate::limits::SLOTS;
 use crate::{TraceKind, ZoneKind};
 use text_lines::{
     five_fields, next_field, no_field, number_in, number_within, one_field, ranged, two_fields,
@@ -13,7 +14,7 @@ use text_lines::{
 use zone_stats::ZoneName;
 
 /// The greatest number of a slot.
-const LAST_SLOT: u64 = 65535;
+const LAST_SLOT: u64 = SLOTS as u64 - 1;
 
 /// The greatest argument of a constructor.
 const GREATEST_ARG: u64 = 254;

@@ -65,7 +65,7 @@ pub struct SecondHead {
 }
 
 /// What is done in a zone.
-#[derive(Clone, Copy, Debug, PartialEq, Eq)]
+#[derive(Clone, Copy)]
 pub enum ZoneWork {
     Alloc { slot: u32, arg: u64, reserve: bool },
     Trim,

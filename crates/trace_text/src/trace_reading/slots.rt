@@ -3,8 +3,7 @@ ghost use Rattle.std.specs.Prelude.{◌≡◌, ◌≤◌, ◌<◌, ◌+◌, ◌*
 ghost use Rattle.trace_text.specs.Limits.{last_slot, slots};
 ghost use Rattle.trace_text.specs.TraceShown.{slot_at, open_at};
 
-/// How many slots a worker has.
-const SLOTS: usize = 65536;
+use crate::limits::SLOTS;
 
 /// Whether a worker's slot is filled, in a table of all slots, one worker's behind the other's.
 pub fn slot_at(table: &[bool], worker: u32, slot: u32) -> bool

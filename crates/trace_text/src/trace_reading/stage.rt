@@ -5,7 +5,7 @@ ghost use Rattle.trace_text.specs.TraceLine.{rank, may_follow};
 use crate::trace_reading::word::{HeadWord, Word};
 
 /// How far a text has come: what its last line was.
-#[derive(Clone, Copy, Debug, PartialEq, Eq)]
+#[derive(Clone, Copy)]
 pub enum Stage {
     /// Before the first line.
     Start,

@@ -3,16 +3,17 @@ ghost use Rattle.std.specs.Prelude.{◌≡◌, ◌<◌, All, IfOk, length, false
 ghost use Rattle.trace_text.specs.declared.trace_reading.entry.Entry.TheVariants.{Does, Moves};
 ghost use Rattle.trace_text.specs.TraceTables.{AreEmpty, AreWhole, EntryFits, Marks, OpSlotFits, most_workers};
 
+use crate::limits::SLOTS;
 use crate::trace_reading::entry::Entry;
 use crate::trace_reading::slots::{set_open, set_slot, slot_at};
 use crate::{Between, Op};
 use std::alloc::{AllocError, Global};
 
-/// How many workers the tables have room for, with 65,536 slots each.
+/// How many workers the tables have room for.
 const WORKERS: usize = 16;
 
-/// How many slots there are.
-const ALL_SLOTS: usize = 1_048_576;
+/// How many slots they have together.
+const ALL_SLOTS: usize = WORKERS * SLOTS;
 
 /// Which slots are filled, and which workers are in a section.
 #[derive(Drop)]

@@ -2,7 +2,7 @@ ghost use Rattle.std.specs.Prelude.{◌≡◌};
 ghost use Rattle.trace_text.specs.TraceLine.{word_named};
 
 /// The word with which a line of a trace begins.
-#[derive(Clone, Copy, Debug, PartialEq, Eq)]
+#[derive(Clone, Copy)]
 pub enum Word {
     /// A word of a header line.
     Head(HeadWord),
@@ -15,7 +15,7 @@ pub enum Word {
     End,
 }
 
-#[derive(Clone, Copy, Debug, PartialEq, Eq)]
+#[derive(Clone, Copy)]
 pub enum HeadWord {
     Uma,
     Workers,
@@ -27,7 +27,7 @@ pub enum HeadWord {
     Names,
 }
 
-#[derive(Clone, Copy, Debug, PartialEq, Eq)]
+#[derive(Clone, Copy)]
 pub enum WorkWord {
     Free,
     Enter,
@@ -37,7 +37,7 @@ pub enum WorkWord {
     Look,
 }
 
-#[derive(Clone, Copy, Debug, PartialEq, Eq)]
+#[derive(Clone, Copy)]
 pub enum ZoneWord {
     Alloc,
     Trim,

@@ -1,0 +1,12 @@
+mod WorkedRows
+pub mod CanonicalRows
+pub mod RowText
+pub mod RowFields
+pub mod RowSaid
+pub mod RoundEntries
+pub mod TraceRebuilt
+pub mod TraceRebuiltZones
+pub mod TraceRebuiltHead
+pub mod TraceRebuiltRounds
+pub mod TraceRebuiltText
+pub mod AppendedLines

@@ -1,0 +1,328 @@
+-- What each row of the canonical text says, where its numbers are in range and its word may follow. A row is the fields of a line.
+use Rattle.std.proofs.Common.{◌≡◌, ℕ, ◌+◌, ◌%◌, ◌^◌, ◌<◌, ◌≤◌, Bool, true, false, cond, eqb, List, [], ◌∷◌, ◌++◌, length, get_or, map, Option, Some, None, Result, Ok, refl, sym, ap, subst, arith}
+use Rattle.std.specs.Prelude.{codes, IfSome, slice_get}
+use Rattle.std.specs.Fmt.{decimal}
+use Rattle.std.proofs.lemmas.Bool.{lt-ltb, le-leb, eq-eqb, eqb-true}
+use Rattle.std.proofs.lemmas.Option.{slice_get-get_or}
+use Rattle.text_lines.specs.declared.refused.TraceKind.{TraceKind}
+use Rattle.text_lines.specs.Fields.{number_in, number_within}
+use Rattle.text_lines.specs.Number.{number_of}
+use Rattle.text_lines.proofs.Numbers.{number_of_again}
+use Rattle.zone_stats.specs.Name.{IsName}
+use Rattle.trace_text.specs.declared.between.Between.{Between}
+use Rattle.trace_text.specs.declared.between.Between.TheVariants.{Give}
+use Rattle.trace_text.specs.declared.head.ClockHead.{ClockHead}
+use Rattle.trace_text.specs.declared.head.Head.{Head}
+use Rattle.trace_text.specs.declared.head.NamesHead.{NamesHead}
+use Rattle.trace_text.specs.declared.head.ZoneHead.{ZoneHead}
+use Rattle.trace_text.specs.declared.head.ZoneKind.{ZoneKind}
+use Rattle.trace_text.specs.declared.head.ZoneKind.TheVariants.{Plain, Smr}
+use Rattle.trace_text.specs.declared.op.Op.{Op}
+use Rattle.trace_text.specs.declared.op.Op.TheVariants.{Alloc, Free, Enter, Exit, Bind, Unbind, Look, Trim, Drain, DrainSeat, Prealloc}
+use Rattle.trace_text.specs.declared.round.Round.{Round}
+use Rattle.trace_text.specs.declared.trace.Trace.{Trace}
+use Rattle.trace_text.specs.declared.trace_reading.said.Said.{Said}
+use Rattle.trace_text.specs.declared.trace_reading.said.Said.TheVariants as said
+use Rattle.trace_text.specs.declared.trace_reading.said.ZoneWork.TheVariants as works
+use Rattle.trace_text.specs.declared.trace_reading.stage.Stage.{Stage}
+use Rattle.trace_text.specs.declared.trace_reading.word.HeadWord.TheVariants as heads
+use Rattle.trace_text.specs.declared.trace_reading.word.Word.{Word}
+use Rattle.trace_text.specs.declared.trace_reading.word.Word.TheVariants as words
+use Rattle.trace_text.specs.declared.trace_reading.word.WorkWord.TheVariants as by_self
+use Rattle.trace_text.specs.declared.trace_reading.word.ZoneWord.TheVariants as in_zone
+use Rattle.trace_print.specs.CanonicalText.{kind_word, zone_fields, arg_fields, reserve_fields, op_fields}
+use Rattle.trace_text.specs.NamedZones.{zone_name}
+use Rattle.trace_text.specs.Limits.{IsWithin, last_slot}
+use Rattle.schedule_text.specs.ScheduleGrammar.{start_in, window_in}
+use Rattle.trace_text.specs.TraceLine.{word_named, is_within, may_follow, name_in, kind_in, worker_in, slot_in, options, arg_in, said_by, says}
+use Rattle.trace_text.specs.Valid.{ClockFits, PrimaryFits, KegFits, ZoneFits, NamesFits, HeadFits, OpFits, BetweenFits}
+use Rattle.trace_print.proofs.CanonicalRows.{between_row}
+use Rattle.trace_text.proofs.Names.{is_name_from_IsName}
+use Rattle.trace_text.proofs.RowZones.{nowhere}
+
+-- ---- what the rows of a trace say, in the order of the text
+
+abbrev pub clock_saids : Option ClockHead → List Said
+clock_saids None = []
+clock_saids (Some c) = said.Clock c ∷ []
+
+abbrev pub detail_saids : Bool → List Said
+detail_saids false = []
+detail_saids true = said.Detail ∷ []
+
+-- a zone by its parent
+abbrev pub zone_saying : List ZoneHead → Option ℕ → ZoneHead → Said
+zone_saying zones None z = said.Zone z
+zone_saying zones (Some parent) z =
+    said.Second (record { name = z.name; of = zone_name zones parent; bucket = z.bucket; limit = z.limit; kind = z.kind })
+
+abbrev pub names_saids : Option NamesHead → List Said
+names_saids None = []
+names_saids (Some n) = said.Names n ∷ []
+
+abbrev pub head_saids : Head → List Said
+head_saids h =
+    said.Uma ∷ said.Workers h.workers ∷ said.Domains h.domains
+    ∷ (clock_saids h.clock ++ (detail_saids h.detail ++ (map (λ (z : ZoneHead). zone_saying h.zones z.parent z) h.zones ++ names_saids h.names)))
+
+abbrev pub op_saying : List ZoneHead → ℕ → Op → Said
+op_saying zones w (Alloc zone slot arg reserve) = said.InZone w (zone_name zones zone) (works.Alloc slot arg reserve)
+op_saying zones w (Free slot) = said.Work w (Free slot)
+op_saying zones w Enter = said.Work w Enter
+op_saying zones w Exit = said.Work w Exit
+op_saying zones w (Bind key value) = said.Work w (Bind key value)
+op_saying zones w (Unbind key) = said.Work w (Unbind key)
+op_saying zones w (Look key) = said.Work w (Look key)
+op_saying zones w (Trim zone) = said.InZone w (zone_name zones zone) works.Trim
+op_saying zones w (Drain zone) = said.InZone w (zone_name zones zone) works.Drain
+op_saying zones w (DrainSeat zone) = said.InZone w (zone_name zones zone) works.DrainSeat
+op_saying zones w (Prealloc zone items) = said.InZone w (zone_name zones zone) (works.Prealloc items)
+
+abbrev pub ops_saids : List ZoneHead → ℕ → List (List Op) → List Said
+ops_saids zones w [] = []
+ops_saids zones w (ops ∷ lists) = map (op_saying zones w) ops ++ ops_saids zones (w + 1) lists
+
+abbrev pub rounds_saids : List ZoneHead → List Round → List Said
+rounds_saids zones [] = []
+rounds_saids zones (r ∷ []) = ops_saids zones 0 r.ops
+rounds_saids zones (r ∷ next ∷ rounds) =
+    ops_saids zones 0 r.ops ++ (said.Round ∷ (map said.Give r.between ++ rounds_saids zones (next ∷ rounds)))
+
+abbrev pub trace_saids : Trace → List Said
+trace_saids t = head_saids t.head ++ (rounds_saids t.head.zones t.rounds ++ said.End ∷ [])
+
+-- ---- one field
+
+-- the text of a number in its range
+pub number_says : (n : ℕ) → n < 2 ^ 64 → number_in (decimal n) ≡ Ok n
+number_says n fits =
+    let is : number_of (decimal n) ≡ Some n = number_of_again (decimal n) n (record { digits = refl; fits = fits }) in rw is refl
+
+pub number_within_says : (low high n : ℕ) → low ≤ n → n ≤ high → high < 2 ^ 64 → number_within low high (decimal n) ≡ Ok n
+number_within_says low high n above below fits =
+    let is : number_in (decimal n) ≡ Ok n = number_says n (omega arith) in
+    rw (is, le-leb low n above, le-leb n high below) refl
+
+-- a name, and the word of a kind
+pub name_says : (name : List ℕ) → IsName name → name_in name ≡ Ok name
+name_says name is = rw (is_name_from_IsName name is) refl
+
+pub kind_says : (k : ZoneKind) → kind_in (kind_word k) ≡ Ok k
+kind_says Plain = refl
+kind_says Smr = refl
+
+-- a worker, a slot, and the numbers of the clock
+pub worker_says : (workers w : ℕ) → w < workers → workers ≤ 2 ^ 64 → worker_in workers (decimal w) ≡ Ok w
+worker_says workers w below fits =
+    let is : number_in (decimal w) ≡ Ok w = number_says w (omega arith) in rw (is, lt-ltb w workers below) refl
+
+pub slot_says : (slot : ℕ) → slot ≤ last_slot → slot_in (decimal slot) ≡ Ok slot
+slot_says slot fits = number_within_says 0 last_slot slot (omega arith) fits (omega arith)
+
+pub start_says : (c : ClockHead) → ClockFits c → start_in (decimal c.start) ≡ Ok c.start
+start_says c fits =
+    let below : c.start < 2 ^ 63 = fits.start in
+    let is : number_in (decimal c.start) ≡ Ok c.start = number_says c.start (omega arith) in
+    rw (is, eq-eqb (c.start % 2) 1 fits.start_odd, lt-ltb c.start (2 ^ 63) below) refl
+
+pub window_says : (c : ClockHead) → ClockFits c → window_in (decimal c.window) ≡ Ok c.window
+window_says c fits =
+    let inside : IsWithin 4 (2 ^ 30) c.window = fits.window in
+    let is : number_in (decimal c.window) ≡ Ok c.window = number_says c.window (omega arith) in
+    rw (is, eq-eqb (c.window % 2) 0 fits.window_even, le-leb 4 c.window inside.0, le-leb c.window (2 ^ 30) inside.1) refl
+
+-- ---- the line by its word
+
+-- a line with a word that may stand there says what the fields behind it do
+by_word : (stage : Stage) (workers : ℕ) (first : List ℕ) (rest : List (List ℕ)) (word : Word) (r : Result Said TraceKind)
+    → word_named first ≡ Some word → may_follow stage word ≡ true → said_by workers word rest ≡ r → says stage workers (first ∷ rest) ≡ r
+by_word stage workers first rest word r named follows is = rw (named, follows) is
+
+-- ---- the header lines
+
+-- the counts, the clock and `detail`
+pub workers_row_says : (stage : Stage) (workers count : ℕ) → may_follow stage (words.Head heads.Workers) ≡ true → IsWithin 1 16 count
+    → says stage workers (codes "workers" ∷ decimal count ∷ []) ≡ Ok (said.Workers count)
+workers_row_says stage workers count follows inside =
+    by_word stage workers (codes "workers") (decimal count ∷ []) (words.Head heads.Workers) (Ok (said.Workers count)) refl follows
+    (rw (number_within_says 1 16 count inside.0 inside.1 (omega arith)) refl)
+
+pub domains_row_says : (stage : Stage) (workers count : ℕ) → may_follow stage (words.Head heads.Domains) ≡ true → IsWithin 1 4 count
+    → says stage workers (codes "domains" ∷ decimal count ∷ []) ≡ Ok (said.Domains count)
+domains_row_says stage workers count follows inside =
+    by_word stage workers (codes "domains") (decimal count ∷ []) (words.Head heads.Domains) (Ok (said.Domains count)) refl follows
+    (rw (number_within_says 1 4 count inside.0 inside.1 (omega arith)) refl)
+
+pub clock_row_says : (stage : Stage) (workers : ℕ) (c : ClockHead) → may_follow stage (words.Head heads.Clock) ≡ true → ClockFits c
+    → says stage workers (codes "clock" ∷ decimal c.start ∷ decimal c.window ∷ []) ≡ Ok (said.Clock c)
+clock_row_says stage workers c follows fits =
+    by_word stage workers (codes "clock") (decimal c.start ∷ decimal c.window ∷ []) (words.Head heads.Clock) (Ok (said.Clock c)) refl follows
+    (rw (start_says c fits, window_says c fits) refl)
+
+pub detail_row_says : (stage : Stage) (workers : ℕ) → may_follow stage (words.Head heads.Detail) ≡ true
+    → says stage workers (codes "detail" ∷ []) ≡ Ok said.Detail
+detail_row_says stage workers follows =
+    by_word stage workers (codes "detail") [] (words.Head heads.Detail) (Ok said.Detail) refl follows refl
+
+-- each zone at a place has a name
+abbrev pub AreNamed : List ZoneHead → Type 0
+AreNamed zones = (z : ℕ) → z < length zones → IsName (zone_name zones z)
+
+-- so it is in a header that fits
+pub zones_are_named : (h : Head) → HeadFits h → AreNamed h.zones
+zones_are_named h fits z lt =
+    let is : slice_get h.zones z ≡ Some (get_or h.zones z nowhere) = slice_get-get_or h.zones z nowhere lt in
+    let P : Option ZoneHead → Type 0 = λ o. IfSome o (ZoneFits h z) in
+    let zone : ZoneFits h z (get_or h.zones z nowhere) = subst P is (fits.zones z) in
+    rw is zone.name
+
+-- the numbers that a primary and a secondary zone have alike
+record SharedFits (z : ZoneHead) : Type 0 where
+  name : IsName z.name
+  bucket : IsWithin 4 64 z.bucket
+  limit : z.limit ≤ 1000000
+
+-- a `zone` row
+primary_says : (stage : Stage) (workers : ℕ) (zones : List ZoneHead) (z : ZoneHead) → may_follow stage (words.Head heads.Zone) ≡ true
+    → SharedFits z → PrimaryFits z → z.parent ≡ None → says stage workers (zone_fields zones None z) ≡ Ok (said.Zone z)
+primary_says stage workers zones z follows fits primary none =
+    let made : Option ℕ → ZoneHead = λ parent. record { name = z.name; parent = parent; size = z.size; slabs = z.slabs; bucket = z.bucket; limit = z.limit; reserve = z.reserve; kind = z.kind } in
+    let rest : List (List ℕ) = z.name ∷ decimal z.size ∷ decimal z.slabs ∷ decimal z.bucket ∷ decimal z.limit ∷ decimal z.reserve ∷ kind_word z.kind ∷ [] in
+    by_word stage workers (codes "zone") rest (words.Head heads.Zone) (Ok (said.Zone z)) refl follows
+    (rw (
+      name_says z.name fits.name,
+      number_within_says 8 4096 z.size primary.size.0 primary.size.1 (omega arith),
+      number_within_says 1 1024 z.slabs primary.slabs.0 primary.slabs.1 (omega arith),
+      number_within_says 4 64 z.bucket fits.bucket.0 fits.bucket.1 (omega arith),
+      number_within_says 0 1000000 z.limit (omega arith) fits.limit (omega arith),
+      number_within_says 0 65535 z.reserve (omega arith) primary.reserve (omega arith),
+      kind_says z.kind,
+    )
+    (ap (λ (parent : Option ℕ). Ok (said.Zone (made parent))) (sym none)))
+
+-- a `second` row
+second_says : (stage : Stage) (workers : ℕ) (zones : List ZoneHead) (parent : ℕ) (z : ZoneHead) → may_follow stage (words.Head heads.Second) ≡ true
+    → SharedFits z → IsName (zone_name zones parent) → says stage workers (zone_fields zones (Some parent) z) ≡ Ok (zone_saying zones (Some parent) z)
+second_says stage workers zones parent z follows fits named =
+    let rest : List (List ℕ) = z.name ∷ zone_name zones parent ∷ decimal z.bucket ∷ decimal z.limit ∷ kind_word z.kind ∷ [] in
+    by_word stage workers (codes "second") rest (words.Head heads.Second) (Ok (zone_saying zones (Some parent) z)) refl follows
+    (rw (
+      name_says z.name fits.name,
+      name_says (zone_name zones parent) named,
+      number_within_says 4 64 z.bucket fits.bucket.0 fits.bucket.1 (omega arith),
+      number_within_says 0 1000000 z.limit (omega arith) fits.limit (omega arith),
+      kind_says z.kind,
+    ) refl)
+
+-- the row of a zone, by its parent
+zone_by_parent : (stage : Stage) (workers : ℕ) (zones : List ZoneHead) (place : ℕ) (z : ZoneHead) (parent : Option ℕ) → is_within 3 6 stage ≡ true
+    → AreNamed zones → place < length zones → SharedFits z → KegFits zones place parent z → z.parent ≡ parent
+    → says stage workers (zone_fields zones parent z) ≡ Ok (zone_saying zones parent z)
+zone_by_parent stage workers zones place z None follows named inside fits keg is = primary_says stage workers zones z follows fits keg is
+zone_by_parent stage workers zones place z (Some parent) follows named inside fits keg is =
+    second_says stage workers zones parent z follows fits (named parent (omega (arith, keg.earlier)))
+
+pub zone_row_says : (stage : Stage) (workers : ℕ) (h : Head) (place : ℕ) (z : ZoneHead) → is_within 3 6 stage ≡ true → AreNamed h.zones
+    → place < length h.zones → ZoneFits h place z → says stage workers (zone_fields h.zones z.parent z) ≡ Ok (zone_saying h.zones z.parent z)
+zone_row_says stage workers h place z follows named inside fits =
+    zone_by_parent stage workers h.zones place z z.parent follows named inside
+    (record { name = fits.name; bucket = fits.bucket; limit = fits.limit }) fits.keg refl
+
+-- the `names` row
+pub names_row_says : (stage : Stage) (workers : ℕ) (h : Head) (n : NamesHead) → may_follow stage (words.Head heads.Names) ≡ true → NamesFits h n
+    → says stage workers (codes "names" ∷ n.name ∷ decimal n.rows ∷ decimal n.slabs ∷ decimal n.bucket ∷ []) ≡ Ok (said.Names n)
+names_row_says stage workers h n follows fits =
+    let rest : List (List ℕ) = n.name ∷ decimal n.rows ∷ decimal n.slabs ∷ decimal n.bucket ∷ [] in
+    by_word stage workers (codes "names") rest (words.Head heads.Names) (Ok (said.Names n)) refl follows
+    (rw (
+      name_says n.name fits.name,
+      number_within_says 1 4096 n.rows fits.rows.0 fits.rows.1 (omega arith),
+      number_within_says 1 1024 n.slabs fits.slabs.0 fits.slabs.1 (omega arith),
+      number_within_says 4 64 n.bucket fits.bucket.0 fits.bucket.1 (omega arith),
+    ) refl)
+
+-- ---- what workers do
+
+-- the fields behind the slot of an `alloc` row: the argument's text, or nothing at 0, and `reserve`
+options_say : (zero : Bool) (text : List ℕ) (reserve : Bool) → options (cond zero [] (codes "arg" ∷ text ∷ []) ++ reserve_fields reserve) ≡ Ok (cond zero None (Some text), reserve)
+options_say true text true = refl
+options_say true text false = refl
+options_say false text true = refl
+options_say false text false = refl
+
+-- the argument: 0 where its text is left out
+arg_says : (arg : ℕ) (b : Bool) → eqb arg 0 ≡ b → arg ≤ 254 → arg_in (cond b None (Some (decimal arg))) ≡ Ok arg
+arg_says arg true is fits = ap (λ (n : ℕ). Ok n) (sym (eqb-true arg 0 is))
+arg_says arg false is fits = number_within_says 0 254 arg (omega arith) fits (omega arith)
+
+-- an `alloc` row
+alloc_row_says : (stage : Stage) (workers : ℕ) (zones : List ZoneHead) (w zone slot arg : ℕ) (reserve : Bool) → is_within 3 9 stage ≡ true
+    → worker_in workers (decimal w) ≡ Ok w → IsName (zone_name zones zone) → slot ≤ last_slot → arg ≤ 254
+    → says stage workers (op_fields zones w (Alloc zone slot arg reserve)) ≡ Ok (op_saying zones w (Alloc zone slot arg reserve))
+alloc_row_says stage workers zones w zone slot arg reserve follows worker named slot_is arg_is =
+    let rest : List (List ℕ) = decimal w ∷ zone_name zones zone ∷ decimal slot ∷ (arg_fields arg ++ reserve_fields reserve) in
+    by_word stage workers (codes "alloc") rest (words.Zone in_zone.Alloc) (Ok (op_saying zones w (Alloc zone slot arg reserve))) refl follows
+    (rw (
+      options_say (eqb arg 0) (decimal arg) reserve,
+      worker,
+      name_says (zone_name zones zone) named,
+      slot_says slot slot_is,
+      arg_says arg (eqb arg 0) refl arg_is,
+    ) refl)
+
+-- a row of a worker
+pub op_row_says : (stage : Stage) (workers : ℕ) (h : Head) (w : ℕ) (op : Op) → is_within 3 9 stage ≡ true → w < workers → workers ≤ 2 ^ 64
+    → AreNamed h.zones → OpFits h op → says stage workers (op_fields h.zones w op) ≡ Ok (op_saying h.zones w op)
+op_row_says stage workers h w (Alloc zone slot arg reserve) follows below few named fits =
+    alloc_row_says stage workers h.zones w zone slot arg reserve follows (worker_says workers w below few) (named zone fits.0) fits.1 fits.2
+op_row_says stage workers h w (Free slot) follows below few named fits =
+    by_word stage workers (codes "free") (decimal w ∷ decimal slot ∷ []) (words.Work by_self.Free) (Ok (said.Work w (Free slot))) refl follows
+    (rw (worker_says workers w below few, slot_says slot fits) refl)
+op_row_says stage workers h w Enter follows below few named fits =
+    by_word stage workers (codes "enter") (decimal w ∷ []) (words.Work by_self.Enter) (Ok (said.Work w Enter)) refl follows
+    (rw (worker_says workers w below few) refl)
+op_row_says stage workers h w Exit follows below few named fits =
+    by_word stage workers (codes "exit") (decimal w ∷ []) (words.Work by_self.Exit) (Ok (said.Work w Exit)) refl follows
+    (rw (worker_says workers w below few) refl)
+op_row_says stage workers h w (Bind key value) follows below few named fits =
+    by_word stage workers (codes "bind") (decimal w ∷ decimal key ∷ decimal value ∷ []) (words.Work by_self.Bind) (Ok (said.Work w (Bind key value))) refl follows
+    (rw (worker_says workers w below few, number_says key fits.1, number_says value fits.2) refl)
+op_row_says stage workers h w (Unbind key) follows below few named fits =
+    by_word stage workers (codes "unbind") (decimal w ∷ decimal key ∷ []) (words.Work by_self.Unbind) (Ok (said.Work w (Unbind key))) refl follows
+    (rw (worker_says workers w below few, number_says key fits.1) refl)
+op_row_says stage workers h w (Look key) follows below few named fits =
+    by_word stage workers (codes "look") (decimal w ∷ decimal key ∷ []) (words.Work by_self.Look) (Ok (said.Work w (Look key))) refl follows
+    (rw (worker_says workers w below few, number_says key fits.1) refl)
+op_row_says stage workers h w (Trim zone) follows below few named fits =
+    by_word stage workers (codes "trim") (decimal w ∷ zone_name h.zones zone ∷ []) (words.Zone in_zone.Trim) (Ok (op_saying h.zones w (Trim zone))) refl follows
+    (rw (worker_says workers w below few, name_says (zone_name h.zones zone) (named zone fits)) refl)
+op_row_says stage workers h w (Drain zone) follows below few named fits =
+    by_word stage workers (codes "drain") (decimal w ∷ zone_name h.zones zone ∷ []) (words.Zone in_zone.Drain) (Ok (op_saying h.zones w (Drain zone))) refl follows
+    (rw (worker_says workers w below few, name_says (zone_name h.zones zone) (named zone fits)) refl)
+op_row_says stage workers h w (DrainSeat zone) follows below few named fits =
+    by_word stage workers (codes "drainseat") (decimal w ∷ zone_name h.zones zone ∷ []) (words.Zone in_zone.DrainSeat) (Ok (op_saying h.zones w (DrainSeat zone))) refl follows
+    (rw (worker_says workers w below few, name_says (zone_name h.zones zone) (named zone fits)) refl)
+op_row_says stage workers h w (Prealloc zone items) follows below few named fits =
+    by_word stage workers (codes "prealloc") (decimal w ∷ zone_name h.zones zone ∷ decimal items ∷ []) (words.Zone in_zone.Prealloc) (Ok (op_saying h.zones w (Prealloc zone items))) refl follows
+    (rw (worker_says workers w below few, name_says (zone_name h.zones zone) (named zone fits.0), number_within_says 0 262144 items (omega arith) fits.1 (omega arith)) refl)
+
+-- ---- between the rounds
+
+-- a `give` row
+pub between_row_says : (stage : Stage) (workers : ℕ) (h : Head) (b : Between) → may_follow stage words.Give ≡ true → h.workers ≤ workers → workers ≤ 2 ^ 64
+    → BetweenFits h b → says stage workers (between_row b) ≡ Ok (said.Give b)
+between_row_says stage workers h (Give giver slot taker slot2) follows enough few fits =
+    by_word stage workers (codes "give") (decimal giver ∷ decimal slot ∷ decimal taker ∷ decimal slot2 ∷ []) words.Give (Ok (said.Give (Give giver slot taker slot2))) refl follows
+    (rw (
+      worker_says workers giver (omega (arith, fits.0)) few,
+      slot_says slot fits.1,
+      worker_says workers taker (omega (arith, fits.2)) few,
+      slot_says slot2 fits.3,
+    ) refl)
+
+-- the rows of one word
+pub round_row_says : (stage : Stage) (workers : ℕ) → may_follow stage words.Round ≡ true → says stage workers (codes "round" ∷ []) ≡ Ok said.Round
+round_row_says stage workers follows = by_word stage workers (codes "round") [] words.Round (Ok said.Round) refl follows refl
+
+pub end_row_says : (stage : Stage) (workers : ℕ) → may_follow stage words.End ≡ true → says stage workers (codes "end" ∷ []) ≡ Ok said.End
+end_row_says stage workers follows = by_word stage workers (codes "end") [] words.End (Ok said.End) refl follows refl

@@ -1,0 +1,24 @@
+-- The canonical text on a worked row.
+use Rattle.std.proofs.Common.{◌≡◌, [], ◌∷◌, None, refl, false}
+use Rattle.std.specs.Prelude.{codes}
+use Rattle.std.specs.Fmt.{digits}
+use Rattle.trace_text.specs.declared.head.ZoneHead.{ZoneHead}
+use Rattle.trace_text.specs.declared.head.ZoneKind.TheVariants.{Plain}
+use Rattle.trace_text.specs.declared.op.Op.TheVariants.{Alloc, Free}
+use Rattle.trace_text.specs.declared.trace.Trace.{Trace}
+use Rattle.trace_text.specs.Built.{only_round}
+use Rattle.trace_print.specs.CanonicalText.{canonical_text}
+
+box : ZoneHead
+box = record { name = codes "box"; parent = None; size = 256; slabs = 4; bucket = 4; limit = 0; reserve = 0; kind = Plain }
+
+three_allocs_and_a_free : Trace
+three_allocs_and_a_free = record {
+  head = record { workers = 1; domains = 1; clock = None; detail = false; zones = box ∷ []; names = None };
+  rounds = only_round (Alloc 0 0 0 false ∷ Alloc 0 1 0 false ∷ Alloc 0 2 0 false ∷ Free 1 ∷ []);
+}
+
+text_of_three_allocs_and_a_free : canonical_text three_allocs_and_a_free
+    ≡ codes "uma 1\nworkers 1\ndomains 1\nzone box 256 4 4 0 0 plain\nalloc 0 box 0\nalloc 0 box 1\nalloc 0 box 2\nfree 0 1\nend\n"
+unfolding digits three_allocs_and_a_free box
+text_of_three_allocs_and_a_free = refl

@@ -1,0 +1,84 @@
+//! The header lines.
+ghost use Rattle.std.specs.Prelude.{◌≡◌, ◌++◌, ◌∷◌, [], OnOk, codes, decimal};
+ghost use Rattle.printed_lines.specs.CanonicalLine.{line};
+ghost use Rattle.trace_print.specs.CanonicalText.{head_text, clock_text, detail_text, names_text};
+
+use crate::zones::push_zones;
+use printed_lines::{push_field, push_line, push_numbers};
+use std::alloc::{AllocError, Global};
+use trace_text::{ClockHead, Head, NamesHead};
+
+/// Appends the header lines, in their order.
+#[tactic(auto, using(crate::proofs::AppendedLines::head_appended))]
+pub fn push_head(alloc: Global, text: &mut Vec<u8>, head: &Head) -> Result<(), AllocError>
+    ensures { OnOk result (text.new.items ≡ text.old.items ++ head_text head.now) }
+{
+    push_counts(alloc, text, head.workers, head.domains)?;
+    push_clock(alloc, text, head.clock)?;
+    push_detail(text, head.detail)?;
+    push_zones(alloc, text, head.zones.as_slice())?;
+    push_names(alloc, text, &head.names)?;
+    Ok(())
+}
+
+/// Appends the first line and those of the workers and the domains.
+fn push_counts(
+    alloc: Global,
+    text: &mut Vec<u8>,
+    workers: u32,
+    domains: u8,
+) -> Result<(), AllocError>
+    ensures { OnOk result (text.new.items ≡ text.old.items ++ (line (codes "uma" ∷ codes "1" ∷ [])
+        ++ (line (codes "workers" ∷ decimal workers ∷ []) ++ line (codes "domains" ∷ decimal domains ∷ [])))) }
+{
+    text.extend_from_slice(b"uma 1\n")?;
+    push_line(alloc, text, b"workers", &[u128::from(workers)])?;
+    push_line(alloc, text, b"domains", &[u128::from(domains)])?;
+    Ok(())
+}
+
+/// Appends the `clock` line, if there is a clock.
+fn push_clock(alloc: Global, text: &mut Vec<u8>, clock: Option<ClockHead>) -> Result<(), AllocError>
+    ensures { OnOk result (text.new.items ≡ text.old.items ++ clock_text clock) }
+{
+    match clock {
+        Some(clock) => {
+            let numbers = [u128::from(clock.start), u128::from(clock.window)];
+            push_line(alloc, text, b"clock", &numbers)
+        }
+        None => Ok(()),
+    }
+}
+
+/// Appends the `detail` line, if the report is to be in detail.
+fn push_detail(text: &mut Vec<u8>, detail: bool) -> Result<(), AllocError>
+    ensures { OnOk result (text.new.items ≡ text.old.items ++ detail_text detail) }
+{
+    if detail {
+        text.extend_from_slice(b"detail\n")?;
+    }
+    Ok(())
+}
+
+/// Appends the `names` line, if there is a cache of names.
+fn push_names(
+    alloc: Global,
+    text: &mut Vec<u8>,
+    names: &Option<NamesHead>,
+) -> Result<(), AllocError>
+    ensures { OnOk result (text.new.items ≡ text.old.items ++ names_text names.now) }
+{
+    let Some(names) = names else {
+        return Ok(());
+    };
+    let numbers = [
+        u128::from(names.rows),
+        u128::from(names.slabs),
+        u128::from(names.bucket),
+    ];
+    text.extend_from_slice(b"names")?;
+    push_field(text, names.name.as_bytes())?;
+    push_numbers(alloc, text, &numbers)?;
+    text.push(b'\n')?;
+    Ok(())
+}

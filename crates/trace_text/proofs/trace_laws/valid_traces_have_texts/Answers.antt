@@ -1,5 +1,0 @@
-use Rattle.trace_text.proofs.TraceRebuiltText.{valid_has_text}
-use Rattle.trace_text.proofs.trace_laws.valid_traces_have_texts.Goals as goal
-
-pub returns : goal.returns
-returns c = valid_has_text
