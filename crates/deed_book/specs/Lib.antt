@@ -3,6 +3,7 @@ pub mod BookLaw
 pub mod Register
 pub mod Book
 pub mod Deed
+pub mod Numbers
 pub mod FailViews
 pub mod FailBookLaw
 pub mod FailBook

@@ -1,4 +1,4 @@
-ghost use Rattle.std.specs.Prelude.{◌≡◌, ◌<◌, ◌↔◌, IsTrue, IfOk, IfErr, Ok, Err, Some, None, slice_set, replicate};
+ghost use Rattle.std.specs.Prelude.{◌≡◌, ◌<◌, ◌↔◌, IsTrue, IfOk, IfErr, Ok, Err, Some, None, length, slice_set, replicate};
 
 use crate::deed::Deed;
 use crate::refused::BookRefused;
@@ -15,6 +15,7 @@ pub struct Book {
     zones: Vec<Option<u8>>,
     register: Register,
     ghost registered: { zones.items ≡ register.seat.me.0.zones },
+    pub ghost counted: { length zones.items ≡ register.seat.table_id.slots },
 }
 
 fn all_home(alloc: Global, numbers: u32) -> Result<Vec<Option<u8>>, AllocError>
@@ -27,10 +28,12 @@ impl Book {
     ghost use Rattle.deed_book.specs.BookLaw.{IsHome, IsOutside};
     ghost use Rattle.deed_book.specs.Book.{book_table, zones_of, IsOutOfRange, Refuses};
     ghost use Rattle.deed_book.specs.Deed.{deed_table, no_of, zone_of};
+    ghost use Rattle.deed_book.specs.Numbers.{numbers_of};
 
     /// A book of the numbers below `numbers`, which is 1 to 262,144. All of them are at home.
     pub fn new(alloc: Global, numbers: u32) -> Result<Book, BookRefused>
         ensures ok { IfOk result (λ book. zones_of book ≡ replicate numbers None) }
+        ensures numbers { IfOk result (λ book. numbers_of (book_table book) ≡ numbers) }
         ensures out_of_range { IsOutOfRange numbers → result ≡ Err (BookRefused.Numbers numbers) }
         ensures err { IfErr result (Refuses numbers) }
     {

@@ -12,15 +12,18 @@ pub struct Deed {
     pub(crate) zone: u8,
     pub(crate) seat: Seat<(), View>,
     pub ghost zone_in_range: { zone < 8 },
+    pub ghost in_book: { no < seat.table_id.slots },
     ghost knows: { seat.me ≡ (deed_view (no, zone), []) },
 }
 
 impl Deed {
-    ghost use Rattle.deed_book.specs.Deed.{no_of, zone_of};
+    ghost use Rattle.deed_book.specs.Deed.{deed_table, no_of, zone_of};
+    ghost use Rattle.deed_book.specs.Numbers.{numbers_of};
 
     /// The number, which is below its book's count of numbers.
     pub fn no(&self) -> u32
-        ensures { result ≡ no_of self.now }
+        ensures number { result ≡ no_of self.now }
+        ensures below { result < numbers_of (deed_table self.now) }
     {
         self.no
     }

@@ -1,13 +1,16 @@
-ghost use Rattle.std.specs.Prelude.{◌≡◌, ◌/◌, ◌%◌, ◌<◌, []};
+ghost use Rattle.std.specs.Prelude.{◌≡◌, ◌/◌, ◌%◌, ◌<◌, [], IfOk, length};
 ghost use Rattle.deed_book.specs.Views.{book_view};
 
 use crate::book_rule::{Accepting, BookRule, Naming, PuttingHome, Splitting, View};
 use crate::deed::Deed;
-use atomic_table::{Seat, Table};
+use atomic_table::{Refused, Seat, Table};
 use std::alloc::{AllocError, Global};
 
 // The table of a book with the book's own seat, by whose steps deeds go out and come back. Contracts alone see which
 // numbers are outside.
+//
+// The table has a slot for each number. No step uses them, and they take no byte: their count is in the table's name, so
+// that each deed knows its book's count of numbers.
 #[derive(Drop)]
 pub struct Register {
     table: Table<(), View, u32, BookRule, Global>,
@@ -16,6 +19,14 @@ pub struct Register {
     ghost one_table: { seat.table_id ≡ table.shared.table_id },
     ghost first_seat: { seat.id ≡ 0 },
     ghost between_calls: { seat.me ≡ (book_view seat.me.0.zones, []) },
+    pub ghost counted: { length seat.me.0.zones ≡ seat.table_id.slots },
+}
+
+// The slots of so many numbers.
+fn slots_of(alloc: Global, numbers: u32) -> Result<Vec<()>, AllocError>
+    ensures { IfOk result (λ slots. length slots.items ≡ numbers) }
+{
+    vec![in alloc; (); numbers as usize]
 }
 
 // The word that names a number and a zone.
@@ -27,7 +38,7 @@ fn spelled(no: u32, zone: u8) -> u64
 }
 
 impl Register {
-    ghost use Rattle.std.specs.Prelude.{None, Some, IfOk, replicate, slice_set};
+    ghost use Rattle.std.specs.Prelude.{None, Some, replicate, slice_set};
     ghost use Rattle.deed_book.specs.BookLaw.{IsHome, IsOutside};
     ghost use Rattle.deed_book.specs.Register.{register_table, register_zones};
     ghost use Rattle.deed_book.specs.Deed.{deed_table, no_of, zone_of};
@@ -36,8 +47,11 @@ impl Register {
     pub fn new(alloc: Global, numbers: u32) -> Result<Register, AllocError>
         ensures { IfOk result (λ register. register_zones register ≡ replicate numbers None) }
     {
-        let (table, seat) = Table::of_words(alloc, &[0], &numbers)?;
-        Ok(Register { table, seat })
+        let slots = slots_of(alloc, numbers)?;
+        match Table::new(alloc, &[0], slots, &numbers) {
+            Ok((table, seat)) => Ok(Register { table, seat }),
+            Err(Refused { .. }) => Err(AllocError),
+        }
     }
 
     // Names a number that is at home, with a zone, and splits its deed off.

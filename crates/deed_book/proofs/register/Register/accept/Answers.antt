@@ -1,4 +1,6 @@
-use Rattle.std.proofs.Common.{◌≡◌, [], Some, sym, ap, ◌∙◌, arith}
+use Rattle.std.proofs.Common.{◌≡◌, [], None, Some, length, set, sym, ap, ◌∙◌, arith}
+use Rattle.std.proofs.lemmas.List.{length-set}
+use Rattle.atomic_table.specs.Seated.{TableId}
 use Rattle.atomic_table.specs.Table.{Me}
 use Rattle.deed_book.specs.declared.book_rule.View.{View}
 use Rattle.deed_book.specs.Views.{book_view}
@@ -44,3 +46,13 @@ returns-clause-zones c =
     let register = c.args.self.now in
     let told = accepted register.seat.me.0.zones (c.args.deed.no, c.args.deed.zone) _ _ _ _ register.between_calls c.args.deed.knows c.join_seat.ensures.2 c.load.ensures.2 in
     ap (λ (m : Me (Unit {0}) View). m.0.zones) told.1
+
+pub invariant_of-self-clause-counted : goal.invariant_of-self-clause-counted
+invariant_of-self-clause-counted c =
+    let register = c.args.self.now in
+    let zones = register.seat.me.0.zones in
+    let told = accepted zones (c.args.deed.no, c.args.deed.zone) _ _ _ _ register.between_calls c.args.deed.knows c.join_seat.ensures.2 c.load.ensures.2 in
+    let same : length (set zones c.args.deed.no None) ≡ length zones = length-set zones c.args.deed.no None in
+    let now : length c.load.new.seat.me.0.zones ≡ length zones = ap (λ (m : Me (Unit {0}) View). length m.0.zones) told.1 ∙ same in
+    let kept : c.load.new.seat.table_id.slots ≡ register.seat.table_id.slots = ap (λ (t : TableId). t.slots) (c.load.ensures.0 ∙ c.join_seat.ensures.0) in
+    now ∙ (register.counted ∙ sym kept)

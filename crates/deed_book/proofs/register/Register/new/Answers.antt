@@ -1,5 +1,5 @@
 use Rattle.deed_book.proofs.BookSteps.{opens}
 use Rattle.deed_book.proofs.register.Register.new.Goals as goal
 
-pub of_words-requires : goal.of_words-requires
-of_words-requires c = opens _
+pub new-requires : goal.new-requires
+new-requires c = opens _
