@@ -1,6 +1,6 @@
 -- How a fetch ends, by its numbers.
-use Rattle.std.proofs.Common.{◌≡◌, ◌≤◌, ◌<◌, ◌+◌, ◌-◌, ◌⊎◌, inl, inr, ℕ, Bool, true, false, not, ◌&&◌, ◌==◌, nat_le, nat_lt, cond, min, refl, arith, sym, ap, ◌∙◌}
-use Rattle.std.proofs.lemmas.Bool.{cases_lt}
+use Rattle.std.proofs.Common.{◌≡◌, ◌≤◌, ◌<◌, ◌+◌, ◌-◌, ◌⊎◌, inl, inr, ℕ, zero, suc, Bool, true, false, not, ◌&&◌, ◌==◌, nat_le, nat_lt, cond, min, refl, arith, sym, ap, subst, ◌∙◌}
+use Rattle.std.proofs.lemmas.Bool.{cases_eq, cases_lt}
 use Rattle.std.proofs.lemmas.Bool.Decides.{nat_tests}
 use Rattle.zone_stats.specs.declared.refusal.Refusal.{Refusal}
 use Rattle.zone_stats.specs.declared.refusal.Refusal.TheVariants.{AtLimit, Reserved, Full}
@@ -113,9 +113,42 @@ with_reserve found most without with_right ends ends_right false at =
       | inr p ↦ inr (free, p.0, p.1, by.2 ∙ p.2, ends_with ∙ p.3)
     ]
 
+-- the least count that is enough, where no count below one is
+least_from : (found : Found) (left from : ℕ) → found.slabs + from + left ≡ found.cap → ((fewer : ℕ) → fewer < from → IsEnough found fewer → ⊥) → (slabs : ℕ) × IsNewSlabs found slabs
+least_from found zero from all none = (from, record { enough = inr (omega arith); least = none })
+least_from found (suc left) from all none = elim (cases_lt found.reserve (free_with found from)) [
+  | inl beyond ↦ (from, record { enough = inl beyond; least = none })
+  | inr within ↦ least_from found left (from + 1) (omega arith)
+      (λ fewer low e. elim (cases_eq fewer from) [
+        | inl at ↦
+            let here : IsEnough found from = subst (IsEnough found) at e in
+            elim here [ inl beyond ↦ omega (arith, beyond, within) | inr full ↦ omega (arith, full, all) ]
+        | inr other ↦ none fewer (omega (arith, low, other)) e
+      ])
+]
+
+some_count : (found : Found) → found.slabs ≤ found.cap → (slabs : ℕ) × IsNewSlabs found slabs
+some_count found within = least_from found (found.cap - found.slabs) 0 (omega arith) (λ fewer low e. omega (arith, low))
+
+ends_at : (found : Found) (wish : Wish) → found.slabs ≤ found.cap → (at : Bool) → is_at_limit found ≡ at → (outcome : Outcome) × EndsAs found wish outcome
+ends_at found wish within true at = (Refuses (AtLimit found.out found.limit), record { at_limit = λ _. refl; below_limit = λ clear. absurd (cc (at, clear)) })
+ends_at found wish within false clear =
+    let new = some_count found within in
+    (outcome_with found wish new.0, record { at_limit = λ at. absurd (cc (at, clear)); below_limit = λ _. (new.0, new.1, refl) })
+
+one_end : (found : Found) (wish : Wish) (outcome other : Outcome) → EndsAs found wish outcome → EndsAs found wish other → (at : Bool) → is_at_limit found ≡ at → outcome ≡ other
+one_end found wish outcome other ends ends_too true at = ends.at_limit at ∙ sym (ends_too.at_limit at)
+one_end found wish outcome other ends ends_too false clear =
+    let by = ends.below_limit clear in
+    let by_too = ends_too.below_limit clear in
+    by.2 ∙ ap (outcome_with found wish) (one_count found by.0 by_too.0 by.1 by_too.1) ∙ sym by_too.2
+
 pub fetch_law : FetchLaw
 fetch_law = record {
   one_count = one_count;
+  some_count = some_count;
+  some_end = λ found wish within. ends_at found wish within (is_at_limit found) refl;
+  one_end = λ found wish outcome other ends ends_too. one_end found wish outcome other ends ends_too (is_at_limit found) refl;
   some = some;
   limit = limited;
   complete = complete;

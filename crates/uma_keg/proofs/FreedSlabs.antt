@@ -189,6 +189,7 @@ pub same_more : {T K : Type 0} {g : _} {h : _} (old mid new : Keg T K g h) → I
 same_more old mid new first then = record {
   table = then.table ∙ first.table;
   rights_table = then.rights_table ∙ first.rights_table;
+  size = then.size ∙ first.size;
   per_slab = then.per_slab ∙ first.per_slab;
   cap = then.cap ∙ first.cap;
   reserve = then.reserve ∙ first.reserve;

@@ -13,6 +13,8 @@ mod GoneSums
 mod EndedItems
 mod FreedSlab
 mod FreedSlabs
+mod FreedCounts
+mod FreedRows
 mod TakenIn
 mod UsedPlaces
 mod PairedSums

@@ -32,5 +32,6 @@ ZonesLaw-new numbers zones rights out away = rw (out, away) (record {
   eight_rights = refl;
   eight_limits = refl;
   absent = λ zone below home. out_none numbers zone;
+  no_limit = λ zone below home. get_or-replicate 8 zone 0 0 below;
   bounded = λ zone below limited. omega (arith, out_none numbers zone);
 })

@@ -79,6 +79,7 @@ ZonesLaw-taken zones away rights limits n zone law is home exists below = record
     | inl at ↦ let gone : IsHome rights z = rw at exists in absurd (no gone)
     | inr other ↦ outs_taken zones away n zone z is home other ∙ law.absent z within no
   ];
+  no_limit = law.no_limit;
   bounded = λ z within limited. elim (cases_eq z zone) [
     | inl at ↦
         let above : 0 < get_or limits zone 0 = rw (← at) limited in

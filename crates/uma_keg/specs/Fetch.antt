@@ -68,9 +68,13 @@ pub record IsBelowLimit (found : Found) : Type 0 where
 -- 2. A fetch that gives items gives at least one and no more than were asked for.
 -- 3. It doesn't exceed the limit.
 -- 4. Below the limit, a fetch gives items where some are free beyond the reserve, or where some are free and it has the right to the reserve.
--- 5. The right to the reserve changes the end of a fetch only where it would be refused as Reserved: then it gives one item.
+-- 5. Where no more slabs are in than may be, there is such a count, so each fetch has an end by its numbers, and one alone.
+-- 6. The right to the reserve changes the end of a fetch only where it would be refused as Reserved: then it gives one item.
 pub record FetchLaw : Type 0 where
   pub one_count : (found : Found) (slabs other : ℕ) → IsNewSlabs found slabs → IsNewSlabs found other → slabs ≡ other
+  pub some_count : (found : Found) → found.slabs ≤ found.cap → (slabs : ℕ) × IsNewSlabs found slabs
+  pub some_end : (found : Found) (wish : Wish) → found.slabs ≤ found.cap → (outcome : Outcome) × EndsAs found wish outcome
+  pub one_end : (found : Found) (wish : Wish) (outcome other : Outcome) → EndsAs found wish outcome → EndsAs found wish other → outcome ≡ other
   pub some : (found : Found) (wish : Wish) (n : ℕ) → 1 ≤ wish.most → found.out ≤ found.limit ⊎ (found.limit ≡ 0) → EndsAs found wish (Gives n) → (1 ≤ n) × (n ≤ wish.most)
   pub limit : (found : Found) (wish : Wish) (n : ℕ) → 0 < found.limit → found.out ≤ found.limit → EndsAs found wish (Gives n) → found.out + n ≤ found.limit
   pub complete : (found : Found) (wish : Wish) (slabs : ℕ) → IsBelowLimit found → IsNewSlabs found slabs → (found.reserve < free_with found slabs) ⊎ ((0 < free_with found slabs) × (wish.reserve ≡ true)) → EndsAs found wish (Gives (given found wish (free_with found slabs)))

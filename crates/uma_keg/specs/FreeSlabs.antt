@@ -1,11 +1,12 @@
 -- How a keg gives up slabs. That a slab whose items are all free may be given up, that keg_fini runs on each of them, and that the reserve is kept, is the rule of FreeBSD's uma(9); the greatest index first, and how many are given up at once, are own.
-use Rattle.std.specs.Prelude.{◌≡◌, ◌≢◌, ◌≤◌, ◌<◌, ◌+◌, ◌*◌, ◌/◌, ◌⊎◌, ℕ, Option, Some, None}
+use Rattle.std.specs.Prelude.{◌≡◌, ◌≢◌, ◌≤◌, ◌<◌, ◌+◌, ◌-◌, ◌*◌, ◌/◌, ◌^◌, ◌⊎◌, ℕ, Bool, ◌&&◌, ◌==◌, nat_lt, min, if◌then◌else◌, Option, Some, None, is_some}
 use Rattle.uma_life.specs.declared.stored.Stored.{Stored}
 use Rattle.uma_life.specs.Hook.{Hook}
 use Rattle.uma_life.specs.Sum.{sum_of}
 use Rattle.uma_keg.specs.declared.keg.Keg.{Keg}
 use Rattle.uma_places.specs.Places.{KegPlaces, place_at, domain_at, slab_count, free_count, out_count, CountsOneSlab}
 use Rattle.uma_places.specs.Dropping.{IsWhollyFree, IsWorn, HasNoneWhollyFree, Drops}
+use Rattle.uma_keg.specs.KegLaw.{is_free_place}
 use Rattle.uma_keg.specs.Tallies.{ended_times, sum_below}
 use Rattle.uma_keg.specs.Ended.{IsEndedAt}
 use Rattle.uma_keg.specs.Keg.{places_in, stored_in, hooks_in, buried_in, reserve_in}
@@ -67,3 +68,23 @@ pub record FreesSlab {T K : Type 0} {g : _} {h : _} (old : Keg T K g h) (index :
   pub ended : (n : ℕ) → n / (places_in old).per_slab ≡ index → IsEndedAt (FiniLeaves old) (stored_in old n)
   pub others : (n : ℕ) → n / (places_in old).per_slab ≢ index → stored_in new n ≡ stored_in old n
   pub buried : BuriesGone old new
+
+-- how many numbers below one pass a test
+abbrev pub count_below : (ℕ → Bool) → ℕ → ℕ
+count_below test n = sum_below (λ i. if test i then 1 else 0) n
+
+-- how many places of the slab of this index are free
+unfoldable pub free_places : KegPlaces → ℕ → ℕ
+free_places k index = count_below (λ place. is_free_place (place_at k (index * k.per_slab + place))) k.per_slab
+
+-- the slab of this index is in, and all its places are free
+abbrev pub is_wholly_free : KegPlaces → ℕ → Bool
+is_wholly_free k index = is_some (domain_at k index) && (free_places k index == k.per_slab)
+
+-- how many slabs are wholly free
+unfoldable pub wholly_free_count : KegPlaces → ℕ
+wholly_free_count k = count_below (is_wholly_free k) k.cap
+
+-- How many slabs a keg with such a reserve gives up at once: as many as lie whole in what is free beyond the reserve, where so many are wholly free, and else those that are. None once too many were ever brought in.
+unfoldable pub slabs_to_free : KegPlaces → ℕ → ℕ
+slabs_to_free k reserve = if nat_lt (2 ^ 40 - k.cap) k.made then 0 else min ((free_count k - reserve) / k.per_slab) (wholly_free_count k)

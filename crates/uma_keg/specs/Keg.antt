@@ -59,6 +59,10 @@ turned_in keg zone = length (refusals_in keg zone)
 abbrev pub reserve_in : {T K : Type 0} {g : _} {h : _} → Keg T K g h → ℕ
 reserve_in keg = keg.reserve
 
+-- the size of an item, in bytes, that it was made with
+abbrev pub size_in : {T K : Type 0} {g : _} {h : _} → Keg T K g h → ℕ
+size_in keg = keg.size
+
 -- the hooks of its primary zone
 abbrev pub hooks_in : {T K : Type 0} {g : _} {h : _} → Keg T K g h → K
 hooks_in keg = keg.hooks
@@ -75,6 +79,7 @@ total_in keg hook = sum_of keg.buried hook + sum_below (λ n. home_times hook (i
 pub record IsSameKeg {T K : Type 0} {g : _} {h : _} (old new : Keg T K g h) : Type 0 where
   pub table : table_in new ≡ table_in old
   pub rights_table : book_table (rights_in new) ≡ book_table (rights_in old)
+  pub size : size_in new ≡ size_in old
   pub per_slab : (places_in new).per_slab ≡ (places_in old).per_slab
   pub cap : (places_in new).cap ≡ (places_in old).cap
   pub reserve : reserve_in new ≡ reserve_in old

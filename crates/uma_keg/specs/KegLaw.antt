@@ -37,10 +37,11 @@ pub record PlacesLaw {T : Type 0} {g : _} (places : KegPlaces) (zones : List (Op
   pub domains : (n domain : ℕ) (item : Stored T g) → item_at shelves n ≡ Some item → domain_at places (n / places.per_slab) ≡ Some domain → stored_domain item ≡ domain
 
 -- 1. There are eight rights and as many limits.
--- 2. No item is outside in a zone that doesn't exist. A zone exists exactly where its right is at home.
+-- 2. No item is outside in a zone that doesn't exist, and it has no limit. A zone exists exactly where its right is at home.
 -- 3. A limit above 0 isn't exceeded.
 pub record ZonesLaw (zones rights : List (Option ℕ)) (limits : List ℕ) : Type 0 where
   pub eight_rights : length rights ≡ 8
   pub eight_limits : length limits ≡ 8
   pub absent : (zone : ℕ) → zone < 8 → (IsHome rights zone → ⊥) → out_of zones zone ≡ 0
+  pub no_limit : (zone : ℕ) → zone < 8 → (IsHome rights zone → ⊥) → slice_index_or limits zone 0 ≡ 0
   pub bounded : (zone : ℕ) → zone < 8 → 0 < slice_index_or limits zone 0 → out_of zones zone ≤ slice_index_or limits zone 0

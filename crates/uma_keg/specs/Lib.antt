@@ -18,3 +18,4 @@ pub mod TakeItem
 pub mod TakeItems
 pub mod BringSlabs
 pub mod Fetched
+pub mod CountsFound

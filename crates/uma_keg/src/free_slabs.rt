@@ -1,7 +1,7 @@
 ghost use Rattle.std.specs.Prelude.{◌≡◌, ◌≤◌, ◌<◌, ◌+◌, ◌⊎◌, ◌↔◌, ℕ, IsTrue, IsNone, IfSome, IfNone};
 ghost use Rattle.uma_places.specs.Places.{free_count};
 ghost use Rattle.uma_places.specs.Dropping.{IsWorn, HasNoneWhollyFree};
-ghost use Rattle.uma_keg.specs.FreeSlabs.{FreesSlab, FreesSlabs, GivesNoMore};
+ghost use Rattle.uma_keg.specs.FreeSlabs.{FreesSlab, FreesSlabs, GivesNoMore, slabs_to_free};
 ghost use Rattle.uma_keg.specs.Keg.{places_in, zones_in, rights_in, stored_in, limit_in, refusals_in, reserve_in, buried_in, IsSameKeg, IsWithinLimits};
 
 use crate::keg::Keg;
@@ -11,12 +11,14 @@ use uma_places::KegCounts;
 
 impl<T: Body, K: Hooks<T>> Keg<T, K> {
     /// Gives up wholly free slabs, the greatest index first, and answers how many. It goes on while one is left and as
-    /// many free items stay as the reserve has.
+    /// many free items stay as the reserve has. So the count is the least of how many are wholly free and how many lie
+    /// whole in what is free beyond the reserve.
     ///
     /// Their items pass `keg_fini` of the keg's own hooks and are buried. None is given up where more than `2^40 - cap` slabs were ever brought
     /// in. It waits for `bury` alone.
     pub fn free_slabs<R: Wait>(&mut self, rt: &R) -> u32
         ensures freed { FreesSlabs self.old result self.new }
+        ensures count { result ≡ slabs_to_free (places_in self.old) (reserve_in self.old) }
         ensures reserve { 0 < result → reserve_in self.old ≤ free_count (places_in self.new) }
         ensures worn { IsWorn (places_in self.old) → result ≡ 0 }
         ensures no_more { GivesNoMore self.new }

@@ -2,7 +2,7 @@ ghost use Rattle.std.specs.Prelude.{◌≡◌, ◌≢◌, ℕ, ◌+◌, ◌*◌,
 ghost use Rattle.deed_book.specs.Book.{book_table, zones_of};
 ghost use Rattle.deed_book.specs.Deed.{deed_table, no_of};
 ghost use Rattle.uma_life.specs.Sum.{no_sums};
-ghost use Rattle.uma_places.specs.Places.{IsNew, slab_count, free_count};
+ghost use Rattle.uma_places.specs.Places.{IsNew, IsSound, slab_count, free_count};
 ghost use Rattle.uma_places.specs.Refused.{IsItemSize, IsSlabCount, IsRefusedFor};
 ghost use Rattle.uma_keg.specs.KegLaw.{PlacesLaw, ZonesLaw};
 ghost use Rattle.uma_keg.specs.Tallies.{TallyLaw};
@@ -26,7 +26,7 @@ use zone_stats::Refusal;
 /// 1. A place of a slab that is in is free exactly where the item of its number is at home, and used exactly where the
 ///    number is outside, in the book of the keg's numbers. An item at home has its number, and its slab's domain.
 /// 2. A zone exists exactly where its right is at home in the book of the keg's rights. One that doesn't exist has no
-///    item outside, and no zone has more than its limit, where that is above 0.
+///    item outside and no limit, and no zone has more than its limit, where that is above 0.
 /// 3. In the sums of the buried hooks come in pairs.
 ///
 /// Contracts alone see, for each zone, the list of the refusals of its fetches.
@@ -40,6 +40,8 @@ pub struct Keg<T: Body, K: Hooks<T>> {
     pub(crate) limits: [u64; 8],
     pub(crate) refusals: [Log<Refusal>; 8],
     pub(crate) reserve: u64,
+    // Of an item, in bytes.
+    pub(crate) size: u32,
     // The sums of the tallies of buried bodies.
     pub(crate) buried: TallySum,
     // Those of the primary zone.
@@ -66,7 +68,7 @@ fn no_refusals() -> [Log<Refusal>; 8]
 }
 
 impl<T: Body, K: Hooks<T>> Keg<T, K> {
-    ghost use Rattle.uma_keg.specs.Keg.{places_in, zones_in, out_in, book_in, rights_in, HasZone, stored_in, limit_in, refusals_in, reserve_in, hooks_in, buried_in, IsSameKeg, IsWithinLimits};
+    ghost use Rattle.uma_keg.specs.Keg.{places_in, zones_in, out_in, book_in, rights_in, HasZone, stored_in, limit_in, refusals_in, reserve_in, size_in, hooks_in, buried_in, IsSameKeg, IsWithinLimits};
 
     /// A keg of items of `size` bytes, 8 to 4,096, with room for `slabs` slabs, 1 to 1,024, of which none is in, and of
     /// no zone. With it come its eight rights to a zone, whose numbers are 7 down to 0.
@@ -86,6 +88,7 @@ impl<T: Body, K: Hooks<T>> Keg<T, K> {
         ensures limits { IfOk result (λ (keg, rights). (zone : ℕ) → limit_in keg zone ≡ 0) }
         ensures refusals { IfOk result (λ (keg, rights). (zone : ℕ) → refusals_in keg zone ≡ []) }
         ensures reserve { IfOk result (λ (keg, rights). reserve_in keg ≡ reserve) }
+        ensures size { IfOk result (λ (keg, rights). size_in keg ≡ size) }
         ensures hooks { IfOk result (λ (keg, rights). hooks_in keg ≡ hooks) }
         ensures buried { IfOk result (λ (keg, rights). buried_in keg ≡ no_sums) }
         ensures rights { IfOk result (λ (keg, rights). map no_of rights.items ≡ 7 ∷ 6 ∷ 5 ∷ 4 ∷ 3 ∷ 2 ∷ 1 ∷ 0 ∷ []) }
@@ -106,6 +109,7 @@ impl<T: Body, K: Hooks<T>> Keg<T, K> {
             limits: [0; 8],
             refusals: no_refusals(),
             reserve,
+            size,
             buried: TallySum::none(),
             hooks,
         };
@@ -120,6 +124,7 @@ impl<T: Body, K: Hooks<T>> Keg<T, K> {
         ensures free { result.free ≡ free_count (places_in self.now) }
         ensures per_slab { result.per_slab ≡ (places_in self.now).per_slab }
         ensures reserve { result.reserve ≡ reserve_in self.now }
+        ensures sound { IsSound (places_in self.now) }
         ensures balanced { result.slabs * result.per_slab ≡ result.free + count_by is_some (zones_in self.now) }
     {
         let counts = self.places.counts();
@@ -127,6 +132,13 @@ impl<T: Body, K: Hooks<T>> Keg<T, K> {
             reserve: self.reserve,
             ..counts
         }
+    }
+
+    /// The size of an item, in bytes, that the keg was made with. Kegs of several sizes have as many items a slab.
+    pub fn size(&self) -> u32
+        ensures { result ≡ size_in self.now }
+    {
+        self.size
     }
 
     /// Whether the zone of this number exists.
@@ -147,7 +159,8 @@ impl<T: Body, K: Hooks<T>> Keg<T, K> {
 
     /// The limit of a zone, where 0 is none. 0 for a zone that doesn't exist.
     pub fn limit(&self, zone: u8) -> u64
-        ensures { result ≡ limit_in self.now zone }
+        ensures limit { result ≡ limit_in self.now zone }
+        ensures no_zone { (HasZone self.now zone → ⊥) → result ≡ 0 }
     {
         if zone < 8 {
             self.limits[zone as usize]

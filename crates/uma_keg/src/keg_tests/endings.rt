@@ -1,6 +1,10 @@
 //! How a fetch ends, worked out by its numbers alone, slowly.
+ghost use Rattle.std.specs.Prelude.{◌≡◌, ◌≤◌, ◌<◌, ◌+◌, ◌-◌, ◌*◌, ◌↔◌, ℕ, IsTrue, IfOk, IfErr, min};
+ghost use Rattle.uma_keg.specs.CountsFound.{found_by, AreSmall};
+ghost use Rattle.uma_keg.specs.Fetch.{allowed, IsNewSlabs, EndsAs, Refuses, Gives};
+ghost use Rattle.uma_keg.specs.Fetched.{wish_of};
 
-use crate::{FetchAsk, FetchRefused, KegCounts};
+use crate::{FetchAsk, KegCounts};
 use zone_stats::Refusal;
 
 /// What a fetch finds: how the keg stands, and the zone's items outside and its limit.
@@ -12,19 +16,30 @@ pub struct Found {
 }
 
 /// The counts of the keg with so many slabs more.
-fn with_slabs(counts: KegCounts, slabs: u32) -> KegCounts {
-    let items = u64::from(slabs).saturating_mul(u64::from(counts.per_slab));
+fn with_slabs(counts: KegCounts, slabs: u32) -> KegCounts
+    requires small { AreSmall counts }
+    requires within { counts.slabs + slabs ≤ counts.cap }
+    ensures free { result.free ≡ counts.free + slabs * counts.per_slab }
+    ensures slabs { result.slabs ≡ counts.slabs + slabs }
+    ensures made { result.made ≡ counts.made + slabs }
+    ensures reserve { result.reserve ≡ counts.reserve }
+{
+    let items = u64::from(slabs) * u64::from(counts.per_slab);
     KegCounts {
-        slabs: counts.slabs.saturating_add(slabs),
-        made: counts.made.saturating_add(u64::from(slabs)),
-        free: counts.free.saturating_add(items),
+        slabs: counts.slabs + slabs,
+        made: counts.made + u64::from(slabs),
+        free: counts.free + items,
         ..counts
     }
 }
 
 /// The least count of new slabs with which an item is free beyond the reserve, or else as many as may still be in.
-fn new_slabs(counts: KegCounts) -> u32 {
-    let most = counts.cap.saturating_sub(counts.slabs);
+fn new_slabs(counts: KegCounts) -> u32
+    requires { AreSmall counts }
+    ensures within { counts.slabs + result ≤ counts.cap }
+    ensures least { (out limit : ℕ) → IsNewSlabs (found_by counts out limit) result }
+{
+    let most = counts.cap - counts.slabs;
     for slabs in 0..most {
         if with_slabs(counts, slabs).free > counts.reserve {
             return slabs;
@@ -34,45 +49,37 @@ fn new_slabs(counts: KegCounts) -> u32 {
 }
 
 /// Whether so many items lie beyond the reserve and within the limit.
-fn may_give(found: Found, items: u64) -> bool {
-    let kept = found.counts.reserve.saturating_add(items) <= found.counts.free;
-    let within = found.limit == 0 || found.out.saturating_add(items) <= found.limit;
+fn may_give(found: Found, items: u64) -> bool
+    ensures { IsTrue result ↔ ((items ≤ found.counts.free - found.counts.reserve) × (0 < found.limit → items ≤ found.limit - found.out)) }
+{
+    let kept = items <= found.counts.free.saturating_sub(found.counts.reserve);
+    let within = found.limit == 0 || items <= found.limit.saturating_sub(found.out);
     kept && within
 }
 
 /// The greatest count, up to the one that is asked for, that lies beyond the reserve and within the limit.
-fn most_given(found: Found, most: u32) -> u32 {
-    for fewer in 0..most {
-        if may_give(found, u64::from(most - fewer)) {
-            return most - fewer;
+fn most_given(found: Found, ask: FetchAsk) -> u32
+    ensures { result ≡ min ask.most (min (found.counts.free - found.counts.reserve) (allowed (found_by found.counts found.out found.limit) (wish_of ask))) }
+{
+    for fewer in 0..ask.most {
+        if may_give(found, u64::from(ask.most - fewer)) {
+            return ask.most - fewer;
         }
     }
     0
 }
 
-fn gives(found: Found, items: u32) -> (Result<u32, FetchRefused>, Found) {
-    let count = u64::from(items);
-    let counts = KegCounts {
-        free: found.counts.free.saturating_sub(count),
-        ..found.counts
-    };
-    let after = Found {
-        counts,
-        out: found.out.saturating_add(count),
-        ..found
-    };
-    (Ok(items), after)
-}
-
-/// How a fetch ends by the numbers that it finds, and what stands after it.
-pub fn ending(found: Found, ask: FetchAsk) -> (Result<u32, FetchRefused>, Found) {
+/// How a fetch ends by the numbers that it finds.
+pub fn ending(found: Found, ask: FetchAsk) -> Result<u32, Refusal>
+    requires { AreSmall found.counts }
+    ensures gives { IfOk result (λ count. EndsAs (found_by found.counts found.out found.limit) (wish_of ask) (Gives count)) }
+    ensures refuses { IfErr result (λ refusal. EndsAs (found_by found.counts found.out found.limit) (wish_of ask) (Refuses refusal)) }
+{
     let Found { out, limit, .. } = found;
     if limit > 0 && out == limit {
-        let refusal = Refusal::AtLimit { out, limit };
-        return (Err(FetchRefused::Refused { refusal }), found);
+        return Err(Refusal::AtLimit { out, limit });
     }
     let counts = with_slabs(found.counts, new_slabs(found.counts));
-    let found = Found { counts, ..found };
     let KegCounts {
         slabs,
         made,
@@ -81,15 +88,33 @@ pub fn ending(found: Found, ask: FetchAsk) -> (Result<u32, FetchRefused>, Found)
         ..
     } = counts;
     if free == 0 {
-        let refusal = Refusal::Full { slabs, made };
-        return (Err(FetchRefused::Refused { refusal }), found);
+        return Err(Refusal::Full { slabs, made });
     }
     if free > reserve {
-        return gives(found, most_given(found, ask.most));
+        return Ok(most_given(Found { counts, ..found }, ask));
     }
     if ask.reserve {
-        return gives(found, 1);
+        return Ok(1);
     }
-    let refusal = Refusal::Reserved { free, reserve };
-    (Err(FetchRefused::Refused { refusal }), found)
+    Err(Refusal::Reserved { free, reserve })
+}
+
+/// What stands after a fetch that ended so.
+pub fn left(found: Found, outcome: Result<u32, Refusal>) -> Found
+    requires { AreSmall found.counts }
+{
+    if let Err(Refusal::AtLimit { .. }) = outcome {
+        return found;
+    }
+    let counts = with_slabs(found.counts, new_slabs(found.counts));
+    let count = u64::from(outcome.unwrap_or(0));
+    let counts = KegCounts {
+        free: counts.free.saturating_sub(count),
+        ..counts
+    };
+    Found {
+        counts,
+        out: found.out.saturating_add(count),
+        ..found
+    }
 }

@@ -1,7 +1,9 @@
-//! Fetches at the edges of the limit, the reserve and the cap.
+//! Fetches at the edges of the limit, the reserve and the cap, beside a plain function that is proved to be the
+//! definition of how a fetch ends.
+ghost use Rattle.uma_keg.specs.CountsFound.{AreSmall};
 
 use crate::keg_tests::calls::{PlainKeg, adds_by_the_last, fetches, no_refusal};
-use crate::keg_tests::endings::{Found, ending};
+use crate::keg_tests::endings::{Found, ending, left};
 use crate::{FetchAsk, FetchRefused};
 use std::alloc::Global;
 use std::sync::Wait;
@@ -31,7 +33,10 @@ struct Disagreement {
     left: Found,
 }
 
-fn found_in(keg: &PlainKeg, limit: u64) -> Found {
+/// What a fetch of zone 0 finds, where it has this limit.
+fn found_in(keg: &PlainKeg, limit: u64) -> Found
+    ensures { AreSmall result.counts }
+{
     Found {
         counts: keg.counts(),
         out: keg.out(0),
@@ -65,15 +70,18 @@ fn first_disagreement<R: Wait>(
             reserve: row.turns > 0 && turn % row.turns == 0,
             domain: 0,
         };
-        let (answer, after) = ending(found_in(&keg, row.limit), ask);
+        let found = found_in(&keg, row.limit);
+        let outcome = ending(found, ask);
+        let after = left(found, outcome);
+        let answer = outcome.map_err(|refusal| FetchRefused::Refused { refusal });
         let fetched = fetches(rt, alloc, &mut keg, &no_refusal(), ask, &mut into);
-        let left = found_in(&keg, row.limit);
-        if fetched != Some(answer) || left != after {
+        let stands = found_in(&keg, row.limit);
+        if fetched != Some(answer) || stands != after {
             return Ok(Some(Disagreement {
                 row,
                 turn,
                 answer: fetched,
-                left,
+                left: stands,
             }));
         }
     }

@@ -35,6 +35,7 @@ fn zones_are_added_by_the_rights_of_the_keg(rt: HostRuntime) -> Result<(), Fail>
         assert_eq!(rt; keg.has_zone(zone), exists);
         assert_eq!(rt; (keg.limit(zone), keg.out(zone)), (limit, 0));
     }
+    assert_eq!(rt; keg.size(), 256);
     let counts = KegCounts {
         slabs: 0,
         cap: 4,

@@ -15,7 +15,7 @@ loop-alloc-init g c = record {
   rights = refl;
   limits = λ zone. refl;
   refusals = λ zone. refl;
-  same = record { table = refl; rights_table = refl; per_slab = refl; cap = refl; reserve = refl; hooks = refl };
+  same = record { table = refl; rights_table = refl; size = refl; per_slab = refl; cap = refl; reserve = refl; hooks = refl };
 }
 
 pub loop-alloc-preserved : goal.loop-alloc-preserved

@@ -1,8 +1,40 @@
-use Rattle.std.proofs.Common.{◌≤◌, ◌+◌, refl, inl, arith, ◌∙◌}
-use Rattle.uma_places.specs.Places.{free_count}
-use Rattle.uma_keg.specs.Keg.{places_in, reserve_in}
+use Rattle.std.proofs.Common.{◌≡◌, ◌<◌, ◌≤◌, ◌+◌, ◌⊎◌, ◌↔◌, ℕ, Bool, true, false, refl, inl, inr, arith, sym, ◌∙◌}
+use Rattle.std.specs.Prelude.{IsTrue}
+use Rattle.std.proofs.lemmas.Bool.{cases_lt}
+use Rattle.uma_keg.specs.declared.keg.Keg.{Keg}
+use Rattle.uma_places.specs.Places.{free_count, IsSound}
+use Rattle.uma_places.specs.Dropping.{IsWorn, HasNoneWhollyFree}
+use Rattle.uma_keg.specs.FreeSlabs.{FreesSlabs, GivesNoMore, wholly_free_count, slabs_to_free}
+use Rattle.uma_keg.specs.Keg.{places_in, reserve_in, IsSameKeg}
+use Rattle.uma_keg.proofs.FreedCounts.{one_fewer, freed_count}
 use Rattle.uma_keg.proofs.FreedSlabs.{frees_none, frees_more, leaves_more, same_more}
 use Rattle.uma_keg.proofs.keg.Keg.free_slabs.Goals as goal
+
+stopped : {T K : Type 0} {g : _} {h : _} (old new : Keg T K g h) (count : ℕ) → IsSound (places_in old) → FreesSlabs old count new → wholly_free_count (places_in old) ≡ wholly_free_count (places_in new) + count → (0 < count → reserve_in old ≤ free_count (places_in new)) → (0 < count → IsWorn (places_in old) → ⊥) → IsSameKeg old new → GivesNoMore new → count ≡ slabs_to_free (places_in old) (reserve_in old)
+stopped old new count sound freed whole kept unworn same no_more = freed_count (places_in old) (places_in new) (reserve_in old) count (record {
+  some = sound.some_place;
+  per_slab = freed.places.per_slab;
+  cap = freed.places.cap;
+  made = freed.places.made;
+  free_fewer = freed.counts.free;
+  whole_fewer = whole;
+  kept = kept;
+  worn = λ worn. elim (cases_lt 0 count) [ inl some ↦ absurd (unworn some worn) | inr none ↦ omega arith ];
+  no_more = elim no_more [
+    | inl worn ↦ inl worn
+    | inr either ↦ elim either [ inl none ↦ inr (inl none) | inr less ↦ inr (inr (omega (arith, less, same.reserve))) ]
+  ];
+})
+
+short : {T K : Type 0} {g : _} {h : _} (keg : Keg T K g h) (can : Bool) (items : ℕ) → (places_in keg).per_slab ≡ items → (IsTrue can ↔ (reserve_in keg + items ≤ free_count (places_in keg))) → can ≡ false → free_count (places_in keg) < reserve_in keg + (places_in keg).per_slab
+short keg can items same spare not = elim (cases_lt (free_count (places_in keg)) (reserve_in keg + (places_in keg).per_slab)) [
+  | inl less ↦ less
+  | inr enough ↦ let may : can ≡ true = spare.1 (omega (arith, enough, same)) in absurd (cc)
+]
+
+none_left : {T K : Type 0} {g : _} {h : _} (keg : Keg T K g h) → IsWorn (places_in keg) ⊎ HasNoneWhollyFree (places_in keg) → GivesNoMore keg
+none_left keg (inl worn) = inl worn
+none_left keg (inr none) = inr (inl none)
 
 pub loop-self-init : goal.loop-self-init
 loop-self-init g c =
@@ -12,13 +44,14 @@ loop-self-init g c =
       freed = frees_none keg sound;
       leaves = λ n. inl refl;
       reserve = λ some. omega arith;
+      whole = omega arith;
       unworn = λ some. omega arith;
       few = omega (arith, sound.slabs, sound.few_slabs);
       zones = refl;
       rights = refl;
       limits = λ zone. refl;
       refusals = λ zone. refl;
-      same = record { table = refl; rights_table = refl; per_slab = refl; cap = refl; reserve = refl; hooks = refl };
+      same = record { table = refl; rights_table = refl; size = refl; per_slab = refl; cap = refl; reserve = refl; hooks = refl };
     }
 
 pub loop-self-preserved : goal.loop-self-preserved
@@ -32,6 +65,7 @@ loop-self-preserved g c =
       freed = frees_more old mid new c.loop-self.count c.in-Some.field-0 before.same.hooks before.leaves before.freed one.freed;
       leaves = leaves_more old mid new c.in-Some.field-0 before.leaves one.freed;
       reserve = λ some. let spare : reserve_in mid + c.counts-per_slab.result.per_slab ≤ free_count (places_in mid) = c.can_spare.ensures.0 c.loop-self-test.true in omega (arith, spare, one.freed.counts.free, one.freed.places.per_slab, before.same.reserve, before.same.per_slab, c.counts-per_slab.ensures.per_slab);
+      whole = omega (arith, before.whole, one_fewer (places_in mid) (places_in new) c.in-Some.field-0 one.freed.places);
       unworn = λ some worn. absurd (cc (one.none_exactly.1 (inl (omega (arith, worn, before.freed.places.cap, before.freed.places.made)))));
       few = omega (arith, before.few, one.freed.counts.slabs);
       zones = one.zones ∙ before.zones;
@@ -40,3 +74,20 @@ loop-self-preserved g c =
       refusals = λ zone. one.refusals zone ∙ before.refusals zone;
       same = same_more old mid new before.same one.same;
     }
+
+-- where no slab is wholly free, or too many were ever brought in
+pub returns-in_default-clause-count : goal.returns-in_default-clause-count
+returns-in_default-clause-count g c =
+    let before = c.loop-self.invariant in
+    let sound = c.counts-per_slab.ensures.sound in
+    let keg = c.loop-self.self in
+    stopped c.args.self.now keg c.loop-self.count sound before.freed before.whole before.reserve before.unworn before.same (none_left keg (c.in_default.ensures.none_exactly.0 refl))
+
+-- where one slab more would take of the reserve
+pub returns-clause-count : goal.returns-clause-count
+returns-clause-count g c =
+    let before = c.loop-self.invariant in
+    let sound = c.counts-per_slab.ensures.sound in
+    let keg = c.loop-self.self in
+    stopped c.args.self.now keg c.loop-self.count sound before.freed before.whole before.reserve before.unworn before.same
+    (inr (inr (short keg c.can_spare.result _ (before.same.per_slab ∙ sym c.counts-per_slab.ensures.per_slab) c.can_spare.ensures c.loop-self-test.false)))

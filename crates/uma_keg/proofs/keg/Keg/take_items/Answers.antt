@@ -13,7 +13,7 @@ loop-taken-init g c = record {
   limits = λ zone. refl;
   refusals = λ zone. refl;
   buried = refl;
-  same = record { table = refl; rights_table = refl; per_slab = refl; cap = refl; reserve = refl; hooks = refl };
+  same = record { table = refl; rights_table = refl; size = refl; per_slab = refl; cap = refl; reserve = refl; hooks = refl };
 }
 
 pub loop-taken-preserved : goal.loop-taken-preserved
