@@ -14,13 +14,14 @@ use Rattle.uma_life.specs.declared.tally_sum.TallySum.{TallySum}
 use Rattle.uma_life.specs.Hook.{Hook, KegInit, KegFini, ZoneInit, ZoneFini, Ctor, Dtor}
 use Rattle.uma_life.specs.Sum.{sum_of}
 use Rattle.uma_keg.specs.declared.census.Census.{Census}
-use Rattle.uma_keg.specs.Keg.{table_in}
+use Rattle.uma_keg.specs.Keg.{table_in, refusals_in}
 use Rattle.uma_keg.specs.Census.{census_counts, census_out, census_tally}
 use Rattle.uma_replay.specs.declared.closed_zone.ClosedZone.{ClosedZone}
 use Rattle.uma_replay.specs.declared.hall.Hall.{Hall}
 use Rattle.uma_replay.specs.declared.held.Held.{Held}
 use Rattle.uma_replay.specs.declared.serial_zone.SerialZone.{SerialZone}
 use Rattle.uma_replay.specs.Items.{CountedKeg}
+use Rattle.uma_replay.specs.Kept.{KeepsLast}
 use Rattle.uma_replay.specs.Closing.{IsCensusOf, IsCounted, IsClosed, times_by, hook_line, keg_line}
 use Rattle.uma_replay.specs.Hall.{AreMade, AreClosed, IsClosedAs, IsPlayed, ClosesAll}
 use Rattle.uma_replay.specs.Serial.{SerialState, tables_of}
@@ -58,6 +59,7 @@ only_primary-same old new counted only =
 
 is_keg-same : (head : ZoneHead) (old new : CountedKeg) → IsCounted old new → IsKegOf head old → IsKegOf head new
 is_keg-same head old new counted made = record {
+  size = counted.keeps.same.size ∙ made.size;
   per_slab = counted.keeps.same.per_slab ∙ made.per_slab;
   cap = counted.keeps.same.cap ∙ made.cap;
   reserve = counted.keeps.same.reserve ∙ made.reserve;
@@ -86,6 +88,7 @@ IsClosed-new place head held now old sums zone reads same =
       only_primary = only_primary-same old.keg zone.keg reads.keg old.only_primary;
       census = reads.census;
       turned = ap (λ (ledger : SeatLedger). ledger.turned) reads.ledger ∙ (old.turned ∙ sym (ap length (reads.keg.refusals 0)));
+      kept = subst (λ (ledger : SeatLedger). KeepsLast ledger.last (refusals_in zone.keg 0)) ledger (subst (KeepsLast old.ledger.last) (sym (reads.keg.refusals 0)) old.kept);
       lent = rw (same_count place held now same) reads.lent;
       line = reads.line ∙ ap (λ ledger. zone_line head.name head.size head.limit (ledger ∷ []) (census_out zone.census 0) (census_counts zone.census).free) ledger;
       hooks = reads.hooks ∙ hook_line-same head.name (sum_of sums) (times_by zone.census now place) times;
@@ -99,6 +102,7 @@ IsClosed-same z head old new zone same is = record {
   only_primary = is.only_primary;
   census = is.census;
   turned = is.turned;
+  kept = is.kept;
   lent = rw (same_count z old new same) is.lent;
   line = is.line;
   hooks = is.hooks ∙ hook_line-same head.name (times_by zone.census old z) (times_by zone.census new z) (same_times_by zone.census old new z same);

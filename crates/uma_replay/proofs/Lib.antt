@@ -2,6 +2,7 @@ pub mod ClosedSlots
 pub mod ClosedZones
 pub mod CountZones
 pub mod Done
+pub mod KeptLast
 pub mod LendCensus
 pub mod LendSeen
 pub mod LendSlots

@@ -127,7 +127,7 @@ ZoneGoes-dropped t w arg head seen more before after reading filled old new l l'
           Counts-dropped _ _ _ _ _ _ _ _ _ _ _ _ _ _ _ _ _ _ _ _ g.counts adds.request (omega (arith, adds.argument, one))
           adds.frees adds.fills
           (ap (count_by (is_zone w)) step.slots_are) c.requests c.allocs c.fails c.turned c.frees;
-      kept = let P : Option Refusal → Type 0 = λ last. IfSome last (RefusalFits t 0 w head) in subst P (sym c.last) there;
+      kept = let P : Option Refusal → Type 0 = λ last. IfSome last (RefusalFits t 0 w head) in subst P (sym c.last) (step.refused, there);
     }
 
 -- a request of another zone

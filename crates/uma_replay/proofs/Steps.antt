@@ -59,6 +59,7 @@ both_set R (a ∷ xs) (old ∷ ys) (suc k) b here each (suc z) = both_set R xs y
 -- a keg that keeps its numbers stays its line's
 keg_kept : (head : ZoneHead) (old new : CountedKeg) → KeepsKeg old new → IsKegOf head old → IsKegOf head new
 keg_kept head old new keeps made = record {
+  size = keeps.same.size ∙ made.size;
   per_slab = keeps.same.per_slab ∙ made.per_slab;
   cap = keeps.same.cap ∙ made.cap;
   reserve = keeps.same.reserve ∙ made.reserve;

@@ -1,20 +1,21 @@
 -- What a fetch of one item leaves of the keg of a zone, and what it tells.
-use Rattle.std.proofs.Common.{◌≡◌, ◌≤◌, ◌<◌, ℕ, Bool, List, [], ◌∷◌, ◌++◌, Option, Some, None, inl, inr, All, length, refl, sym, ap, ◌∙◌, subst, arith}
+use Rattle.std.proofs.Common.{◌≡◌, ◌≢◌, ◌≤◌, ◌<◌, ℕ, Bool, List, [], ◌∷◌, ◌++◌, Option, Some, None, inl, inr, All, length, refl, sym, ap, ◌∙◌, subst, arith}
 use Rattle.std.specs.Prelude.{IsSome, IfNone, IfSome, drop}
 use Rattle.std.proofs.lemmas.List.{length_push}
 use Rattle.std.proofs.lemmas.List.Elements.{All-head}
+use Rattle.std.proofs.lemmas.Bool.{cases_eq}
 use Rattle.std.proofs.lemmas.Bool.Decides.{nat_tests}
 use Rattle.deed_book.specs.Book.{zones_of}
 use Rattle.deed_book.specs.BookLaw.{IsHome}
 use Rattle.zone_stats.specs.declared.refusal.Refusal.{Refusal}
 use Rattle.zone_stats.specs.declared.refusal.Refusal.TheVariants.{AtLimit, Reserved, Full, Init, Ctor}
 use Rattle.uma_keg.specs.declared.fetch_refused.FetchRefused.TheVariants.{Refused}
-use Rattle.uma_keg.specs.Keg.{rights_in}
+use Rattle.uma_keg.specs.Keg.{rights_in, refusals_in, buried_in}
 use Rattle.uma_keg.specs.Fetched.{FetchesInto, GivesItems, IsOutIn, NamesWhatItFound}
 use Rattle.uma_replay.specs.declared.count_hooks.CountHooks.{CountHooks}
 use Rattle.uma_replay.specs.Hooks.{refusal_of}
 use Rattle.uma_replay.specs.Items.{CachedItem, CountedKeg}
-use Rattle.uma_replay.specs.Request.{ask_of, FetchesOne, KeepsKeg}
+use Rattle.uma_replay.specs.Request.{ask_of, FetchesOne, KeepsKeg, KeepsLists}
 use Rattle.uma_replay.specs.ZoneKeg.{HasOnlyPrimary, FitsKeg}
 
 -- the zones are those before, where the rights are
@@ -37,8 +38,8 @@ none_left items [] x few are = refl
 none_left items (y ∷ rest) x few are = absurd (omega (arith, ap length are, length_push rest x))
 
 -- a fetch of one item into an empty bucket gave it, where it is all that the bucket has
-FetchesOne-fetched : (old new : CountedKeg) (hooks : CountHooks) (reserve : Bool) (count : ℕ) (before after : List CachedItem) (item : CachedItem) → before ≡ [] → FetchesInto old hooks (ask_of reserve) count before after new → GivesItems old (ask_of reserve) count after → after ≡ item ∷ [] → KeepsKeg old new → FetchesOne old reserve item new
-FetchesOne-fetched old new hooks reserve count before after item empty fetched given only keeps =
+FetchesOne-fetched : (old new : CountedKeg) (hooks : CountHooks) (reserve : Bool) (count : ℕ) (before after : List CachedItem) (item : CachedItem) → before ≡ [] → FetchesInto old hooks (ask_of reserve) count before after new → GivesItems old (ask_of reserve) count after → after ≡ item ∷ [] → KeepsKeg old new → KeepsLists old new → FetchesOne old reserve item new
+FetchesOne-fetched old new hooks reserve count before after item empty fetched given only keeps lists =
     let one : count ≡ 1 = omega (arith, given.some, given.few) in
     let out : IsOutIn old 0 item = All-head (IsOutIn old 0) item [] (subst (All (IsOutIn old 0)) only given.out) in
     let Into : ℕ → List CachedItem → List CachedItem → Type 0 = λ n front list. FetchesInto old hooks (ask_of reserve) n front list new in
@@ -48,15 +49,16 @@ FetchesOne-fetched old new hooks reserve count before after item empty fetched g
       of_book = out.of_book;
       of_zone = out.of_zone;
       keeps = keeps;
+      lists = lists;
     }
 
 -- A fetch of one item into an empty bucket gave the item that was then popped, and no other.
-pub popped_one : {old new : CountedKeg} {hooks : CountHooks} {reserve : Bool} {count : ℕ} {before after rest : List CachedItem} {popped : Option CachedItem} {item : CachedItem} → before ≡ [] → FetchesInto old hooks (ask_of reserve) count before after new → GivesItems old (ask_of reserve) count (drop (length before) after) → popped ≡ Some item → IfSome popped (λ top. after ≡ rest ++ top ∷ []) → KeepsKeg old new → FetchesOne old reserve item new × (rest ≡ [])
-popped_one {old} {new} {hooks} {reserve} {count} {before} {after} {rest} {popped} {item} empty fetched gives is last keeps =
+pub popped_one : {old new : CountedKeg} {hooks : CountHooks} {reserve : Bool} {count : ℕ} {before after rest : List CachedItem} {popped : Option CachedItem} {item : CachedItem} → before ≡ [] → FetchesInto old hooks (ask_of reserve) count before after new → GivesItems old (ask_of reserve) count (drop (length before) after) → popped ≡ Some item → IfSome popped (λ top. after ≡ rest ++ top ∷ []) → KeepsKeg old new → KeepsLists old new → FetchesOne old reserve item new × (rest ≡ [])
+popped_one {old} {new} {hooks} {reserve} {count} {before} {after} {rest} {popped} {item} empty fetched gives is last keeps lists =
     let given = given_into old reserve count before after empty gives in
     let top : after ≡ rest ++ item ∷ [] = subst (λ o. IfSome o (λ top. after ≡ rest ++ top ∷ [])) is last in
     let none : rest ≡ [] = none_left after rest item (omega (arith, given.counted, given.few)) top in
-    (FetchesOne-fetched old new hooks reserve count before after item empty fetched given (top ∙ ap (λ front. front ++ item ∷ []) none) keeps, none)
+    (FetchesOne-fetched old new hooks reserve count before after item empty fetched given (top ∙ ap (λ front. front ++ item ∷ []) none) keeps lists, none)
 
 -- the refusal of a fetch with the hooks of a replay names what the keg has
 pub FitsKeg-named : (old : CountedKeg) (hooks : CountHooks) (reserve : Bool) (refusal : Refusal) → NamesWhatItFound old hooks (ask_of reserve) (Refused refusal) → FitsKeg old refusal
@@ -74,3 +76,10 @@ accepted_is_0 arg few accepted = grind (arith, nat_tests)
 -- a code with which ctor refuses is the argument, which isn't 0
 pub code_is_arg : (arg code : ℕ) → refusal_of arg ≡ Some code → (code ≡ arg) × (0 < arg)
 code_is_arg arg code refused = grind (arith, nat_tests)
+
+-- a fetch of the primary zone that gave its items adds no refusal to any list
+pub lists_kept : (old new : CountedKeg) → refusals_in new 0 ≡ refusals_in old 0 → ((zone : ℕ) → zone ≢ 0 → refusals_in new zone ≡ refusals_in old zone) → buried_in new ≡ buried_in old → KeepsLists old new
+lists_kept old new mine others buried = record {
+  refusals = λ zone. elim (cases_eq zone 0) [ inl at ↦ rw at mine | inr other ↦ others zone other ];
+  buried = buried;
+}

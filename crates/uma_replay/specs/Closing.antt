@@ -14,6 +14,7 @@ use Rattle.zone_stats.specs.Line.{zone_line}
 use Rattle.uma_replay.specs.declared.closed_zone.ClosedZone.{ClosedZone}
 use Rattle.uma_replay.specs.declared.held.Held.{Held}
 use Rattle.uma_replay.specs.Items.{CountedKeg}
+use Rattle.uma_replay.specs.Kept.{KeepsLast}
 use Rattle.uma_replay.specs.Request.{KeepsKeg}
 use Rattle.uma_replay.specs.Slots.{lives_of, slot_times}
 use Rattle.uma_replay.specs.ZoneKeg.{IsKegOf, HasOnlyPrimary}
@@ -70,6 +71,8 @@ pub record IsClosed (z : ℕ) (head : ZoneHead) (held : List (Option Held)) (zon
   pub census : IsCensusOf zone.census zone.keg
   -- each fetch that the ledger counts as turned away was one that the keg refused
   pub turned : zone.ledger.turned ≡ turned_in zone.keg 0
+  -- and the last of these is what the ledger keeps, unless ctor's refusal came after it
+  pub kept : KeepsLast zone.ledger.last (refusals_in zone.keg 0)
   -- the slots hold the items that were allocated and not freed, and each of them is outside the keg
   pub lent : length (lives_of z held) ≤ census_out zone.census 0
   -- what the report says of the zone is the ledger's, the census's, and of the bodies in the slots

@@ -11,3 +11,4 @@ pub mod Serial
 pub mod SerialZones
 pub mod Slots
 pub mod ZoneKeg
+pub mod Kept

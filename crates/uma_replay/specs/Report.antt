@@ -19,13 +19,13 @@ use Rattle.uma_replay.specs.Counting.{report_zones, worker_ops, is_alloc_with, r
 use Rattle.uma_replay.specs.ZoneKeg.{per_slab}
 
 -- A kept refusal names what its zone has: the zone's own limit, its keg's reserve and capacity, or a constructor's
--- argument of the worker's requests. Only the names zone's entries are ever refused by their init, with 255.
+-- argument above 0 of the worker's requests. Only the names zone's entries are ever refused by their init, with 255.
 abbrev pub RefusalFits : Trace → ℕ → ℕ → ZoneHead → Refusal → Type 0
 RefusalFits t w z head (AtLimit out limit) = (limit ≡ head.limit) × (out ≡ limit) × (0 < limit)
 RefusalFits t w z head (Reserved free reserve) = (reserve ≡ head.reserve) × (0 < free) × (free ≤ reserve)
 RefusalFits t w z head (Full slabs made) = slabs ≡ head.slabs
 RefusalFits t w z head (Init code) = (code ≡ 255) × (z ≡ length t.head.zones)
-RefusalFits t w z head (Ctor code) = Any (λ op. IsTrue (is_alloc_with z code op)) (worker_ops t w)
+RefusalFits t w z head (Ctor code) = (0 < code) × Any (λ op. IsTrue (is_alloc_with z code op)) (worker_ops t w)
 
 -- the ledger of worker `w`'s seat in the zone at place `z`
 pub record LedgerFits (t : Trace) (w z : ℕ) (head : ZoneHead) (l : SeatLedger) : Type 0 where

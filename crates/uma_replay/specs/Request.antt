@@ -1,5 +1,5 @@
 -- What one request, and one free, do with a zone of the serial replay. A request is one fetch of one item, which is then built; one that ctor refuses goes back into the keg (own: the serial replay has no cache).
-use Rattle.std.specs.Prelude.{◌≡◌, ◌≢◌, ◌<◌, ◌⊎◌, ℕ, Bool, false, [], ◌∷◌, Option, Some, None, slice_set}
+use Rattle.std.specs.Prelude.{◌≡◌, ◌≢◌, ◌<◌, ◌⊎◌, ℕ, Bool, false, [], ◌∷◌, ◌++◌, Option, Some, None, slice_set}
 use Rattle.std.specs.Option.{IsSomeAnd}
 use Rattle.deed_book.specs.BookLaw.{IsOutside}
 use Rattle.zone_stats.specs.declared.refusal.Refusal.{Refusal}
@@ -10,7 +10,7 @@ use Rattle.uma_life.specs.Stored.{stored_body}
 use Rattle.uma_keg.specs.declared.fetch_ask.FetchAsk.{FetchAsk}
 use Rattle.uma_keg.specs.declared.fetch_refused.FetchRefused.TheVariants.{Refused}
 use Rattle.uma_places.specs.Places.{Gives}
-use Rattle.uma_keg.specs.Keg.{places_in, zones_in, table_in, stored_in, rights_in, limit_in, IsSameKeg}
+use Rattle.uma_keg.specs.Keg.{places_in, zones_in, table_in, stored_in, rights_in, limit_in, refusals_in, buried_in, IsSameKeg}
 use Rattle.uma_keg.specs.Fetched.{FetchesInto, RefusesFetch}
 use Rattle.uma_life.specs.Life.{Life}
 use Rattle.uma_life.specs.Hook.{Ctor, Dtor, after}
@@ -35,6 +35,11 @@ pub record KeepsKeg (old new : CountedKeg) : Type 0 where
   pub limits : (zone : ℕ) → limit_in new zone ≡ limit_in old zone
   pub rights : rights_in new ≡ rights_in old
 
+-- nor does a give, or a fetch that gave its item, change the lists of refusals, and the tallies of buried bodies
+pub record KeepsLists (old new : CountedKeg) : Type 0 where
+  pub refusals : (zone : ℕ) → refusals_in new zone ≡ refusals_in old zone
+  pub buried : buried_in new ≡ buried_in old
+
 -- one fetch gave one item, of the keg's book and its primary zone
 pub record FetchesOne (old : CountedKeg) (reserve : Bool) (item : CachedItem) (new : CountedKeg) : Type 0 where
   pub hooks : CountHooks
@@ -42,6 +47,7 @@ pub record FetchesOne (old : CountedKeg) (reserve : Bool) (item : CachedItem) (n
   pub of_book : cached_table item ≡ table_in old
   pub of_zone : cached_zone item ≡ 0
   pub keeps : KeepsKeg old new
+  pub lists : KeepsLists old new
 
 -- an item came back: its place is free and its number at home again, and all else stays
 pub record TakesBack (old : CountedKeg) (item : CachedItem) (new : CountedKeg) : Type 0 where
@@ -51,6 +57,7 @@ pub record TakesBack (old : CountedKeg) (item : CachedItem) (new : CountedKeg) :
   pub home : IsSomeAnd (stored_in new (cached_no item)) (λ stored. stored_body stored ≡ cached_body item)
   pub others : (n : ℕ) → n ≢ cached_no item → stored_in new n ≡ stored_in old n
   pub keeps : KeepsKeg old new
+  pub lists : KeepsLists old new
 
 -- The request got an item: ctor, which refuses each argument but 0, built it.
 pub record Serves (old : SerialZone) (arg : ℕ) (reserve : Bool) (item : LiveItem) (new : SerialZone) : Type 0 where
@@ -63,12 +70,13 @@ pub record Serves (old : SerialZone) (arg : ℕ) (reserve : Bool) (item : LiveIt
   pub accepted : arg ≡ 0
   pub counted : CountsAlloc old.ledger new.ledger
 
--- The one fetch was refused, by what it found in the keg, which the refusal names.
+-- The one fetch was refused, by what it found in the keg, which the refusal names. It is at the end of the keg's list.
 pub record TurnsAway (old : SerialZone) (reserve : Bool) (new : SerialZone) : Type 0 where
   pub refusal : Refusal
   pub hooks : CountHooks
   pub refused : RefusesFetch old.keg hooks (ask_of reserve) new.keg (Refused refusal)
   pub fits : FitsKeg old.keg refusal
+  pub listed : refusals_in new.keg 0 ≡ refusals_in old.keg 0 ++ refusal ∷ []
   pub counted : CountsTurned old.ledger new.ledger refusal
   pub keeps : KeepsKeg old.keg new.keg
 

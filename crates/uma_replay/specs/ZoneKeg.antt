@@ -4,7 +4,7 @@ use Rattle.zone_stats.specs.declared.refusal.Refusal.{Refusal}
 use Rattle.zone_stats.specs.declared.refusal.Refusal.TheVariants.{AtLimit, Reserved, Full, Init, Ctor}
 use Rattle.trace_text.specs.declared.head.ZoneHead.{ZoneHead}
 use Rattle.uma_keg.specs.declared.keg.Keg.{Keg}
-use Rattle.uma_keg.specs.Keg.{places_in, limit_in, reserve_in, HasZone}
+use Rattle.uma_keg.specs.Keg.{places_in, limit_in, reserve_in, size_in, HasZone}
 
 -- the items of a slab (own)
 abbrev pub per_slab : ZoneHead → ℕ
@@ -17,6 +17,7 @@ pub record HasOnlyPrimary {T K : Type 0} {g : _} {h : _} (keg : Keg T K g h) : T
 
 -- the keg was made with the numbers of the line
 pub record IsKegOf {T K : Type 0} {g : _} {h : _} (head : ZoneHead) (keg : Keg T K g h) : Type 0 where
+  pub size : size_in keg ≡ head.size
   pub per_slab : (places_in keg).per_slab ≡ per_slab head
   pub cap : (places_in keg).cap ≡ head.slabs
   pub reserve : reserve_in keg ≡ head.reserve

@@ -1,8 +1,9 @@
 ghost use Rattle.std.specs.Prelude.{◌≡◌, ◌≤◌, [], IfOk};
 ghost use Rattle.trace_text.specs.Valid.{PrimaryFits};
 ghost use Rattle.uma_bucket.specs.Bucket.{items_of, size_of};
-ghost use Rattle.uma_keg.specs.Keg.{table_in, turned_in};
+ghost use Rattle.uma_keg.specs.Keg.{table_in, refusals_in, turned_in};
 ghost use Rattle.uma_life.specs.Live.{live_table, live_zone};
+ghost use Rattle.uma_replay.specs.Kept.{KeepsLast};
 ghost use Rattle.uma_replay.specs.ZoneKeg.{HasOnlyPrimary};
 ghost use Rattle.zone_stats.specs.LedgerSteps.{HasRoom};
 
@@ -30,7 +31,8 @@ const ONLY_DOMAIN: u8 = 0;
 ///
 /// 1. The keg has its primary zone alone.
 /// 2. The bucket into which a request fetches its item is empty between two calls.
-/// 3. The ledger's `turned` is the keg's own number of the zone's refused fetches.
+/// 3. The ledger's `turned` is the keg's own number of the zone's refused fetches. Its `last` is the last of these, unless
+///    `ctor` refused an item after it.
 #[derive(Drop)]
 pub(crate) struct SerialZone {
     pub keg: Keg<Counted, CountHooks>,
@@ -40,6 +42,7 @@ pub(crate) struct SerialZone {
     ghost empty: { items_of bucket ≡ [] },
     ghost size: { size_of bucket ≡ 4 },
     pub ghost turned: { ledger.turned ≡ turned_in keg 0 },
+    pub ghost kept: { KeepsLast ledger.last (refusals_in keg 0) },
 }
 
 impl SerialZone {

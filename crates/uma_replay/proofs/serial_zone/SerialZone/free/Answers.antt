@@ -15,6 +15,6 @@ returns c =
       finished = c.finish-item.result;
       same_item = c.finish-item.ensures.ticket;
       passed = subst (λ zone. life_of (cached_body c.finish-item.result) ≡ after (Dtor zone) (life_of (live_body c.args.item))) c.requires.of_zone c.finish-item.ensures.finished;
-      back = TakesBack-given _ _ _ of_zone given.places given.was_outside given.zones given.primary given.stored (record { same = given.same; limits = given.limits; rights = given.rights });
+      back = TakesBack-given _ _ _ of_zone given.places given.was_outside given.zones given.primary given.stored (record { same = given.same; limits = given.limits; rights = given.rights }) (record { refusals = given.refusals; buried = given.buried });
       counted = c.count_free.ensures;
     }
