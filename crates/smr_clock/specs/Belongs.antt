@@ -1,7 +1,7 @@
 -- What a contract sees of a clock and of its passes.
 use Rattle.std.specs.Prelude.{◌≡◌}
 use Rattle.std.specs.Arc.{arc_value}
-use Rattle.atomic_table.specs.Seated.{TableId}
+pub use Rattle.atomic_table.specs.Seated.{TableId}
 use Rattle.smr_core.specs.declared.holder.Holder.{Holder}
 use Rattle.smr_clock.specs.declared.setup.Setup.{Setup}
 use Rattle.smr_clock.specs.declared.view.View.{View}
@@ -10,12 +10,16 @@ use Rattle.smr_clock.specs.declared.pass.Pass.{Pass}
 use Rattle.smr_clock.specs.declared.clock.Clock.{Clock}
 
 module _ {H P : Type 0} where
-  -- which clock it is: all handles of one clock have one table, and no two clocks do
+  -- its table: all handles of one clock have one, and no two clocks do
   abbrev pub table_of : Clock H P → TableId
   table_of clock = (arc_value clock.table).shared.table_id
 
   abbrev pub setup_of : Clock H P → Setup
   setup_of clock = clock.setup
+
+  -- which clock it is, and what it was made with
+  abbrev pub clock_id : Clock H P → TableId × Setup
+  clock_id clock = (table_of clock, setup_of clock)
 
 module _ {H P : Type 0} {g : Ghosts H P} where
   -- what the pass knows
@@ -25,6 +29,10 @@ module _ {H P : Type 0} {g : Ghosts H P} where
   abbrev pub holder : Pass H P g → Holder
   holder pass = pass.seat.me.0.holder
 
+  -- which clock the pass is of, and the numbers that it has
+  abbrev pub pass_clock : Pass H P g → TableId × Setup
+  pass_clock pass = (pass.seat.table_id, pass.seat.me.0.setup)
+
   -- the pass is of this clock, and has its numbers
   abbrev pub IsOf : Clock H P → Pass H P g → Type 0
-  IsOf clock pass = (pass.seat.table_id ≡ table_of clock) × (pass.seat.me.0.setup ≡ setup_of clock)
+  IsOf clock pass = pass_clock pass ≡ clock_id clock

@@ -2,12 +2,13 @@
 use Rattle.std.specs.Prelude.{◌≡◌, ℕ}
 use Rattle.atomic_table.specs.Seated.{TableId}
 use Rattle.smr_core.specs.declared.holder.Holder.{Holder}
+use Rattle.smr_clock.specs.declared.setup.Setup.{Setup}
 use Rattle.smr_clock.specs.declared.view.View.{View}
 use Rattle.smr_clock.specs.declared.host.Host.{Ghosts}
 use Rattle.smr_clock.specs.declared.clock.Clock.{Clock}
 use Rattle.smr_clock.specs.declared.note.Note.{Note}
 use Rattle.smr_clock.specs.declared.host_seat.HostSeat.{HostSeat}
-use Rattle.smr_clock.specs.Belongs.{table_of, setup_of}
+use Rattle.smr_clock.specs.Belongs.{table_of, setup_of, clock_id}
 use Rattle.smr_clock.specs.Steps.{IsWriteFound, write_looking, note_view}
 
 module _ {H P : Type 0} {g : Ghosts H P} where
@@ -18,9 +19,13 @@ module _ {H P : Type 0} {g : Ghosts H P} where
   abbrev pub note_holder : Note H P g → Holder
   note_holder note = note.seat.me.0.holder
 
+  -- which clock the note is of, and the numbers that it has
+  abbrev pub note_clock : Note H P g → TableId × Setup
+  note_clock note = (note.seat.table_id, note.seat.me.0.setup)
+
   -- the note is of this clock, and has its numbers
   abbrev pub IsNoteOf : Clock H P → Note H P g → Type 0
-  IsNoteOf clock note = (note.seat.table_id ≡ table_of clock) × (note.seat.me.0.setup ≡ setup_of clock)
+  IsNoteOf clock note = note_clock note ≡ clock_id clock
 
   -- the table of its clock
   abbrev pub note_table : Note H P g → TableId

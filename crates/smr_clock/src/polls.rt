@@ -1,9 +1,8 @@
 ghost use Rattle.std.specs.Prelude.{◌≡◌, ◌≤◌, ◌<◌, ℕ, List, [], length, true, false};
-ghost use Rattle.smr_seq.specs.Reading.{low};
 ghost use Rattle.smr_core.specs.ClockState.{IsSeatWord};
 ghost use Rattle.smr_core.specs.ClockStep as clock;
 ghost use Rattle.smr_core.specs.declared.task.Task.{Task};
-ghost use Rattle.smr_clock.specs.Goals.{number_of};
+ghost use Rattle.smr_clock.specs.Goals.{number_of, tag_of};
 ghost use Rattle.smr_clock.specs.Notes.{IsNoteOf, note_knows, note_holder};
 ghost use Rattle.smr_clock.specs.Polls.{scanned_view, Polls, SaysNo};
 ghost use Rattle.smr_clock.specs.Steps.{IsReadFound, IsWriteFound, poll_reading, poll_loading, poll_scanning, poll_swapping};
@@ -25,8 +24,8 @@ impl<H: Host> Clock<H> {
         requires seen { number_of goal.now ≤ (note_holder note.old).seen }
         ensures here { IsNoteOf self.now note.new }
         ensures yes { result ≡ true → number_of goal.now ≤ (note_holder note.new).floor }
-        ensures no { result ≡ false → SaysNo (note_knows note.old) (low (number_of goal.now)) (note_knows note.new) }
-        ensures polls { Polls (note_knows note.old) (low (number_of goal.now)) result (note_knows note.new) }
+        ensures no { result ≡ false → SaysNo (note_knows note.old) (tag_of goal.now) (note_knows note.new) }
+        ensures polls { Polls (note_knows note.old) (tag_of goal.now) result (note_knows note.new) }
     {
         let read = self.poll_read_hand(note);
         let write = self.poll_write_hand(note);

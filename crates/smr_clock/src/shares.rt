@@ -1,5 +1,6 @@
 ghost use Rattle.std.specs.Prelude.{◌≡◌, IfOk};
-ghost use Rattle.smr_clock.specs.Belongs.{table_of, setup_of};
+ghost use Rattle.smr_core.specs.ClockState.{place_after_seats};
+ghost use Rattle.smr_clock.specs.Belongs.{setup_of, clock_id};
 
 use crate::clock::Clock;
 use crate::host::Host;
@@ -32,8 +33,7 @@ impl From<AllocError> for Memory {
 impl<H: Host> Clock<H> {
     /// A second handle of the same clock: every pass, note and seat of the one is one of the other.
     pub fn share(&self, _alloc: Global) -> Result<Self, Memory>
-        ensures table { IfOk result (λ clock. table_of clock ≡ table_of self.now) }
-        ensures setup { IfOk result (λ clock. setup_of clock ≡ setup_of self.now) }
+        ensures { IfOk result (λ clock. clock_id clock ≡ clock_id self.now) }
     {
         Ok(Clock {
             table: Arc::try_clone(&self.table)?,
@@ -46,6 +46,13 @@ impl<H: Host> Clock<H> {
         ensures { result ≡ (setup_of self.now).about.seats }
     {
         self.setup.about.seats
+    }
+
+    /// The place of the host's first word, behind the hands and the seats' words.
+    pub fn host_place(&self) -> u32
+        ensures { result ≡ place_after_seats (setup_of self.now).about }
+    {
+        2 + self.setup.about.seats
     }
 
     /// The host's two numbers.

@@ -98,7 +98,7 @@ fn counted(
 fn count_word(clock: &Clock<Counting>) -> u32
     ensures { result ≡ count_place (setup_of clock.now) }
 {
-    2 + clock.seats()
+    clock.host_place()
 }
 
 // What stands in the word, as any pass may read it.

@@ -2,6 +2,7 @@ use Rattle.std.proofs.Common.{◌≡◌, ℕ, ◌+◌, ◌∷◌, ◌++◌, [], 
 use Rattle.std.proofs.lemmas.List.{length_push}
 use Rattle.smr_core.specs.ClockStep as clock
 use Rattle.smr_clock.specs.declared.view.View.{View}
+use Rattle.smr_clock.specs.Belongs.{table_of, setup_of}
 use Rattle.smr_clock.specs.Notes.{note_knows, note_holder}
 use Rattle.smr_clock.proofs.PollLemmas.{scanned_again}
 use Rattle.smr_clock.proofs.clock.Clock.scan.Goals as goal
@@ -9,7 +10,9 @@ use Rattle.smr_clock.proofs.clock.Clock.scan.Goals as goal
 pub load_word-word-requires-clause-here : goal.load_word-word-requires-clause-here
 load_word-word-requires-clause-here g c =
     let at = c.loop-seat.invariant in
-    (at.table ∙ c.requires.here.0, ap (λ (v : View g.row.H-Part.Denot). v.setup) at.scanned.2 ∙ c.requires.here.1)
+    let table : c.loop-seat.note.seat.table_id ≡ table_of c.args.self.now = at.table ∙ (λ i. (c.requires.here i).0) in
+    let setup : (note_knows c.loop-seat.note).setup ≡ setup_of c.args.self.now = ap (λ (v : View g.row.H-Part.Denot). v.setup) at.scanned.2 ∙ (λ i. (c.requires.here i).1) in
+    λ i. (table i, setup i)
 
 pub load_word-word-requires-clause-scanning : goal.load_word-word-requires-clause-scanning
 load_word-word-requires-clause-scanning g c =
@@ -36,7 +39,7 @@ loop-seat-preserved g c =
     let write : c.args.write ≡ (note_holder c.loop-seat.note).write = sym c.requires.hands.1 ∙ sym (ap (λ (v : View g.row.H-Part.Denot). v.holder.write) at.scanned.2) in
     let least : c.loop-seat.least ≡ (note_holder c.loop-seat.note).least = at.least in
     record {
-      table = c.load_word-word.ensures.here.0 ∙ sym c.requires.here.0;
+      table = (λ i. (c.load_word-word.ensures.here i).0) ∙ sym (λ i. (c.requires.here i).0);
       scanned = (
         at.scanned.0 ++ c.load_word-word.result ∷ [],
         length_push at.scanned.0 c.load_word-word.result ∙ ap (λ (n : ℕ). n + 1) at.scanned.1,
