@@ -1,24 +1,50 @@
--- A room all of whose items are cached: their list is as long as the room, and its last is the one that lies last.
-use Rattle.std.proofs.Common.{◌≡◌, List, [], ◌∷◌, ◌++◌, length, true, refl, arith}
-use Rattle.std.specs.List.{filter_map, list_all}
-use Rattle.std.proofs.lemmas.Grind.{common_steps}
+-- A room all of whose items pass the test of one kind: their list is as long as the room, and its last is the one that lies last.
+use Rattle.std.proofs.Common.{◌≡◌, ◌<◌, ℕ, suc, List, [], ◌∷◌, ◌++◌, length, Bool, true, false, ◌&&◌, Option, Some, None, refl, sym, ap, ◌∙◌, get_or, arith}
+use Rattle.std.specs.Prelude.{is_some}
+use Rattle.std.specs.List.{filter_map, list_all, cons_option}
 use Rattle.std.proofs.lemmas.List.Elements.{filter_map-append}
 use Rattle.std.proofs.lemmas.List.Folds.{list_all-append}
-use Rattle.uma_life.specs.declared.cached.Cached.{Cached}
+use Rattle.std.proofs.lemmas.List.Sums.{AllPass-from_list_all}
 use Rattle.uma_bucket.specs.declared.held.Held.{Held}
 use Rattle.uma_bucket.specs.declared.held.Held.TheVariants.{Cached as Cached', Freed as Freed'}
-use Rattle.uma_bucket.specs.Held.{is_cached, cached_in}
+use Rattle.uma_bucket.specs.Held.{is_cached, is_freed, cached_in, freed_in}
 
-pub cached_count : {T : Type 0} {g : _} (xs : List (Held T g)) → list_all is_cached xs ≡ true → length (filter_map cached_in xs) ≡ length xs
-cached_count [] all = refl
-cached_count (Cached' item ∷ xs) all = let rest : length (filter_map cached_in xs) ≡ length xs = cached_count xs all in grind (arith, common_steps, rest)
-cached_count (Freed' item ∷ xs) all = cc
+-- a test passes exactly where a part is there
+pub record Tests {X A : Type 0} (test : X → Bool) (part : X → Option A) : Type 0 where
+  pub agree : (x : X) → is_some (part x) ≡ test x
 
-pub cached_push : {T : Type 0} {g : _} (xs : List (Held T g)) (item : Cached T g) → filter_map cached_in (xs ++ Cached' item ∷ []) ≡ filter_map cached_in xs ++ item ∷ []
-cached_push xs item = filter_map-append cached_in xs (Cached' item ∷ [])
+pub cached_tests : {T : Type 0} {g : _} → Tests {X = Held T g} is_cached cached_in
+cached_tests = record { agree = elim [ Cached' item ↦ refl | Freed' item ↦ refl ] }
 
-pub all_push : {T : Type 0} {g : _} (xs : List (Held T g)) (item : Cached T g) → list_all is_cached xs ≡ true → list_all is_cached (xs ++ Cached' item ∷ []) ≡ true
-all_push xs item all = rw (list_all-append is_cached xs (Cached' item ∷ []), all) refl
+pub freed_tests : {T : Type 0} {g : _} → Tests {X = Held T g} is_freed freed_in
+freed_tests = record { agree = elim [ Cached' item ↦ refl | Freed' item ↦ refl ] }
 
-pub cached_pop : {T : Type 0} {g : _} (xs ys : List (Held T g)) (x : Held T g) (item : Cached T g) → xs ≡ ys ++ x ∷ [] → x ≡ Cached' item → filter_map cached_in xs ≡ filter_map cached_in ys ++ item ∷ []
-cached_pop xs ys x item was is = rw (was, is) (cached_push ys item)
+one_more : {A : Type 0} (o : Option A) (here rest : Bool) (xs : List A) → is_some o ≡ here → (here && rest) ≡ true → (rest ≡ true) × (length (cons_option o xs) ≡ suc (length xs))
+one_more None true rest xs agree all = absurd (cc)
+one_more None false rest xs agree all = absurd (cc)
+one_more (Some x) true rest xs agree all = (all, refl)
+one_more (Some x) false rest xs agree all = absurd (cc)
+
+-- how many there are
+pub count : {X A : Type 0} (test : X → Bool) (part : X → Option A) → Tests test part → (xs : List X) → list_all test xs ≡ true → length (filter_map part xs) ≡ length xs
+count test part tests [] all = refl
+count test part tests (x ∷ xs) all =
+    let more = one_more (part x) (test x) (list_all test xs) (filter_map part xs) (tests.agree x) all in
+    more.1 ∙ ap suc (count test part tests xs more.0)
+
+none_of : {X : Type 0} (xs : List X) → length xs ≡ 0 → xs ≡ []
+none_of [] none = refl
+none_of (x ∷ xs) none = absurd (omega (arith, none))
+
+-- where none is listed none is there
+pub none_there : {X A : Type 0} (test : X → Bool) (part : X → Option A) → Tests test part → (xs : List X) → list_all test xs ≡ true → filter_map part xs ≡ [] → xs ≡ []
+none_there test part tests xs all none = none_of xs (sym (count test part tests xs all) ∙ ap length none)
+
+pub all_push : {X : Type 0} (test : X → Bool) (xs : List X) (x : X) → list_all test xs ≡ true → test x ≡ true → list_all test (xs ++ x ∷ []) ≡ true
+all_push test xs x all here = rw (list_all-append test xs (x ∷ []), all, here) refl
+
+pub part_pop : {X A : Type 0} (part : X → Option A) (xs ys : List X) (x is : X) → xs ≡ ys ++ x ∷ [] → x ≡ is → filter_map part xs ≡ filter_map part ys ++ cons_option (part is) []
+part_pop part xs ys x is was same = rw (was, same) (filter_map-append part ys (is ∷ []))
+
+pub at_place : {X : Type 0} (test : X → Bool) (xs : List X) (i : ℕ) (x : X) → list_all test xs ≡ true → i < length xs → x ≡ get_or xs i x → test x ≡ true
+at_place test xs i x all within there = ap test there ∙ AllPass-from_list_all test xs all i x within

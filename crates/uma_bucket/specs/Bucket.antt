@@ -1,7 +1,11 @@
 -- Own: what contracts see of a bucket.
-use Rattle.std.specs.Prelude.{◌≡◌, ◌<◌, ◌≤◌, ◌⊎◌, ℕ, List}
+use denote.RawPtr.{Ptr}
+use Rattle.std.specs.Prelude.{◌≡◌, ◌<◌, ◌≤◌, ◌⊎◌, ℕ, List, map}
 use Rattle.std.specs.List.{filter_map}
+use Rattle.std.specs.Vec.{vec_ptr}
 use Rattle.uma_life.specs.declared.cached.Cached.{Cached}
+use Rattle.uma_life.specs.declared.ticket.Ticket.{Ticket}
+use Rattle.uma_life.specs.Cached.{cached_ticket}
 use Rattle.uma_bucket.specs.declared.bucket.Bucket.{Bucket}
 use Rattle.uma_bucket.specs.declared.refused.BucketRefused.{BucketRefused}
 use Rattle.uma_bucket.specs.declared.refused.BucketRefused.TheVariants.{Size, Memory}
@@ -11,9 +15,17 @@ use Rattle.uma_bucket.specs.Held.{cached_in}
 abbrev pub items_of : {T : Type 0} {g : _} → Bucket T g → List (Cached T g)
 items_of bucket = filter_map cached_in bucket.room.items
 
+-- the deeds and domains of its items, in their order
+abbrev pub tickets_of : {T : Type 0} {g : _} → Bucket T g → List Ticket
+tickets_of bucket = map cached_ticket (items_of bucket)
+
 -- how many items it has room for
 abbrev pub size_of : {T : Type 0} {g : _} → Bucket T g → ℕ
 size_of bucket = bucket.size
+
+-- where its room lies
+abbrev pub place_of : {T : Type 0} {g : _} → Bucket T g → Ptr
+place_of bucket = vec_ptr bucket.room
 
 -- no bucket has this size (own)
 abbrev pub IsOutOfRange : ℕ → Type 0

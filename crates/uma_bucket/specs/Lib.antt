@@ -1,4 +1,10 @@
+pub mod Freed
 pub mod Held
 pub mod Kept
-pub mod Freed
+pub mod Home
 pub mod Bucket
+pub mod Loose
+pub mod Finished
+pub mod Sealed
+pub mod Ripe
+pub mod Sums

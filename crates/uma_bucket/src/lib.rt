@@ -8,11 +8,21 @@
 mod bucket;
 mod freed;
 mod held;
+mod loose;
 mod refused;
+mod ripe;
+mod sealed;
+mod shelved;
+mod sums;
 
 pub use bucket::Bucket;
 pub use freed::Freed;
+pub use loose::Loose;
 pub use refused::BucketRefused;
+pub use ripe::Ripe;
+pub use sealed::Sealed;
+pub use shelved::Shelved;
+pub use sums::Sums;
 
 #[cfg(test)]
 mod tests;

@@ -1,2 +1,4 @@
 mod body;
+mod clock;
+mod reuse;
 mod stacks;

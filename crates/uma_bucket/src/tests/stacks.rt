@@ -2,7 +2,7 @@ ghost use Rattle.std.specs.Prelude.{◌≡◌};
 ghost use Rattle.uma_bucket.specs.Bucket.{items_of, size_of};
 
 use crate::tests::body::{Plain, PlainHooks};
-use crate::{Bucket, BucketRefused, Freed};
+use crate::{Bucket, BucketRefused};
 use deed_book::Book;
 use std::alloc::Global;
 use std::sync::Wait;
@@ -35,7 +35,12 @@ fn pops_and_pushes(bucket: &mut Bucket<Plain>)
 }
 
 /// A cached item of zone 0.
-fn cached<R: Wait>(rt: &R, alloc: Global, book: &mut Book, no: u32) -> Result<Cached<Plain>, Fail> {
+pub(super) fn cached<R: Wait>(
+    rt: &R,
+    alloc: Global,
+    book: &mut Book,
+    no: u32,
+) -> Result<Cached<Plain>, Fail> {
     let stored = Stored::bring(rt, alloc, &PlainHooks, no, 0)?;
     if !book.is_home(no) {
         return Err(Fail::new("out"));
@@ -62,16 +67,5 @@ fn the_last_put_is_the_first_taken(rt: HostRuntime) -> Result<(), Fail> {
         assert_eq!(rt; bucket.pop().map(|item| item.no()), Some(no));
     }
     assert!(rt; bucket.pop().is_none());
-    Ok(())
-}
-
-#[test]
-fn a_live_item_is_freed(rt: HostRuntime) -> Result<(), Fail> {
-    let mut book = Book::new(rt.alloc(), 8)?;
-    let Ok(live) = cached(&rt, rt.alloc(), &mut book, 5)?.build(&PlainHooks, 0) else {
-        panic!(rt; "ctor refused")
-    };
-    let freed = Freed::of(live);
-    assert_eq!(rt; freed.live.no(), 5);
     Ok(())
 }

@@ -1,6 +1,7 @@
 use Rattle.std.proofs.Common.{◌∙◌, sym}
-use Rattle.uma_bucket.proofs.Rooms.{cached_count}
+use Rattle.uma_bucket.specs.Held.{is_cached, cached_in}
+use Rattle.uma_bucket.proofs.Rooms.{count, cached_tests}
 use Rattle.uma_bucket.proofs.bucket.Bucket.len.Goals as goal
 
 pub returns-clause-len : goal.returns-clause-len
-returns-clause-len g c = c.len.ensures ∙ c.args.self.now.room.ok.0 ∙ sym (cached_count _ c.args.self.now.kept.cached)
+returns-clause-len g c = c.len.ensures ∙ c.args.self.now.room.ok.0 ∙ sym (count is_cached cached_in cached_tests _ c.args.self.now.kept.alike)

@@ -1,30 +1,37 @@
-use Rattle.std.proofs.Common.{◌≡◌, length, arith}
+use Rattle.std.proofs.Common.{◌≡◌, ◌∷◌, [], length, refl, arith}
 use Rattle.std.specs.List.{filter_map}
-use Rattle.uma_bucket.specs.Held.{cached_in}
-use Rattle.uma_bucket.proofs.Rooms.{cached_count, cached_push, all_push}
+use Rattle.std.proofs.lemmas.List.Elements.{filter_map-append}
+use Rattle.uma_life.specs.Cached.{cached_ticket}
+use Rattle.uma_bucket.specs.Held.{is_cached, cached_in}
+use Rattle.uma_bucket.specs.declared.held.Held.TheVariants.{Cached as Cached'}
+use Rattle.uma_bucket.proofs.Homes.{home_push}
+use Rattle.uma_bucket.proofs.Rooms.{count, cached_tests, all_push}
 use Rattle.uma_bucket.proofs.bucket.Bucket.push.Goals as goal
 
 pub push_reserved-requires : goal.push_reserved-requires
 push_reserved-requires g c =
     let items = c.args.self.now.room.items in
     let kept = c.args.self.now.kept in
-    let counted : length (filter_map cached_in items) ≡ length items = cached_count items kept.cached in
+    let counted : length (filter_map cached_in items) ≡ length items = count is_cached cached_in cached_tests items kept.alike in
     omega (arith, c.args.self.now.room.ok.0, kept.taken_whole, c.requires, counted)
 
 pub invariant_of-self : goal.invariant_of-self
 invariant_of-self g c =
     let items = c.args.self.now.room.items in
     let kept = c.args.self.now.kept in
-    let counted : length (filter_map cached_in items) ≡ length items = cached_count items kept.cached in
+    let counted : length (filter_map cached_in items) ≡ length items = count is_cached cached_in cached_tests items kept.alike in
     record {
       kept = record {
         least = kept.least;
         most = kept.most;
         within = omega (arith, c.args.self.now.room.ok.0, c.requires, counted, c.push_reserved.ensures.len);
         taken_whole = omega (arith, kept.taken_whole, c.push_reserved.ensures.capacity);
-        cached = rw c.push_reserved.ensures.items (all_push items c.args.item kept.cached);
+        alike = rw c.push_reserved.ensures.items (all_push is_cached items (Cached' c.args.item) kept.alike refl);
       };
     }
 
 pub returns-clause-items : goal.returns-clause-items
-returns-clause-items g c = rw c.push_reserved.ensures.items (cached_push c.args.self.now.room.items c.args.item)
+returns-clause-items g c = rw c.push_reserved.ensures.items (filter_map-append cached_in c.args.self.now.room.items (Cached' c.args.item ∷ []))
+
+pub returns-clause-home : goal.returns-clause-home
+returns-clause-home g c home before here = home_push home cached_ticket _ _ c.args.item (returns-clause-items g c) before here

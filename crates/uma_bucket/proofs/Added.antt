@@ -1,0 +1,120 @@
+-- What is added to sums: the tallies of a room, one item after another.
+use Rattle.std.proofs.Common.{◌≡◌, ◌<◌, ◌≤◌, ◌+◌, ◌*◌, ◌^◌, ◌%◌, ◌==◌, ℕ, Bool, true, false, cond, List, [], ◌∷◌, length, get_or, replicate, take, inl, inr, refl, sym, ap, ◌∙◌, subst, arith}
+use Rattle.std.specs.List.{sum_by, filter_map, list_all}
+use Rattle.std.proofs.lemmas.List.{length-take, get_or-replicate, get_or_past}
+use Rattle.std.proofs.lemmas.Bool.{cases_lt}
+use Rattle.std.proofs.lemmas.List.Sums.{sum_by-cons, sum_by-le, sum_by_more}
+use Rattle.uma_life.specs.declared.tally_sum.ZoneTallySum.{ZoneTallySum}
+use Rattle.uma_life.specs.Hook.{Hook, KegInit, ZoneInit, Ctor, Dtor, ZoneFini, KegFini}
+use Rattle.uma_life.specs.Sum.{sum_of, zone_sums, no_zone_sums, AreBelow}
+use Rattle.uma_life.specs.Trail.{ShowsSame}
+use Rattle.uma_bucket.specs.declared.held.Held.{Held}
+use Rattle.uma_bucket.specs.declared.held.Held.TheVariants.{Cached as Cached', Freed as Freed'}
+use Rattle.uma_bucket.specs.declared.sums.Sums.{Sums}
+use Rattle.uma_bucket.specs.Held.{is_cached, is_freed, cached_in, freed_in, times_held}
+use Rattle.uma_bucket.specs.Sums.{nothing_held, times_cached, times_freed, Adds, AreOfAtMost, Balance}
+use Rattle.uma_bucket.proofs.Tallied.{trail_times, both_show}
+
+module _ {T : Type 0} {g : _} where
+  -- one item passed each hook fewer than 2^64 times
+  held_times : (hook : Hook) (x : Held T g) → times_held hook x < 2 ^ 64
+  held_times hook (Cached' item) = trail_times _ _ item.at.trail hook
+  held_times hook (Freed' item) = trail_times _ _ item.live.at.trail hook
+
+  pub all_times : (hook : Hook) (xs : List (Held T g)) → sum_by (times_held hook) xs ≤ length xs * 2 ^ 64
+  all_times hook xs = sum_by-le (times_held hook) (2 ^ 64) xs (λ k d within. let few : times_held hook (get_or xs k d) < 2 ^ 64 = held_times hook (get_or xs k d) in omega arith)
+
+  pub cached_times : (hook : Hook) (xs : List (Held T g)) → list_all is_cached xs ≡ true → sum_by (times_held hook) xs ≡ times_cached hook (filter_map cached_in xs)
+  cached_times hook [] all = refl
+  cached_times hook (Cached' x ∷ xs) all = sum_by-cons (times_held hook) (Cached' x) xs ∙ ap (λ (n : ℕ). times_held hook (Cached' x) + n) (cached_times hook xs all) ∙ sym (sum_by-cons _ x (filter_map cached_in xs))
+  cached_times hook (Freed' x ∷ xs) all = absurd (cc)
+
+  pub freed_times : (hook : Hook) (xs : List (Held T g)) → list_all is_freed xs ≡ true → sum_by (times_held hook) xs ≡ times_freed hook (filter_map freed_in xs)
+  freed_times hook [] all = refl
+  freed_times hook (Freed' x ∷ xs) all = sum_by-cons (times_held hook) (Freed' x) xs ∙ ap (λ (n : ℕ). times_held hook (Freed' x) + n) (freed_times hook xs all) ∙ sym (sum_by-cons _ x (filter_map freed_in xs))
+  freed_times hook (Cached' x ∷ xs) all = absurd (cc)
+
+  -- there is room for the tally of one item more
+  pub room_left : (was now : Sums) (xs : List (Held T g)) (i : ℕ) → AreOfAtMost (2 ^ 62) was → length xs ≤ 64 → Adds (λ hook. sum_by (times_held hook) (take i xs)) 0 was now → AreBelow (2 ^ 127) now.tally
+  room_left was now xs i room few adds hook =
+      let front : sum_by (times_held hook) (take i xs) ≤ length (take i xs) * 2 ^ 64 = all_times hook (take i xs) in
+      let short = length-take i xs in
+      omega (arith, room.tally hook, adds.tally hook)
+
+  pub one_added : (was now next : Sums) (xs : List (Held T g)) (i : ℕ) (x : Held T g) (times : Hook → ℕ) → i < length xs → x ≡ get_or xs i x → ((hook : Hook) → times hook ≡ times_held hook x)
+      → Adds (λ hook. sum_by (times_held hook) (take i xs)) 0 was now → ((hook : Hook) → sum_of next.tally hook ≡ sum_of now.tally hook + times hook) → next.deferred ≡ now.deferred
+      → Adds (λ hook. sum_by (times_held hook) (take (i + 1) xs)) 0 was next
+  one_added was now next xs i x times within there each adds more same =
+      record {
+        tally = λ hook.
+            let front = sum_by_more (times_held hook) xs i x within in
+            let here : times_held hook (get_or xs i x) ≡ times_held hook x = ap (times_held hook) (sym there) in
+            omega (arith, front, here, each hook, adds.tally hook, more hook);
+        deferred_too = same ∙ adds.deferred_too;
+      }
+
+-- the sums are those of more items
+pub more_of : (was is : Sums) (times : Hook → ℕ) (items deferred count : ℕ) → Adds times deferred was is → ((hook : Hook) → times hook ≤ items * 2 ^ 64) → deferred ≤ items → AreOfAtMost count was → AreOfAtMost (count + items) is
+more_of was is times items deferred count adds few within at =
+    record {
+      tally = λ hook. let a = adds.tally hook in let b = few hook in let c = at.tally hook in omega arith;
+      deferred = let a = adds.deferred_too in let b = at.deferred in omega arith;
+    }
+
+both_there : (b : Bool) (m n : ℕ) → cond b m 0 + cond b n 0 ≡ cond b (m + n) 0
+both_there true m n = refl
+both_there false m n = refl
+
+-- the sums balance still, where what is added does
+pub still_balance : (zone : ℕ) (was is : Sums) (times : Hook → ℕ) (deferred : ℕ) → Adds times deferred was is
+    → ((other : ℕ) → other < 8 → ShowsSame (times (Ctor other)) (times (Dtor other) + cond (zone == other) deferred 0)) → Balance zone was → Balance zone is
+still_balance zone was is times deferred adds each before other small =
+    let b = zone == other in
+    let ctors : sum_of is.tally (Ctor other) ≡ sum_of was.tally (Ctor other) + times (Ctor other) = adds.tally (Ctor other) in
+    let dtors : sum_of is.tally (Dtor other) ≡ sum_of was.tally (Dtor other) + times (Dtor other) = adds.tally (Dtor other) in
+    let held_open : cond b was.deferred 0 + cond b deferred 0 ≡ cond b is.deferred 0 = both_there b was.deferred deferred ∙ ap (λ (n : ℕ). cond b n 0) (sym adds.deferred_too) in
+    let all = both_show _ _ _ _ (before other small) (each other small) in
+    let total : sum_of was.tally (Dtor other) + cond b was.deferred 0 + (times (Dtor other) + cond b deferred 0) ≡ sum_of is.tally (Dtor other) + cond b is.deferred 0 = omega (arith, held_open, dtors) in
+    ap (λ (n : ℕ). n % 2 ^ 64) ctors ∙ all ∙ ap (λ (n : ℕ). n % 2 ^ 64) total
+
+nothing_there : (b : Bool) (m : ℕ) → m ≡ m + cond b 0 0
+nothing_there true m = omega arith
+nothing_there false m = omega arith
+
+-- what is added where nothing is deferred
+pub still_balance_cached : (zone : ℕ) (was is : Sums) (times : Hook → ℕ) → Adds times 0 was is
+    → ((other : ℕ) → other < 8 → ShowsSame (times (Ctor other)) (times (Dtor other))) → Balance zone was → Balance zone is
+still_balance_cached zone was is times adds each before =
+    still_balance zone was is times 0 adds (λ other small. each other small ∙ ap (λ (n : ℕ). n % 2 ^ 64) (nothing_there (zone == other) (times (Dtor other)))) before
+
+-- ---- the sums of nothing
+
+no_zones : (zone : ℕ) → zone_sums (replicate 8 no_zone_sums) zone ≡ no_zone_sums
+no_zones zone = elim (cases_lt zone 8) [
+  | inl within ↦ get_or-replicate 8 zone no_zone_sums no_zone_sums within
+  | inr past ↦ get_or_past (replicate 8 no_zone_sums) zone no_zone_sums past
+]
+
+pub none_passed : (hook : Hook) → sum_of nothing_held.tally hook ≡ 0
+none_passed KegInit = refl
+none_passed (ZoneInit zone) = ap (λ (s : ZoneTallySum). s.inits) (no_zones zone)
+none_passed (Ctor zone) = ap (λ (s : ZoneTallySum). s.ctors) (no_zones zone)
+none_passed (Dtor zone) = ap (λ (s : ZoneTallySum). s.dtors) (no_zones zone)
+none_passed (ZoneFini zone) = ap (λ (s : ZoneTallySum). s.finis) (no_zones zone)
+none_passed KegFini = refl
+
+pub none_few : (sums : Sums) → sums ≡ nothing_held → (count : ℕ) → AreOfAtMost count sums
+none_few sums none count =
+    subst (λ (s : Sums). AreOfAtMost count s) (sym none) (record { tally = λ hook. let zero : sum_of nothing_held.tally hook ≡ 0 = none_passed hook in omega arith; deferred = omega arith })
+
+pub none_balance : (sums : Sums) → sums ≡ nothing_held → (zone : ℕ) → Balance zone sums
+none_balance sums none zone =
+    subst (λ (s : Sums). Balance zone s) (sym none)
+    (λ other small.
+    let ctors : sum_of nothing_held.tally (Ctor other) ≡ 0 = none_passed (Ctor other) in
+    let dtors : sum_of nothing_held.tally (Dtor other) ≡ 0 = none_passed (Dtor other) in
+    ap (λ (n : ℕ). n % 2 ^ 64) (ctors ∙ sym dtors ∙ nothing_there (zone == other) (sum_of nothing_held.tally (Dtor other))))
+
+-- the sums of few items are those of more
+pub fewer : (sums : Sums) (few more : ℕ) → few ≤ more → AreOfAtMost few sums → AreOfAtMost more sums
+fewer sums few more less at = record { tally = λ hook. let a = at.tally hook in omega arith; deferred = let a = at.deferred in omega arith }

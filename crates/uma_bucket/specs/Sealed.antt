@@ -1,0 +1,56 @@
+-- Own: what contracts see of a sealed bucket, and what its making and its polls come to.
+use Rattle.std.specs.Prelude.{◌≡◌, ◌≤◌, Bool, false}
+use Rattle.smr_clock.specs.declared.setup.Setup.{Setup}
+use Rattle.smr_clock.specs.declared.view.View.{View}
+use Rattle.smr_clock.specs.declared.goal.Goal.{Goal}
+use Rattle.smr_clock.specs.declared.note.Note.{Note}
+use Rattle.smr_clock.specs.Advances.{Advances}
+use Rattle.smr_clock.specs.Belongs.{TableId}
+use Rattle.smr_clock.specs.Goals.{number_of, tag_of}
+use Rattle.smr_clock.specs.Notes.{note_knows, note_holder, note_clock, Notes}
+use Rattle.smr_clock.specs.Polls.{Polls, SaysNo}
+use Rattle.uma_bucket.specs.declared.loose.Loose.{Loose}
+use Rattle.uma_bucket.specs.declared.sealed.Sealed.{Sealed}
+
+module _ {T H P : Type 0} {g h : _} where
+  -- its items, with their room
+  abbrev pub sealed_bucket : Sealed T H P g h → Loose T g
+  sealed_bucket sealed = sealed.loose
+
+  -- the goal that has to be expired before an item is used again
+  abbrev pub sealed_goal : Sealed T H P g h → Goal
+  sealed_goal sealed = sealed.goal
+
+  abbrev pub sealed_note : Sealed T H P g h → Note H P h
+  sealed_note sealed = sealed.note
+
+  -- what its note knows
+  abbrev pub sealed_knows : Sealed T H P g h → View P
+  sealed_knows sealed = note_knows sealed.note
+
+  -- its note is of this clock
+  abbrev pub IsSealedAt : TableId × Setup → Sealed T H P g h → Type 0
+  IsSealedAt clock sealed = note_clock sealed.note ≡ clock
+
+  -- its note knows that its goal is expired
+  abbrev pub KnowsExpired : Sealed T H P g h → Type 0
+  KnowsExpired sealed = number_of sealed.goal ≤ (note_holder sealed.note).floor
+
+  -- the same items in the same room, and the same goal
+  abbrev pub IsSameBucket : Sealed T H P g h → Sealed T H P g h → Type 0
+  IsSameBucket was is = (sealed_bucket is ≡ sealed_bucket was) × (sealed_goal is ≡ sealed_goal was)
+
+  -- one poll of its goal by its note gave this answer
+  abbrev pub IsPolled : Sealed T H P g h → Bool → Sealed T H P g h → Type 0
+  IsPolled was answer is = Polls (sealed_knows was) (tag_of (sealed_goal was)) answer (sealed_knows is)
+
+  -- The same bucket after one poll that said no. Its note remembers what this poll found.
+  abbrev pub SaidNo : Sealed T H P g h → Sealed T H P g h → Type 0
+  SaidNo was is = IsSameBucket was is × IsPolled was false is × SaysNo (sealed_knows was) (tag_of (sealed_goal was)) (sealed_knows is)
+
+  -- The bucket was sealed by a pass, whose view was v before and v' after: it has the goal of an advance, and a note that was taken after that.
+  pub record Seals (copied : P → P) (v : View P) (loose : Loose T g) (sealed : Sealed T H P g h) (v' : View P) : Type 0 where
+    pub between : View P
+    pub bucket : sealed_bucket sealed ≡ loose
+    pub advance : Advances v (number_of (sealed_goal sealed)) between
+    pub noted : Notes copied between v' (sealed_knows sealed)
