@@ -9,11 +9,11 @@ ghost use Rattle.uma_replay.specs.Hall.{IsPlayed, ClosesAll, AreMade};
 ghost use Rattle.uma_replay.specs.Slots.{lives_of, seen_slot};
 ghost use Rattle.uma_replay.specs.ZoneKeg.{IsKegOf};
 
+use crate::Memory;
 use crate::closed_zone::ClosedZone;
 use crate::hall::{Hall, Played};
 use crate::held::Held;
 use crate::lending::take_census;
-use crate::Memory;
 use crate::serial::Serial;
 use crate::serial_zone::SerialZone;
 use listed::Listed;

@@ -10,10 +10,10 @@ ghost use Rattle.uma_replay.specs.Closing.{IsCensusOf, IsCounted, times_by};
 ghost use Rattle.uma_replay.specs.Lending.{is_of, without, live_sum, refilled};
 ghost use Rattle.uma_replay.specs.Slots.{lives_of, seen_slot};
 
+use crate::Memory;
 use crate::count_hooks::CountHooks;
 use crate::counted::Counted;
 use crate::held::Held;
-use crate::Memory;
 use std::alloc::Global;
 use uma_keg::{Census, Keg};
 use uma_life::{Body, Live, Lives, TallySum};

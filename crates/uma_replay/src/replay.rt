@@ -5,9 +5,9 @@ ghost use Rattle.uma_replay.specs.Hall.{HallStands};
 ghost use Rattle.uma_replay.specs.Plays.{Plays};
 ghost use Rattle.uma_replay.specs.Report.{StandsFor};
 
+use crate::Memory;
 use crate::closing::close;
 use crate::hall::Played;
-use crate::Memory;
 use crate::serial::Serial;
 use std::alloc::Global;
 use std::sync::Wait;

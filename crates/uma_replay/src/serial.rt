@@ -3,9 +3,9 @@ ghost use Rattle.trace_text.specs.Limits.{slots};
 ghost use Rattle.trace_text.specs.Valid.{PrimaryFits};
 ghost use Rattle.uma_replay.specs.Serial.{holding};
 
+use crate::Memory;
 use crate::counted::Counted;
 use crate::held::Held;
-use crate::Memory;
 use crate::serial_zone::SerialZone;
 use std::alloc::{AllocError, Global};
 use std::marker::Model;

@@ -7,9 +7,9 @@ ghost use Rattle.uma_replay.specs.Kept.{KeepsLast};
 ghost use Rattle.uma_replay.specs.ZoneKeg.{HasOnlyPrimary};
 ghost use Rattle.zone_stats.specs.LedgerSteps.{HasRoom};
 
+use crate::Memory;
 use crate::count_hooks::CountHooks;
 use crate::counted::Counted;
-use crate::Memory;
 use std::alloc::Global;
 use std::sync::Wait;
 use trace_text::ZoneHead;
