@@ -6,26 +6,26 @@ use Rattle.std.proofs.lemmas.Bool.{cases_eq}
 use Rattle.uma_places.proofs.Slabs.{slab_of, domain_at-in}
 use Rattle.uma_life.specs.declared.stored.Stored.{Stored}
 use Rattle.uma_life.specs.Stored.{stored_no, stored_domain}
-use Rattle.uma_keg.specs.declared.shelf.Shelf.{Shelf}
-use Rattle.uma_keg.specs.declared.shelves.Shelves.{Shelves}
+use Rattle.uma_keg.specs.declared.slab_items.SlabItems.{SlabItems}
+use Rattle.uma_keg.specs.declared.home_items.HomeItems.{HomeItems}
 use Rattle.uma_places.specs.Places.{KegPlaces, place_at, domain_at, Brings}
-use Rattle.uma_keg.specs.ShelfLists.{item_on}
-use Rattle.uma_keg.specs.Shelves.{item_at, has_shelf, shelf_count, places_each}
+use Rattle.uma_keg.specs.HomeLists.{item_on}
+use Rattle.uma_keg.specs.HomeItems.{item_at, has_slab, slab_room, places_each}
 use Rattle.uma_keg.specs.KegLaw.{PlacesLaw, is_used_place, is_free_place}
 
--- each place of the shelf has the item of its number, in this domain
-pub record IsBrought {T : Type 0} {g : _} (first per_slab domain : ℕ) (shelf : Shelf T g) : Type 0 where
-  pub whole : (place : ℕ) → place < per_slab → is_some (item_on place shelf) ≡ true
-  pub numbered : (place : ℕ) (item : Stored T g) → item_on place shelf ≡ Some item → stored_no item ≡ first + place
-  pub domains : (place : ℕ) (item : Stored T g) → item_on place shelf ≡ Some item → stored_domain item ≡ domain
+-- each place of the slab has the item of its number, in this domain
+pub record IsBrought {T : Type 0} {g : _} (first per_slab domain : ℕ) (slab_items : SlabItems T g) : Type 0 where
+  pub whole : (place : ℕ) → place < per_slab → is_some (item_on place slab_items) ≡ true
+  pub numbered : (place : ℕ) (item : Stored T g) → item_on place slab_items ≡ Some item → stored_no item ≡ first + place
+  pub domains : (place : ℕ) (item : Stored T g) → item_on place slab_items ≡ Some item → stored_domain item ≡ domain
 
--- the shelf of a new slab was added
-pub record IsAdded {T : Type 0} {g : _} (old new : Shelves T g) (index : ℕ) (shelf : Shelf T g) : Type 0 where
-  pub items : (n : ℕ) → n / places_each old ≡ index → item_at new n ≡ item_on (n % places_each old) shelf
+-- the items of a new slab were added
+pub record IsAdded {T : Type 0} {g : _} (old new : HomeItems T g) (index : ℕ) (slab_items : SlabItems T g) : Type 0 where
+  pub items : (n : ℕ) → n / places_each old ≡ index → item_at new n ≡ item_on (n % places_each old) slab_items
   pub others : (n : ℕ) → n / places_each old ≢ index → item_at new n ≡ item_at old n
-  pub there : has_shelf new index ≡ true
-  pub shelves : (other : ℕ) → other ≢ index → has_shelf new other ≡ has_shelf old other
-  pub count : shelf_count new ≡ shelf_count old
+  pub there : has_slab new index ≡ true
+  pub home_items : (other : ℕ) → other ≢ index → has_slab new other ≡ has_slab old other
+  pub count : slab_room new ≡ slab_room old
   pub places : places_each new ≡ places_each old
 
 same_some : {m n : ℕ} → Some m ≡ Some n → m ≡ n
@@ -39,30 +39,30 @@ no_place : (places : KegPlaces) (n : ℕ) (o : Option Bool) → place_at places 
 no_place places n None is absent = is
 no_place places n (Some b) is absent = let has = slab_of places n b is in absurd (cc (absent, domain_at-in places (n / places.per_slab) has.slab has.in_keg))
 
-pub PlacesLaw-brought : {T : Type 0} {g : _} (places now : KegPlaces) (zones : List (Option ℕ)) (shelves full : Shelves T g) (index domain : ℕ) (shelf : Shelf T g)
-    → 1 ≤ places.per_slab → PlacesLaw places zones shelves → Brings places domain index now → IsAdded shelves full index shelf → IsBrought (index * places.per_slab) places.per_slab domain shelf → PlacesLaw now zones full
-PlacesLaw-brought places now zones shelves full index domain shelf some law brings added brought = record {
+pub PlacesLaw-brought : {T : Type 0} {g : _} (places now : KegPlaces) (zones : List (Option ℕ)) (home_items full : HomeItems T g) (index domain : ℕ) (slab_items : SlabItems T g)
+    → 1 ≤ places.per_slab → PlacesLaw places zones home_items → Brings places domain index now → IsAdded home_items full index slab_items → IsBrought (index * places.per_slab) places.per_slab domain slab_items → PlacesLaw now zones full
+PlacesLaw-brought places now zones home_items full index domain slab_items some law brings added brought = record {
   per_slab = added.places ∙ law.per_slab ∙ sym brings.per_slab;
   cap = added.count ∙ law.cap ∙ sym brings.cap;
   numbers = rw (brings.per_slab, brings.cap) law.numbers;
   slabs = λ other. elim (cases_eq other index) [
     | inl at ↦ rw at (added.there ∙ sym (ap is_some brings.domain))
-    | inr else ↦ added.shelves other else ∙ law.slabs other ∙ sym (ap is_some (brings.other_slabs other else))
+    | inr else ↦ added.home_items other else ∙ law.slabs other ∙ sym (ap is_some (brings.other_slabs other else))
   ];
   outside = λ n. elim (cases_eq (n / places.per_slab) index) [
     | inl at ↦ law.outside n ∙ ap is_used_place (no_place places n (place_at places n) refl (ap (domain_at places) at ∙ brings.absent)) ∙ sym (ap is_used_place (brings.free n at))
     | inr else ↦ law.outside n ∙ sym (ap is_used_place (brings.other_places n else))
   ];
   home = λ n. elim (cases_eq (n / places.per_slab) index) [
-    | inl at ↦ ap is_some (added.items n (ap (λ p. n / p) law.per_slab ∙ at)) ∙ ap (λ p. is_some (item_on (n % p) shelf)) law.per_slab ∙ brought.whole (n % places.per_slab) (mod-lt n some) ∙ sym (ap is_free_place (brings.free n at))
+    | inl at ↦ ap is_some (added.items n (ap (λ p. n / p) law.per_slab ∙ at)) ∙ ap (λ p. is_some (item_on (n % p) slab_items)) law.per_slab ∙ brought.whole (n % places.per_slab) (mod-lt n some) ∙ sym (ap is_free_place (brings.free n at))
     | inr else ↦ ap is_some (added.others n (λ at. else (ap (λ p. n / p) (sym law.per_slab) ∙ at))) ∙ law.home n ∙ sym (ap is_free_place (brings.other_places n else))
   ];
   numbered = λ n item is. elim (cases_eq (n / places.per_slab) index) [
-    | inl at ↦ brought.numbered (n % places.per_slab) item (ap (λ p. item_on (n % p) shelf) (sym law.per_slab) ∙ sym (added.items n (ap (λ p. n / p) law.per_slab ∙ at)) ∙ is) ∙ number_of n places.per_slab index at
+    | inl at ↦ brought.numbered (n % places.per_slab) item (ap (λ p. item_on (n % p) slab_items) (sym law.per_slab) ∙ sym (added.items n (ap (λ p. n / p) law.per_slab ∙ at)) ∙ is) ∙ number_of n places.per_slab index at
     | inr else ↦ law.numbered n item (sym (added.others n (λ at. else (ap (λ p. n / p) (sym law.per_slab) ∙ at))) ∙ is)
   ];
   domains = λ n d item is has. elim (cases_eq (n / places.per_slab) index) [
-    | inl at ↦ brought.domains (n % places.per_slab) item (ap (λ p. item_on (n % p) shelf) (sym law.per_slab) ∙ sym (added.items n (ap (λ p. n / p) law.per_slab ∙ at)) ∙ is) ∙ same_some (sym brings.domain ∙ ap (domain_at now) (sym at) ∙ ap (λ p. domain_at now (n / p)) (sym brings.per_slab) ∙ has)
+    | inl at ↦ brought.domains (n % places.per_slab) item (ap (λ p. item_on (n % p) slab_items) (sym law.per_slab) ∙ sym (added.items n (ap (λ p. n / p) law.per_slab ∙ at)) ∙ is) ∙ same_some (sym brings.domain ∙ ap (domain_at now) (sym at) ∙ ap (λ p. domain_at now (n / p)) (sym brings.per_slab) ∙ has)
     | inr else ↦ law.domains n d item (sym (added.others n (λ at. else (ap (λ p. n / p) (sym law.per_slab) ∙ at))) ∙ is) (sym (brings.other_slabs (n / places.per_slab) else) ∙ ap (λ p. domain_at now (n / p)) (sym brings.per_slab) ∙ has)
   ];
 }

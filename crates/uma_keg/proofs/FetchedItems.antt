@@ -269,6 +269,6 @@ still_refused old mid new hooks ask (Refused (Init code)) same is = elim is [
 ]
 still_refused old mid new hooks ask (Refused (Ctor code)) same is = is
 still_refused old mid new hooks ask Memory same is = elim is [
-  | inl worn ↦ inl (worn.0, moved old mid new worn.1 same)
+  | inl used_up ↦ inl (used_up.0, moved old mid new used_up.1 same)
   | inr slab ↦ inr (slab.0, still_at_slab old mid new ask.domain Memory same slab.1)
 ]

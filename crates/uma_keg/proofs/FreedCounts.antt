@@ -7,7 +7,7 @@ use Rattle.std.proofs.lemmas.Nat.{div_below, le-div, div-mul-add, div-add-mod'}
 use Rattle.std.proofs.Math.Nat.{mod-lt}
 use Rattle.uma_keg.specs.KegLaw.{is_free_place}
 use Rattle.uma_places.specs.Places.{KegPlaces, place_at, domain_at, free_count, IsSound}
-use Rattle.uma_places.specs.Dropping.{IsWhollyFree, IsWorn, HasNoneWhollyFree, Drops}
+use Rattle.uma_places.specs.Dropping.{IsWhollyFree, IsUsedUp, HasNoneWhollyFree, Drops}
 use Rattle.uma_keg.specs.Tallies.{sum_below}
 use Rattle.uma_keg.specs.FreeSlabs.{count_below, free_places, is_wholly_free, wholly_free_count, slabs_to_free}
 
@@ -185,21 +185,21 @@ pub record Stops (old new : KegPlaces) (reserve count : ℕ) : Type 0 where
   pub free_fewer : free_count new + count * old.per_slab ≡ free_count old
   pub whole_fewer : wholly_free_count old ≡ wholly_free_count new + count
   pub kept : 0 < count → reserve ≤ free_count new
-  pub worn : IsWorn old → count ≡ 0
-  pub no_more : IsWorn new ⊎ (HasNoneWhollyFree new ⊎ (free_count new < reserve + new.per_slab))
+  pub used_up : IsUsedUp old → count ≡ 0
+  pub no_more : IsUsedUp new ⊎ (HasNoneWhollyFree new ⊎ (free_count new < reserve + new.per_slab))
 
 pub freed_count : (old new : KegPlaces) (reserve count : ℕ) → Stops old new reserve count → count ≡ slabs_to_free old reserve
 unfolding slabs_to_free
 freed_count old new reserve count stops = elim (cases_Bool (nat_lt (2 ^ 40 - old.cap) old.made)) [
-  | inl is ↦ rw is (stops.worn (is_below (2 ^ 40 - old.cap) old.made is))
-  | inr not_worn ↦ rw not_worn
+  | inl is ↦ rw is (stops.used_up (is_below (2 ^ 40 - old.cap) old.made is))
+  | inr not_used_up ↦ rw not_used_up
       (least old.per_slab (free_count old) (free_count new) reserve (wholly_free_count old) (wholly_free_count new) count (record {
         some = stops.some;
         free_fewer = stops.free_fewer;
         whole_fewer = stops.whole_fewer;
         kept = stops.kept;
         stops = elim stops.no_more [
-          | inl worn ↦ absurd (not_below (2 ^ 40 - old.cap) old.made not_worn (omega (arith, worn, stops.cap, stops.made)))
+          | inl used_up ↦ absurd (not_below (2 ^ 40 - old.cap) old.made not_used_up (omega (arith, used_up, stops.cap, stops.made)))
           | inr either ↦ elim either [
             | inl none ↦ inl (none_whole new (omega (arith, stops.some, stops.per_slab)) none)
             | inr short ↦ inr (omega (arith, short, stops.per_slab))

@@ -21,6 +21,6 @@ given_up : (slabs_to_free (three_slabs 3) 0 ≡ 2) × (slabs_to_free (three_slab
 unfolding three_slabs slabs_to_free wholly_free_count free_places free_count sum_below place_at domain_at
 given_up = (refl, refl, refl, refl, refl, refl)
 
-worn : (slabs_to_free (three_slabs 1099511627772) 0 ≡ 2) × (slabs_to_free (three_slabs 1099511627773) 0 ≡ 0)
+used_up : (slabs_to_free (three_slabs 1099511627772) 0 ≡ 2) × (slabs_to_free (three_slabs 1099511627773) 0 ≡ 0)
 unfolding three_slabs slabs_to_free wholly_free_count free_places free_count sum_below place_at domain_at
-worn = (refl, refl)
+used_up = (refl, refl)

@@ -6,9 +6,9 @@ use Rattle.std.proofs.lemmas.List.{get_or-set_same, get_or-set_other, get_or_pas
 use Rattle.std.proofs.lemmas.Option.{get_or_from_slice_get}
 use Rattle.uma_life.specs.declared.stored.Stored.{Stored}
 use Rattle.uma_life.specs.Stored.{stored_no, stored_domain}
-use Rattle.uma_keg.specs.declared.shelves.Shelves.{Shelves}
+use Rattle.uma_keg.specs.declared.home_items.HomeItems.{HomeItems}
 use Rattle.uma_places.specs.Places.{KegPlaces, place_at, domain_at, IsOut, Gives}
-use Rattle.uma_keg.specs.Shelves.{item_at, has_shelf, shelf_count, places_each}
+use Rattle.uma_keg.specs.HomeItems.{item_at, has_slab, slab_room, places_each}
 use Rattle.uma_keg.specs.Outs.{out_of}
 use Rattle.uma_keg.specs.KegLaw.{PlacesLaw, ZonesLaw, zone_at, is_used_place, is_free_place}
 use Rattle.uma_keg.proofs.Outs.{out_accepted, tick_same, tick_other}
@@ -24,18 +24,18 @@ not_some None is = refl
 not_some (Some x) is = cc
 
 -- the place of a number that is outside is used
-pub out_place : {T : Type 0} {g : _} {places : KegPlaces} {zones : List (Option ℕ)} {shelves : Shelves T g} → PlacesLaw places zones shelves → (n zone : ℕ) → slice_get zones n ≡ Some (Some zone) → IsOut places n
+pub out_place : {T : Type 0} {g : _} {places : KegPlaces} {zones : List (Option ℕ)} {home_items : HomeItems T g} → PlacesLaw places zones home_items → (n zone : ℕ) → slice_get zones n ≡ Some (Some zone) → IsOut places n
 out_place {places = places} {zones = zones} law n zone is =
     used (place_at places n) (sym (law.outside n) ∙ ap is_some (get_or_from_slice_get zones n (Some zone) None is))
 
 -- its item is not at home
-pub out_item : {T : Type 0} {g : _} {places : KegPlaces} {zones : List (Option ℕ)} {shelves : Shelves T g} → PlacesLaw places zones shelves → (n : ℕ) → IsOut places n → item_at shelves n ≡ None
-out_item {shelves = shelves} law n out = not_some (item_at shelves n) (law.home n ∙ ap is_free_place out)
+pub out_item : {T : Type 0} {g : _} {places : KegPlaces} {zones : List (Option ℕ)} {home_items : HomeItems T g} → PlacesLaw places zones home_items → (n : ℕ) → IsOut places n → item_at home_items n ≡ None
+out_item {home_items = home_items} law n out = not_some (item_at home_items n) (law.home n ∙ ap is_free_place out)
 
--- and its slab has a shelf
-pub out_shelf : {T : Type 0} {g : _} {places : KegPlaces} {zones : List (Option ℕ)} {shelves : Shelves T g} → PlacesLaw places zones shelves → (n : ℕ) → IsOut places n → has_shelf shelves (n / places_each shelves) ≡ true
+-- and its slab has its list of items
+pub out_slab : {T : Type 0} {g : _} {places : KegPlaces} {zones : List (Option ℕ)} {home_items : HomeItems T g} → PlacesLaw places zones home_items → (n : ℕ) → IsOut places n → has_slab home_items (n / places_each home_items) ≡ true
 unfolding domain_at
-out_shelf {places = places} {shelves = shelves} law n out =
+out_slab {places = places} {home_items = home_items} law n out =
     let has = slab_of places n false out in
     rw law.per_slab (law.slabs (n / places.per_slab) ∙ ap (λ s. is_some (option_map (λ slab. slab.domain) s)) has.in_keg)
 
@@ -45,10 +45,10 @@ came_home zones n = elim (cases_lt n (length zones)) [
   | inr past ↦ get_or_past (set zones n None) n None (rw (length-set zones n None) past)
 ]
 
-pub PlacesLaw-given : {T : Type 0} {g : _} (places now : KegPlaces) (zones home : List (Option ℕ)) (shelves full : Shelves T g) (n : ℕ) (item : Stored T g) → PlacesLaw places zones shelves → Gives places n now → home ≡ set zones n None
-    → item_at full n ≡ Some item → ((m : ℕ) → m ≢ n → item_at full m ≡ item_at shelves m) → ((index : ℕ) → has_shelf full index ≡ has_shelf shelves index) → shelf_count full ≡ shelf_count shelves → places_each full ≡ places_each shelves
+pub PlacesLaw-given : {T : Type 0} {g : _} (places now : KegPlaces) (zones home : List (Option ℕ)) (home_items full : HomeItems T g) (n : ℕ) (item : Stored T g) → PlacesLaw places zones home_items → Gives places n now → home ≡ set zones n None
+    → item_at full n ≡ Some item → ((m : ℕ) → m ≢ n → item_at full m ≡ item_at home_items m) → ((index : ℕ) → has_slab full index ≡ has_slab home_items index) → slab_room full ≡ slab_room home_items → places_each full ≡ places_each home_items
     → stored_no item ≡ n → domain_at places (n / places.per_slab) ≡ Some (stored_domain item) → PlacesLaw now home full
-PlacesLaw-given places now zones home shelves full n item law gives is put kept same count each number domain = record {
+PlacesLaw-given places now zones home home_items full n item law gives is put kept same count each number domain = record {
   per_slab = each ∙ law.per_slab ∙ sym gives.slabs.per_slab;
   cap = count ∙ law.cap ∙ sym gives.slabs.cap;
   numbers = rw (gives.slabs.per_slab, gives.slabs.cap) (ap length is ∙ length-set zones n None ∙ law.numbers);

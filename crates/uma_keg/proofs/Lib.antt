@@ -1,5 +1,5 @@
 mod Outs
-mod ShelfItems
+mod HomePlaces
 mod RightsOut
 mod NewKeg
 mod GivenItem

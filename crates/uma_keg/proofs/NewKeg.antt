@@ -2,9 +2,9 @@
 use Rattle.std.proofs.Common.{◌≡◌, ◌*◌, ℕ, false, List, [], ◌∷◌, Option, Some, None, is_some, length, replicate, refl, inl, inr, arith, sym, ap, ◌∙◌}
 use Rattle.std.proofs.lemmas.Bool.{cases_lt}
 use Rattle.std.proofs.lemmas.List.{get_or-replicate, get_or_past, length-replicate}
-use Rattle.uma_keg.specs.declared.shelves.Shelves.{Shelves}
+use Rattle.uma_keg.specs.declared.home_items.HomeItems.{HomeItems}
 use Rattle.uma_places.specs.Places.{KegPlaces, IsNew}
-use Rattle.uma_keg.specs.Shelves.{item_at, has_shelf, shelf_count, places_each}
+use Rattle.uma_keg.specs.HomeItems.{item_at, has_slab, slab_room, places_each}
 use Rattle.uma_keg.specs.KegLaw.{PlacesLaw, ZonesLaw, zone_at, is_used_place, is_free_place}
 use Rattle.uma_keg.proofs.Outs.{out_none}
 
@@ -14,9 +14,9 @@ nowhere numbers n = elim (cases_lt n numbers) [
   | inr past ↦ get_or_past (replicate numbers None) n None (rw (length-replicate {A = Option ℕ} numbers None) past)
 ]
 
-pub PlacesLaw-new : {T : Type 0} {g : _} (p cap : ℕ) (places : KegPlaces) (zones : List (Option ℕ)) (shelves : Shelves T g) → IsNew p cap places → zones ≡ replicate (places.cap * places.per_slab) None
-    → shelf_count shelves ≡ places.cap → places_each shelves ≡ places.per_slab → ((index : ℕ) → has_shelf shelves index ≡ false) → ((n : ℕ) → item_at shelves n ≡ None) → PlacesLaw places zones shelves
-PlacesLaw-new p cap places zones shelves new out count each none gone = record {
+pub PlacesLaw-new : {T : Type 0} {g : _} (p cap : ℕ) (places : KegPlaces) (zones : List (Option ℕ)) (home_items : HomeItems T g) → IsNew p cap places → zones ≡ replicate (places.cap * places.per_slab) None
+    → slab_room home_items ≡ places.cap → places_each home_items ≡ places.per_slab → ((index : ℕ) → has_slab home_items index ≡ false) → ((n : ℕ) → item_at home_items n ≡ None) → PlacesLaw places zones home_items
+PlacesLaw-new p cap places zones home_items new out count each none gone = record {
   per_slab = each;
   cap = count;
   numbers = ap length out ∙ length-replicate {A = Option ℕ} (places.cap * places.per_slab) None;

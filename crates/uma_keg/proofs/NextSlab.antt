@@ -8,12 +8,12 @@ use Rattle.std.proofs.lemmas.List.Sums.{sum_by-cons}
 use Rattle.std.proofs.lemmas.Nat.{div-add-mod'}
 use Rattle.uma_life.specs.declared.stored.Stored.{Stored}
 use Rattle.uma_life.specs.Life.{Life}
-use Rattle.uma_keg.specs.declared.shelf.Shelf.{Shelf}
-use Rattle.uma_keg.specs.declared.shelves.Shelves.{Shelves}
-use Rattle.uma_keg.specs.Shelf.{shelf_items}
+use Rattle.uma_keg.specs.declared.slab_items.SlabItems.{SlabItems}
+use Rattle.uma_keg.specs.declared.home_items.HomeItems.{HomeItems}
+use Rattle.uma_keg.specs.SlabItems.{places_of_slab}
 use Rattle.uma_places.specs.Places.{KegPlaces, Slab, slab_at, domain_at, slab_count, Brings}
-use Rattle.uma_keg.specs.ShelfLists.{item_on}
-use Rattle.uma_keg.specs.Shelves.{item_at, has_shelf, shelf_count, places_each}
+use Rattle.uma_keg.specs.HomeLists.{item_on}
+use Rattle.uma_keg.specs.HomeItems.{item_at, has_slab, slab_room, places_each}
 use Rattle.uma_keg.specs.KegLaw.{PlacesLaw}
 use Rattle.uma_keg.specs.NewItems.{IsNewItem, AreNewItems}
 use Rattle.uma_keg.specs.BringSlab.{IsNextIndex}
@@ -24,7 +24,7 @@ none_of : {X : Type 0} (o : Option X) → is_some o ≡ false → o ≡ None
 none_of None is = refl
 none_of (Some x) is = absurd cc
 
--- what was found on a shelf
+-- what was found in a slab
 of_some : {X : Type 0} (P : X → Type 0) (o : Option X) (x : X) → IsSomeAnd o P → o ≡ Some x → P x
 of_some P None x holds is = absurd holds
 of_some P (Some y) x holds is = let same : y ≡ x = cc in subst P same holds
@@ -33,17 +33,17 @@ some_there : {X : Type 0} (P : X → Type 0) (o : Option X) → IsSomeAnd o P �
 some_there P None holds = absurd holds
 some_there P (Some x) holds = refl
 
-new_on : {T : Type 0} {g : _} (first per_slab domain place : ℕ) (shelf : Shelf T g) (item : Stored T g) → length (shelf_items shelf) ≡ per_slab → AreNewItems first domain (shelf_items shelf) → item_on place shelf ≡ Some item → IsNewItem (first + place) domain item
-new_on first per_slab domain place shelf item len new is = elim (cases_lt place per_slab) [
-  | inl within ↦ of_some (IsNewItem (first + place) domain) (item_on place shelf) item (new.each place (omega (arith, len))) is
-  | inr past ↦ absurd (cc (get_or_past (shelf_items shelf) place None (omega (arith, len)), is))
+new_on : {T : Type 0} {g : _} (first per_slab domain place : ℕ) (slab_items : SlabItems T g) (item : Stored T g) → length (places_of_slab slab_items) ≡ per_slab → AreNewItems first domain (places_of_slab slab_items) → item_on place slab_items ≡ Some item → IsNewItem (first + place) domain item
+new_on first per_slab domain place slab_items item len new is = elim (cases_lt place per_slab) [
+  | inl within ↦ of_some (IsNewItem (first + place) domain) (item_on place slab_items) item (new.each place (omega (arith, len))) is
+  | inr past ↦ absurd (cc (get_or_past (places_of_slab slab_items) place None (omega (arith, len)), is))
 ]
 
-pub brought_items : {T : Type 0} {g : _} (first per_slab domain : ℕ) (shelf : Shelf T g) → length (shelf_items shelf) ≡ per_slab → AreNewItems first domain (shelf_items shelf) → IsBrought first per_slab domain shelf
-brought_items first per_slab domain shelf len new = record {
-  whole = λ place below. some_there (IsNewItem (first + place) domain) (item_on place shelf) (new.each place (omega (arith, len)));
-  numbered = λ place item is. ap (λ (life : Life). life.no) (new_on first per_slab domain place shelf item len new is).life;
-  domains = λ place item is. (new_on first per_slab domain place shelf item len new is).in_domain;
+pub brought_items : {T : Type 0} {g : _} (first per_slab domain : ℕ) (slab_items : SlabItems T g) → length (places_of_slab slab_items) ≡ per_slab → AreNewItems first domain (places_of_slab slab_items) → IsBrought first per_slab domain slab_items
+brought_items first per_slab domain slab_items len new = record {
+  whole = λ place below. some_there (IsNewItem (first + place) domain) (item_on place slab_items) (new.each place (omega (arith, len)));
+  numbered = λ place item is. ap (λ (life : Life). life.no) (new_on first per_slab domain place slab_items item len new is).life;
+  domains = λ place item is. (new_on first per_slab domain place slab_items item len new is).in_domain;
 }
 
 no_some : false ≡ true → ⊥
@@ -63,15 +63,15 @@ in_slab : (places : KegPlaces) (i : ℕ) (o : Option Slab) → slab_at places i 
 in_slab places i None absent is = absurd (cc (domain_at-absent places i absent, is))
 in_slab places i (Some s) there is = rw there refl
 
--- where fewer slabs are in than may be, not each index has a shelf
-pub some_gap : {T : Type 0} {g : _} (places : KegPlaces) (zones : _) (shelves : Shelves T g) → PlacesLaw places zones shelves → slab_count places < places.cap → ((index : ℕ) → index < shelf_count shelves → has_shelf shelves index ≡ true) → ⊥
+-- where fewer slabs are in than may be, not each index has its list of items
+pub some_gap : {T : Type 0} {g : _} (places : KegPlaces) (zones : _) (home_items : HomeItems T g) → PlacesLaw places zones home_items → slab_count places < places.cap → ((index : ℕ) → index < slab_room home_items → has_slab home_items index ≡ true) → ⊥
 unfolding slab_count
-some_gap places zones shelves law room full =
+some_gap places zones home_items law room full =
     let counted = first_counted places.slabs places.cap (λ i below. in_slab places i (slab_at places i) refl (sym (law.slabs i) ∙ full i (omega (arith, law.cap)))) in
     omega (arith, counted)
 
-pub next_index : {T : Type 0} {g : _} (places : KegPlaces) (zones : _) (shelves : Shelves T g) (index : ℕ) → PlacesLaw places zones shelves → index < shelf_count shelves → has_shelf shelves index ≡ false → ((lower : ℕ) → lower < index → has_shelf shelves lower ≡ true) → IsNextIndex places index
-next_index places zones shelves index law within gap least = record {
+pub next_index : {T : Type 0} {g : _} (places : KegPlaces) (zones : _) (home_items : HomeItems T g) (index : ℕ) → PlacesLaw places zones home_items → index < slab_room home_items → has_slab home_items index ≡ false → ((lower : ℕ) → lower < index → has_slab home_items lower ≡ true) → IsNextIndex places index
+next_index places zones home_items index law within gap least = record {
   within = omega (arith, law.cap);
   absent = none_of (domain_at places index) (sym (law.slabs index) ∙ gap);
   least = λ lower below. sym (law.slabs lower) ∙ least lower below;
@@ -101,9 +101,9 @@ pub of_numbers : (Holds : ℕ → Type 0) (p index : ℕ) → 1 ≤ p → ((plac
 of_numbers Holds p index some each n at = subst Holds (number_in n p index at) (each (n % p) (mod-lt n some))
 
 -- the new items are at home
-pub new_at_home : {T : Type 0} {g : _} (p index domain : ℕ) (old new : Shelves T g) (shelf : Shelf T g) → 1 ≤ p → places_each old ≡ p → IsAdded old new index shelf → length (shelf_items shelf) ≡ p → AreNewItems (index * p) domain (shelf_items shelf) → (n : ℕ) → n / p ≡ index → IsSomeAnd (item_at new n) (IsNewItem n domain)
-new_at_home {T} {g} p index domain old new shelf some each added len are n at =
-    let there : item_at new n ≡ item_on (n % p) shelf = added.items n (rw each at) ∙ ap (λ q. item_on (n % q) shelf) each in
-    let here : IsSomeAnd (item_on (n % p) shelf) (IsNewItem (index * p + n % p) domain) = are.each (n % p) (omega (arith, len, mod-lt n some)) in
-    let At : ℕ → Type 0 = λ m. IsSomeAnd (item_on (n % p) shelf) (IsNewItem m domain) in
+pub new_at_home : {T : Type 0} {g : _} (p index domain : ℕ) (old new : HomeItems T g) (slab_items : SlabItems T g) → 1 ≤ p → places_each old ≡ p → IsAdded old new index slab_items → length (places_of_slab slab_items) ≡ p → AreNewItems (index * p) domain (places_of_slab slab_items) → (n : ℕ) → n / p ≡ index → IsSomeAnd (item_at new n) (IsNewItem n domain)
+new_at_home {T} {g} p index domain old new slab_items some each added len are n at =
+    let there : item_at new n ≡ item_on (n % p) slab_items = added.items n (rw each at) ∙ ap (λ q. item_on (n % q) slab_items) each in
+    let here : IsSomeAnd (item_on (n % p) slab_items) (IsNewItem (index * p + n % p) domain) = are.each (n % p) (omega (arith, len, mod-lt n some)) in
+    let At : ℕ → Type 0 = λ m. IsSomeAnd (item_on (n % p) slab_items) (IsNewItem m domain) in
     rw there (subst At (number_in n p index at) here)

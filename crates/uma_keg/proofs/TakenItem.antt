@@ -5,7 +5,7 @@ use Rattle.std.proofs.lemmas.List.{get_or-set_same, get_or-set_other, length-set
 use Rattle.std.proofs.lemmas.Option.{slice_get-get_or, slice_get_within, get_or_from_slice_get}
 use Rattle.deed_book.specs.BookLaw.{IsHome}
 use Rattle.uma_life.specs.declared.stored.Stored.{Stored}
-use Rattle.uma_keg.specs.declared.shelves.Shelves.{Shelves}
+use Rattle.uma_keg.specs.declared.home_items.HomeItems.{HomeItems}
 use Rattle.uma_life.specs.declared.cached.Cached.{Cached}
 use Rattle.uma_life.specs.Stored.{stored_body, stored_domain}
 use Rattle.uma_life.specs.Cached.{cached_body, cached_no, cached_zone, cached_domain, cached_table}
@@ -15,7 +15,7 @@ use Rattle.uma_keg.specs.Keg.{places_in, zones_in, table_in, stored_in}
 use Rattle.uma_places.specs.Places.{KegPlaces, domain_at, IsFree, Gives, CountsOneOut}
 use Rattle.uma_places.specs.Taking.{Takes}
 use Rattle.uma_keg.specs.TakeItem.{TakesItem, SamePlaces}
-use Rattle.uma_keg.specs.Shelves.{item_at, has_shelf, shelf_count, places_each}
+use Rattle.uma_keg.specs.HomeItems.{item_at, has_slab, slab_room, places_each}
 use Rattle.uma_keg.specs.Outs.{out_of}
 use Rattle.uma_keg.specs.KegLaw.{PlacesLaw, ZonesLaw, zone_at, is_used_place, is_free_place}
 use Rattle.uma_keg.proofs.Outs.{out_issued, tick_same, tick_other}
@@ -26,7 +26,7 @@ no_zone None is = refl
 no_zone (Some zone) is = absurd cc
 
 -- the number of a free place is at home, and so is its item
-pub free_home : {T : Type 0} {g : _} {places : KegPlaces} {zones : List (Option ℕ)} {shelves : Shelves T g} → PlacesLaw places zones shelves → (n : ℕ) → n < places.cap * places.per_slab → IsFree places n → IsHome zones n
+pub free_home : {T : Type 0} {g : _} {places : KegPlaces} {zones : List (Option ℕ)} {home_items : HomeItems T g} → PlacesLaw places zones home_items → (n : ℕ) → n < places.cap * places.per_slab → IsFree places n → IsHome zones n
 free_home {places = places} {zones = zones} law n below free =
     let within : n < length zones = omega (arith, law.numbers) in
     slice_get-get_or zones n None within ∙ ap Some (no_zone (zone_at zones n) (law.outside n ∙ ap is_used_place free))
@@ -35,12 +35,12 @@ there : {X : Type 0} (o : Option X) → is_some o ≡ true → IsSome o
 there None is = absurd cc
 there (Some x) is = refl
 
-pub free_item : {T : Type 0} {g : _} {places : KegPlaces} {zones : List (Option ℕ)} {shelves : Shelves T g} → PlacesLaw places zones shelves → (n : ℕ) → IsFree places n → IsSome (item_at shelves n)
-free_item {shelves = shelves} law n free = there (item_at shelves n) (law.home n ∙ ap is_free_place free)
+pub free_item : {T : Type 0} {g : _} {places : KegPlaces} {zones : List (Option ℕ)} {home_items : HomeItems T g} → PlacesLaw places zones home_items → (n : ℕ) → IsFree places n → IsSome (item_at home_items n)
+free_item {home_items = home_items} law n free = there (item_at home_items n) (law.home n ∙ ap is_free_place free)
 
-pub PlacesLaw-taken : {T : Type 0} {g : _} (places now : KegPlaces) (zones away : List (Option ℕ)) (shelves left : Shelves T g) (n zone : ℕ) → PlacesLaw places zones shelves → Takes places n now → n < places.cap * places.per_slab → away ≡ set zones n (Some zone)
-    → item_at left n ≡ None → ((m : ℕ) → m ≢ n → item_at left m ≡ item_at shelves m) → ((index : ℕ) → has_shelf left index ≡ has_shelf shelves index) → shelf_count left ≡ shelf_count shelves → places_each left ≡ places_each shelves → PlacesLaw now away left
-PlacesLaw-taken places now zones away shelves left n zone law takes below is gone kept same count each =
+pub PlacesLaw-taken : {T : Type 0} {g : _} (places now : KegPlaces) (zones away : List (Option ℕ)) (home_items left : HomeItems T g) (n zone : ℕ) → PlacesLaw places zones home_items → Takes places n now → n < places.cap * places.per_slab → away ≡ set zones n (Some zone)
+    → item_at left n ≡ None → ((m : ℕ) → m ≢ n → item_at left m ≡ item_at home_items m) → ((index : ℕ) → has_slab left index ≡ has_slab home_items index) → slab_room left ≡ slab_room home_items → places_each left ≡ places_each home_items → PlacesLaw now away left
+PlacesLaw-taken places now zones away home_items left n zone law takes below is gone kept same count each =
     let within : n < length zones = omega (arith, law.numbers) in
     record {
       per_slab = each ∙ law.per_slab ∙ sym takes.slabs.per_slab;
@@ -96,12 +96,12 @@ set_back {X} (y ∷ xs) zero x d within is = ap (λ (z : X). z ∷ xs) (sym is)
 set_back {X} (y ∷ xs) (suc n) x d within is = ap (λ (rest : List X). y ∷ rest) (set_back xs n x d (omega arith) is)
 
 -- the item of a free place is of its slab's domain
-domain_found : {T : Type 0} {g : _} (places : KegPlaces) (zones : List (Option ℕ)) (shelves : Shelves T g) (n : ℕ) (item : Stored T g) (o : Option ℕ) → PlacesLaw places zones shelves → item_at shelves n ≡ Some item → domain_at places (n / places.per_slab) ≡ o → is_some o ≡ true → domain_at places (n / places.per_slab) ≡ Some (stored_domain item)
-domain_found places zones shelves n item None law stands has is = absurd cc
-domain_found places zones shelves n item (Some d) law stands has is = has ∙ ap Some (sym (law.domains n d item stands has))
+domain_found : {T : Type 0} {g : _} (places : KegPlaces) (zones : List (Option ℕ)) (home_items : HomeItems T g) (n : ℕ) (item : Stored T g) (o : Option ℕ) → PlacesLaw places zones home_items → item_at home_items n ≡ Some item → domain_at places (n / places.per_slab) ≡ o → is_some o ≡ true → domain_at places (n / places.per_slab) ≡ Some (stored_domain item)
+domain_found places zones home_items n item None law stands has is = absurd cc
+domain_found places zones home_items n item (Some d) law stands has is = has ∙ ap Some (sym (law.domains n d item stands has))
 
-pub free_domain : {T : Type 0} {g : _} (places : KegPlaces) (zones : List (Option ℕ)) (shelves : Shelves T g) (n : ℕ) (item : Stored T g) → PlacesLaw places zones shelves → IsFree places n → item_at shelves n ≡ Some item → domain_at places (n / places.per_slab) ≡ Some (stored_domain item)
-free_domain places zones shelves n item law free stands = domain_found places zones shelves n item (domain_at places (n / places.per_slab)) law stands refl (IsIn-place_at places n (rw free refl))
+pub free_domain : {T : Type 0} {g : _} (places : KegPlaces) (zones : List (Option ℕ)) (home_items : HomeItems T g) (n : ℕ) (item : Stored T g) → PlacesLaw places zones home_items → IsFree places n → item_at home_items n ≡ Some item → domain_at places (n / places.per_slab) ≡ Some (stored_domain item)
+free_domain places zones home_items n item law free stands = domain_found places zones home_items n item (domain_at places (n / places.per_slab)) law stands refl (IsIn-place_at places n (rw free refl))
 
 -- a number that was taken and given back: each place is as before
 pub same_again : (places mid now : KegPlaces) (n : ℕ) → Takes places n mid → CountsOneOut places mid → Gives mid n now → CountsOneOut now mid → SamePlaces places now
@@ -127,7 +127,7 @@ zones_again zones away home n zone is taken back =
     back ∙ ap (λ zs. set zs n None) taken ∙ set_back zones n (Some zone) None (slice_get_within zones n None is) (get_or_from_slice_get zones n None None is)
 
 -- the items at home are as they were
-pub items_again : {T : Type 0} {g : _} (old mid new : Shelves T g) (n : ℕ) (item : Stored T g) → item_at old n ≡ Some item → ((m : ℕ) → m ≢ n → item_at mid m ≡ item_at old m) → item_at new n ≡ Some item → ((m : ℕ) → m ≢ n → item_at new m ≡ item_at mid m) → (m : ℕ) → item_at new m ≡ item_at old m
+pub items_again : {T : Type 0} {g : _} (old mid new : HomeItems T g) (n : ℕ) (item : Stored T g) → item_at old n ≡ Some item → ((m : ℕ) → m ≢ n → item_at mid m ≡ item_at old m) → item_at new n ≡ Some item → ((m : ℕ) → m ≢ n → item_at new m ≡ item_at mid m) → (m : ℕ) → item_at new m ≡ item_at old m
 items_again old mid new n item was taken put back m = elim (cases_eq m n) [
   | inl at ↦ rw at (put ∙ sym was)
   | inr other ↦ back m other ∙ taken m other

@@ -2,7 +2,7 @@
 use Rattle.std.proofs.Common.{◌≡◌, ◌<◌, ◌+◌, ◌*◌, ◌/◌, ℕ, zero, suc, Bool, true, false, not, cond, List, [], ◌∷◌, Option, Some, None, is_some, length, get_or, sum_by, count_by, refl, arith, sym, ap, ◌∙◌}
 use Rattle.std.proofs.lemmas.List.Sums.{sum_by-cons}
 use Rattle.std.proofs.lemmas.Option.{slice_get-get_or}
-use Rattle.uma_keg.specs.declared.shelves.Shelves.{Shelves}
+use Rattle.uma_keg.specs.declared.home_items.HomeItems.{HomeItems}
 use Rattle.uma_places.specs.Places.{KegPlaces, Slab, slab_at, place_at, places_by, out_count}
 use Rattle.uma_keg.specs.KegLaw.{PlacesLaw, is_used_place}
 use Rattle.uma_keg.specs.Tallies.{sum_below}
@@ -81,8 +81,8 @@ out_by_places k even =
     ∙ ap (sum_below (λ i. places_by not (get_or k.slabs i None))) (sym even.indices)
     ∙ sym (sum_listed (places_by not) None k.slabs)
 
-pub out_by_book : {T : Type 0} {g : _} (places : KegPlaces) (zones : List (Option ℕ)) (shelves : Shelves T g) → PlacesLaw places zones shelves → AreEven places → count_by is_some zones ≡ out_count places
-out_by_book places zones shelves law even =
+pub out_by_book : {T : Type 0} {g : _} (places : KegPlaces) (zones : List (Option ℕ)) (home_items : HomeItems T g) → PlacesLaw places zones home_items → AreEven places → count_by is_some zones ≡ out_count places
+out_by_book places zones home_items law even =
     sum_listed (λ (o : Option ℕ). cond (is_some o) 1 0) None zones
     ∙ sum_same (λ n. cond (is_some (get_or zones n None)) 1 0) (used_at places) (length zones) (λ n below. ap (λ (b : Bool). cond b 1 0) (law.outside n))
     ∙ ap (sum_below (used_at places)) law.numbers

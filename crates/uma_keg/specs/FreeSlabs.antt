@@ -5,7 +5,7 @@ use Rattle.uma_life.specs.Hook.{Hook}
 use Rattle.uma_life.specs.Sum.{sum_of}
 use Rattle.uma_keg.specs.declared.keg.Keg.{Keg}
 use Rattle.uma_places.specs.Places.{KegPlaces, place_at, domain_at, slab_count, free_count, out_count, CountsOneSlab}
-use Rattle.uma_places.specs.Dropping.{IsWhollyFree, IsWorn, HasNoneWhollyFree, Drops}
+use Rattle.uma_places.specs.Dropping.{IsWhollyFree, IsUsedUp, HasNoneWhollyFree, Drops}
 use Rattle.uma_keg.specs.KegLaw.{is_free_place}
 use Rattle.uma_keg.specs.Tallies.{ended_times, sum_below}
 use Rattle.uma_keg.specs.Ended.{IsEndedAt}
@@ -58,7 +58,7 @@ pub record FreesSlabs {T K : Type 0} {g : _} {h : _} (old : Keg T K g h) (count 
 
 -- Why no further slab is given up: too many were ever brought in, or none is wholly free, or one more would leave fewer free items than the reserve.
 abbrev pub GivesNoMore : {T K : Type 0} {g : _} {h : _} → Keg T K g h → Type 0
-GivesNoMore keg = IsWorn (places_in keg) ⊎ HasNoneWhollyFree (places_in keg) ⊎ (free_count (places_in keg) < reserve_in keg + (places_in keg).per_slab)
+GivesNoMore keg = IsUsedUp (places_in keg) ⊎ HasNoneWhollyFree (places_in keg) ⊎ (free_count (places_in keg) < reserve_in keg + (places_in keg).per_slab)
 
 -- The wholly free slab of greatest index was given up. Its items were ended, and each other item is where it was.
 pub record FreesSlab {T K : Type 0} {g : _} {h : _} (old : Keg T K g h) (index : ℕ) (new : Keg T K g h) : Type 0 where

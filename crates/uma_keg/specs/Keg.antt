@@ -9,7 +9,7 @@ use Rattle.uma_life.specs.declared.stored.Stored.{Stored}
 use Rattle.uma_life.specs.declared.tally_sum.TallySum.{TallySum}
 use Rattle.uma_keg.specs.declared.keg.Keg.{Keg}
 use Rattle.uma_places.specs.Places.{KegPlaces}
-use Rattle.uma_keg.specs.Shelves.{item_at}
+use Rattle.uma_keg.specs.HomeItems.{item_at}
 use Rattle.uma_keg.specs.Outs.{out_of}
 use Rattle.uma_keg.specs.Tallies.{home_times, sum_below}
 use Rattle.uma_life.specs.Hook.{Hook}
@@ -42,7 +42,7 @@ HasZone keg zone = IsHome (zones_of keg.rights) zone
 
 -- the item of this number, if it is at home
 abbrev pub stored_in : {T K : Type 0} {g : _} {h : _} → Keg T K g h → ℕ → Option (Stored T g)
-stored_in keg n = item_at keg.shelves n
+stored_in keg n = item_at keg.home_items n
 
 -- a zone's limit, where 0 is no limit
 abbrev pub limit_in : {T K : Type 0} {g : _} {h : _} → Keg T K g h → ℕ → ℕ
@@ -73,7 +73,7 @@ buried_in keg = keg.buried
 
 -- how often the items passed a hook: the sum over those at home, by their numbers, and the buried
 abbrev pub total_in : {T K : Type 0} {g : _} {h : _} → Keg T K g h → Hook → ℕ
-total_in keg hook = sum_of keg.buried hook + sum_below (λ n. home_times hook (item_at keg.shelves n)) (keg.places.cap * keg.places.per_slab)
+total_in keg hook = sum_of keg.buried hook + sum_below (λ n. home_times hook (item_at keg.home_items n)) (keg.places.cap * keg.places.per_slab)
 
 -- what no call changes
 pub record IsSameKeg {T K : Type 0} {g : _} {h : _} (old new : Keg T K g h) : Type 0 where

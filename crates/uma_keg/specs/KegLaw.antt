@@ -3,9 +3,9 @@ use Rattle.std.specs.Prelude.{◌≡◌, ◌≤◌, ◌<◌, ◌*◌, ◌/◌, �
 use Rattle.deed_book.specs.BookLaw.{IsHome}
 use Rattle.uma_life.specs.declared.stored.Stored.{Stored}
 use Rattle.uma_life.specs.Stored.{stored_no, stored_domain}
-use Rattle.uma_keg.specs.declared.shelves.Shelves.{Shelves}
+use Rattle.uma_keg.specs.declared.home_items.HomeItems.{HomeItems}
 use Rattle.uma_places.specs.Places.{KegPlaces, place_at, domain_at}
-use Rattle.uma_keg.specs.Shelves.{item_at, has_shelf, shelf_count, places_each}
+use Rattle.uma_keg.specs.HomeItems.{item_at, has_slab, slab_room, places_each}
 use Rattle.uma_keg.specs.Outs.{out_of}
 
 -- the zone of a number that is outside
@@ -22,19 +22,19 @@ abbrev pub is_free_place : Option Bool → Bool
 is_free_place (Some true) = true
 is_free_place _ = false
 
--- 1. The shelves are those of the places: as many, as large, and one for each slab that is in.
+-- 1. The slabs at home are those of the places: as many, as large, and one for each slab that is in.
 -- 2. A place of a slab that is in is used exactly where its number is in the map, and every number of the map is of a slab that is in.
 -- 3. A place of a slab that is in is free exactly where the item of its number is at home.
 -- 4. An item at home has its number, and its slab's domain.
-pub record PlacesLaw {T : Type 0} {g : _} (places : KegPlaces) (zones : List (Option ℕ)) (shelves : Shelves T g) : Type 0 where
-  pub per_slab : places_each shelves ≡ places.per_slab
-  pub cap : shelf_count shelves ≡ places.cap
+pub record PlacesLaw {T : Type 0} {g : _} (places : KegPlaces) (zones : List (Option ℕ)) (home_items : HomeItems T g) : Type 0 where
+  pub per_slab : places_each home_items ≡ places.per_slab
+  pub cap : slab_room home_items ≡ places.cap
   pub numbers : length zones ≡ places.cap * places.per_slab
-  pub slabs : (index : ℕ) → has_shelf shelves index ≡ is_some (domain_at places index)
+  pub slabs : (index : ℕ) → has_slab home_items index ≡ is_some (domain_at places index)
   pub outside : (n : ℕ) → is_some (zone_at zones n) ≡ is_used_place (place_at places n)
-  pub home : (n : ℕ) → is_some (item_at shelves n) ≡ is_free_place (place_at places n)
-  pub numbered : (n : ℕ) (item : Stored T g) → item_at shelves n ≡ Some item → stored_no item ≡ n
-  pub domains : (n domain : ℕ) (item : Stored T g) → item_at shelves n ≡ Some item → domain_at places (n / places.per_slab) ≡ Some domain → stored_domain item ≡ domain
+  pub home : (n : ℕ) → is_some (item_at home_items n) ≡ is_free_place (place_at places n)
+  pub numbered : (n : ℕ) (item : Stored T g) → item_at home_items n ≡ Some item → stored_no item ≡ n
+  pub domains : (n domain : ℕ) (item : Stored T g) → item_at home_items n ≡ Some item → domain_at places (n / places.per_slab) ≡ Some domain → stored_domain item ≡ domain
 
 -- 1. There are eight rights and as many limits.
 -- 2. No item is outside in a zone that doesn't exist, and it has no limit. A zone exists exactly where its right is at home.

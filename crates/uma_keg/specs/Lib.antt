@@ -1,8 +1,8 @@
 pub mod Outs
 pub mod Outside
-pub mod Shelf
-pub mod ShelfLists
-pub mod Shelves
+pub mod SlabItems
+pub mod HomeLists
+pub mod HomeItems
 pub mod KegLaw
 pub mod Keg
 pub mod Fetch

@@ -7,7 +7,7 @@ ghost use Rattle.uma_keg.specs.Keg.{places_in, zones_in, rights_in, stored_in, l
 
 use crate::fetch_refused::FetchRefused;
 use crate::keg::Keg;
-use crate::shelf::Shelf;
+use crate::slab_items::SlabItems;
 use std::alloc::Global;
 use std::sync::Wait;
 use uma_life::{Body, Hooks};
@@ -29,7 +29,7 @@ impl<T: Body, K: Hooks<T>> Keg<T, K> {
         ensures refused { IfErr result (RefusesSlab self.old (buried_in self.new)) }
         ensures places { OnErr result (places_in self.new ≡ places_in self.old) }
         ensures stored { OnErr result ((n : ℕ) → stored_in self.new n ≡ stored_in self.old n) }
-        ensures worn { (((hook : Hook) → total_in self.old hook < 2 ^ 120) → ⊥) → result ≡ Err FetchRefused.Memory }
+        ensures sums_full { (((hook : Hook) → total_in self.old hook < 2 ^ 120) → ⊥) → result ≡ Err FetchRefused.Memory }
         ensures zones { zones_in self.new ≡ zones_in self.old }
         ensures rights { rights_in self.new ≡ rights_in self.old }
         ensures limits { (zone : ℕ) → limit_in self.new zone ≡ limit_in self.old zone }
@@ -75,11 +75,11 @@ impl<T: Body, K: Hooks<T>> Keg<T, K> {
                 refusal: Refusal::Full { slabs, made },
             });
         }
-        let Some(index) = self.shelves.first_gap() else {
+        let Some(index) = self.home_items.first_gap() else {
             unreachable!()
         };
         let first = index * per_slab;
-        match Shelf::bring(
+        match SlabItems::bring(
             rt,
             alloc,
             &self.hooks,
@@ -88,11 +88,11 @@ impl<T: Body, K: Hooks<T>> Keg<T, K> {
             domain,
             &mut self.buried,
         ) {
-            Ok(shelf) => {
+            Ok(slab_items) => {
                 let Ok(_) = self.places.bring(domain) else {
                     unreachable!()
                 };
-                self.shelves.add(index, shelf);
+                self.home_items.add(index, slab_items);
                 Ok(())
             }
             Err(refused) => Err(FetchRefused::from(refused)),

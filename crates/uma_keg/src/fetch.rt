@@ -44,7 +44,7 @@ impl<T: Body, K: Hooks<T>> Keg<T, K> {
         ensures refused { IfErr result (RefusesFetch self.old hooks.now ask self.new) }
         ensures given { IfOk result (λ count. GivesItems self.old ask count (drop (length (items_of into.old)) (items_of into.new))) }
         ensures names { IfErr result (NamesWhatItFound self.old hooks.now ask) }
-        ensures worn { (((hook : Hook) → total_in self.old hook < 2 ^ 120) → ⊥) → result ≡ Err FetchRefused.Memory }
+        ensures sums_full { (((hook : Hook) → total_in self.old hook < 2 ^ 120) → ⊥) → result ≡ Err FetchRefused.Memory }
         ensures none { OnErr result (items_of into.new ≡ items_of into.old) }
         ensures size { size_of into.new ≡ size_of into.old }
         ensures out { IfOk result (λ count. out_in self.new ask.zone ≡ out_in self.old ask.zone + count) }
@@ -83,7 +83,7 @@ impl<T: Body, K: Hooks<T>> Keg<T, K> {
         requires room { length (items_of into.old) + ask.most ≤ size_of into.old }
         ensures fetched { IfOk result (λ count. FetchesInto self.old hooks.now ask count (items_of into.old) (items_of into.new) self.new) }
         ensures refused { IfErr result (RefusesFetch self.old hooks.now ask self.new) }
-        ensures worn { (((hook : Hook) → total_in self.old hook < 2 ^ 120) → ⊥) → result ≡ Err FetchRefused.Memory }
+        ensures sums_full { (((hook : Hook) → total_in self.old hook < 2 ^ 120) → ⊥) → result ≡ Err FetchRefused.Memory }
         ensures none { OnErr result (items_of into.new ≡ items_of into.old) }
         ensures size { size_of into.new ≡ size_of into.old }
         ensures out { IfOk result (λ count. out_in self.new ask.zone ≡ out_in self.old ask.zone + count) }

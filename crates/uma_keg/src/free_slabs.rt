@@ -1,6 +1,6 @@
 ghost use Rattle.std.specs.Prelude.{◌≡◌, ◌≤◌, ◌<◌, ◌+◌, ◌⊎◌, ◌↔◌, ℕ, IsTrue, IsNone, IfSome, IfNone};
 ghost use Rattle.uma_places.specs.Places.{free_count};
-ghost use Rattle.uma_places.specs.Dropping.{IsWorn, HasNoneWhollyFree};
+ghost use Rattle.uma_places.specs.Dropping.{IsUsedUp, HasNoneWhollyFree};
 ghost use Rattle.uma_keg.specs.FreeSlabs.{FreesSlab, FreesSlabs, GivesNoMore, slabs_to_free};
 ghost use Rattle.uma_keg.specs.Keg.{places_in, zones_in, rights_in, stored_in, limit_in, refusals_in, reserve_in, buried_in, IsSameKeg, IsWithinLimits};
 
@@ -20,7 +20,7 @@ impl<T: Body, K: Hooks<T>> Keg<T, K> {
         ensures freed { FreesSlabs self.old result self.new }
         ensures count { result ≡ slabs_to_free (places_in self.old) (reserve_in self.old) }
         ensures reserve { 0 < result → reserve_in self.old ≤ free_count (places_in self.new) }
-        ensures worn { IsWorn (places_in self.old) → result ≡ 0 }
+        ensures used_up { IsUsedUp (places_in self.old) → result ≡ 0 }
         ensures no_more { GivesNoMore self.new }
         ensures zones { zones_in self.new ≡ zones_in self.old }
         ensures rights { rights_in self.new ≡ rights_in self.old }
@@ -52,7 +52,7 @@ impl<T: Body, K: Hooks<T>> Keg<T, K> {
     /// no slab is wholly free, or more than `2^40 - cap` were ever brought in; nothing changes then.
     fn free_slab<R: Wait>(&mut self, rt: &R) -> Option<u32>
         ensures freed { IfSome result (λ index. FreesSlab self.old index self.new) }
-        ensures none_exactly { IsNone result ↔ (IsWorn (places_in self.old) ⊎ HasNoneWhollyFree (places_in self.old)) }
+        ensures none_exactly { IsNone result ↔ (IsUsedUp (places_in self.old) ⊎ HasNoneWhollyFree (places_in self.old)) }
         ensures places { IfNone result (places_in self.new ≡ places_in self.old) }
         ensures stored { IfNone result ((n : ℕ) → stored_in self.new n ≡ stored_in self.old n) }
         ensures buried { IfNone result (buried_in self.new ≡ buried_in self.old) }
@@ -64,8 +64,8 @@ impl<T: Body, K: Hooks<T>> Keg<T, K> {
         ensures within { IsWithinLimits self.new }
     {
         let index = self.places.drop_slab()?;
-        let shelf = self.shelves.remove(index);
-        shelf.end(rt, &self.hooks, &mut self.buried);
+        let slab_items = self.home_items.remove(index);
+        slab_items.end(rt, &self.hooks, &mut self.buried);
         Some(index)
     }
 }

@@ -36,6 +36,6 @@ impl<T: Body, K: Hooks<T>> Keg<T, K> {
         let no = self.outside.accept(deed);
         let stored = stored.in_domain(self.places.domain(no));
         self.places.give(no);
-        self.shelves.put(no, stored);
+        self.home_items.put(no, stored);
     }
 }

@@ -8,9 +8,9 @@ ghost use Rattle.uma_keg.specs.KegLaw.{PlacesLaw, ZonesLaw};
 ghost use Rattle.uma_keg.specs.Tallies.{TallyLaw};
 ghost use Rattle.uma_keg.specs.Paired.{ArePaired};
 
+use crate::home_items::HomeItems;
 use crate::outside::Outside;
 use crate::rights::new_rights;
-use crate::shelves::Shelves;
 use deed_book::{Book, Deed};
 use ghost_log::Log;
 use std::alloc::Global;
@@ -34,7 +34,7 @@ use zone_stats::Refusal;
 pub struct Keg<T: Body, K: Hooks<T>> {
     pub(crate) places: Places,
     pub(crate) outside: Outside,
-    pub(crate) shelves: Shelves<T>,
+    pub(crate) home_items: HomeItems<T>,
     pub(crate) rights: Book,
     // By the zone's number.
     pub(crate) limits: [u64; 8],
@@ -46,7 +46,7 @@ pub struct Keg<T: Body, K: Hooks<T>> {
     pub(crate) buried: TallySum,
     // Those of the primary zone.
     pub(crate) hooks: K,
-    pub ghost places_law: { PlacesLaw places (zones_of outside.book) shelves },
+    pub ghost places_law: { PlacesLaw places (zones_of outside.book) home_items },
     pub ghost zones_law: { ZonesLaw (zones_of outside.book) (zones_of rights) limits },
     pub ghost tally_law: { TallyLaw buried places },
     pub ghost paired: { ArePaired buried },
@@ -100,11 +100,11 @@ impl<T: Body, K: Hooks<T>> Keg<T, K> {
         let KegCounts { cap, per_slab, .. } = places.counts();
         let outside = Outside::new(alloc, cap * per_slab)?;
         let (rights, deeds) = new_rights(alloc)?;
-        let shelves = Shelves::new(alloc, cap, per_slab)?;
+        let home_items = HomeItems::new(alloc, cap, per_slab)?;
         let keg = Keg {
             places,
             outside,
-            shelves,
+            home_items,
             rights,
             limits: [0; 8],
             refusals: no_refusals(),

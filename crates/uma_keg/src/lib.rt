@@ -15,6 +15,7 @@ mod fetch_law;
 mod fetch_refused;
 mod free_slabs;
 mod give;
+mod home_items;
 mod keg;
 mod keg_census;
 #[cfg(test)]
@@ -23,8 +24,7 @@ mod new_items;
 mod outside;
 mod recount;
 mod rights;
-mod shelf;
-mod shelves;
+mod slab_items;
 mod take_item;
 mod take_items;
 mod tallies;

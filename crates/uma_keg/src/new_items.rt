@@ -3,17 +3,17 @@ ghost use Rattle.uma_life.specs.Hook.{Hook, IsCode};
 ghost use Rattle.uma_life.specs.Life.{raw_life};
 ghost use Rattle.uma_life.specs.Sum.{sum_of, AreBelow};
 ghost use Rattle.uma_life.specs.Bring.{RefusesToBring};
-ghost use Rattle.uma_keg.specs.Shelf.{shelf_items};
+ghost use Rattle.uma_keg.specs.SlabItems.{places_of_slab};
 ghost use Rattle.uma_keg.specs.Tallies.{ended_times};
 ghost use Rattle.uma_keg.specs.Ended.{IsEndedAt};
 ghost use Rattle.uma_keg.specs.NewItems.{AreNewItems, RefusesItems};
 
-use crate::shelf::Shelf;
+use crate::slab_items::SlabItems;
 use std::alloc::Global;
 use std::sync::Wait;
 use uma_life::{Body, BringRefused, Hooks, Stored, TallySum};
 
-impl<T: Body> Shelf<T> {
+impl<T: Body> SlabItems<T> {
     /// Makes the items of a new slab, the first of which has the number `first`. Where `keg_init` refuses one, or memory
     /// is wanting, those made before it are ended, and their tallies are added to the buried.
     pub fn bring<K: Hooks<T>, R: Wait>(
@@ -24,18 +24,18 @@ impl<T: Body> Shelf<T> {
         per_slab: u32,
         domain: u8,
         buried: &mut TallySum,
-    ) -> Result<Shelf<T>, BringRefused>
+    ) -> Result<SlabItems<T>, BringRefused>
         requires numbers { first + per_slab ≤ 2 ^ 32 }
         requires places { (1 ≤ per_slab) × (per_slab ≤ 256) }
         requires room { AreBelow (2 ^ 126) buried.old }
-        ensures whole { IfOk result (λ shelf. length (shelf_items shelf) ≡ per_slab) }
-        ensures items { IfOk result (λ shelf. AreNewItems first domain (shelf_items shelf)) }
+        ensures whole { IfOk result (λ slab_items. length (places_of_slab slab_items) ≡ per_slab) }
+        ensures items { IfOk result (λ slab_items. AreNewItems first domain (places_of_slab slab_items)) }
         ensures accepted { OnOk result ((place : ℕ) → place < per_slab → (raw : T) × (T.life raw ≡ raw_life (first + place)) × (K.refuses_init hooks.now raw 0 ≡ None)) }
         ensures buried { OnOk result (buried.new ≡ buried.old) }
         ensures refused { IfErr result (RefusesItems per_slab (λ place code. (raw : T) × (T.life raw ≡ raw_life (first + place)) × (K.refuses_init hooks.now raw 0 ≡ Some code)) (λ place. (raw : T) × (T.life raw ≡ raw_life (first + place)) × (K.refuses_init hooks.now raw 0 ≡ None)) buried.old buried.new) }
     {
         match make_items(rt, alloc, hooks, first, per_slab, domain) {
-            Ok(places) => Ok(Shelf { places }),
+            Ok(places) => Ok(SlabItems { places }),
             Err((places, refused)) => {
                 end_all(rt, hooks, places, buried);
                 Err(refused)
@@ -45,13 +45,13 @@ impl<T: Body> Shelf<T> {
 
     /// Ends the items that are there, and adds their tallies to the buried.
     pub fn end<K: Hooks<T>, R: Wait>(self, rt: &R, hooks: &K, buried: &mut TallySum)
-        requires few { length (shelf_items self) ≤ 256 }
+        requires few { length (places_of_slab self) ≤ 256 }
         requires room { AreBelow (2 ^ 126) buried.old }
-        ensures sums { (hook : Hook) → sum_of buried.new hook ≡ sum_of buried.old hook + sum_by (ended_times hook) (shelf_items self) }
-        ensures counts { (hook : Hook) → sum_by (ended_times hook) (shelf_items self) ≤ length (shelf_items self) * 2 ^ 64 }
-        ensures ended { All (IsEndedAt (λ body gone. K.leaves_fini hooks.now body 0 gone)) (shelf_items self) }
+        ensures sums { (hook : Hook) → sum_of buried.new hook ≡ sum_of buried.old hook + sum_by (ended_times hook) (places_of_slab self) }
+        ensures counts { (hook : Hook) → sum_by (ended_times hook) (places_of_slab self) ≤ length (places_of_slab self) * 2 ^ 64 }
+        ensures ended { All (IsEndedAt (λ body gone. K.leaves_fini hooks.now body 0 gone)) (places_of_slab self) }
     {
-        let Shelf { places } = self;
+        let SlabItems { places } = self;
         end_all(rt, hooks, places, buried);
     }
 }

@@ -25,14 +25,14 @@ impl<T: Body, K: Hooks<T>> Keg<T, K> {
         ensures within { IsWithinLimits self.new }
     {
         let no = self.places.take().unwrap();
-        let item = self.shelves.take(no).unwrap();
+        let item = self.home_items.take(no).unwrap();
         let deed = self.outside.issue(no, zone);
         match item.lend(hooks, deed) {
             Ok(item) => Ok(item),
             Err((item, deed, code)) => {
                 let no = self.outside.accept(deed);
                 self.places.give(no);
-                self.shelves.put(no, item);
+                self.home_items.put(no, item);
                 Err(code)
             }
         }

@@ -1,13 +1,13 @@
 ghost use Rattle.std.specs.Prelude.{◌≡◌, ◌≤◌, ◌<◌, ◌+◌, ◌*◌, ◌-◌, ◌^◌, ◌/◌, ◌↔◌, ℕ, IsTrue, min};
 ghost use Rattle.uma_life.specs.Hook.{Hook};
 ghost use Rattle.uma_life.specs.Sum.{sum_of, times_of, AreBelow};
-ghost use Rattle.uma_keg.specs.Shelves.{item_at, shelf_count, places_each};
+ghost use Rattle.uma_keg.specs.HomeItems.{item_at, slab_room, places_each};
 ghost use Rattle.uma_keg.specs.Tallies.{home_times};
 ghost use Rattle.uma_keg.specs.Keg.{total_in};
 
 use crate::bring::MOST_TALLIED;
+use crate::home_items::HomeItems;
 use crate::keg::Keg;
-use crate::shelves::Shelves;
 use uma_life::{Body, Hooks, Tally, TallySum};
 use uma_places::KegCounts;
 
@@ -20,7 +20,7 @@ impl<T: Body, K: Hooks<T>> Keg<T, K> {
         let KegCounts { cap, per_slab, .. } = self.places.counts();
         let mut sums = self.buried;
         for no in 0..cap * per_slab {
-            add_home(&self.shelves, no, &mut sums);
+            add_home(&self.home_items, no, &mut sums);
         }
         sums
     }
@@ -45,13 +45,13 @@ impl<T: Body, K: Hooks<T>> Keg<T, K> {
 }
 
 /// Adds the tally of the item of a number, if it is at home.
-fn add_home<T: Body>(shelves: &Shelves<T>, no: u32, sums: &mut TallySum)
-    requires within { no / places_each shelves.now < shelf_count shelves.now }
+fn add_home<T: Body>(home_items: &HomeItems<T>, no: u32, sums: &mut TallySum)
+    requires within { no / places_each home_items.now < slab_room home_items.now }
     requires room { AreBelow (2 ^ 127) sums.old }
-    ensures sums { (hook : Hook) → sum_of sums.new hook ≡ sum_of sums.old hook + home_times hook (item_at shelves.now no) }
-    ensures counts { (hook : Hook) → home_times hook (item_at shelves.now no) < 2 ^ 64 }
+    ensures sums { (hook : Hook) → sum_of sums.new hook ≡ sum_of sums.old hook + home_times hook (item_at home_items.now no) }
+    ensures counts { (hook : Hook) → home_times hook (item_at home_items.now no) < 2 ^ 64 }
 {
-    match shelves.item(no) {
+    match home_items.item(no) {
         Some(item) => sums.add(item.body().tally()),
         None => {}
     }

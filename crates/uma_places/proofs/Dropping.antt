@@ -107,7 +107,7 @@ whole_dropped k i s whole sound n in_new =
     ]
 
 sound_dropped : (k : KegPlaces) (i : ℕ) (s : Slab) → IsWholeSlab k i s → IsSound k → k.made + k.cap ≤ 2 ^ 40 → IsSound (dropped k i)
-sound_dropped k i s whole sound unworn =
+sound_dropped k i s whole sound not_used =
     let counts = counts_dropped k i s whole in
     let less : slab_count k * k.per_slab ≡ slab_count (dropped k i) * k.per_slab + k.per_slab = rw counts.slabs (omega arith) in
     record {
@@ -130,7 +130,7 @@ pub record DropsSlab (old : KegPlaces) (i : ℕ) (new : KegPlaces) : Type 0 wher
   pub sound : IsSound new
 
 pub drops_slab : (k : KegPlaces) (i : ℕ) (s : Slab) → IsWholeSlab k i s → IsSound k → k.made + k.cap ≤ 2 ^ 40 → ((other : ℕ) → i < other → IsWhollyFree k other → ⊥) → DropsSlab k i (dropped k i)
-drops_slab k i s whole sound unworn greatest = record {
+drops_slab k i s whole sound not_used greatest = record {
   drops = record {
     within = rw (← whole.cap) whole.within;
     whole = IsWhollyFree-whole k i s whole sound.some_place;
@@ -145,5 +145,5 @@ drops_slab k i s whole sound unworn greatest = record {
   };
   counts = counts_dropped k i s whole;
   outs = outs_dropped k i s whole sound.some_place;
-  sound = sound_dropped k i s whole sound unworn;
+  sound = sound_dropped k i s whole sound not_used;
 }

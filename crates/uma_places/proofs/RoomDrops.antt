@@ -76,14 +76,14 @@ pub record IsGivenUp (a : Inside) (i : ℕ) (r r' : RoomState) : Type 0 where
   pub last : IsLastThat is_wholly_free a.rooms i
   pub room : r ≡ get_or a.rooms i r
   pub changed : r' ≡ record r { domain = None }
-  pub unworn : a.made + a.cap ≤ 2 ^ 40
+  pub not_used : a.made + a.cap ≤ 2 ^ 40
 
 -- the same by the room's index
 abbrev pub no_slab_in : RoomState → RoomState
 no_slab_in r = record r { domain = None }
 
 pub given_up_at : (a : Inside) (i : ℕ) → IsLastThat is_wholly_free a.rooms i → a.made + a.cap ≤ 2 ^ 40 → IsGivenUp a i (room_at a.rooms i) (no_slab_in (room_at a.rooms i))
-given_up_at a i last unworn = record { last = last; room = get_or_default a.rooms i _ (room_at a.rooms i) last.within; changed = refl; unworn = unworn }
+given_up_at a i last not_used = record { last = last; room = get_or_default a.rooms i _ (room_at a.rooms i) last.within; changed = refl; not_used = not_used }
 
 keg_of-dropped : (a : Inside) (i : ℕ) (r r' : RoomState) → r' ≡ record r { domain = None } → keg_of a.per_slab a.cap a.made (set a.rooms i r') ≡ dropped (places_of a) i
 keg_of-dropped a i r r' changed =
@@ -107,7 +107,7 @@ drops_room a kept i r r' is =
       all = slab.2;
     } in
     rw (keg_of-dropped a i r r' is.changed)
-    (drops_slab (places_of a) i slab.0 whole kept.sound is.unworn (λ other above. none_whole a kept r (i + 1) is.last.later other (omega arith)))
+    (drops_slab (places_of a) i slab.0 whole kept.sound is.not_used (λ other above. none_whole a kept r (i + 1) is.last.later other (omega arith)))
 
 pub IsKept-dropped : (a : Inside) (kept : IsKept a) (i : ℕ) (r r' : RoomState) → IsGivenUp a i r r'
     → IsKept (record a { rooms = set a.rooms i r'; slabs = a.slabs - 1; free = a.free - a.per_slab })

@@ -12,8 +12,8 @@ abbrev pub HasNoneWhollyFree : KegPlaces → Type 0
 HasNoneWhollyFree k = (index : ℕ) → IsWhollyFree k index → ⊥
 
 -- so many slabs were ever brought in that none is given up any more (own)
-abbrev pub IsWorn : KegPlaces → Type 0
-IsWorn k = 2 ^ 40 - k.cap < k.made
+abbrev pub IsUsedUp : KegPlaces → Type 0
+IsUsedUp k = 2 ^ 40 - k.cap < k.made
 
 -- The wholly free slab of greatest index is given up (uma(9) frees wholly free slabs; the greatest index first is own).
 -- It isn't in any more, and all else stays.

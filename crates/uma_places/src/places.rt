@@ -2,7 +2,7 @@ ghost use Rattle.std.specs.Prelude.{◌≡◌, ◌≢◌, ℕ, ◌*◌, ◌/◌,
 ghost use Rattle.uma_places.specs.Places.{place_at, domain_at, slab_count, free_count, out_count, IsFree, IsOut, IsSound, IsNew, Brings, Gives, CountsOneOut, CountsOneSlab};
 ghost use Rattle.uma_places.specs.UsedPlaces.{AreEven};
 ghost use Rattle.uma_places.specs.Refused.{IsItemSize, IsSlabCount, IsRefusedFor};
-ghost use Rattle.uma_places.specs.Dropping.{Drops, IsWorn, HasNoneWhollyFree};
+ghost use Rattle.uma_places.specs.Dropping.{Drops, IsUsedUp, HasNoneWhollyFree};
 ghost use Rattle.uma_places.specs.Taking.{Takes};
 
 use crate::counts::KegCounts;
@@ -157,7 +157,7 @@ impl Places {
         ensures drops { IfSome result (λ index. Drops self.old index self.new) }
         ensures counts { OnSome result (CountsOneSlab self.new self.old) }
         ensures outs { OnSome result ((n : ℕ) → IsOut self.new n ↔ IsOut self.old n) }
-        ensures none_exactly { IsNone result ↔ (IsWorn self.old ⊎ HasNoneWhollyFree self.old) }
+        ensures none_exactly { IsNone result ↔ (IsUsedUp self.old ⊎ HasNoneWhollyFree self.old) }
         ensures unchanged { IfNone result (self.new ≡ self.old) }
         ensures sound { IsSound self.new }
     {

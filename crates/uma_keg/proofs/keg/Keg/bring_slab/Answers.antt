@@ -1,6 +1,6 @@
 use Rattle.std.proofs.Common.{◌≡◌, ◌<◌, ◌+◌, ◌*◌, ℕ, length, subst, sym, arith, rules, ◌∙◌}
 use Rattle.uma_life.specs.declared.tally_sum.TallySum.{TallySum}
-use Rattle.uma_keg.specs.Shelf.{shelf_items}
+use Rattle.uma_keg.specs.SlabItems.{places_of_slab}
 use Rattle.uma_places.specs.Places.{slab_count}
 use Rattle.uma_keg.specs.Tallies.{TallyLaw}
 use Rattle.uma_keg.specs.Paired.{ArePaired}
@@ -18,7 +18,7 @@ unreachable-requires g c =
     let keg = c.args.self.now in
     let counts = c.counts-slabs.ensures in
     let room : slab_count keg.places < keg.places.cap = omega (arith, counts.sound.slabs, counts.slabs, counts.cap, c.if-slabs-cap.false) in
-    some_gap keg.places _ keg.shelves keg.places_law room (search rules)
+    some_gap keg.places _ keg.home_items keg.places_law room (search rules)
 
 pub invariant_of-self : goal.invariant_of-self
 invariant_of-self g c =
@@ -26,14 +26,14 @@ invariant_of-self g c =
     let counts = c.counts-slabs.ensures in
     let gap = c.in-Some.ensures in
     let index = c.in-Some.index in
-    let next = next_index keg.places _ keg.shelves index keg.places_law gap.gap.1 gap.gap.0 gap.least in
+    let next = next_index keg.places _ keg.home_items index keg.places_law gap.gap.1 gap.gap.0 gap.least in
     let brings = brings_next keg.places c.bring-in-Ok.new.self c.args.domain index c.in-Ok-bring.field-0 next c.in-Ok-bring.ensures.brings in
     let added = c.add.ensures in
-    let New : ℕ → Type 0 = λ p. AreNewItems (index * p) c.args.domain (shelf_items c.in-Ok.shelf) in
-    let len : length (shelf_items c.in-Ok.shelf) ≡ keg.places.per_slab = c.in-Ok.ensures.whole ∙ counts.per_slab in
-    let new = brought_items (index * keg.places.per_slab) keg.places.per_slab c.args.domain c.in-Ok.shelf len (subst New counts.per_slab c.in-Ok.ensures.items) in
+    let New : ℕ → Type 0 = λ p. AreNewItems (index * p) c.args.domain (places_of_slab c.in-Ok.slab_items) in
+    let len : length (places_of_slab c.in-Ok.slab_items) ≡ keg.places.per_slab = c.in-Ok.ensures.whole ∙ counts.per_slab in
+    let new = brought_items (index * keg.places.per_slab) keg.places.per_slab c.args.domain c.in-Ok.slab_items len (subst New counts.per_slab c.in-Ok.ensures.items) in
     record {
-      places_law = PlacesLaw-brought keg.places c.bring-in-Ok.new.self _ keg.shelves c.add.new.self index c.args.domain c.in-Ok.shelf counts.sound.some_place keg.places_law brings (record { items = added.items; others = added.others; there = added.shelf; shelves = added.shelves; count = added.count; places = added.places }) new;
+      places_law = PlacesLaw-brought keg.places c.bring-in-Ok.new.self _ keg.home_items c.add.new.self index c.args.domain c.in-Ok.slab_items counts.sound.some_place keg.places_law brings (record { items = added.items; others = added.others; there = added.slab_items; home_items = added.home_items; count = added.count; places = added.places }) new;
       zones_law = keg.zones_law;
       tally_law =
           let Law : TallySum → Type 0 = λ buried. TallyLaw buried c.bring-in-Ok.new.self in
@@ -48,16 +48,16 @@ returns-in-Ok-bring-clause-brings g c =
     let gap = c.in-Some.ensures in
     let index = c.in-Some.index in
     let p = keg.places.per_slab in
-    let next = next_index keg.places _ keg.shelves index keg.places_law gap.gap.1 gap.gap.0 gap.least in
+    let next = next_index keg.places _ keg.home_items index keg.places_law gap.gap.1 gap.gap.0 gap.least in
     let added = c.add.ensures in
-    let New : ℕ → Type 0 = λ q. AreNewItems (index * q) c.args.domain (shelf_items c.in-Ok.shelf) in
+    let New : ℕ → Type 0 = λ q. AreNewItems (index * q) c.args.domain (places_of_slab c.in-Ok.slab_items) in
     let Accepted : ℕ → Type 0 = λ q. (place : ℕ) → place < q → AcceptsNumber keg (index * q + place) in
     let each = keg.places_law.per_slab in
     record {
       index = index;
       places = brings_next keg.places c.bring-in-Ok.new.self c.args.domain index c.in-Ok-bring.field-0 next c.in-Ok-bring.ensures.brings;
       counts = c.in-Ok-bring.ensures.counts;
-      items = new_at_home p index c.args.domain keg.shelves c.add.new.self c.in-Ok.shelf counts.sound.some_place each (record { items = added.items; others = added.others; there = added.shelf; shelves = added.shelves; count = added.count; places = added.places }) (c.in-Ok.ensures.whole ∙ counts.per_slab) (subst New counts.per_slab c.in-Ok.ensures.items);
+      items = new_at_home p index c.args.domain keg.home_items c.add.new.self c.in-Ok.slab_items counts.sound.some_place each (record { items = added.items; others = added.others; there = added.slab_items; home_items = added.home_items; count = added.count; places = added.places }) (c.in-Ok.ensures.whole ∙ counts.per_slab) (subst New counts.per_slab c.in-Ok.ensures.items);
       accepted = of_numbers (AcceptsNumber keg) p index counts.sound.some_place (subst Accepted counts.per_slab c.in-Ok.ensures.accepted);
       others = λ n other. added.others n (rw each other);
       buried = c.in-Ok.ensures.buried;
@@ -69,7 +69,7 @@ returns-in-Err-clause-refused g c =
     let counts = c.counts-slabs.ensures in
     let gap = c.in-Some.ensures in
     let index = c.in-Some.index in
-    let next = next_index keg.places _ keg.shelves index keg.places_law gap.gap.1 gap.gap.0 gap.least in
+    let next = next_index keg.places _ keg.home_items index keg.places_law gap.gap.1 gap.gap.0 gap.least in
     let room : slab_count keg.places < keg.places.cap = omega (arith, counts.sound.slabs, counts.slabs, counts.cap, c.if-slabs-cap.false) in
     let Refuses : ℕ → Type 0 = λ p. RefusesItems p (λ place code. RefusesNumber keg (index * p + place) code) (λ place. AcceptsNumber keg (index * p + place)) keg.buried c.bring.new.buried c.in-Err.refused in
     rw c.from.ensures (refuses_slab keg c.bring.new.buried index c.in-Err.refused room next (subst Refuses counts.per_slab c.in-Err.ensures.refused))

@@ -80,10 +80,10 @@ pub returns-in-Err-clause-refusals : goal.returns-in-Err-clause-refusals
 returns-in-Err-clause-refusals g c zone = c.in-Err.ensures.refusals zone ∙ c.in_ok-bring_slabs.ensures.refusals zone
 
 -- the sums were tested first
-pub returns-in-Err-clause-worn : goal.returns-in-Err-clause-worn
-returns-in-Err-clause-worn g c worn =
-    absurd (worn (c.if-not-has_tally_room.ensures.0 refl))
+pub returns-in-Err-clause-sums_full : goal.returns-in-Err-clause-sums_full
+returns-in-Err-clause-sums_full g c sums_full =
+    absurd (sums_full (c.if-not-has_tally_room.ensures.0 refl))
 
-pub returns-in-Err-eq0-default-clause-worn : goal.returns-in-Err-eq0-default-clause-worn
-returns-in-Err-eq0-default-clause-worn g c worn =
-    absurd (worn (c.if-not-has_tally_room.ensures.0 refl))
+pub returns-in-Err-eq0-default-clause-sums_full : goal.returns-in-Err-eq0-default-clause-sums_full
+returns-in-Err-eq0-default-clause-sums_full g c sums_full =
+    absurd (sums_full (c.if-not-has_tally_room.ensures.0 refl))

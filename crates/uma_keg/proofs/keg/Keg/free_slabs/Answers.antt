@@ -3,15 +3,15 @@ use Rattle.std.specs.Prelude.{IsTrue}
 use Rattle.std.proofs.lemmas.Bool.{cases_lt}
 use Rattle.uma_keg.specs.declared.keg.Keg.{Keg}
 use Rattle.uma_places.specs.Places.{free_count, IsSound}
-use Rattle.uma_places.specs.Dropping.{IsWorn, HasNoneWhollyFree}
+use Rattle.uma_places.specs.Dropping.{IsUsedUp, HasNoneWhollyFree}
 use Rattle.uma_keg.specs.FreeSlabs.{FreesSlabs, GivesNoMore, wholly_free_count, slabs_to_free}
 use Rattle.uma_keg.specs.Keg.{places_in, reserve_in, IsSameKeg}
 use Rattle.uma_keg.proofs.FreedCounts.{one_fewer, freed_count}
 use Rattle.uma_keg.proofs.FreedSlabs.{frees_none, frees_more, leaves_more, same_more}
 use Rattle.uma_keg.proofs.keg.Keg.free_slabs.Goals as goal
 
-stopped : {T K : Type 0} {g : _} {h : _} (old new : Keg T K g h) (count : ℕ) → IsSound (places_in old) → FreesSlabs old count new → wholly_free_count (places_in old) ≡ wholly_free_count (places_in new) + count → (0 < count → reserve_in old ≤ free_count (places_in new)) → (0 < count → IsWorn (places_in old) → ⊥) → IsSameKeg old new → GivesNoMore new → count ≡ slabs_to_free (places_in old) (reserve_in old)
-stopped old new count sound freed whole kept unworn same no_more = freed_count (places_in old) (places_in new) (reserve_in old) count (record {
+stopped : {T K : Type 0} {g : _} {h : _} (old new : Keg T K g h) (count : ℕ) → IsSound (places_in old) → FreesSlabs old count new → wholly_free_count (places_in old) ≡ wholly_free_count (places_in new) + count → (0 < count → reserve_in old ≤ free_count (places_in new)) → (0 < count → IsUsedUp (places_in old) → ⊥) → IsSameKeg old new → GivesNoMore new → count ≡ slabs_to_free (places_in old) (reserve_in old)
+stopped old new count sound freed whole kept not_used same no_more = freed_count (places_in old) (places_in new) (reserve_in old) count (record {
   some = sound.some_place;
   per_slab = freed.places.per_slab;
   cap = freed.places.cap;
@@ -19,9 +19,9 @@ stopped old new count sound freed whole kept unworn same no_more = freed_count (
   free_fewer = freed.counts.free;
   whole_fewer = whole;
   kept = kept;
-  worn = λ worn. elim (cases_lt 0 count) [ inl some ↦ absurd (unworn some worn) | inr none ↦ omega arith ];
+  used_up = λ used_up. elim (cases_lt 0 count) [ inl some ↦ absurd (not_used some used_up) | inr none ↦ omega arith ];
   no_more = elim no_more [
-    | inl worn ↦ inl worn
+    | inl used_up ↦ inl used_up
     | inr either ↦ elim either [ inl none ↦ inr (inl none) | inr less ↦ inr (inr (omega (arith, less, same.reserve))) ]
   ];
 })
@@ -32,8 +32,8 @@ short keg can items same spare not = elim (cases_lt (free_count (places_in keg))
   | inr enough ↦ let may : can ≡ true = spare.1 (omega (arith, enough, same)) in absurd (cc)
 ]
 
-none_left : {T K : Type 0} {g : _} {h : _} (keg : Keg T K g h) → IsWorn (places_in keg) ⊎ HasNoneWhollyFree (places_in keg) → GivesNoMore keg
-none_left keg (inl worn) = inl worn
+none_left : {T K : Type 0} {g : _} {h : _} (keg : Keg T K g h) → IsUsedUp (places_in keg) ⊎ HasNoneWhollyFree (places_in keg) → GivesNoMore keg
+none_left keg (inl used_up) = inl used_up
 none_left keg (inr none) = inr (inl none)
 
 pub loop-self-init : goal.loop-self-init
@@ -45,7 +45,7 @@ loop-self-init g c =
       leaves = λ n. inl refl;
       reserve = λ some. omega arith;
       whole = omega arith;
-      unworn = λ some. omega arith;
+      not_used = λ some. omega arith;
       few = omega (arith, sound.slabs, sound.few_slabs);
       zones = refl;
       rights = refl;
@@ -66,7 +66,7 @@ loop-self-preserved g c =
       leaves = leaves_more old mid new c.in-Some.field-0 before.leaves one.freed;
       reserve = λ some. let spare : reserve_in mid + c.counts-per_slab.result.per_slab ≤ free_count (places_in mid) = c.can_spare.ensures.0 c.loop-self-test.true in omega (arith, spare, one.freed.counts.free, one.freed.places.per_slab, before.same.reserve, before.same.per_slab, c.counts-per_slab.ensures.per_slab);
       whole = omega (arith, before.whole, one_fewer (places_in mid) (places_in new) c.in-Some.field-0 one.freed.places);
-      unworn = λ some worn. absurd (cc (one.none_exactly.1 (inl (omega (arith, worn, before.freed.places.cap, before.freed.places.made)))));
+      not_used = λ some used_up. absurd (cc (one.none_exactly.1 (inl (omega (arith, used_up, before.freed.places.cap, before.freed.places.made)))));
       few = omega (arith, before.few, one.freed.counts.slabs);
       zones = one.zones ∙ before.zones;
       rights = one.rights ∙ before.rights;
@@ -81,7 +81,7 @@ returns-in_default-clause-count g c =
     let before = c.loop-self.invariant in
     let sound = c.counts-per_slab.ensures.sound in
     let keg = c.loop-self.self in
-    stopped c.args.self.now keg c.loop-self.count sound before.freed before.whole before.reserve before.unworn before.same (none_left keg (c.in_default.ensures.none_exactly.0 refl))
+    stopped c.args.self.now keg c.loop-self.count sound before.freed before.whole before.reserve before.not_used before.same (none_left keg (c.in_default.ensures.none_exactly.0 refl))
 
 -- where one slab more would take of the reserve
 pub returns-clause-count : goal.returns-clause-count
@@ -89,5 +89,5 @@ returns-clause-count g c =
     let before = c.loop-self.invariant in
     let sound = c.counts-per_slab.ensures.sound in
     let keg = c.loop-self.self in
-    stopped c.args.self.now keg c.loop-self.count sound before.freed before.whole before.reserve before.unworn before.same
+    stopped c.args.self.now keg c.loop-self.count sound before.freed before.whole before.reserve before.not_used before.same
     (inr (inr (short keg c.can_spare.result _ (before.same.per_slab ∙ sym c.counts-per_slab.ensures.per_slab) c.can_spare.ensures c.loop-self-test.false)))

@@ -1,6 +1,6 @@
 use Rattle.std.proofs.Common.{◌≡◌, ◌≤◌, ◌<◌, ◌+◌, ℕ}
 use Rattle.uma_places.specs.Places.{slab_count, free_count}
-use Rattle.uma_places.specs.Dropping.{IsWorn}
+use Rattle.uma_places.specs.Dropping.{IsUsedUp}
 use Rattle.uma_keg.specs.FreeSlabs.{FreesSlabs, wholly_free_count}
 use Rattle.uma_keg.specs.Keg.{places_in, zones_in, rights_in, limit_in, refusals_in, reserve_in, IsSameKeg}
 use Rattle.uma_keg.proofs.FreedSlabs.{Leaves}
@@ -15,7 +15,7 @@ invariant-loop-self g l = record {
   leaves : Leaves l.initial.self l.self;
   reserve : 0 < l.count → reserve_in l.initial.self ≤ free_count (places_in l.self);
   whole : wholly_free_count (places_in l.initial.self) ≡ wholly_free_count (places_in l.self) + l.count;
-  unworn : 0 < l.count → IsWorn (places_in l.initial.self) → ⊥;
+  not_used : 0 < l.count → IsUsedUp (places_in l.initial.self) → ⊥;
   few : l.count + slab_count (places_in l.self) ≤ 1024;
   zones : zones_in l.self ≡ zones_in l.initial.self;
   rights : rights_in l.self ≡ rights_in l.initial.self;

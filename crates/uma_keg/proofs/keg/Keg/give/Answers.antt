@@ -23,7 +23,7 @@ invariant_of-self g c =
     let accepted = c.accept-no.ensures in
     let number : stored_no c.in_domain-stored.result ≡ c.accept-no.result = ap (λ b. (g.T.Body.life b).no) c.in_domain-stored.ensures.body ∙ c.give_back-stored.ensures.number ∙ sym accepted.number in
     record {
-      places_law = PlacesLaw-given _ _ _ _ _ _ c.accept-no.result _ keg.places_law c.give.ensures.gives (rw accepted.number accepted.zones) c.put.ensures.item c.put.ensures.others c.put.ensures.shelves c.put.ensures.count c.put.ensures.places number (c.domain.ensures ∙ ap Some (sym c.in_domain-stored.ensures.domain));
+      places_law = PlacesLaw-given _ _ _ _ _ _ c.accept-no.result _ keg.places_law c.give.ensures.gives (rw accepted.number accepted.zones) c.put.ensures.item c.put.ensures.others c.put.ensures.home_items c.put.ensures.count c.put.ensures.places number (c.domain.ensures ∙ ap Some (sym c.in_domain-stored.ensures.domain));
       zones_law = ZonesLaw-given _ _ _ _ _ _ keg.zones_law accepted.zones accepted.was_outside;
       tally_law = TallyLaw-kept _ _ _ keg.tally_law (sym c.give.ensures.counts.slabs) c.give.ensures.gives.slabs.per_slab;
       paired = keg.paired;

@@ -8,7 +8,7 @@ pub invariant_of-keg : goal.invariant_of-keg
 invariant_of-keg g c =
     let counts = c.counts-cap.ensures in
     record {
-      places_law = PlacesLaw-new _ _ _ _ _ c.in_ok-places.ensures.new (rw (← counts.cap, ← counts.per_slab) c.in_ok-outside.ensures) (c.in_ok-shelves.ensures.count ∙ counts.cap) (c.in_ok-shelves.ensures.places ∙ counts.per_slab) c.in_ok-shelves.ensures.none c.in_ok-shelves.ensures.no_item;
+      places_law = PlacesLaw-new _ _ _ _ _ c.in_ok-places.ensures.new (rw (← counts.cap, ← counts.per_slab) c.in_ok-outside.ensures) (c.in_ok-home_items.ensures.count ∙ counts.cap) (c.in_ok-home_items.ensures.places ∙ counts.per_slab) c.in_ok-home_items.ensures.none c.in_ok-home_items.ensures.no_item;
       zones_law = ZonesLaw-new _ _ _ c.in_ok-outside.ensures c.in_ok-rights.ensures.book;
       tally_law = TallyLaw-new _ _ c.none.ensures c.in_ok-places.ensures.new.slabs;
       paired = paired_none _ c.none.ensures;

@@ -3,10 +3,10 @@ use Rattle.deed_book.specs.Deed.{no_of, zone_of, deed_table}
 use Rattle.deed_book.specs.Book.{zones_of}
 use Rattle.uma_life.specs.Stored.{stored_no, stored_domain}
 use Rattle.uma_places.specs.Places.{domain_at, CountsOneOut, Gives}
-use Rattle.uma_keg.specs.Shelves.{item_at}
+use Rattle.uma_keg.specs.HomeItems.{item_at}
 use Rattle.uma_places.specs.Taking.{Takes}
 use Rattle.uma_keg.specs.KegLaw.{PlacesLaw}
-use Rattle.uma_keg.proofs.GivenItem.{out_shelf, PlacesLaw-given, ZonesLaw-given}
+use Rattle.uma_keg.proofs.GivenItem.{out_slab, PlacesLaw-given, ZonesLaw-given}
 use Rattle.uma_keg.proofs.TakenItem.{free_home, free_domain, PlacesLaw-taken, ZonesLaw-taken, same_again, zones_again, items_again, if_some, on_some, takes_item}
 use Rattle.uma_keg.proofs.TallyLaws.{TallyLaw-kept}
 use Rattle.uma_keg.proofs.keg.Keg.take_item.Goals as goal
@@ -21,24 +21,24 @@ invariant_of-self g c =
     let below : no < keg.places.cap * keg.places.per_slab = rw (takes.slabs.cap, takes.slabs.per_slab) at past in
     let taken = c.take-2.ensures in
     record {
-      places_law = PlacesLaw-taken _ _ _ _ _ _ no c.args.zone keg.places_law takes below c.issue-deed.ensures.zones taken.gone taken.others taken.shelves taken.count taken.places;
+      places_law = PlacesLaw-taken _ _ _ _ _ _ no c.args.zone keg.places_law takes below c.issue-deed.ensures.zones taken.gone taken.others taken.home_items taken.count taken.places;
       zones_law = ZonesLaw-taken _ _ _ _ no c.args.zone keg.zones_law c.issue-deed.ensures.zones (free_home keg.places_law no below takes.free) c.requires.exists c.requires.below;
       tally_law = TallyLaw-kept _ _ _ keg.tally_law counts.slabs takes.slabs.per_slab;
       paired = keg.paired;
     }
 
-pub put-requires-clause-shelf : goal.put-requires-clause-shelf
-put-requires-clause-shelf g c =
+pub put-requires-clause-slab_items : goal.put-requires-clause-slab_items
+put-requires-clause-slab_items g c =
     let keg = c.args.self.now in
     let no = c.unwrap-no.result in
     let takes : Takes keg.places no c.take.new.self = if_some c.take.result (λ (n : ℕ). Takes keg.places n c.take.new.self) no c.unwrap-no.ensures c.take.ensures.takes in
     let past : no < c.take.new.self.cap * c.take.new.self.per_slab = if_some c.take.result (λ (n : ℕ). n < c.take.new.self.cap * c.take.new.self.per_slab) no c.unwrap-no.ensures c.take.ensures.within in
     let below : no < keg.places.cap * keg.places.per_slab = rw (takes.slabs.cap, takes.slabs.per_slab) at past in
     let taken = c.take-2.ensures in
-    let law : PlacesLaw c.take.new.self _ c.take-2.new.self = PlacesLaw-taken _ _ _ _ _ _ no c.args.zone keg.places_law takes below c.issue-deed.ensures.zones taken.gone taken.others taken.shelves taken.count taken.places in
+    let law : PlacesLaw c.take.new.self _ c.take-2.new.self = PlacesLaw-taken _ _ _ _ _ _ no c.args.zone keg.places_law takes below c.issue-deed.ensures.zones taken.gone taken.others taken.home_items taken.count taken.places in
     let same_deed : c.in-Err.deed ≡ c.issue-deed.result = c.in-Err.ensures.unchanged.1 in
     let number : c.accept-no.result ≡ no = c.accept-no.ensures.number ∙ ap no_of same_deed ∙ c.issue-deed.ensures.deed.0 in
-    rw number (out_shelf law no takes.out)
+    rw number (out_slab law no takes.out)
 
 pub invariant_of-self-in-Err : goal.invariant_of-self-in-Err
 invariant_of-self-in-Err g c =
@@ -49,21 +49,21 @@ invariant_of-self-in-Err g c =
     let past : no < c.take.new.self.cap * c.take.new.self.per_slab = if_some c.take.result (λ (n : ℕ). n < c.take.new.self.cap * c.take.new.self.per_slab) no c.unwrap-no.ensures c.take.ensures.within in
     let below : no < keg.places.cap * keg.places.per_slab = rw (takes.slabs.cap, takes.slabs.per_slab) at past in
     let taken = c.take-2.ensures in
-    let law : PlacesLaw c.take.new.self _ c.take-2.new.self = PlacesLaw-taken _ _ _ _ _ _ no c.args.zone keg.places_law takes below c.issue-deed.ensures.zones taken.gone taken.others taken.shelves taken.count taken.places in
+    let law : PlacesLaw c.take.new.self _ c.take-2.new.self = PlacesLaw-taken _ _ _ _ _ _ no c.args.zone keg.places_law takes below c.issue-deed.ensures.zones taken.gone taken.others taken.home_items taken.count taken.places in
     let zones = ZonesLaw-taken _ _ _ _ no c.args.zone keg.zones_law c.issue-deed.ensures.zones (free_home keg.places_law no below takes.free) c.requires.exists c.requires.below in
     let same_deed : c.in-Err.deed ≡ c.issue-deed.result = c.in-Err.ensures.unchanged.1 in
     let same_item : c.in-Err.item ≡ c.unwrap-item.result = c.in-Err.ensures.unchanged.0 in
     let number : c.accept-no.result ≡ no = c.accept-no.ensures.number ∙ ap no_of same_deed ∙ c.issue-deed.ensures.deed.0 in
-    let stands : item_at keg.shelves no ≡ Some c.unwrap-item.result = sym taken.item ∙ c.unwrap-item.ensures in
+    let stands : item_at keg.home_items no ≡ Some c.unwrap-item.result = sym taken.item ∙ c.unwrap-item.ensures in
     let own_number : stored_no c.in-Err.item ≡ c.accept-no.result = ap stored_no same_item ∙ keg.places_law.numbered no c.unwrap-item.result stands ∙ sym number in
     let domain : domain_at c.take.new.self (c.accept-no.result / c.take.new.self.per_slab) ≡ Some (stored_domain c.in-Err.item) =
     ap (λ (m : ℕ). domain_at c.take.new.self (m / c.take.new.self.per_slab)) number
     ∙ ap (λ (p : ℕ). domain_at c.take.new.self (no / p)) takes.slabs.per_slab
     ∙ takes.slabs.domains (no / keg.places.per_slab)
-    ∙ free_domain keg.places _ keg.shelves no c.unwrap-item.result keg.places_law takes.free stands
+    ∙ free_domain keg.places _ keg.home_items no c.unwrap-item.result keg.places_law takes.free stands
     ∙ ap (λ item. Some (stored_domain item)) (sym same_item) in
     record {
-      places_law = PlacesLaw-given _ _ _ _ _ _ c.accept-no.result c.in-Err.item law c.give.ensures.gives (rw c.accept-no.ensures.number c.accept-no.ensures.zones) c.put.ensures.item c.put.ensures.others c.put.ensures.shelves c.put.ensures.count c.put.ensures.places own_number domain;
+      places_law = PlacesLaw-given _ _ _ _ _ _ c.accept-no.result c.in-Err.item law c.give.ensures.gives (rw c.accept-no.ensures.number c.accept-no.ensures.zones) c.put.ensures.item c.put.ensures.others c.put.ensures.home_items c.put.ensures.count c.put.ensures.places own_number domain;
       zones_law = ZonesLaw-given _ _ _ _ _ _ zones c.accept-no.ensures.zones c.accept-no.ensures.was_outside;
       tally_law = TallyLaw-kept _ _ _ (TallyLaw-kept _ _ c.take.new.self keg.tally_law counts.slabs takes.slabs.per_slab) (sym c.give.ensures.counts.slabs) c.give.ensures.gives.slabs.per_slab;
       paired = keg.paired;
@@ -79,11 +79,11 @@ returns-in-Ok-clause-takes g c =
     let below : no < keg.places.cap * keg.places.per_slab = rw (takes.slabs.cap, takes.slabs.per_slab) at past in
     let taken = c.take-2.ensures in
     let lent = c.in-Ok.ensures in
-    let stands : item_at keg.shelves no ≡ Some c.unwrap-item.result = sym taken.item ∙ c.unwrap-item.ensures in
+    let stands : item_at keg.home_items no ≡ Some c.unwrap-item.result = sym taken.item ∙ c.unwrap-item.ensures in
     takes_item keg _ c.args.hooks.now c.args.zone no (zone_of c.issue-deed.result) c.in-Ok.item c.unwrap-item.result
     (ap no_of lent.deed ∙ c.issue-deed.ensures.deed.0) takes counts
     (ap zone_of lent.deed ∙ c.issue-deed.ensures.deed.1) (ap deed_table lent.deed ∙ c.issue-deed.ensures.deed_table)
-    (free_domain keg.places _ keg.shelves no c.unwrap-item.result keg.places_law takes.free stands ∙ ap Some (sym lent.domain))
+    (free_domain keg.places _ keg.home_items no c.unwrap-item.result keg.places_law takes.free stands ∙ ap Some (sym lent.domain))
     stands c.issue-deed.ensures.deed.1 (record { primary = lent.primary; entered = lent.entered; left = lent.left; accepted = lent.accepted })
     c.issue-deed.ensures.zones (free_home keg.places_law no below takes.free) taken.gone taken.others
 
@@ -99,12 +99,12 @@ returns-in-Err-clause-keeps g c =
     let same_deed : c.in-Err.deed ≡ c.issue-deed.result = c.in-Err.ensures.unchanged.1 in
     let same_item : c.in-Err.item ≡ c.unwrap-item.result = c.in-Err.ensures.unchanged.0 in
     let number : c.accept-no.result ≡ no = c.accept-no.ensures.number ∙ ap no_of same_deed ∙ c.issue-deed.ensures.deed.0 in
-    let stands : item_at keg.shelves no ≡ Some c.unwrap-item.result = sym taken.item ∙ c.unwrap-item.ensures in
+    let stands : item_at keg.home_items no ≡ Some c.unwrap-item.result = sym taken.item ∙ c.unwrap-item.ensures in
     let Given : ℕ → Type 0 = λ m. Gives c.take.new.self m c.give.new.self in
     record {
       places = same_again keg.places c.take.new.self c.give.new.self no takes counts (subst Given number c.give.ensures.gives) c.give.ensures.counts;
       zones = zones_again _ _ _ no c.args.zone (free_home keg.places_law no below takes.free) c.issue-deed.ensures.zones (c.accept-no.ensures.zones ∙ ap (λ (m : ℕ). set (zones_of c.issue-deed.new.self.book) m None) (sym c.accept-no.ensures.number ∙ number));
-      stored = items_again keg.shelves c.take-2.new.self c.put.new.self no c.unwrap-item.result stands taken.others (ap (item_at c.put.new.self) (sym number) ∙ c.put.ensures.item ∙ ap Some same_item) (λ m ne. c.put.ensures.others m (λ at. ne (at ∙ number)));
+      stored = items_again keg.home_items c.take-2.new.self c.put.new.self no c.unwrap-item.result stands taken.others (ap (item_at c.put.new.self) (sym number) ∙ c.put.ensures.item ∙ ap Some same_item) (λ m ne. c.put.ensures.others m (λ at. ne (at ∙ number)));
     }
 
 pub returns-in-Err-clause-refused : goal.returns-in-Err-clause-refused
@@ -112,7 +112,7 @@ returns-in-Err-clause-refused g c =
     let keg = c.args.self.now in
     let no = c.unwrap-no.result in
     let takes : Takes keg.places no c.take.new.self = if_some c.take.result (λ (n : ℕ). Takes keg.places n c.take.new.self) no c.unwrap-no.ensures c.take.ensures.takes in
-    let stands : item_at keg.shelves no ≡ Some c.unwrap-item.result = sym c.take-2.ensures.item ∙ c.unwrap-item.ensures in
+    let stands : item_at keg.home_items no ≡ Some c.unwrap-item.result = sym c.take-2.ensures.item ∙ c.unwrap-item.ensures in
     let refused = c.in-Err.ensures.refused in
     let in_zone : zone_of c.issue-deed.result ≡ c.args.zone = c.issue-deed.ensures.deed.1 in
     record {

@@ -1,5 +1,5 @@
 use Rattle.std.proofs.Common.{◌+◌, ◌^◌, ◌≤◌, arith, refl, inl, inr}
-use Rattle.uma_places.specs.Dropping.{IsWorn}
+use Rattle.uma_places.specs.Dropping.{IsUsedUp}
 use Rattle.uma_places.specs.Kept.{keg_of}
 use Rattle.uma_places.specs.Places.{KegPlaces}
 use Rattle.uma_places.specs.Room.{room_at}
@@ -53,15 +53,15 @@ pub returns-clause-outs : goal.returns-clause-outs
 returns-clause-outs c = (gone c).outs
 
 -- a slab was given up, so one was wholly free, and not too many were made
-not_worn : (k : KegPlaces) → k.made + k.cap ≤ 2 ^ 40 → IsWorn k → ⊥
-not_worn k unworn worn = omega arith
+not_used_up : (k : KegPlaces) → k.made + k.cap ≤ 2 ^ 40 → IsUsedUp k → ⊥
+not_used_up k not_used used_up = omega arith
 
 pub returns-clause-none_exactly : goal.returns-clause-none_exactly
 returns-clause-none_exactly c =
-    let unworn : c.args.self.now.made + c.args.self.now.cap ≤ 2 ^ 40 = rw (← c.self.view_is) (given_up c).unworn in (
+    let not_used : c.args.self.now.made + c.args.self.now.cap ≤ 2 ^ 40 = rw (← c.self.view_is) (given_up c).not_used in (
       λ e. absurd (cc),
       λ either. absurd (elim either [
-        | inl worn ↦ not_worn c.args.self.now unworn worn
+        | inl used_up ↦ not_used_up c.args.self.now not_used used_up
         | inr none ↦ none c.in_ok-index.index (gone c).drops.whole
       ]),
     )

@@ -5,17 +5,17 @@ use uma_life::{Body, Stored};
 
 /// The items of one slab that are at home, each at its place. None where the place's item is outside.
 #[derive(Drop)]
-pub(crate) struct Shelf<T: Body> {
+pub(crate) struct SlabItems<T: Body> {
     pub(crate) places: Vec<Option<Stored<T>>>,
 }
 
-impl<T: Body> Shelf<T> {
-    ghost use Rattle.uma_keg.specs.Shelf.{shelf_items};
-    ghost use Rattle.uma_keg.specs.ShelfLists.{item_on};
+impl<T: Body> SlabItems<T> {
+    ghost use Rattle.uma_keg.specs.SlabItems.{places_of_slab};
+    ghost use Rattle.uma_keg.specs.HomeLists.{item_on};
 
     /// The item of a place, if it is there.
     pub fn item(&self, place: u32) -> Option<&Stored<T>>
-        requires { place < length (shelf_items self.now) }
+        requires { place < length (places_of_slab self.now) }
         ensures { option_copied result ≡ item_on place self.now }
     {
         self.places[place as usize].as_ref()
@@ -23,9 +23,9 @@ impl<T: Body> Shelf<T> {
 
     /// Takes the item of a place, if it is there.
     pub fn take(&mut self, place: u32) -> Option<Stored<T>>
-        requires { place < length (shelf_items self.old) }
-        ensures item { slice_get (shelf_items self.old) place ≡ Some result }
-        ensures items { shelf_items self.new ≡ slice_set (shelf_items self.old) place None }
+        requires { place < length (places_of_slab self.old) }
+        ensures item { slice_get (places_of_slab self.old) place ≡ Some result }
+        ensures items { places_of_slab self.new ≡ slice_set (places_of_slab self.old) place None }
     {
         self.places[place as usize].take()
     }
@@ -33,8 +33,8 @@ impl<T: Body> Shelf<T> {
     /// Puts an item at its place, where none is.
     #[tactic(auto, using(std::proofs::lemmas::Option::slice_get_within))]
     pub fn put(&mut self, place: u32, item: Stored<T>)
-        requires { slice_get (shelf_items self.old) place ≡ Some None }
-        ensures { shelf_items self.new ≡ slice_set (shelf_items self.old) place (Some item) }
+        requires { slice_get (places_of_slab self.old) place ≡ Some None }
+        ensures { places_of_slab self.new ≡ slice_set (places_of_slab self.old) place (Some item) }
     {
         let gap = self.places[place as usize].replace(item);
         let None = gap else { unreachable!() };

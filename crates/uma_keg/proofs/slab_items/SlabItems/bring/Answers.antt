@@ -1,7 +1,7 @@
 use Rattle.std.proofs.Common.{◌≡◌, ◌+◌, Some, None, vec_len, arith}
 use Rattle.uma_life.specs.Life.{raw_life}
 use Rattle.uma_keg.proofs.NewItemSums.{adds_vain, refuses_items}
-use Rattle.uma_keg.proofs.shelf.Shelf.bring.Goals as goal
+use Rattle.uma_keg.proofs.slab_items.SlabItems.bring.Goals as goal
 
 pub returns-in-Err-clause-refused : goal.returns-in-Err-clause-refused
 returns-in-Err-clause-refused g c =

@@ -1,7 +1,7 @@
 use Rattle.std.proofs.Common.{◌≡◌, None, Some, is_none, arith, sym, ap, ◌∙◌}
 use Rattle.std.specs.List.{position}
-use Rattle.uma_keg.proofs.ShelfItems.{gap_found, no_gap}
-use Rattle.uma_keg.proofs.shelves.Shelves.first_gap.Goals as goal
+use Rattle.uma_keg.proofs.HomePlaces.{gap_found, no_gap}
+use Rattle.uma_keg.proofs.home_items.HomeItems.first_gap.Goals as goal
 
 pub returns-in-Some-clause-gap : goal.returns-in-Some-clause-gap
 returns-in-Some-clause-gap g c =
