@@ -10,7 +10,8 @@ use Rattle.smr_clock.specs.Belongs.{TableId}
 use Rattle.smr_clock.specs.Goals.{tag_of}
 use Rattle.smr_clock.specs.Notes.{note_knows, note_clock}
 use Rattle.smr_clock.specs.Polls.{Polls}
-use Rattle.smr_clock.specs.SafeReuse.{Moment, Follow, StaysOver}
+use Rattle.smr_clock.specs.Moments.{Moment}
+use Rattle.smr_clock.specs.SafeReuse.{Follow, StaysOver}
 use Rattle.uma_bucket.specs.declared.loose.Loose.{Loose}
 use Rattle.uma_bucket.specs.declared.sealed.Sealed.{Sealed}
 use Rattle.uma_bucket.specs.declared.ripe.Ripe.{Ripe}

@@ -11,4 +11,4 @@ returns-clause-home g c home before = subst (AreHome home) (sym (returns-clause-
 
 pub returns-clause-over : goal.returns-clause-over
 returns-clause-over g c now following id follow there =
-    c.no_section_is_before_a_known_goal.ensures _ now following id _ _ follow there c.args.self.expired
+    c.no_section_is_before_a_known_goal.ensures.known _ now following id _ _ follow there c.args.self.expired
