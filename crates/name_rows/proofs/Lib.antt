@@ -1,0 +1,17 @@
+pub mod Seats
+pub mod Loads
+pub mod FindLemmas
+pub mod EntryHeld
+pub mod EntrySteps
+pub mod Moves
+pub mod RowHeld
+pub mod RowSteps
+pub mod SeatMoves
+pub mod RowCalls
+pub mod MeetSteps
+pub mod RootLemmas
+pub mod RootSteps
+pub mod RootCalls
+pub mod OpeningLemmas
+pub mod MakingSteps
+pub mod WordsStandLemmas

@@ -1,0 +1,27 @@
+use Rattle.std.proofs.Common.{List, ap, sym, ◌∙◌}
+use Rattle.smr_clock.specs.declared.setup.Setup.{Setup}
+use Rattle.smr_clock.specs.declared.view.View.{View}
+use Rattle.smr_clock.specs.Making.{setup}
+use Rattle.name_rows.specs.declared.owned.Owned.{Owned}
+use Rattle.name_rows.specs.declared.part.Part.{Part}
+use Rattle.name_rows.specs.Moving.{found, entry_no}
+use Rattle.name_rows.proofs.OpeningLemmas.{names_opens, table_owns, table_loose}
+use Rattle.name_rows.proofs.making.make.Goals as goal
+
+pub hosted-requires : goal.hosted-requires
+hosted-requires c =
+    record {
+      opens = names_opens (setup c.args.seats c.args.start c.args.window (c.args.rows, c.args.entries)) c.args.version c.in_ok-check.ensures.version c.in_ok-check.ensures.plan c.in-Ok.more.items c.in-Ok.ensures;
+    }
+
+pub invariant_of-root : goal.invariant_of-root
+invariant_of-root c =
+    let owned = c.in-Ok-split_rows.ensures.owned ∙ ap (λ (v : View Part). v.host.owned) c.in-Ok-hosted.ensures.seat in
+    let long = c.in-Ok-fresh_entries.ensures.long in
+    let fresh = c.in-Ok-fresh_entries.ensures.fresh in
+    record {
+      no_rows = c.in-Ok-split_rows.ensures.rest;
+      owns = λ n. ap (λ (l : List Owned). found entry_no n l) owned ∙ table_owns c.args.entries c.in-Ok-fresh_entries.kept.items long fresh n;
+      loose = table_loose c.args.entries c.in-Ok-fresh_entries.kept.items long fresh;
+      all = long ∙ sym (ap (λ (s : Setup). s.plan.1) (c.in-Ok-split_rows.ensures.here.1 ∙ c.in-Ok-hosted.ensures.clock));
+    }

@@ -1,0 +1,17 @@
+pub mod Records
+pub mod NamesLaw
+pub mod Laws
+pub mod Reading
+pub mod Belongs
+pub mod Writing
+pub mod Ripening
+pub mod Moving
+pub mod Linking
+pub mod Guests
+pub mod EntryWords
+pub mod Entries
+pub mod Rows
+pub mod RootStates
+pub mod Roots
+pub mod Opening
+pub mod WordsStand

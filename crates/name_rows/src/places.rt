@@ -1,0 +1,39 @@
+ghost use Rattle.std.specs.Prelude.{◌≡◌, ◌≤◌, ◌<◌};
+ghost use Rattle.smr_clock.specs.Belongs.{table_of, setup_of};
+ghost use Rattle.name_rows.specs.Belongs.{IsNamesClock};
+ghost use Rattle.name_rows.specs.Records.{row_place, key_place, value_place};
+
+use crate::names::Names;
+use smr_clock::Clock;
+
+// The place of the first word behind the seats' words.
+fn first_place(clock: &Clock<Names>) -> u32
+    requires names { IsNamesClock clock.now }
+    ensures { result ≡ row_place (setup_of clock.now) 0 }
+{
+    clock.host_place()
+}
+
+pub(crate) fn row_place(clock: &Clock<Names>, row: u32) -> u32
+    requires names { IsNamesClock clock.now }
+    requires row { row < (setup_of clock.now).plan.0 }
+    ensures { result ≡ row_place (setup_of clock.now) row }
+{
+    first_place(clock) + row
+}
+
+pub(crate) fn key_place(clock: &Clock<Names>, entry: u32) -> u32
+    requires names { IsNamesClock clock.now }
+    requires entry { entry < (setup_of clock.now).plan.1 }
+    ensures { result ≡ key_place (setup_of clock.now) entry }
+{
+    first_place(clock) + clock.plan().0 + 2 * entry
+}
+
+pub(crate) fn value_place(clock: &Clock<Names>, entry: u32) -> u32
+    requires names { IsNamesClock clock.now }
+    requires entry { entry < (setup_of clock.now).plan.1 }
+    ensures { result ≡ value_place (setup_of clock.now) entry }
+{
+    key_place(clock, entry) + 1
+}

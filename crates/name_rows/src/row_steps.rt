@@ -1,0 +1,122 @@
+// The steps of a row's seat.
+ghost use Rattle.std.specs.Prelude.{◌≡◌, ℕ, ◌<◌, ◌+◌, ◌%◌, ◌^◌, [], ◌∷◌, Some};
+ghost use Rattle.smr_clock.specs.Belongs.{setup_of};
+ghost use Rattle.smr_clock.specs.HostSteps.{HostSplits, with_host};
+ghost use Rattle.smr_clock.specs.Notes.{IsSeatOf, seat_knows};
+ghost use Rattle.smr_clock.specs.Steps.{joined_view};
+ghost use Rattle.name_rows.specs.Belongs.{IsNamesClock};
+ghost use Rattle.name_rows.specs.Guests.{bound_of};
+ghost use Rattle.name_rows.specs.Linking.{last_version, linking, unlinking, written_in};
+ghost use Rattle.name_rows.specs.Moving.{taken, linked_rest, unlinked_entry};
+ghost use Rattle.name_rows.specs.declared.entry_state.EntryState.{EntryState};
+
+use crate::guest::Guest;
+use crate::names::Names;
+use crate::places::row_place;
+use crate::words::Words;
+use smr_clock::{Clock, HostAct, HostJoin, HostPlay, HostSeat, HostSplit};
+
+/// The row's seat takes in an entry's.
+struct TakesIn;
+
+impl HostJoin<Names> for TakesIn {
+    ghost use Rattle.name_rows.specs.Moving.{taken};
+
+    ghost both = { taken };
+}
+
+/// An unlinked entry gets a seat of its own.
+struct GivesOut;
+
+impl HostSplit<Names> for GivesOut {
+    ghost use Rattle.name_rows.specs.Moving.{linked_rest, unlinked_entry};
+
+    ghost left = { linked_rest };
+
+    ghost right = { unlinked_entry };
+}
+
+/// The store of a row's word that links an entry.
+struct Links;
+
+impl HostPlay<Names> for Links {
+    ghost use Rattle.name_rows.specs.Linking.{links};
+
+    ghost changes = { links };
+}
+
+/// The store of a row's word that names no entry.
+struct Unlinks;
+
+impl HostPlay<Names> for Unlinks {
+    ghost use Rattle.name_rows.specs.Linking.{unlinks};
+
+    ghost changes = { unlinks };
+}
+
+pub(crate) fn take_in(clock: &Clock<Names>, seat: &mut HostSeat<Names>, words: Words)
+    requires here { IsSeatOf clock.now seat.old }
+    requires words_here { IsSeatOf clock.now words.seat }
+    requires written { words.kept.state ≡ EntryState.Written }
+    ensures here { IsSeatOf clock.now seat.new }
+    ensures view { seat_knows seat.new ≡ joined_view taken (seat_knows seat.old) (seat_knows words.seat) }
+{
+    let Words {
+        seat: other,
+        kept: _,
+    } = words;
+    clock.seat_join::<TakesIn>(seat, other);
+}
+
+pub(crate) fn give_out(clock: &Clock<Names>, seat: &mut HostSeat<Names>) -> HostSeat<Names>
+    requires here { IsSeatOf clock.now seat.old }
+    ensures here { IsSeatOf clock.now seat.new }
+    ensures other_here { IsSeatOf clock.now result }
+    ensures splits { HostSplits linked_rest unlinked_entry (seat_knows seat.old) (seat_knows seat.new) (seat_knows result) }
+{
+    clock.seat_split::<GivesOut>(seat)
+}
+
+/// One store of the row's word: the next version, and the entry.
+pub(crate) fn store_link(
+    clock: &Clock<Names>,
+    seat: &mut HostSeat<Names>,
+    number: u32,
+    version: u64,
+    guest: &Guest,
+)
+    requires here { IsSeatOf clock.now seat.old }
+    requires names { IsNamesClock clock.now }
+    requires number { number < (setup_of clock.now).plan.0 }
+    requires seen { last_version (seat_knows seat.old).host.rows ≡ Some (number, version) }
+    requires low { version + 1 < 2 ^ 44 }
+    requires entry { guest.now.no < (setup_of clock.now).plan.1 }
+    requires written { written_in (seat_knows seat.old).host.owned ≡ Some (bound_of guest.now) }
+    requires of_row { guest.now.key % (setup_of clock.now).plan.0 ≡ number }
+    ensures here { IsSeatOf clock.now seat.new }
+    ensures view { (found : ℕ) × (seat_knows seat.new ≡ with_host (seat_knows seat.old) (linking found (seat_knows seat.old).host)) }
+{
+    let value = (version + 1) * (1 << 20) + u64::from(guest.no) + 1;
+    let place = row_place(clock, number);
+    clock.seat_step::<Links>(seat, place, HostAct::Store { value });
+}
+
+/// One store of the row's word: the next version, and no entry.
+pub(crate) fn store_unlink(
+    clock: &Clock<Names>,
+    seat: &mut HostSeat<Names>,
+    number: u32,
+    version: u64,
+)
+    requires here { IsSeatOf clock.now seat.old }
+    requires names { IsNamesClock clock.now }
+    requires number { number < (setup_of clock.now).plan.0 }
+    requires seen { last_version (seat_knows seat.old).host.rows ≡ Some (number, version) }
+    requires low { version + 1 < 2 ^ 44 }
+    ensures here { IsSeatOf clock.now seat.new }
+    ensures view { (found : ℕ) × (seat_knows seat.new ≡ with_host (seat_knows seat.old) (unlinking found (seat_knows seat.old).host)) }
+{
+    let value = (version + 1) * (1 << 20);
+    let place = row_place(clock, number);
+    clock.seat_step::<Unlinks>(seat, place, HostAct::Store { value });
+}
