@@ -1,0 +1,40 @@
+//! Traces from a number: the same each time, and valid.
+#![tactic(auto)]
+
+ghost use Rattle.std.specs.Prelude.{◌≡◌, IfOk};
+ghost use Rattle.trace_text.specs.Limits.{IsWithin};
+ghost use Rattle.trace_text.specs.Valid.{IsValid};
+ghost use Rattle.trace_gen.specs.Header.{made_trace};
+
+use generator::Generator;
+use rounds::RoundsMade;
+use std::alloc::Global;
+use trace_text::Trace;
+use zone_stats::Memory;
+
+mod drawn;
+mod generator;
+mod head;
+mod rounds;
+mod slots;
+#[cfg(test)]
+mod tests;
+
+/// The trace that a seed gives: `ops` steps of `workers` workers, 1 to 16, over the zones `alpha`, `beta` and `gamma` and
+/// the names `dir`. `ops` is 1 to 50,000. `Memory` is the one error.
+pub fn make_trace(alloc: Global, seed: u64, workers: u32, ops: u32) -> Result<Trace, Memory>
+    requires workers { IsWithin 1 16 workers }
+    requires ops { IsWithin 1 50000 ops }
+    ensures made { IfOk result (λ trace. trace ≡ made_trace seed workers ops) }
+    ensures valid { IfOk result IsValid }
+{
+    let head = head::head(alloc, workers)?;
+    let mut generator = Generator::new(alloc, seed, workers)?;
+    let mut rounds = RoundsMade::new(alloc);
+    for _step in 0..ops {
+        let drawn = generator.step(workers);
+        rounds.push(alloc, workers, drawn)?;
+    }
+    let rounds = rounds.finish(alloc, workers)?;
+    Ok(Trace { head, rounds })
+}
