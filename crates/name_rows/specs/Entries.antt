@@ -1,6 +1,7 @@
 -- What contracts see of entries.
-use Rattle.std.specs.Prelude.{Option, Some, None}
+use Rattle.std.specs.Prelude.{◌≡◌, Option, Some, None}
 use Rattle.uma_life.specs.Life.{Life}
+use Rattle.uma_life.specs.Hook.{Hook, after}
 use Rattle.smr_clock.specs.declared.clock.Clock.{Clock}
 use Rattle.smr_clock.specs.declared.view.View.{View}
 use Rattle.smr_clock.specs.Notes.{IsSeatOf, seat_knows}
@@ -22,6 +23,10 @@ AreWordsOf clock (Some w) = IsSeatOf clock w.seat
 
 abbrev pub IsEntryOf : Clock Names Part → Entry → Type 0
 IsEntryOf clock e = AreWordsOf clock e.words
+
+-- the entry passed the hook, which leaves its words as they were
+abbrev pub Passes : Hook → Entry → Entry → Type 0
+Passes hook e e' = (entry_life e' ≡ after hook (entry_life e)) × (e'.words ≡ e.words)
 
 abbrev pub state_in : Option Words → Option EntryState
 state_in None = None

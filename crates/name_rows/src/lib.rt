@@ -3,6 +3,7 @@
 #![tactic(auto)]
 
 mod entry;
+mod entry_life;
 mod entry_state;
 mod finding;
 mod guest;

@@ -1,0 +1,83 @@
+ghost use Rattle.std.specs.Prelude.{◌≡◌, None, IsSome, IfOk, IfErr};
+ghost use Rattle.uma_life.specs.Hook.{KegInit, ZoneInit, Ctor, Dtor, ZoneFini, KegFini, MayPass, base_phase};
+ghost use Rattle.name_rows.specs.Entries.{entry_life, Passes};
+
+use crate::entry::Entry;
+use uma_life::BodyPhase;
+
+/// The code with which an entry without words refuses to begin its life.
+const NO_WORDS: u8 = 255;
+
+// The phase of an item that is in a zone and not built.
+fn unbuilt(zone: u8) -> BodyPhase
+    ensures { result ≡ base_phase zone }
+{
+    if zone == 0 {
+        BodyPhase::Kept
+    } else {
+        BodyPhase::Zoned { zone }
+    }
+}
+
+/// The hooks of an entry's life. Each changes the phase and its one count, and leaves the words as they were.
+impl Entry {
+    /// Refused with 255 exactly where the entry has no words; then nothing changes.
+    pub fn keg_init(&mut self) -> Result<(), u8>
+        requires { MayPass KegInit (entry_life self.old) }
+        ensures passed { IfOk result (λ _. Passes KegInit self.old self.new) }
+        ensures accepts { IfOk result (λ _. IsSome self.old.words) }
+        ensures refuses { IfErr result (λ code. (code ≡ 255) × (self.old.words ≡ None)) }
+        ensures unchanged { IfErr result (λ _. self.new ≡ self.old) }
+    {
+        if self.words.is_none() {
+            return Err(NO_WORDS);
+        }
+        self.phase = BodyPhase::Kept;
+        self.tally.keg_inits = self.tally.keg_inits.wrapping_add(1);
+        Ok(())
+    }
+
+    pub fn zone_init(&mut self, zone: u8)
+        requires { MayPass (ZoneInit zone) (entry_life self.old) }
+        ensures { Passes (ZoneInit zone) self.old self.new }
+    {
+        self.phase = BodyPhase::Zoned { zone };
+        let counts = &mut self.tally.zones[zone as usize];
+        counts.inits = counts.inits.wrapping_add(1);
+    }
+
+    pub fn ctor(&mut self, zone: u8)
+        requires { MayPass (Ctor zone) (entry_life self.old) }
+        ensures { Passes (Ctor zone) self.old self.new }
+    {
+        self.phase = BodyPhase::Built { zone };
+        let counts = &mut self.tally.zones[zone as usize];
+        counts.ctors = counts.ctors.wrapping_add(1);
+    }
+
+    pub fn dtor(&mut self, zone: u8)
+        requires { MayPass (Dtor zone) (entry_life self.old) }
+        ensures { Passes (Dtor zone) self.old self.new }
+    {
+        self.phase = unbuilt(zone);
+        let counts = &mut self.tally.zones[zone as usize];
+        counts.dtors = counts.dtors.wrapping_add(1);
+    }
+
+    pub fn zone_fini(&mut self, zone: u8)
+        requires { MayPass (ZoneFini zone) (entry_life self.old) }
+        ensures { Passes (ZoneFini zone) self.old self.new }
+    {
+        self.phase = BodyPhase::Kept;
+        let counts = &mut self.tally.zones[zone as usize];
+        counts.finis = counts.finis.wrapping_add(1);
+    }
+
+    pub fn keg_fini(&mut self)
+        requires { MayPass KegFini (entry_life self.old) }
+        ensures { Passes KegFini self.old self.new }
+    {
+        self.phase = BodyPhase::Gone;
+        self.tally.keg_finis = self.tally.keg_finis.wrapping_add(1);
+    }
+}
