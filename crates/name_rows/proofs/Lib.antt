@@ -15,3 +15,4 @@ pub mod RootCalls
 pub mod OpeningLemmas
 pub mod MakingSteps
 pub mod WordsStandLemmas
+pub mod PoppedRow
