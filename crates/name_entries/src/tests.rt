@@ -2,3 +2,4 @@ use super::*;
 use std::test::Fail;
 
 mod hooking;
+mod racing;

@@ -1,4 +1,4 @@
-use Rattle.std.proofs.Common.{◌≡◌, ℕ, ◌++◌, ◌∷◌, [], Option, length, ap, sym, ◌∙◌, arith}
+use Rattle.std.proofs.Common.{◌++◌, Option, ap, sym, ◌∙◌}
 use Rattle.std.specs.Prelude.{option_to_list}
 use Rattle.smr_clock.specs.declared.view.View.{View}
 use Rattle.smr_clock.proofs.MakingLemmas.{last_there, before_last_there}
