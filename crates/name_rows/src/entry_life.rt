@@ -19,9 +19,11 @@ fn unbuilt(zone: u8) -> BodyPhase
     }
 }
 
-/// The hooks of an entry's life. Each changes the phase and its one count, and leaves the words as they were.
+/// The hooks of an entry's life. Each changes the phase and its one count, and leaves the words as they were: an entry
+/// that wasn't ripe when it was freed is built again with its stamp.
 impl Entry {
-    /// Refused with 255 exactly where the entry has no words; then nothing changes.
+    /// Runs when the entry's slab is brought in. Refused with 255 exactly where the entry has no words; then nothing
+    /// changes. So no entry without words is ever built.
     pub fn keg_init(&mut self) -> Result<(), u8>
         requires { MayPass KegInit (entry_life self.old) }
         ensures passed { IfOk result (λ _. Passes KegInit self.old self.new) }
@@ -37,6 +39,7 @@ impl Entry {
         Ok(())
     }
 
+    /// Runs when the entry enters a secondary zone, which is 1 to 7.
     pub fn zone_init(&mut self, zone: u8)
         requires { MayPass (ZoneInit zone) (entry_life self.old) }
         ensures { Passes (ZoneInit zone) self.old self.new }
@@ -46,6 +49,7 @@ impl Entry {
         counts.inits = counts.inits.wrapping_add(1);
     }
 
+    /// Runs on an allocation in a zone below 8. It neither cleans the entry nor writes its words.
     pub fn ctor(&mut self, zone: u8)
         requires { MayPass (Ctor zone) (entry_life self.old) }
         ensures { Passes (Ctor zone) self.old self.new }
@@ -55,6 +59,7 @@ impl Entry {
         counts.ctors = counts.ctors.wrapping_add(1);
     }
 
+    /// Runs once for each allocation that was freed, in its zone. A section may still read the words.
     pub fn dtor(&mut self, zone: u8)
         requires { MayPass (Dtor zone) (entry_life self.old) }
         ensures { Passes (Dtor zone) self.old self.new }
@@ -64,6 +69,7 @@ impl Entry {
         counts.dtors = counts.dtors.wrapping_add(1);
     }
 
+    /// Runs when the entry leaves a secondary zone, which is 1 to 7.
     pub fn zone_fini(&mut self, zone: u8)
         requires { MayPass (ZoneFini zone) (entry_life self.old) }
         ensures { Passes (ZoneFini zone) self.old self.new }
@@ -73,6 +79,8 @@ impl Entry {
         counts.finis = counts.finis.wrapping_add(1);
     }
 
+    /// Runs when the entry's slab is given up. The root, to which the entry goes then, keeps its stamp for the next entry
+    /// of its number.
     pub fn keg_fini(&mut self)
         requires { MayPass KegFini (entry_life self.old) }
         ensures { Passes KegFini self.old self.new }
