@@ -21,6 +21,7 @@ impl RaisedEntry {
     ghost use Rattle.name_entries.specs.Homes.{home_clock};
     ghost use Rattle.name_entries.specs.Raised.{raised_entry, raised_home};
 
+    /// The entry, to be read alone: it is written and linked only after `into_parts`.
     pub fn entry(&self) -> &Entry
         ensures entry { result.now ≡ raised_entry self.now }
         ensures here { IsEntryOf (home_clock (raised_home self.now)) result.now }

@@ -17,7 +17,7 @@ use uma_life::Memory;
 /// The values of a key are from this many times the key on.
 const SPAN: u64 = 1000;
 
-const TURNS: u64 = 900;
+const TURNS: u64 = 5000;
 
 // A look of a reader. Whether what it found was bound to that key.
 fn look(clock: &Clock<Names>, pass: &mut Pass<Names>, key: u64) -> bool
