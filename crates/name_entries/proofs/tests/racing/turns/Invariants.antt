@@ -1,4 +1,4 @@
-use Rattle.std.proofs.Common.{◌≡◌, IsSome}
+use Rattle.std.proofs.Common.{IsSome}
 use Rattle.smr_clock.specs.Belongs.{IsOf}
 use Rattle.name_rows.specs.Entries.{IsEntryOf}
 use Rattle.name_rows.specs.Rows.{IsRowOf}
