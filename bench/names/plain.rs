@@ -1,0 +1,76 @@
+//! The loads of a find, written as plain atomics, to be timed beside it. Nothing of it is proved.
+use std::sync::atomic::{AtomicU64, Ordering::SeqCst};
+use std::time::Instant;
+
+const ROUNDS: u64 = 200_000;
+const TRIES: u32 = 25;
+
+/// So many keys are looked for.
+const KEYS: u64 = 4096;
+
+/// The least of them. It is above the number of rows, so that a look divides.
+const LEAST_KEY: u64 = 4_096_000;
+
+struct Names {
+    // The number of rows, as wide as a clock of names has it.
+    count: u32,
+    rows: Vec<AtomicU64>,
+    words: Vec<AtomicU64>,
+}
+
+// A load with no test of the place, since a find has none either.
+fn load(words: &[AtomicU64], place: usize) -> u64 {
+    // SAFETY: each place that a row's word names is one of the words.
+    unsafe { words.get_unchecked(place) }.load(SeqCst)
+}
+
+impl Names {
+    // Each row names the entry of its own number, with that number as its value.
+    fn new(count: u32) -> Self {
+        let rows = u64::from(count);
+        let word = |word| {
+            if word % 2 == 0 {
+                LEAST_KEY + word / 2
+            } else {
+                word / 2
+            }
+        };
+        let words = (0..2 * rows).map(|at| AtomicU64::new(word(at))).collect();
+        let rows = (0..rows)
+            .map(|row| AtomicU64::new((1 << 20) + row + 1))
+            .collect();
+        Names { count, rows, words }
+    }
+
+    fn find(&self, key: u64) -> Option<u64> {
+        let row = key % u64::from(self.count);
+        let slot = load(&self.rows, row as usize) % (1 << 20);
+        if slot == 0 {
+            return None;
+        }
+        let entry = slot as usize - 1;
+        if load(&self.words, 2 * entry) != key {
+            return None;
+        }
+        Some(load(&self.words, 2 * entry + 1))
+    }
+}
+
+fn main() {
+    // The number of rows is known only when it runs, as it is to a clock of names.
+    let rows = std::hint::black_box(4096);
+    let names = Names::new(rows);
+    let mut least = u128::MAX;
+    let mut found = 0u64;
+    for _ in 0..TRIES {
+        let start = Instant::now();
+        for round in 0..ROUNDS {
+            let key = LEAST_KEY + round.wrapping_mul(2_654_435_761) % KEYS;
+            if names.find(key).is_some() {
+                found += 1;
+            }
+        }
+        least = least.min(start.elapsed().as_nanos() / u128::from(ROUNDS / 1000));
+    }
+    println!("plain   find: {least} picoseconds, {found} found");
+}
