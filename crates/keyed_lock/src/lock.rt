@@ -56,6 +56,7 @@ impl<T, K, P: LockRule<T, K>> KeyedLock<T, K, P> {
     pub fn lock<'a, R: Wait>(&'a self, rt: &R) -> KeyedGuard<'a, T, K, P>
         ensures same_key { guard_key result ≡ lock_key self.now }
         ensures kept { P.keeps (lock_key self.now) result.value }
+        ensures mine { P.keeps (guard_key result) result.value }
     {
         if let Some(guard) = self.try_lock() {
             return guard;
@@ -75,6 +76,7 @@ impl<T, K, P: LockRule<T, K>> KeyedLock<T, K, P> {
     pub fn try_lock<'a>(&'a self) -> Option<KeyedGuard<'a, T, K, P>>
         ensures same_key { IfSome result (λ guard. guard_key guard ≡ lock_key self.now) }
         ensures kept { IfSome result (λ guard. P.keeps (lock_key self.now) guard.value) }
+        ensures mine { IfSome result (λ guard. P.keeps (guard_key guard) guard.value) }
     {
         let shared = &self.table.shared;
         // A look first: a lock that is held stays in the holder's cache.
@@ -109,6 +111,7 @@ impl<T, K, P: LockRule<T, K>> KeyedLock<T, K, P> {
         requires holds { Holds P.keeps seat.me }
         ensures same_key { guard_key result ≡ lock_key self.now }
         ensures kept { P.keeps (lock_key self.now) result.value }
+        ensures mine { P.keeps (guard_key result) result.value }
     {
         let taken = self.table.shared.exchange(&mut seat, SLOT, None);
         let Some(value) = taken else { unreachable!() };
