@@ -1,4 +1,4 @@
-ghost use Rattle.std.specs.Prelude.{◌≡◌, ◌≤◌, ◌<◌, ◌+◌, ◌^◌, ℕ, ◌∷◌, ◌++◌, [], length, IfSome, IfNone, IfOk, IfErr, Err};
+ghost use Rattle.std.specs.Prelude.{◌≡◌, ◌≤◌, ◌<◌, ◌+◌, ◌^◌, ℕ, ◌∷◌, ◌++◌, [], length, IfSome, IfNone, IfOk, IfErr, Err, option_to_list};
 ghost use Rattle.uma_bucket.specs.Held.{is_cached};
 ghost use Rattle.uma_bucket.specs.Kept.{IsKept};
 
@@ -54,6 +54,7 @@ impl<T: Body> Bucket<T> {
 
     /// Takes the item on top, which is the last that was put. None exactly where there is none.
     pub fn pop(&mut self) -> Option<Cached<T>>
+        ensures items { items_of self.old ≡ items_of self.new ++ option_to_list result }
         ensures last { IfSome result (λ item. items_of self.old ≡ items_of self.new ++ item ∷ []) }
         ensures none { IfNone result (items_of self.old ≡ []) }
         ensures unchanged { IfNone result (items_of self.new ≡ []) }

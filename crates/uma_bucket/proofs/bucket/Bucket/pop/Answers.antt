@@ -12,6 +12,9 @@ returns-clause-last g c = part_pop cached_in _ _ _ _ c.in_ok-item.ensures.items 
 pub returns-clause-home : goal.returns-clause-home
 returns-clause-home g c home before = home_pop home cached_ticket _ _ c.in-Cached.item (returns-clause-last g c) before
 
+pub returns-clause-items : goal.returns-clause-items
+returns-clause-items g c = returns-clause-last g c
+
 pub returns-clause-room : goal.returns-clause-room
 returns-clause-room g c =
     let old = c.args.self.now in
