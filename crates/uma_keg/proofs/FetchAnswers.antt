@@ -1,7 +1,10 @@
 -- What the answer of a fetch tells its caller.
-use Rattle.std.proofs.Common.{◌≡◌, ◌≤◌, ◌+◌, ◌*◌, ℕ, Some, List, drop, length, inl, inr, refl, arith, sym, ap, subst, ◌∙◌}
+use Rattle.std.proofs.Common.{◌≡◌, ◌≤◌, ◌+◌, ◌*◌, [], ◌∷◌, ◌++◌, ℕ, Some, Result, Ok, Err, List, drop, length, inl, inr, refl, arith, sym, ap, subst, ◌∙◌}
+use Rattle.std.specs.Prelude.{IfOk, IfErr}
+use Rattle.std.specs.List.{filter_map}
 use Rattle.std.proofs.Math.Seq.{drop-append_seam}
-use Rattle.std.proofs.lemmas.List.Elements.{All-weaker}
+use Rattle.std.proofs.lemmas.List.{append-nil}
+use Rattle.std.proofs.lemmas.List.Elements.{All-weaker, filter_map-append}
 use Rattle.uma_life.specs.declared.cached.Cached.{Cached}
 use Rattle.uma_life.specs.Stored.{stored_body}
 use Rattle.zone_stats.specs.declared.refusal.Refusal.TheVariants.{AtLimit, Reserved, Full, Init, Ctor}
@@ -9,11 +12,12 @@ use Rattle.uma_keg.specs.declared.fetch_ask.FetchAsk.{FetchAsk}
 use Rattle.uma_keg.specs.declared.fetch_refused.FetchRefused.{FetchRefused}
 use Rattle.uma_keg.specs.declared.fetch_refused.FetchRefused.TheVariants.{Refused, Memory}
 use Rattle.uma_keg.specs.declared.keg.Keg.{Keg}
-use Rattle.uma_keg.specs.Keg.{places_in}
+use Rattle.uma_keg.specs.Keg.{places_in, refusal_of}
 use Rattle.uma_keg.specs.BringSlab.{RefusesNumber}
 use Rattle.uma_keg.specs.BringSlabs.{found_in, StopsAtSlab}
 use Rattle.uma_keg.specs.TakeItem.{IsTaken}
-use Rattle.uma_keg.specs.Fetched.{wish_of, Fetches, FetchesInto, RefusesFetch, NamesWhatItFound, IsOutIn, GivesItems}
+use Rattle.uma_keg.specs.Fetched.{wish_of, Fetches, FetchesInto, RefusesFetch, NamesWhatItFound, IsOutIn, GivesItems, IsUnmoved, refusals_after}
+use Rattle.uma_keg.proofs.FetchedItems.{still_refused, still_fetched}
 use Rattle.uma_keg.proofs.FetchOutcomes.{names_limit, names_slabs, names_reserve, gives_few}
 
 -- the hooks that refused a slab are those of the keg before
@@ -50,3 +54,27 @@ gives_items {T} {K} {g} {h} old new hooks ask count before after some is =
     let Counts : ℕ → Type 0 = λ n. GivesItems old ask n is.items in
     let Gives' : List (Cached T g) → Type 0 = λ items. GivesItems old ask count items in
     subst Gives' (sym (ap (drop (length before)) is.pushed ∙ drop-append_seam before is.items)) (subst Counts is.counted (gives old new hooks ask is.items some is.fetches))
+
+-- The same of an answer that isn't told apart. Where nothing moved after the fetch, what it did stands.
+module _ {T K : Type 0} {g : _} {h : _} (old mid : Keg T K g h) (hooks : K) (ask : FetchAsk) where
+  pub end_names : (end : Result ℕ FetchRefused) → IfErr end (RefusesFetch old hooks ask mid) → IfErr end (NamesWhatItFound old hooks ask)
+  end_names (Ok count) is = tt
+  end_names (Err why) is = names_found old mid hooks ask why is
+
+  pub end_refused : (new : Keg T K g h) (end : Result ℕ FetchRefused) → IsUnmoved mid new → IfErr end (RefusesFetch old hooks ask mid) → IfErr end (RefusesFetch old hooks ask new)
+  end_refused new (Ok count) same is = tt
+  end_refused new (Err why) same is = still_refused old mid new hooks ask why same is
+
+  pub end_gives : (before after : List (Cached T g)) (end : Result ℕ FetchRefused) → 1 ≤ ask.most → IfOk end (λ count. FetchesInto old hooks ask count before after mid) → IfOk end (λ count. GivesItems old ask count (drop (length before) after))
+  end_gives before after (Ok count) some is = gives_items old mid hooks ask count before after some is
+  end_gives before after (Err why) some is = tt
+
+  pub end_fetched : (new : Keg T K g h) (before after : List (Cached T g)) (end : Result ℕ FetchRefused) → IsUnmoved mid new → IfOk end (λ count. FetchesInto old hooks ask count before after mid) → IfOk end (λ count. FetchesInto old hooks ask count before after new)
+  end_fetched new before after (Ok count) same is = still_fetched old mid new hooks ask count before after same is
+  end_fetched new before after (Err why) same is = tt
+
+-- the refusals of a zone, with one fetch more
+pub refusals_with : (before : List (Result ℕ FetchRefused)) (end : Result ℕ FetchRefused) → filter_map refusal_of (before ++ end ∷ []) ≡ refusals_after (filter_map refusal_of before) end
+refusals_with before (Ok count) = filter_map-append refusal_of before (Ok count ∷ []) ∙ append-nil (filter_map refusal_of before)
+refusals_with before (Err (Refused refusal)) = filter_map-append refusal_of before (Err (Refused refusal) ∷ [])
+refusals_with before (Err Memory) = filter_map-append refusal_of before (Err Memory ∷ []) ∙ append-nil (filter_map refusal_of before)

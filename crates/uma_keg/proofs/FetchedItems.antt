@@ -16,7 +16,7 @@ use Rattle.uma_keg.specs.Fetch.{Wish, is_at_limit, IsNewSlabs, outcome_with, Out
 use Rattle.uma_keg.specs.BringSlab.{RefusesSlab}
 use Rattle.uma_keg.specs.BringSlabs.{found_in, BringsSlabs, StopsAtSlab}
 use Rattle.uma_keg.specs.Keg.{places_in, zones_in, stored_in, buried_in, out_in, limit_in, reserve_in, IsSameKeg}
-use Rattle.uma_keg.specs.TakeItem.{MayTake, SamePlaces}
+use Rattle.uma_keg.specs.TakeItem.{MayTake, SamePlaces, KeepsItems}
 use Rattle.uma_keg.specs.TakeItems.{TakesItems, TakesInto, StopsAtItem}
 use Rattle.uma_keg.specs.Fetched.{wish_of, Proceeds, FetchesInto, RefusesFirst, IsUnmoved, RefusesFetch, IsOfKeg}
 use Rattle.uma_keg.proofs.TakenItems.{keeps_same}
@@ -243,21 +243,24 @@ still_at_slab old mid new domain why same stops =
       stored = λ n. same.stored n ∙ stops.stored n;
     }
 
-still_first : {T K : Type 0} {g : _} {h : _} (old mid new : Keg T K g h) (hooks : K) (ask : FetchAsk) (code : ℕ) → IsUnmoved mid new → RefusesFirst old hooks ask code mid → RefusesFirst old hooks ask code new
-still_first old mid new hooks ask code same first =
-    let Same : KegPlaces → Type 0 = λ k. SamePlaces (places_in first.left) k in
+still_kept : {T K : Type 0} {g : _} {h : _} (old mid new : Keg T K g h) → IsUnmoved mid new → KeepsItems old mid → KeepsItems old new
+still_kept old mid new same kept =
+    let Same : KegPlaces → Type 0 = λ k. SamePlaces (places_in old) k in
     record {
-      whole = first.whole;
-      left = first.left;
-      proceeds = first.proceeds;
-      refused = first.refused;
-      keeps = record {
-        places = subst Same (sym same.places) first.keeps.places;
-        zones = same.zones ∙ first.keeps.zones;
-        stored = λ n. same.stored n ∙ first.keeps.stored n;
-      };
-      buried = same.buried ∙ first.buried;
+      places = subst Same (sym same.places) kept.places;
+      zones = same.zones ∙ kept.zones;
+      stored = λ n. same.stored n ∙ kept.stored n;
     }
+
+still_first : {T K : Type 0} {g : _} {h : _} (old mid new : Keg T K g h) (hooks : K) (ask : FetchAsk) (code : ℕ) → IsUnmoved mid new → RefusesFirst old hooks ask code mid → RefusesFirst old hooks ask code new
+still_first old mid new hooks ask code same first = record {
+  whole = first.whole;
+  left = first.left;
+  proceeds = first.proceeds;
+  refused = first.refused;
+  keeps = still_kept first.left mid new same first.keeps;
+  buried = same.buried ∙ first.buried;
+}
 
 pub still_refused : {T K : Type 0} {g : _} {h : _} (old mid new : Keg T K g h) (hooks : K) (ask : FetchAsk) (why : FetchRefused) → IsUnmoved mid new → RefusesFetch old hooks ask mid why → RefusesFetch old hooks ask new why
 still_refused old mid new hooks ask (Refused (AtLimit out limit)) same is = (is.0, is.1, moved old mid new is.2 same)
@@ -272,3 +275,23 @@ still_refused old mid new hooks ask Memory same is = elim is [
   | inl used_up ↦ inl (used_up.0, moved old mid new used_up.1 same)
   | inr slab ↦ inr (slab.0, still_at_slab old mid new ask.domain Memory same slab.1)
 ]
+
+-- and so do the items that it gave
+pub still_fetched : {T K : Type 0} {g : _} {h : _} (old mid new : Keg T K g h) (hooks : K) (ask : FetchAsk) (count : ℕ) (before after : List (Cached T g)) → IsUnmoved mid new → FetchesInto old hooks ask count before after mid → FetchesInto old hooks ask count before after new
+still_fetched old mid new hooks ask count before after same into =
+    let given = into.fetches in
+    record {
+      items = into.items;
+      fetches = record {
+        whole = given.whole;
+        left = given.left;
+        proceeds = given.proceeds;
+        taken = given.taken;
+        takes = given.takes;
+        some = given.some;
+        ends = given.ends;
+        keeps = still_kept given.taken mid new same given.keeps;
+      };
+      counted = into.counted;
+      pushed = into.pushed;
+    }

@@ -1,5 +1,6 @@
 -- What contracts see of a keg.
-use Rattle.std.specs.Prelude.{◌≡◌, ◌≤◌, ◌<◌, ◌+◌, ◌*◌, ℕ, List, [], Option, length, slice_index_or}
+use Rattle.std.specs.Prelude.{◌≡◌, ◌≤◌, ◌<◌, ◌+◌, ◌*◌, ℕ, List, [], Option, Some, None, Result, Err, length, slice_index_or}
+use Rattle.std.specs.List.{filter_map}
 use Rattle.zone_stats.specs.declared.refusal.Refusal.{Refusal}
 use Rattle.deed_book.specs.declared.book.Book.{Book}
 use Rattle.deed_book.specs.Deed.{TableId}
@@ -7,6 +8,8 @@ use Rattle.deed_book.specs.Book.{book_table, zones_of}
 use Rattle.deed_book.specs.BookLaw.{IsHome}
 use Rattle.uma_life.specs.declared.stored.Stored.{Stored}
 use Rattle.uma_life.specs.declared.tally_sum.TallySum.{TallySum}
+use Rattle.uma_keg.specs.declared.fetch_refused.FetchRefused.{FetchRefused}
+use Rattle.uma_keg.specs.declared.fetch_refused.FetchRefused.TheVariants.{Refused}
 use Rattle.uma_keg.specs.declared.keg.Keg.{Keg}
 use Rattle.uma_places.specs.Places.{KegPlaces}
 use Rattle.uma_keg.specs.HomeItems.{item_at}
@@ -48,9 +51,18 @@ stored_in keg n = item_at keg.home_items n
 abbrev pub limit_in : {T K : Type 0} {g : _} {h : _} → Keg T K g h → ℕ → ℕ
 limit_in keg zone = slice_index_or keg.limits zone 0
 
--- the refusals of a zone's fetches for another cause than memory, in order, and their number
+-- how each fetch of a zone ended, in order
+abbrev pub fetches_in : {T K : Type 0} {g : _} {h : _} → Keg T K g h → ℕ → List (Result ℕ FetchRefused)
+fetches_in keg zone = slice_index_or keg.fetches zone []
+
+-- why a fetch gave no item that ended so, where memory was not wanting
+abbrev pub refusal_of : Result ℕ FetchRefused → Option Refusal
+refusal_of (Err (Refused refusal)) = Some refusal
+refusal_of _ = None
+
+-- the refusals among them for another cause than memory, in order, and their number
 abbrev pub refusals_in : {T K : Type 0} {g : _} {h : _} → Keg T K g h → ℕ → List Refusal
-refusals_in keg zone = slice_index_or keg.refusals zone []
+refusals_in keg zone = filter_map refusal_of (fetches_in keg zone)
 
 abbrev pub turned_in : {T K : Type 0} {g : _} {h : _} → Keg T K g h → ℕ → ℕ
 turned_in keg zone = length (refusals_in keg zone)

@@ -3,7 +3,7 @@ ghost use Rattle.uma_life.specs.Hook.{Hook};
 ghost use Rattle.uma_life.specs.Sum.{AreBelow};
 ghost use Rattle.uma_places.specs.Places.{slab_count};
 ghost use Rattle.uma_keg.specs.BringSlab.{BringsSlab, RefusesSlab};
-ghost use Rattle.uma_keg.specs.Keg.{places_in, zones_in, rights_in, stored_in, limit_in, refusals_in, buried_in, total_in, IsSameKeg, IsWithinLimits};
+ghost use Rattle.uma_keg.specs.Keg.{places_in, zones_in, rights_in, stored_in, limit_in, fetches_in, buried_in, total_in, IsSameKeg, IsWithinLimits};
 
 use crate::fetch_refused::FetchRefused;
 use crate::keg::Keg;
@@ -33,7 +33,7 @@ impl<T: Body, K: Hooks<T>> Keg<T, K> {
         ensures zones { zones_in self.new ≡ zones_in self.old }
         ensures rights { rights_in self.new ≡ rights_in self.old }
         ensures limits { (zone : ℕ) → limit_in self.new zone ≡ limit_in self.old zone }
-        ensures refusals { (zone : ℕ) → refusals_in self.new zone ≡ refusals_in self.old zone }
+        ensures fetches { (zone : ℕ) → fetches_in self.new zone ≡ fetches_in self.old zone }
         ensures same { IsSameKeg self.old self.new }
         ensures within { IsWithinLimits self.new }
     {
@@ -59,7 +59,7 @@ impl<T: Body, K: Hooks<T>> Keg<T, K> {
         ensures zones { zones_in self.new ≡ zones_in self.old }
         ensures rights { rights_in self.new ≡ rights_in self.old }
         ensures limits { (zone : ℕ) → limit_in self.new zone ≡ limit_in self.old zone }
-        ensures refusals { (zone : ℕ) → refusals_in self.new zone ≡ refusals_in self.old zone }
+        ensures fetches { (zone : ℕ) → fetches_in self.new zone ≡ fetches_in self.old zone }
         ensures same { IsSameKeg self.old self.new }
         ensures within { IsWithinLimits self.new }
     {

@@ -1,14 +1,15 @@
-ghost use Rattle.std.specs.Prelude.{◌≡◌, ◌≢◌, ◌≤◌, ◌<◌, ◌^◌, ◌+◌, ◌++◌, ◌∷◌, [], ℕ, true, false, Err, IfOk, IfErr, OnOk, OnErr, drop, length};
+ghost use Rattle.std.specs.Prelude.{◌≡◌, ◌≢◌, ◌≤◌, ◌<◌, ◌^◌, ◌+◌, ◌++◌, ◌∷◌, [], ℕ, true, false, Err, IfOk, IfErr, OnOk, OnErr, drop, length, slice_index_or};
 ghost use Rattle.uma_life.specs.Hook.{Hook};
 ghost use Rattle.uma_bucket.specs.Bucket.{items_of, size_of};
 ghost use Rattle.uma_keg.specs.Fetch.{is_at_limit, outcome_with, Refuses, Gives};
 ghost use Rattle.uma_keg.specs.BringSlabs.{found_in};
 ghost use Rattle.uma_keg.specs.Fetched.{wish_of, Fetches, FetchesInto, RefusesFetch, NamesWhatItFound, GivesItems, IsOfKeg, refusals_after};
-ghost use Rattle.uma_keg.specs.Keg.{zones_in, out_in, rights_in, limit_in, refusals_in, buried_in, total_in, HasZone, IsSameKeg, IsWithinLimits};
+ghost use Rattle.uma_keg.specs.Keg.{zones_in, out_in, rights_in, limit_in, fetches_in, refusals_in, buried_in, total_in, HasZone, IsSameKeg, IsWithinLimits};
 
 use crate::fetch_ask::FetchAsk;
 use crate::fetch_refused::FetchRefused;
 use crate::keg::Keg;
+use ghost_log::Log;
 use std::alloc::Global;
 use std::sync::Wait;
 use uma_bucket::Bucket;
@@ -27,8 +28,10 @@ impl<T: Body, K: Hooks<T>> Keg<T, K> {
     /// one that is refused ends the fetch. `Memory` where memory is wanting, or one of the sums of hooks is at 2^120. It
     /// waits for `raw` and `bury` alone.
     ///
-    /// The clauses `given` and `names` are for callers: what they say of the items, and of the keg that a refusal was found
-    /// at, follows from `fetched` and `refused`, which say each step.
+    /// However it ends, its answer is put at the end of the zone's list, which contracts alone see.
+    ///
+    /// The clauses `given`, `names` and `refusals` are for callers: what they say of the items, of the keg that a refusal
+    /// was found at, and of the zone's refusals follows from `fetched`, `refused` and `fetches`.
     pub fn fetch<R: Wait>(
         &mut self,
         rt: &R,
@@ -50,25 +53,21 @@ impl<T: Body, K: Hooks<T>> Keg<T, K> {
         ensures out { IfOk result (λ count. out_in self.new ask.zone ≡ out_in self.old ask.zone + count) }
         ensures zones { OnErr result (zones_in self.new ≡ zones_in self.old) }
         ensures outs { (zone : ℕ) → zone ≢ ask.zone → out_in self.new zone ≡ out_in self.old zone }
+        ensures fetches { fetches_in self.new ask.zone ≡ fetches_in self.old ask.zone ++ result ∷ [] }
+        ensures other_fetches { (zone : ℕ) → zone ≢ ask.zone → fetches_in self.new zone ≡ fetches_in self.old zone }
         ensures refusals { refusals_in self.new ask.zone ≡ refusals_after (refusals_in self.old ask.zone) result }
-        ensures other_refusals { (zone : ℕ) → zone ≢ ask.zone → refusals_in self.new zone ≡ refusals_in self.old zone }
         ensures rights { rights_in self.new ≡ rights_in self.old }
         ensures limits { (zone : ℕ) → limit_in self.new zone ≡ limit_in self.old zone }
         ensures buried { OnOk result (buried_in self.new ≡ buried_in self.old) }
         ensures same { IsSameKeg self.old self.new }
         ensures within { IsWithinLimits self.new }
     {
-        match self.fetch_items(rt, alloc, hooks, ask, into) {
-            Ok(count) => Ok(count),
-            Err(FetchRefused::Memory) => Err(FetchRefused::Memory),
-            Err(FetchRefused::Refused { refusal }) => {
-                self.refusals[ask.zone as usize].push(refusal);
-                Err(FetchRefused::Refused { refusal })
-            }
-        }
+        let end = self.fetch_items(rt, alloc, hooks, ask, into);
+        list_end(&mut self.fetches, ask.zone, end);
+        end
     }
 
-    /// The same, with no refusal added to the zone's list.
+    /// The same, with nothing added to the zone's list.
     fn fetch_items<R: Wait>(
         &mut self,
         rt: &R,
@@ -91,7 +90,7 @@ impl<T: Body, K: Hooks<T>> Keg<T, K> {
         ensures outs { (zone : ℕ) → zone ≢ ask.zone → out_in self.new zone ≡ out_in self.old zone }
         ensures rights { rights_in self.new ≡ rights_in self.old }
         ensures limits { (zone : ℕ) → limit_in self.new zone ≡ limit_in self.old zone }
-        ensures refusals { (zone : ℕ) → refusals_in self.new zone ≡ refusals_in self.old zone }
+        ensures fetches { (zone : ℕ) → fetches_in self.new zone ≡ fetches_in self.old zone }
         ensures buried { OnOk result (buried_in self.new ≡ buried_in self.old) }
         ensures same { IsSameKeg self.old self.new }
         ensures within { IsWithinLimits self.new }
@@ -163,4 +162,17 @@ impl<T: Body, K: Hooks<T>> Keg<T, K> {
         };
         Ok(most.min(beyond.min(allowed)) as u32)
     }
+}
+
+/// Puts how a fetch of a zone ended at the end of the zone's list.
+fn list_end(
+    lists: &mut [Log<Result<u32, FetchRefused>>; 8],
+    zone: u8,
+    end: Result<u32, FetchRefused>,
+)
+    requires { zone < 8 }
+    ensures listed { slice_index_or lists.new zone [] ≡ slice_index_or lists.old zone [] ++ end ∷ [] }
+    ensures others { (other : ℕ) → other ≢ zone → slice_index_or lists.new other [] ≡ slice_index_or lists.old other [] }
+{
+    lists[zone as usize].push(end);
 }

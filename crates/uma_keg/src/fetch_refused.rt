@@ -15,29 +15,9 @@ pub enum FetchRefused {
 impl fmt::Display for FetchRefused {
     fn fmt<W: fmt::Write>(&self, f: &mut fmt::Formatter<W>) -> fmt::Result {
         match self {
-            FetchRefused::Refused { refusal } => write_refusal(f, *refusal),
+            FetchRefused::Refused { refusal } => write!(f, "{refusal}"),
             FetchRefused::Memory => write!(f, "out of memory"),
         }
-    }
-}
-
-/// Writes why a zone gave no item, with the numbers.
-fn write_refusal<W: fmt::Write>(f: &mut fmt::Formatter<W>, refusal: Refusal) -> fmt::Result {
-    match refusal {
-        Refusal::AtLimit { out, limit } => write!(
-            f,
-            "{out} items are out, and the limit is {limit}"
-        ),
-        Refusal::Reserved { free, reserve } => write!(
-            f,
-            "{free} items are free, and the reserve is {reserve}"
-        ),
-        Refusal::Full { slabs, made } => write!(
-            f,
-            "all {slabs} slabs are in, of {made} ever made, and no item is free"
-        ),
-        Refusal::Init { code } => write!(f, "init refused the item with code {code}"),
-        Refusal::Ctor { code } => write!(f, "ctor refused the item with code {code}"),
     }
 }
 

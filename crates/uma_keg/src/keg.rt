@@ -8,6 +8,7 @@ ghost use Rattle.uma_keg.specs.KegLaw.{PlacesLaw, ZonesLaw};
 ghost use Rattle.uma_keg.specs.Tallies.{TallyLaw};
 ghost use Rattle.uma_keg.specs.Paired.{ArePaired};
 
+use crate::fetch_refused::FetchRefused;
 use crate::home_items::HomeItems;
 use crate::outside::Outside;
 use crate::rights::new_rights;
@@ -17,7 +18,6 @@ use std::alloc::Global;
 use std::snapshot::Snapshot;
 use uma_life::{Body, Hooks, TallySum};
 use uma_places::{KegCounts, KegRefused, Places};
-use zone_stats::Refusal;
 
 /// The store of items that a primary zone and its secondary zones share.
 ///
@@ -29,7 +29,7 @@ use zone_stats::Refusal;
 ///    item outside and no limit, and no zone has more than its limit, where that is above 0.
 /// 3. In the sums of the buried hooks come in pairs.
 ///
-/// Contracts alone see, for each zone, the list of the refusals of its fetches.
+/// Contracts alone see, for each zone, the list of how its fetches ended, each with its answer.
 #[derive(Drop)]
 pub struct Keg<T: Body, K: Hooks<T>> {
     pub(crate) places: Places,
@@ -38,7 +38,7 @@ pub struct Keg<T: Body, K: Hooks<T>> {
     pub(crate) rights: Book,
     // By the zone's number.
     pub(crate) limits: [u64; 8],
-    pub(crate) refusals: [Log<Refusal>; 8],
+    pub(crate) fetches: [Log<Result<u32, FetchRefused>>; 8],
     pub(crate) reserve: u64,
     // Of an item, in bytes.
     pub(crate) size: u32,
@@ -52,7 +52,7 @@ pub struct Keg<T: Body, K: Hooks<T>> {
     pub ghost paired: { ArePaired buried },
 }
 
-fn no_refusals() -> [Log<Refusal>; 8]
+fn no_fetches() -> [Log<Result<u32, FetchRefused>>; 8]
     ensures { result ≡ replicate 8 [] }
 {
     [
@@ -68,7 +68,7 @@ fn no_refusals() -> [Log<Refusal>; 8]
 }
 
 impl<T: Body, K: Hooks<T>> Keg<T, K> {
-    ghost use Rattle.uma_keg.specs.Keg.{places_in, zones_in, out_in, book_in, rights_in, HasZone, stored_in, limit_in, refusals_in, reserve_in, size_in, hooks_in, buried_in, IsSameKeg, IsWithinLimits};
+    ghost use Rattle.uma_keg.specs.Keg.{places_in, zones_in, out_in, book_in, rights_in, HasZone, stored_in, limit_in, fetches_in, reserve_in, size_in, hooks_in, buried_in, IsSameKeg, IsWithinLimits};
 
     /// A keg of items of `size` bytes, 8 to 4,096, with room for `slabs` slabs, 1 to 1,024, of which none is in, and of
     /// no zone. With it come its eight rights to a zone, whose numbers are 7 down to 0.
@@ -86,7 +86,7 @@ impl<T: Body, K: Hooks<T>> Keg<T, K> {
         ensures outside { IfOk result (λ (keg, rights). zones_in keg ≡ replicate (slabs * min 256 (4096 / size)) None) }
         ensures zones { IfOk result (λ (keg, rights). zones_of (rights_in keg) ≡ replicate 8 (Some 0)) }
         ensures limits { IfOk result (λ (keg, rights). (zone : ℕ) → limit_in keg zone ≡ 0) }
-        ensures refusals { IfOk result (λ (keg, rights). (zone : ℕ) → refusals_in keg zone ≡ []) }
+        ensures fetches { IfOk result (λ (keg, rights). (zone : ℕ) → fetches_in keg zone ≡ []) }
         ensures reserve { IfOk result (λ (keg, rights). reserve_in keg ≡ reserve) }
         ensures size { IfOk result (λ (keg, rights). size_in keg ≡ size) }
         ensures hooks { IfOk result (λ (keg, rights). hooks_in keg ≡ hooks) }
@@ -107,7 +107,7 @@ impl<T: Body, K: Hooks<T>> Keg<T, K> {
             home_items,
             rights,
             limits: [0; 8],
-            refusals: no_refusals(),
+            fetches: no_fetches(),
             reserve,
             size,
             buried: TallySum::none(),
@@ -193,7 +193,7 @@ impl<T: Body, K: Hooks<T>> Keg<T, K> {
         ensures rights { zones_of (rights_in self.new) ≡ slice_set (zones_of (rights_in self.old)) (no_of right) None }
         ensures limit { limit_in self.new (no_of right) ≡ limit }
         ensures limits { (zone : ℕ) → zone ≢ no_of right → limit_in self.new zone ≡ limit_in self.old zone }
-        ensures refusals { (zone : ℕ) → refusals_in self.new zone ≡ refusals_in self.old zone }
+        ensures fetches { (zone : ℕ) → fetches_in self.new zone ≡ fetches_in self.old zone }
         ensures places { places_in self.new ≡ places_in self.old }
         ensures zones { zones_in self.new ≡ zones_in self.old }
         ensures stored { (n : ℕ) → stored_in self.new n ≡ stored_in self.old n }

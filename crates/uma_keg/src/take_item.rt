@@ -1,7 +1,7 @@
 ghost use Rattle.std.specs.Prelude.{◌≡◌, ◌<◌, ℕ, IfOk, IfErr, OnErr};
 ghost use Rattle.uma_places.specs.Places.{free_count};
 ghost use Rattle.uma_keg.specs.TakeItem.{TakesItem, RefusesItem, KeepsItems};
-ghost use Rattle.uma_keg.specs.Keg.{places_in, out_in, rights_in, limit_in, refusals_in, buried_in, HasZone, IsSameKeg, IsWithinLimits};
+ghost use Rattle.uma_keg.specs.Keg.{places_in, out_in, rights_in, limit_in, fetches_in, buried_in, HasZone, IsSameKeg, IsWithinLimits};
 
 use crate::keg::Keg;
 use uma_life::{Body, Cached, Hooks};
@@ -19,7 +19,7 @@ impl<T: Body, K: Hooks<T>> Keg<T, K> {
         ensures refused { IfErr result (RefusesItem self.old hooks.now zone) }
         ensures rights { rights_in self.new ≡ rights_in self.old }
         ensures limits { (other : ℕ) → limit_in self.new other ≡ limit_in self.old other }
-        ensures refusals { (other : ℕ) → refusals_in self.new other ≡ refusals_in self.old other }
+        ensures fetches { (other : ℕ) → fetches_in self.new other ≡ fetches_in self.old other }
         ensures buried { buried_in self.new ≡ buried_in self.old }
         ensures same { IsSameKeg self.old self.new }
         ensures within { IsWithinLimits self.new }

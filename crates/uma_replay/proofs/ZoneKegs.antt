@@ -1,6 +1,7 @@
 -- What a fetch of one item leaves of the keg of a zone, and what it tells.
 use Rattle.std.proofs.Common.{◌≡◌, ◌≢◌, ◌≤◌, ◌<◌, ℕ, Bool, List, [], ◌∷◌, ◌++◌, Option, Some, None, inl, inr, All, length, refl, sym, ap, ◌∙◌, subst, arith}
 use Rattle.std.specs.Prelude.{IsSome, IfNone, IfSome, drop}
+use Rattle.std.specs.List.{filter_map}
 use Rattle.std.proofs.lemmas.List.{length_push}
 use Rattle.std.proofs.lemmas.List.Elements.{All-head}
 use Rattle.std.proofs.lemmas.Bool.{cases_eq}
@@ -10,7 +11,7 @@ use Rattle.deed_book.specs.BookLaw.{IsHome}
 use Rattle.zone_stats.specs.declared.refusal.Refusal.{Refusal}
 use Rattle.zone_stats.specs.declared.refusal.Refusal.TheVariants.{AtLimit, Reserved, Full, Init, Ctor}
 use Rattle.uma_keg.specs.declared.fetch_refused.FetchRefused.TheVariants.{Refused}
-use Rattle.uma_keg.specs.Keg.{rights_in, refusals_in, buried_in}
+use Rattle.uma_keg.specs.Keg.{rights_in, fetches_in, refusals_in, buried_in, refusal_of as refusal_in}
 use Rattle.uma_keg.specs.Fetched.{FetchesInto, GivesItems, IsOutIn, NamesWhatItFound}
 use Rattle.uma_replay.specs.declared.count_hooks.CountHooks.{CountHooks}
 use Rattle.uma_replay.specs.Hooks.{refusal_of}
@@ -78,8 +79,8 @@ pub code_is_arg : (arg code : ℕ) → refusal_of arg ≡ Some code → (code �
 code_is_arg arg code refused = grind (arith, nat_tests)
 
 -- a fetch of the primary zone that gave its items adds no refusal to any list
-pub lists_kept : (old new : CountedKeg) → refusals_in new 0 ≡ refusals_in old 0 → ((zone : ℕ) → zone ≢ 0 → refusals_in new zone ≡ refusals_in old zone) → buried_in new ≡ buried_in old → KeepsLists old new
+pub lists_kept : (old new : CountedKeg) → refusals_in new 0 ≡ refusals_in old 0 → ((zone : ℕ) → zone ≢ 0 → fetches_in new zone ≡ fetches_in old zone) → buried_in new ≡ buried_in old → KeepsLists old new
 lists_kept old new mine others buried = record {
-  refusals = λ zone. elim (cases_eq zone 0) [ inl at ↦ rw at mine | inr other ↦ others zone other ];
+  refusals = λ zone. elim (cases_eq zone 0) [ inl at ↦ rw at mine | inr other ↦ ap (filter_map refusal_in) (others zone other) ];
   buried = buried;
 }

@@ -12,23 +12,24 @@ fn a_refusal_of_a_keg_names_what_is_out_of_range(rt: HostRuntime) -> Result<(), 
 }
 
 #[test]
-fn a_refusal_of_a_fetch_tells_its_numbers(rt: HostRuntime) -> Result<(), Fail> {
+fn a_refusal_of_a_fetch_has_the_refusals_own_text(rt: HostRuntime) -> Result<(), Fail> {
     let rows = [
         (
-            Refusal::AtLimit { out: 2, limit: 3 },
-            "2 items are out, and the limit is 3",
+            FetchRefused::Refused {
+                refusal: Refusal::AtLimit { out: 2, limit: 3 },
+            },
+            "2 items out at a limit of 3",
         ),
         (
-            Refusal::Full { slabs: 4, made: 5 },
-            "all 4 slabs are in, of 5 ever made, and no item is free",
+            FetchRefused::Refused {
+                refusal: Refusal::Init { code: 9 },
+            },
+            "refused by init with code 9",
         ),
-        (
-            Refusal::Init { code: 9 },
-            "init refused the item with code 9",
-        ),
+        (FetchRefused::Memory, "out of memory"),
     ];
-    for (refusal, expected) in rows {
-        let text = format!(in rt.alloc(); "{}", FetchRefused::Refused { refusal })?;
+    for (refused, expected) in rows {
+        let text = format!(in rt.alloc(); "{refused}")?;
         assert_eq!(rt; text.as_str(), expected);
     }
     Ok(())

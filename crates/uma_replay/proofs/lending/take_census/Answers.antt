@@ -1,4 +1,6 @@
 use Rattle.std.proofs.Common.{length, map, ap, ◌∙◌, arith, rules}
+use Rattle.std.specs.List.{filter_map}
+use Rattle.uma_keg.specs.Keg.{refusal_of}
 use Rattle.uma_life.specs.Sum.{sum_of}
 use Rattle.uma_keg.specs.Lent.{seen_of, lent_of}
 use Rattle.uma_replay.specs.Lending.{live_sum, refilled}
@@ -20,7 +22,7 @@ returns-clause-census c =
       places = says.places;
       zones = says.zones;
       stored = says.stored;
-      refusals = says.refusals;
+      refusals = λ zone. ap (filter_map refusal_of) (says.fetches zone);
       buried = says.buried;
       keeps = record { same = says.same; limits = says.limits; rights = says.rights };
     })

@@ -1,7 +1,7 @@
 use Rattle.std.proofs.Common.{◌≡◌, ◌-◌, ◌^◌, ℕ}
 use Rattle.uma_life.specs.Sum.{AreBelow}
 use Rattle.uma_places.specs.Places.{slab_count}
-use Rattle.uma_keg.specs.Keg.{places_in, zones_in, rights_in, limit_in, refusals_in, buried_in, IsSameKeg}
+use Rattle.uma_keg.specs.Keg.{places_in, zones_in, rights_in, limit_in, fetches_in, buried_in, IsSameKeg}
 use Rattle.uma_keg.proofs.BroughtSlabs.{Bringing}
 use Rattle.uma_keg.proofs.keg.Keg.bring_slabs.Given as goal
 
@@ -15,6 +15,6 @@ invariant-loop-alloc g l = record {
   zones : zones_in l.self ≡ zones_in l.initial.self;
   rights : rights_in l.self ≡ rights_in l.initial.self;
   limits : (zone : ℕ) → limit_in l.self zone ≡ limit_in l.initial.self zone;
-  refusals : (zone : ℕ) → refusals_in l.self zone ≡ refusals_in l.initial.self zone;
+  fetches : (zone : ℕ) → fetches_in l.self zone ≡ fetches_in l.initial.self zone;
   same : IsSameKeg l.initial.self l.self;
 }

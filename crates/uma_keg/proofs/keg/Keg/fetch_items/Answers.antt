@@ -1,4 +1,4 @@
-use Rattle.std.proofs.Common.{ℕ, refl, arith, ap, subst, ◌∙◌}
+use Rattle.std.proofs.Common.{ℕ, refl, ap, subst, ◌∙◌}
 use Rattle.std.proofs.lemmas.Result.{err_from_is_err_and}
 use Rattle.uma_bucket.specs.Bucket.{items_of}
 use Rattle.uma_keg.specs.Outs.{out_of}
@@ -43,8 +43,8 @@ returns-in-Ok-clause-outs g c zone ne = c.in-Ok.ensures.takes.takes.outs zone ne
 pub returns-in-Ok-clause-limits : goal.returns-in-Ok-clause-limits
 returns-in-Ok-clause-limits g c zone = c.in-Ok.ensures.limits zone ∙ c.in_ok-bring_slabs.ensures.limits zone
 
-pub returns-in-Ok-clause-refusals : goal.returns-in-Ok-clause-refusals
-returns-in-Ok-clause-refusals g c zone = c.in-Ok.ensures.refusals zone ∙ c.in_ok-bring_slabs.ensures.refusals zone
+pub returns-in-Ok-clause-fetches : goal.returns-in-Ok-clause-fetches
+returns-in-Ok-clause-fetches g c zone = c.in-Ok.ensures.fetches zone ∙ c.in_ok-bring_slabs.ensures.fetches zone
 
 pub returns-in-Err-eq0-default-clause-refused : goal.returns-in-Err-eq0-default-clause-refused
 returns-in-Err-eq0-default-clause-refused g c =
@@ -59,8 +59,8 @@ returns-in-Err-eq0-default-clause-refused g c =
 pub returns-in-Err-eq0-default-clause-limits : goal.returns-in-Err-eq0-default-clause-limits
 returns-in-Err-eq0-default-clause-limits g c zone = c.in-Err-eq0-default.ensures.limits zone ∙ c.in_ok-bring_slabs.ensures.limits zone
 
-pub returns-in-Err-eq0-default-clause-refusals : goal.returns-in-Err-eq0-default-clause-refusals
-returns-in-Err-eq0-default-clause-refusals g c zone = c.in-Err-eq0-default.ensures.refusals zone ∙ c.in_ok-bring_slabs.ensures.refusals zone
+pub returns-in-Err-eq0-default-clause-fetches : goal.returns-in-Err-eq0-default-clause-fetches
+returns-in-Err-eq0-default-clause-fetches g c zone = c.in-Err-eq0-default.ensures.fetches zone ∙ c.in_ok-bring_slabs.ensures.fetches zone
 
 pub returns-in-Err-clause-fetched : goal.returns-in-Err-clause-fetched
 returns-in-Err-clause-fetched g c =
@@ -76,8 +76,8 @@ returns-in-Err-clause-outs g c zone ne = outs_stopped c.bring_slabs.new.self c.t
 pub returns-in-Err-clause-limits : goal.returns-in-Err-clause-limits
 returns-in-Err-clause-limits g c zone = c.in-Err.ensures.limits zone ∙ c.in_ok-bring_slabs.ensures.limits zone
 
-pub returns-in-Err-clause-refusals : goal.returns-in-Err-clause-refusals
-returns-in-Err-clause-refusals g c zone = c.in-Err.ensures.refusals zone ∙ c.in_ok-bring_slabs.ensures.refusals zone
+pub returns-in-Err-clause-fetches : goal.returns-in-Err-clause-fetches
+returns-in-Err-clause-fetches g c zone = c.in-Err.ensures.fetches zone ∙ c.in_ok-bring_slabs.ensures.fetches zone
 
 -- the sums were tested first
 pub returns-in-Err-clause-sums_full : goal.returns-in-Err-clause-sums_full

@@ -50,7 +50,7 @@ loop-self-init g c =
       zones = refl;
       rights = refl;
       limits = λ zone. refl;
-      refusals = λ zone. refl;
+      fetches = λ zone. refl;
       same = record { table = refl; rights_table = refl; size = refl; per_slab = refl; cap = refl; reserve = refl; hooks = refl };
     }
 
@@ -71,7 +71,7 @@ loop-self-preserved g c =
       zones = one.zones ∙ before.zones;
       rights = one.rights ∙ before.rights;
       limits = λ zone. one.limits zone ∙ before.limits zone;
-      refusals = λ zone. one.refusals zone ∙ before.refusals zone;
+      fetches = λ zone. one.fetches zone ∙ before.fetches zone;
       same = same_more old mid new before.same one.same;
     }
 

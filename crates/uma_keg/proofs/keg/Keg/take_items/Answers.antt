@@ -11,7 +11,7 @@ loop-taken-init g c = record {
   size = refl;
   rights = refl;
   limits = λ zone. refl;
-  refusals = λ zone. refl;
+  fetches = λ zone. refl;
   buried = refl;
   same = record { table = refl; rights_table = refl; size = refl; per_slab = refl; cap = refl; reserve = refl; hooks = refl };
 }
@@ -29,7 +29,7 @@ loop-taken-preserved g c =
       size = c.push.ensures.size ∙ before.size;
       rights = one.rights ∙ before.rights;
       limits = λ zone. one.limits zone ∙ before.limits zone;
-      refusals = λ zone. one.refusals zone ∙ before.refusals zone;
+      fetches = λ zone. one.fetches zone ∙ before.fetches zone;
       buried = one.buried ∙ before.buried;
       same = same_more old mid new before.same one.same;
     }

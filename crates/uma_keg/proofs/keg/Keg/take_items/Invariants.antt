@@ -1,6 +1,6 @@
 use Rattle.std.proofs.Common.{◌≡◌, ℕ}
 use Rattle.uma_bucket.specs.Bucket.{items_of, size_of}
-use Rattle.uma_keg.specs.Keg.{rights_in, limit_in, refusals_in, buried_in, IsSameKeg}
+use Rattle.uma_keg.specs.Keg.{rights_in, limit_in, fetches_in, buried_in, IsSameKeg}
 use Rattle.uma_keg.specs.TakeItems.{TakesInto}
 use Rattle.uma_keg.proofs.TakenItems.{AreKnown}
 use Rattle.uma_keg.proofs.keg.Keg.take_items.Given as goal
@@ -12,7 +12,7 @@ invariant-loop-taken g l = record {
   size : size_of l.into ≡ size_of l.initial.into;
   rights : rights_in l.self ≡ rights_in l.initial.self;
   limits : (zone : ℕ) → limit_in l.self zone ≡ limit_in l.initial.self zone;
-  refusals : (zone : ℕ) → refusals_in l.self zone ≡ refusals_in l.initial.self zone;
+  fetches : (zone : ℕ) → fetches_in l.self zone ≡ fetches_in l.initial.self zone;
   buried : buried_in l.self ≡ buried_in l.initial.self;
   same : IsSameKeg l.initial.self l.self;
 }

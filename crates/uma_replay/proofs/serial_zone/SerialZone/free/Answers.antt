@@ -1,4 +1,6 @@
 use Rattle.std.proofs.Common.{◌≡◌, ap, ◌∙◌, subst}
+use Rattle.std.specs.List.{filter_map}
+use Rattle.uma_keg.specs.Keg.{refusal_of}
 use Rattle.uma_life.specs.Cached.{cached_body, cached_zone}
 use Rattle.uma_life.specs.Live.{live_body}
 use Rattle.uma_life.specs.Hook.{Dtor, after}
@@ -15,6 +17,6 @@ returns c =
       finished = c.finish-item.result;
       same_item = c.finish-item.ensures.ticket;
       passed = subst (λ zone. life_of (cached_body c.finish-item.result) ≡ after (Dtor zone) (life_of (live_body c.args.item))) c.requires.of_zone c.finish-item.ensures.finished;
-      back = TakesBack-given _ _ _ of_zone given.places given.was_outside given.zones given.primary given.stored (record { same = given.same; limits = given.limits; rights = given.rights }) (record { refusals = given.refusals; buried = given.buried });
+      back = TakesBack-given _ _ _ of_zone given.places given.was_outside given.zones given.primary given.stored (record { same = given.same; limits = given.limits; rights = given.rights }) (record { refusals = λ zone. ap (filter_map refusal_of) (given.fetches zone); buried = given.buried });
       counted = c.count_free.ensures;
     }

@@ -1,6 +1,8 @@
 use Rattle.std.proofs.Common.{◌≡◌, ◌++◌, None, ap, sym, ◌∙◌, Option, length, slice_set}
 use Rattle.std.specs.Option.{option_to_list}
+use Rattle.std.specs.List.{filter_map}
 use Rattle.deed_book.specs.Deed.{no_of}
+use Rattle.uma_keg.specs.Keg.{refusal_of}
 use Rattle.uma_replay.proofs.KeptLast.{KeepsLast-new}
 use Rattle.uma_replay.proofs.ZoneRights.{last_right, has_primary, only_primary}
 use Rattle.uma_replay.proofs.serial_zone.SerialZone.new.Goals as goal
@@ -14,8 +16,8 @@ invariant_of-result-clause-only_primary c =
 
 pub invariant_of-result-clause-turned : goal.invariant_of-result-clause-turned
 invariant_of-result-clause-turned c =
-    c.new.ensures.turned ∙ sym (ap length (c.add_zone.ensures.refusals 0 ∙ c.in-Ok.ensures.refusals 0))
+    c.new.ensures.turned ∙ sym (ap length (ap (filter_map refusal_of) (c.add_zone.ensures.fetches 0 ∙ c.in-Ok.ensures.fetches 0)))
 
 pub invariant_of-result-clause-kept : goal.invariant_of-result-clause-kept
 invariant_of-result-clause-kept c =
-    KeepsLast-new _ _ (c.add_zone.ensures.refusals 0 ∙ c.in-Ok.ensures.refusals 0) c.new.ensures.last
+    KeepsLast-new _ _ (ap (filter_map refusal_of) (c.add_zone.ensures.fetches 0 ∙ c.in-Ok.ensures.fetches 0)) c.new.ensures.last

@@ -1,11 +1,12 @@
 use Rattle.std.proofs.Common.{◌≡◌, ◌∙◌, Err, inl, inr, length, sym, ap, subst, arith}
+use Rattle.std.specs.List.{filter_map}
 use Rattle.uma_bucket.specs.Bucket.{items_of}
 use Rattle.uma_life.specs.Ticket.{ticket_table, ticket_zone}
 use Rattle.uma_life.specs.Cached.{cached_body, cached_table, cached_zone}
 use Rattle.uma_life.specs.Live.{live_body}
 use Rattle.uma_life.specs.Hook.{Ctor, after}
 use Rattle.uma_keg.specs.declared.fetch_refused.FetchRefused.{FetchRefused}
-use Rattle.uma_keg.specs.Keg.{refusals_in}
+use Rattle.uma_keg.specs.Keg.{refusals_in, refusal_of}
 use Rattle.uma_keg.specs.Fetched.{RefusesFetch, NamesWhatItFound, refusals_after}
 use Rattle.zone_stats.specs.LedgerSteps.{CountsCtor}
 use Rattle.uma_replay.specs.Items.{CachedItem}
@@ -40,7 +41,7 @@ pub invariant_of-self-in-Ok-build : goal.invariant_of-self-in-Ok-build
 invariant_of-self-in-Ok-build g c =
     let fetch = c.fetch.ensures in
     let keeps : KeepsKeg c.args.self.now.keg c.fetch.new.self = record { same = fetch.same; limits = fetch.limits; rights = fetch.rights } in
-    let one = popped_one c.args.self.now.empty c.in-Ok.ensures.fetched c.in-Ok.ensures.given c.unwrap.ensures c.pop.ensures.last keeps (lists_kept _ _ c.in-Ok.ensures.refusals fetch.other_refusals c.in-Ok.ensures.buried) in
+    let one = popped_one c.args.self.now.empty c.in-Ok.ensures.fetched c.in-Ok.ensures.given c.unwrap.ensures c.pop.ensures.last keeps (lists_kept _ _ c.in-Ok.ensures.refusals fetch.other_fetches c.in-Ok.ensures.buried) in
     record {
       only_primary = HasOnlyPrimary-kept _ _ c.fetch.ensures.rights c.args.self.now.only_primary;
       empty = one.1;
@@ -53,27 +54,27 @@ pub give-requires : goal.give-requires
 give-requires g c =
     let fetch = c.fetch.ensures in
     let keeps : KeepsKeg c.args.self.now.keg c.fetch.new.self = record { same = fetch.same; limits = fetch.limits; rights = fetch.rights } in
-    let one = popped_one c.args.self.now.empty c.in-Ok.ensures.fetched c.in-Ok.ensures.given c.unwrap.ensures c.pop.ensures.last keeps (lists_kept _ _ c.in-Ok.ensures.refusals fetch.other_refusals c.in-Ok.ensures.buried) in
+    let one = popped_one c.args.self.now.empty c.in-Ok.ensures.fetched c.in-Ok.ensures.given c.unwrap.ensures c.pop.ensures.last keeps (lists_kept _ _ c.in-Ok.ensures.refusals fetch.other_fetches c.in-Ok.ensures.buried) in
     ap (λ (item : CachedItem). cached_table item) c.in-Err.ensures.unchanged ∙ one.0.of_book ∙ sym fetch.same.table
 
 pub invariant_of-self-in-Err : goal.invariant_of-self-in-Err
 invariant_of-self-in-Err g c =
     let fetch = c.fetch.ensures in
     let keeps : KeepsKeg c.args.self.now.keg c.fetch.new.self = record { same = fetch.same; limits = fetch.limits; rights = fetch.rights } in
-    let one = popped_one c.args.self.now.empty c.in-Ok.ensures.fetched c.in-Ok.ensures.given c.unwrap.ensures c.pop.ensures.last keeps (lists_kept _ _ c.in-Ok.ensures.refusals fetch.other_refusals c.in-Ok.ensures.buried) in
+    let one = popped_one c.args.self.now.empty c.in-Ok.ensures.fetched c.in-Ok.ensures.given c.unwrap.ensures c.pop.ensures.last keeps (lists_kept _ _ c.in-Ok.ensures.refusals fetch.other_fetches c.in-Ok.ensures.buried) in
     record {
       only_primary = HasOnlyPrimary-kept _ _ (c.give.ensures.rights ∙ c.fetch.ensures.rights) c.args.self.now.only_primary;
       empty = one.1;
       size = c.pop.ensures.size ∙ c.fetch.ensures.size ∙ c.args.self.now.size;
-      kept = KeepsLast-ctor _ _ _ _ _ c.args.self.now.kept (c.give.ensures.refusals 0 ∙ c.in-Ok.ensures.refusals) c.count_ctor.ensures.last;
-      turned = c.count_ctor.ensures.turned ∙ c.args.self.now.turned ∙ sym (ap length (c.give.ensures.refusals 0 ∙ c.in-Ok.ensures.refusals));
+      kept = KeepsLast-ctor _ _ _ _ _ c.args.self.now.kept (ap (filter_map refusal_of) (c.give.ensures.fetches 0) ∙ c.in-Ok.ensures.refusals) c.count_ctor.ensures.last;
+      turned = c.count_ctor.ensures.turned ∙ c.args.self.now.turned ∙ sym (ap length (ap (filter_map refusal_of) (c.give.ensures.fetches 0) ∙ c.in-Ok.ensures.refusals));
     }
 
 pub returns-in-Ok-build-clause-requests : goal.returns-in-Ok-build-clause-requests
 returns-in-Ok-build-clause-requests g c =
     let fetch = c.fetch.ensures in
     let keeps : KeepsKeg c.args.self.now.keg c.fetch.new.self = record { same = fetch.same; limits = fetch.limits; rights = fetch.rights } in
-    let one = popped_one c.args.self.now.empty c.in-Ok.ensures.fetched c.in-Ok.ensures.given c.unwrap.ensures c.pop.ensures.last keeps (lists_kept _ _ c.in-Ok.ensures.refusals fetch.other_refusals c.in-Ok.ensures.buried) in
+    let one = popped_one c.args.self.now.empty c.in-Ok.ensures.fetched c.in-Ok.ensures.given c.unwrap.ensures c.pop.ensures.last keeps (lists_kept _ _ c.in-Ok.ensures.refusals fetch.other_fetches c.in-Ok.ensures.buried) in
     record {
       taken = c.unwrap.result;
       fetched = one.0;
@@ -89,7 +90,7 @@ pub returns-in-Err-clause-requests : goal.returns-in-Err-clause-requests
 returns-in-Err-clause-requests g c =
     let fetch = c.fetch.ensures in
     let keeps : KeepsKeg c.args.self.now.keg c.fetch.new.self = record { same = fetch.same; limits = fetch.limits; rights = fetch.rights } in
-    let one = popped_one c.args.self.now.empty c.in-Ok.ensures.fetched c.in-Ok.ensures.given c.unwrap.ensures c.pop.ensures.last keeps (lists_kept _ _ c.in-Ok.ensures.refusals fetch.other_refusals c.in-Ok.ensures.buried) in
+    let one = popped_one c.args.self.now.empty c.in-Ok.ensures.fetched c.in-Ok.ensures.given c.unwrap.ensures c.pop.ensures.last keeps (lists_kept _ _ c.in-Ok.ensures.refusals fetch.other_fetches c.in-Ok.ensures.buried) in
     let back = c.give.ensures in
     let same = c.in-Err.ensures.unchanged in
     let code = code_is_arg c.args.arg c.in-Err.code c.in-Err.ensures.refused.0 in
@@ -101,7 +102,7 @@ returns-in-Err-clause-requests g c =
       between = c.fetch.new.self;
       fetched = one.0;
       refused = code.1;
-      back = subst Back same (TakesBack-given _ _ c.in-Err.item of_zone back.places back.was_outside back.zones back.primary back.stored kept (record { refusals = back.refusals; buried = back.buried }));
+      back = subst Back same (TakesBack-given _ _ c.in-Err.item of_zone back.places back.was_outside back.zones back.primary back.stored kept (record { refusals = λ zone. ap (filter_map refusal_of) (back.fetches zone); buried = back.buried }));
       counted = subst (CountsCtor c.args.self.now.ledger c.count_ctor.new.self) code.0 c.count_ctor.ensures;
     })
 
