@@ -27,19 +27,14 @@ less-raised count = omega arith
 changed : (f g : ℕ → ZoneTally) (change : ZoneTally → ZoneTally) (zone : ℕ) → zone < 8 → change (f zone) ≡ g zone → ((other : ℕ) → other ≢ zone → f other ≡ g other) → slice_set (by_zone f) zone (change (slice_index_or (by_zone f) zone no_counts)) ≡ by_zone g
 changed f g change zone small here others = set_by_zone f g zone (change (slice_index_or (by_zone f) zone no_counts)) small (ap change (get_by_zone f zone small) ∙ here) others
 
--- the phase of an item that isn't built
+-- what holds of both phases of an item that isn't built
+unbuilt : {A : Type 0} (f : BodyPhase → A) (a : A) (zone : ℕ) → f Kept ≡ a → f (Zoned zone) ≡ a → f (base_phase zone) ≡ a
+unbuilt f a zone kept zoned =
+    let by : (is_primary : Bool) → f (cond is_primary Kept (Zoned zone)) ≡ a = elim [ true ↦ kept | false ↦ zoned ] in
+    by (zone == 0)
 
-base_keg_inits : (is_primary : Bool) (zone : ℕ) → keg_inits_by (cond is_primary Kept (Zoned zone)) ≡ 1
-base_keg_inits true zone = refl
-base_keg_inits false zone = refl
-
-base_keg_finis : (is_primary : Bool) (zone : ℕ) → keg_finis_by (cond is_primary Kept (Zoned zone)) ≡ 0
-base_keg_finis true zone = refl
-base_keg_finis false zone = refl
-
-base_builds : (is_primary : Bool) (zone other : ℕ) → open_builds (cond is_primary Kept (Zoned zone)) other ≡ 0
-base_builds true zone other = refl
-base_builds false zone other = refl
+no_builds : (zone other : ℕ) → open_builds (base_phase zone) other ≡ 0
+no_builds zone other = unbuilt (λ phase. open_builds phase other) 0 zone refl refl
 
 -- a build is in the stay that it began in
 pub stays_kept : (zone other : ℕ) → open_stays (Built zone) other ≡ open_stays (base_phase zone) other
@@ -53,7 +48,7 @@ stays_kept zone other =
 apart : (zone other ctors : ℕ) (stays : List StayCounts) → other ≢ zone → counts_by (Built zone) ctors stays other ≡ counts_by (base_phase zone) ctors stays other
 apart zone other ctors stays differs =
     let no : (zone == other) ≡ false = ne_eqb zone other (λ e. differs (sym e)) in
-    let builds : open_builds (Built zone) other ≡ open_builds (base_phase zone) other = ap (λ b. cond b 1 0) no ∙ sym (base_builds (zone == 0) zone other) in
+    let builds : open_builds (Built zone) other ≡ open_builds (base_phase zone) other = ap (λ b. cond b 1 0) no ∙ sym (no_builds zone other) in
     λ i. counts_with (other == 0) (builds i) (stays_kept zone other i) ctors (stay_at stays other)
 
 built_here : (zone : ℕ) → open_builds (Built zone) zone ≡ 1
@@ -70,14 +65,14 @@ ends_here zone ctors stays =
     let change : ZoneTally → ZoneTally = λ counts. record counts { dtors = raised counts.dtors } in
     (λ i. change (counts_with (zone == 0) (built_here zone i) (open_stays (Built zone) zone) ctors stay))
     ∙ over (zone == 0) (open_stays (Built zone) zone) ctors stay
-    ∙ (λ i. counts_with (zone == 0) (sym (base_builds (zone == 0) zone zone) i) (stays_kept zone zone i) ctors stay)
+    ∙ (λ i. counts_with (zone == 0) (sym (no_builds zone zone) i) (stays_kept zone zone i) ctors stay)
 
 pub dtor-tally : (zone ctors : ℕ) (stays : List StayCounts) → zone < 8 → tally_by (base_phase zone) ctors stays ≡ tally_after (Dtor zone) (tally_by (Built zone) ctors stays)
 dtor-tally zone ctors stays within =
     let change : ZoneTally → ZoneTally = λ counts. record counts { dtors = raised counts.dtors } in
     sym (λ i. record {
-      keg_inits = sym (base_keg_inits (zone == 0) zone) i;
-      keg_finis = sym (base_keg_finis (zone == 0) zone) i;
+      keg_inits = sym (unbuilt keg_inits_by 1 zone refl refl) i;
+      keg_finis = sym (unbuilt keg_finis_by 0 zone refl refl) i;
       zones = changed (counts_by (Built zone) ctors stays) (counts_by (base_phase zone) ctors stays) change zone within (ends_here zone ctors stays) (λ other differs. apart zone other ctors stays differs) i;
     })
 
