@@ -87,6 +87,15 @@ pub still_balance_cached : (zone : ℕ) (was is : Sums) (times : Hook → ℕ) �
 still_balance_cached zone was is times adds each before =
     still_balance zone was is times 0 adds (λ other small. each other small ∙ ap (λ (n : ℕ). n % 2 ^ 64) (nothing_there (zone == other) (times (Dtor other)))) before
 
+-- ---- two sums
+
+pub few_joined : (was others is : Sums) (count more : ℕ) → Adds (sum_of others.tally) others.deferred was is → AreOfAtMost count was → AreOfAtMost more others → AreOfAtMost (count + more) is
+few_joined was others is count more adds here there =
+    record {
+      tally = λ hook. let a = adds.tally hook in let b = here.tally hook in let c = there.tally hook in omega arith;
+      deferred = let a = adds.deferred_too in let b = here.deferred in let c = there.deferred in omega arith;
+    }
+
 -- ---- the sums of nothing
 
 no_zones : (zone : ℕ) → zone_sums (replicate 8 no_zone_sums) zone ≡ no_zone_sums

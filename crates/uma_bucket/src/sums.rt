@@ -1,5 +1,6 @@
-ghost use Rattle.std.specs.Prelude.{◌≡◌, ◌^◌, ◌≤◌, ℕ, vec_len};
+ghost use Rattle.std.specs.Prelude.{◌≡◌, ◌^◌, ◌+◌, ◌≤◌, ℕ, vec_len};
 ghost use Rattle.std.specs.List.{sum_by};
+ghost use Rattle.uma_life.specs.Sum.{sum_of};
 ghost use Rattle.uma_bucket.specs.Held.{times_held};
 ghost use Rattle.uma_bucket.specs.Sums.{nothing_held, Adds, AreOfAtMost, Balance};
 
@@ -26,6 +27,18 @@ impl Sums {
             tally: TallySum::none(),
             deferred: 0,
         }
+    }
+
+    /// Adds the sums of other items.
+    pub fn add_sums(&mut self, others: Sums)
+        requires room { AreOfAtMost (2 ^ 62) self.old }
+        requires few { AreOfAtMost (2 ^ 62) others }
+        ensures adds { Adds (sum_of others.tally) others.deferred self.old self.new }
+        ensures few { (count : ℕ) (more : ℕ) → AreOfAtMost count self.old → AreOfAtMost more others → AreOfAtMost (count + more) self.new }
+        ensures balance { (zone : ℕ) → Balance zone self.old → Balance zone others → Balance zone self.new }
+    {
+        self.tally.add_sums(others.tally);
+        self.deferred += others.deferred;
     }
 
     /// Adds the tallies of the items that lie in a room.

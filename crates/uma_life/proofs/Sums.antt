@@ -8,7 +8,7 @@ use Rattle.uma_life.specs.declared.tally_sum.ZoneTallySum.{ZoneTallySum}
 use Rattle.uma_life.specs.declared.tally_sum.TallySum.{TallySum}
 use Rattle.uma_life.specs.Life.{no_counts}
 use Rattle.uma_life.specs.Hook.{Hook, KegInit, ZoneInit, Ctor, Dtor, ZoneFini, KegFini}
-use Rattle.uma_life.specs.Sum.{no_zone_sums, times_of, sum_of, zone_sums, AreBelow, IsBelow, AreCounts, zone_sums_with, capped, capped_zone}
+use Rattle.uma_life.specs.Sum.{no_zone_sums, times_of, sum_of, zone_sums, AreBelow, IsBelow, AreCounts, zone_sums_with, zone_sums_and, capped, capped_zone}
 
 -- past the eight zones nothing is counted
 all_zones_with : (sums more : List ZoneTallySum) (counts : List ZoneTally) → length sums ≡ 8 → length counts ≡ 8 → length more ≡ 8
@@ -29,6 +29,22 @@ sums_added old new tally inits finis eight as_many so_many each (Ctor zone) = ap
 sums_added old new tally inits finis eight as_many so_many each (Dtor zone) = ap (λ (s : ZoneTallySum). s.dtors) (all_zones_with old.zones new.zones tally.zones eight as_many so_many each zone)
 sums_added old new tally inits finis eight as_many so_many each (ZoneFini zone) = ap (λ (s : ZoneTallySum). s.finis) (all_zones_with old.zones new.zones tally.zones eight as_many so_many each zone)
 sums_added old new tally inits finis eight as_many so_many each KegFini = finis
+
+all_zones_and : (sums others more : List ZoneTallySum) → length sums ≡ 8 → length others ≡ 8 → length more ≡ 8 → ((zone : ℕ) → zone < 8 → zone_sums more zone ≡ zone_sums_and (zone_sums sums zone) (zone_sums others zone))
+    → (zone : ℕ) → zone_sums more zone ≡ zone_sums_and (zone_sums sums zone) (zone_sums others zone)
+all_zones_and sums others more eight as_many so_many each zone = elim (cases_lt zone 8) [
+  | inl within ↦ each zone within
+  | inr past ↦ rw (get_or_past more zone no_zone_sums (rw so_many past), get_or_past sums zone no_zone_sums (rw eight past), get_or_past others zone no_zone_sums (rw as_many past)) refl
+]
+
+pub sums_joined : (old others new : TallySum) → new.keg_inits ≡ old.keg_inits + others.keg_inits → new.keg_finis ≡ old.keg_finis + others.keg_finis → length old.zones ≡ 8 → length others.zones ≡ 8 → length new.zones ≡ 8
+    → ((zone : ℕ) → zone < 8 → zone_sums new.zones zone ≡ zone_sums_and (zone_sums old.zones zone) (zone_sums others.zones zone)) → (hook : Hook) → sum_of new hook ≡ sum_of old hook + sum_of others hook
+sums_joined old others new inits finis eight as_many so_many each KegInit = inits
+sums_joined old others new inits finis eight as_many so_many each (ZoneInit zone) = ap (λ (s : ZoneTallySum). s.inits) (all_zones_and old.zones others.zones new.zones eight as_many so_many each zone)
+sums_joined old others new inits finis eight as_many so_many each (Ctor zone) = ap (λ (s : ZoneTallySum). s.ctors) (all_zones_and old.zones others.zones new.zones eight as_many so_many each zone)
+sums_joined old others new inits finis eight as_many so_many each (Dtor zone) = ap (λ (s : ZoneTallySum). s.dtors) (all_zones_and old.zones others.zones new.zones eight as_many so_many each zone)
+sums_joined old others new inits finis eight as_many so_many each (ZoneFini zone) = ap (λ (s : ZoneTallySum). s.finis) (all_zones_and old.zones others.zones new.zones eight as_many so_many each zone)
+sums_joined old others new inits finis eight as_many so_many each KegFini = finis
 
 all_counts : (counts : List ZoneTally) → length counts ≡ 8 → ((zone : ℕ) → zone < 8 → AreCounts (get_or counts zone no_counts)) → (zone : ℕ) → AreCounts (get_or counts zone no_counts)
 all_counts counts eight each zone = elim (cases_lt zone 8) [

@@ -47,6 +47,15 @@ zone_sums_with sums counts = record {
   finis = sums.finis + counts.finis;
 }
 
+-- the sums of a zone with those of more items
+abbrev pub zone_sums_and : ZoneTallySum → ZoneTallySum → ZoneTallySum
+zone_sums_and sums others = record {
+  inits = sums.inits + others.inits;
+  ctors = sums.ctors + others.ctors;
+  dtors = sums.dtors + others.dtors;
+  finis = sums.finis + others.finis;
+}
+
 -- each sum of a zone is below a bound
 pub record IsBelow (bound : ℕ) (sums : ZoneTallySum) : Type 0 where
   pub inits : sums.inits < bound

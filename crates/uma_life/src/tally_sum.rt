@@ -1,7 +1,7 @@
 ghost use Rattle.std.specs.Prelude.{◌≡◌, ◌<◌, ◌+◌, ◌-◌, ◌^◌, ◌↔◌, ℕ, IsTrue, min, length, slice_index_or};
 ghost use Rattle.uma_life.specs.Hook.{Hook};
 ghost use Rattle.uma_life.specs.Life.{no_counts};
-ghost use Rattle.uma_life.specs.Sum.{times_of, sum_of, zone_sums, AreBelow, IsBelow, AreCounts, zone_sums_with, capped_zone};
+ghost use Rattle.uma_life.specs.Sum.{times_of, sum_of, zone_sums, AreBelow, IsBelow, AreCounts, zone_sums_with, zone_sums_and, capped_zone};
 
 use crate::tally::Tally;
 use crate::zone_tally::ZoneTally;
@@ -43,6 +43,7 @@ impl TallySum {
             zones: [none; 8],
         }
     }
+
     /// Adds the tally of one more item.
     pub fn add(&mut self, tally: Tally)
         requires { AreBelow (2 ^ 127) self.old }
@@ -52,6 +53,17 @@ impl TallySum {
         self.keg_inits += u128::from(tally.keg_inits);
         self.keg_finis += u128::from(tally.keg_finis);
         self.zones = zones_with(self.zones, tally.zones);
+    }
+
+    /// Adds the sums of other items.
+    pub fn add_sums(&mut self, others: TallySum)
+        requires room { AreBelow (2 ^ 127) self.old }
+        requires few { AreBelow (2 ^ 127) others }
+        ensures { (hook : Hook) → sum_of self.new hook ≡ sum_of self.old hook + sum_of others hook }
+    {
+        self.keg_inits += others.keg_inits;
+        self.keg_finis += others.keg_finis;
+        self.zones = zones_and(self.zones, others.zones);
     }
 
     /// The sums as counts of 64 bits: one that is greater stops at 2^64 - 1.
@@ -88,6 +100,20 @@ impl ZoneTallySum {
         }
     }
 
+    /// These sums with those of other items.
+    fn and(self, others: ZoneTallySum) -> ZoneTallySum
+        requires room { IsBelow (2 ^ 127) self }
+        requires few { IsBelow (2 ^ 127) others }
+        ensures { result ≡ zone_sums_and self others }
+    {
+        ZoneTallySum {
+            inits: self.inits + others.inits,
+            ctors: self.ctors + others.ctors,
+            dtors: self.dtors + others.dtors,
+            finis: self.finis + others.finis,
+        }
+    }
+
     fn is_below(self, bound: u128) -> bool
         ensures { IsTrue result ↔ IsBelow bound self }
     {
@@ -116,6 +142,20 @@ fn zones_with(sums: [ZoneTallySum; 8], counts: [ZoneTally; 8]) -> [ZoneTallySum;
     let mut more = sums;
     for zone in 0..8 {
         more[zone] = sums[zone].with(counts[zone]);
+    }
+    more
+}
+
+/// These sums of eight zones with those of other items.
+fn zones_and(sums: [ZoneTallySum; 8], others: [ZoneTallySum; 8]) -> [ZoneTallySum; 8]
+    requires room { (zone : ℕ) → zone < 8 → IsBelow (2 ^ 127) (zone_sums sums zone) }
+    requires few { (zone : ℕ) → zone < 8 → IsBelow (2 ^ 127) (zone_sums others zone) }
+    ensures eight { (length sums ≡ 8) × (length others ≡ 8) × (length result ≡ 8) }
+    ensures sums { (zone : ℕ) → zone < 8 → zone_sums result zone ≡ zone_sums_and (zone_sums sums zone) (zone_sums others zone) }
+{
+    let mut more = sums;
+    for zone in 0..8 {
+        more[zone] = sums[zone].and(others[zone]);
     }
     more
 }
