@@ -68,6 +68,14 @@ impl<T: Body> Bucket<T> {
         }
     }
 
+    /// Ends a bucket of which no item is left.
+    pub fn end(self)
+        requires { items_of self ≡ [] }
+    {
+        let Bucket { room, .. } = self;
+        room.destroy_empty();
+    }
+
     /// How many items there are, at most `size`.
     pub fn len(&self) -> u32
         ensures len { result ≡ length (items_of self.now) }

@@ -67,5 +67,6 @@ fn the_last_put_is_the_first_taken(rt: HostRuntime) -> Result<(), Fail> {
         assert_eq!(rt; bucket.pop().map(|item| item.no()), Some(no));
     }
     assert!(rt; bucket.pop().is_none());
+    bucket.end();
     Ok(())
 }
