@@ -1,0 +1,5 @@
+pub mod RowSteps
+pub mod OntoShelf
+pub mod Same
+pub mod Crossing
+pub mod SumSteps

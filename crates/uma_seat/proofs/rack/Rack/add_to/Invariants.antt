@@ -1,0 +1,7 @@
+use Rattle.uma_seat.specs.Shelf.{IsShelvedAt}
+use Rattle.uma_seat.specs.ShelfSums.{times_shelved, deferred_shelved}
+use Rattle.uma_seat.proofs.SumSteps.{SoFar}
+use Rattle.uma_seat.proofs.rack.Rack.add_to.Given as goal
+
+abbrev pub invariant-loop-at : goal.invariant-loop-at
+invariant-loop-at g l = SoFar times_shelved deferred_shelved IsShelvedAt l.self.shelf.items l.initial.sums l.sums l.at

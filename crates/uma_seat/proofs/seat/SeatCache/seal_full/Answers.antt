@@ -1,0 +1,27 @@
+use Rattle.std.proofs.Common.{sym, subst}
+use Rattle.smr_clock.specs.Belongs.{view}
+use Rattle.uma_bucket.specs.Home.{AreHome}
+use Rattle.uma_bucket.specs.Freed.{freed_item}
+use Rattle.uma_seat.specs.Seating.{home_of, clock_of}
+use Rattle.uma_seat.specs.Shelf.{IsShelvedAt, IsShelvedOf}
+use Rattle.uma_seat.proofs.OntoShelf.{All-shelved, freed_shelved}
+use Rattle.uma_seat.proofs.seat.SeatCache.seal_full.Goals as goal
+
+pub invariant_of-self-clause-freed_home : goal.invariant_of-self-clause-freed_home
+invariant_of-self-clause-freed_home g c = c.push_last-loose.ensures.row_home (home_of c.args.self.now.seating) c.args.self.now.freed_home
+
+pub invariant_of-self-clause-shelf_home : goal.invariant_of-self-clause-shelf_home
+invariant_of-self-clause-shelf_home g c =
+    let home = home_of c.args.self.now.seating in
+    All-shelved (IsShelvedAt home) _ _ _ _ c.take_spare-spare.ensures.shelf c.put_newest.ensures.shelf c.args.self.now.shelf_home
+    (subst (AreHome home) (sym c.try_to_seal-newest.ensures.tickets) (c.push_last-loose.ensures.home home c.args.self.now.freed_home c.requires.home))
+
+pub invariant_of-self-clause-shelf_clock : goal.invariant_of-self-clause-shelf_clock
+invariant_of-self-clause-shelf_clock g c =
+    All-shelved (IsShelvedOf (clock_of c.args.self.now.seating)) _ _ _ _ c.take_spare-spare.ensures.shelf c.put_newest.ensures.shelf c.args.self.now.shelf_clock
+    (subst (λ id. IsShelvedOf id c.try_to_seal-newest.result) c.requires.clock c.try_to_seal-newest.ensures.clock)
+
+pub returns-clause-full : goal.returns-clause-full
+returns-clause-full g c =
+    freed_shelved g.H.Host.copied (view c.args.pass.now) _ c.args.self.now _ c.args.domain _ (freed_item c.args.item) c.push_last-loose.result c.try_to_seal-newest.result _ _ _ _ c.requires.own c.reuse.ensures.size
+    c.push_last-loose.ensures.full c.try_to_seal-newest.ensures.tried c.take_spare-spare.ensures.shelf c.put_newest.ensures.shelf c.take_spare-spare.ensures.spares c.put_newest.ensures.spares c.push_last-loose.ensures.stacks

@@ -1,0 +1,16 @@
+use Rattle.uma_seat.specs.Seating.{home_of, clock_of}
+use Rattle.uma_seat.specs.Shelf.{IsShelvedAt, IsShelvedOf}
+use Rattle.uma_seat.proofs.OntoShelf.{All-taken}
+use Rattle.uma_seat.proofs.seat.SeatCache.take_shelf.Goals as goal
+
+pub invariant_of-self-clause-shelf_home : goal.invariant_of-self-clause-shelf_home
+invariant_of-self-clause-shelf_home g c = (All-taken (IsShelvedAt (home_of c.args.self.now.seating)) _ _ _ c.take_oldest.ensures.oldest c.take_oldest.ensures.unchanged c.args.self.now.shelf_home).0
+
+pub invariant_of-self-clause-shelf_clock : goal.invariant_of-self-clause-shelf_clock
+invariant_of-self-clause-shelf_clock g c = (All-taken (IsShelvedOf (clock_of c.args.self.now.seating)) _ _ _ c.take_oldest.ensures.oldest c.take_oldest.ensures.unchanged c.args.self.now.shelf_clock).0
+
+pub returns-clause-home : goal.returns-clause-home
+returns-clause-home g c = (All-taken (IsShelvedAt (home_of c.args.self.now.seating)) _ _ _ c.take_oldest.ensures.oldest c.take_oldest.ensures.unchanged c.args.self.now.shelf_home).1
+
+pub returns-clause-clock : goal.returns-clause-clock
+returns-clause-clock g c = (All-taken (IsShelvedOf (clock_of c.args.self.now.seating)) _ _ _ c.take_oldest.ensures.oldest c.take_oldest.ensures.unchanged c.args.self.now.shelf_clock).1

@@ -1,0 +1,12 @@
+pub mod Stack
+pub mod Shelf
+pub mod Rack
+pub mod Row
+pub mod Fetches
+pub mod Counts
+pub mod Seating
+pub mod Seat
+pub mod Freeing
+pub mod Lending
+pub mod ShelfSums
+pub mod Sums

@@ -1,0 +1,30 @@
+use crate::seat::SeatCache;
+use deed_book::FailShare;
+use smr_clock::Host;
+use uma_bucket::Bucket;
+use uma_life::Body;
+
+impl<T: Body, H: Host> SeatCache<T, H> {
+    ghost use Rattle.std.specs.Prelude.{◌≡◌, []};
+    ghost use Rattle.std.specs.Borrow.{sem};
+    ghost use Rattle.uma_seat.specs.Lending.{LendsTop, LendsMisses};
+    ghost use Rattle.uma_seat.specs.Seat.{top_bucket, top_of, misses_of};
+
+    /// Lends the allocation bucket, which is empty, to a fetch, so that a fetch takes no memory for a bucket. What the
+    /// fetch leaves in it is what the seat allocates next.
+    pub fn lend_empty(&mut self) -> &mut Bucket<T>
+        requires { (top_of self.old).items ≡ [] }
+        ensures* writes_back { sem 𝓛 (LendsTop T.row H.row H.Part.row T.Body H.Host self.entry result) }
+        ensures bucket { result.now ≡ top_bucket self.old }
+    {
+        &mut self.top
+    }
+
+    /// The seat's share of its domain's book of misses.
+    pub fn misses(&mut self) -> &mut FailShare
+        ensures* writes_back { sem 𝓛 (LendsMisses T.row H.row H.Part.row T.Body H.Host self.entry result) }
+        ensures share { result.now ≡ misses_of self.old }
+    {
+        &mut self.misses
+    }
+}

@@ -1,0 +1,74 @@
+ghost use Rattle.std.specs.Prelude.{◌≡◌, ◌≤◌, [], IfOk, IfErr, Err};
+ghost use Rattle.deed_book.specs.FailShare.{share_table, causes_in};
+ghost use Rattle.uma_bucket.specs.Bucket.{IsOutOfRange, Refuses};
+
+use crate::counts::Counts;
+use crate::freed_row::FreedRow;
+use crate::plain_row::PlainRow;
+use crate::rack::Rack;
+use crate::seat::SeatCache;
+use crate::seating::Seating;
+use deed_book::FailShare;
+use smr_clock::Host;
+use std::alloc::Global;
+use uma_bucket::{Bucket, BucketRefused};
+use uma_life::Body;
+
+/// The least and the greatest count of items that a bucket can have room for.
+const LEAST_SIZE: u32 = 4;
+
+const MOST_SIZE: u32 = 64;
+
+impl<T: Body + Drop, H: Host> SeatCache<T, H> {
+    ghost use Rattle.uma_seat.specs.Seat.{IsNewSeat};
+
+    /// A seat whose buckets are all empty and have room for `size` items each, 4 to 64; two of them are spares. All room
+    /// that the seat ever needs is taken here. `share` is of the zone's fail book and lists nothing yet, `misses` of the
+    /// domain's book of misses.
+    pub fn new(
+        alloc: Global,
+        size: u32,
+        seating: Seating<H>,
+        share: FailShare,
+        misses: FailShare,
+    ) -> Result<SeatCache<T, H>, BucketRefused>
+        requires { causes_in share ≡ [] }
+        ensures made { IfOk result (IsNewSeat size seating (share_table share) misses) }
+        ensures out_of_range { IsOutOfRange size → result ≡ Err (BucketRefused.Size size) }
+        ensures err { IfErr result (Refuses size) }
+    {
+        if size < LEAST_SIZE || size > MOST_SIZE {
+            return Err(BucketRefused::Size { size });
+        }
+        SeatCache::of_size(alloc, size, seating, share, misses)
+    }
+
+    fn of_size(
+        alloc: Global,
+        size: u32,
+        seating: Seating<H>,
+        share: FailShare,
+        misses: FailShare,
+    ) -> Result<SeatCache<T, H>, BucketRefused>
+        requires least { 4 ≤ size }
+        requires most { size ≤ 64 }
+        requires listed { causes_in share ≡ [] }
+        ensures made { IfOk result (IsNewSeat size seating (share_table share) misses) }
+        ensures err { IfErr result (Refuses size) }
+    {
+        let top = Bucket::make(alloc, size)?;
+        let plain = PlainRow::make(alloc, size, seating.plain_domains())?;
+        let freed = FreedRow::make(alloc, size, seating.freed_domains())?;
+        let rack = Rack::with_spares(alloc, size)?;
+        Ok(SeatCache {
+            seating,
+            size,
+            top,
+            plain,
+            freed,
+            rack,
+            counts: Counts::new(share),
+            misses,
+        })
+    }
+}
