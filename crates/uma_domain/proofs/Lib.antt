@@ -1,0 +1,6 @@
+pub mod Places
+pub mod Polled
+pub mod Trimmed
+pub mod Tried
+pub mod Kept
+pub mod Summed

@@ -1,0 +1,37 @@
+use Rattle.std.proofs.Common.{◌≡◌, ◌≤◌, ◌+◌, ◌-◌, ◌∙◌, ap, sym, subst, sum_by, arith}
+use Rattle.uma_domain.specs.Identity.{key_identity}
+use Rattle.uma_domain.specs.Listed.{plain_len, sealed_len}
+use Rattle.uma_domain.specs.Trim.{Trims}
+use Rattle.uma_domain.specs.Working.{after, begun, working_set}
+use Rattle.uma_domain.proofs.Kept.{trim_of, trims_all}
+use Rattle.uma_domain.proofs.lists.Lists.take_all.Goals as goal
+
+pub invariant_of-self-2-clause-plain_here : goal.invariant_of-self-2-clause-plain_here
+invariant_of-self-2-clause-plain_here g c =
+    let lists = c.args.self.now in
+    let left = c.take_candidates-left in
+    (trim_of (key_identity lists.key.value) _ _ _ _ left.new.taken.items left.new.plain.items left.new.sealed.items left.ensures.trims lists.plain_here lists.sealed_here).1
+
+pub invariant_of-self-2-clause-sealed_here : goal.invariant_of-self-2-clause-sealed_here
+invariant_of-self-2-clause-sealed_here g c =
+    let lists = c.args.self.now in
+    let left = c.take_candidates-left in
+    (trim_of (key_identity lists.key.value) _ _ _ _ left.new.taken.items left.new.plain.items left.new.sealed.items left.ensures.trims lists.plain_here lists.sealed_here).2
+
+pub returns-clause-of_domain : goal.returns-clause-of_domain
+returns-clause-of_domain g c =
+    let lists = c.args.self.now in
+    let left = c.take_candidates-left in
+    (trim_of (key_identity lists.key.value) _ _ _ _ left.new.taken.items left.new.plain.items left.new.sealed.items left.ensures.trims lists.plain_here lists.sealed_here).0
+
+pub returns-clause-all : goal.returns-clause-all
+returns-clause-all g c =
+    let lists = c.args.self.now in
+    let left = c.take_candidates-left in
+    (trims_all lists.working.count lists.plain.items lists.sealed.items left.new.taken.items left.new.plain.items left.new.sealed.items left.ensures.trims (omega (arith, lists.counted))).0
+
+pub returns-clause-none_left : goal.returns-clause-none_left
+returns-clause-none_left g c =
+    let lists = c.args.self.now in
+    let left = c.take_candidates-left in
+    (trims_all lists.working.count lists.plain.items lists.sealed.items left.new.taken.items left.new.plain.items left.new.sealed.items left.ensures.trims (omega (arith, lists.counted))).1

@@ -1,0 +1,29 @@
+-- Own: which domain it is, as contracts see it.
+use Rattle.std.specs.Prelude.{ℕ, Bool}
+use Rattle.deed_book.specs.Deed.{TableId}
+use Rattle.deed_book.specs.Book.{book_table}
+use Rattle.deed_book.specs.FailBook.{fail_book_table}
+use Rattle.smr_clock.specs.declared.setup.Setup.{Setup}
+use Rattle.smr_clock.specs.Belongs.{clock_id}
+use Rattle.uma_bucket.specs.Home.{Home}
+use Rattle.uma_domain.specs.declared.key.DomainKey.{DomainKey}
+
+-- What never changes of a domain: the clock of its sealed buckets' notes, where all its items are at home, its book of misses, and whether readers of its zone hold no lock.
+pub record Identity : Type 0 where
+  pub clock : TableId × Setup
+  pub home : Home
+  pub misses : TableId
+  pub smr : Bool
+
+-- where the items of a zone with so many domains are at home
+abbrev pub home_of : TableId → ℕ → ℕ → Home
+home_of book zone domains = record { book = book; zone = zone; domains = domains }
+
+-- the identity that a key names
+abbrev pub key_identity : {H P : Type 0} → DomainKey H P → Identity
+key_identity key = record {
+  clock = clock_id key.clock.value;
+  home = home_of (book_table key.book.value) key.zone key.domains;
+  misses = fail_book_table key.misses.value;
+  smr = key.smr;
+}

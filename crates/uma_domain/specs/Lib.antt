@@ -1,0 +1,10 @@
+pub mod Identity
+pub mod Listed
+pub mod Working
+pub mod Scans
+pub mod Taken
+pub mod Trim
+pub mod Tries
+pub mod Lists
+pub mod Domain
+pub mod Sums

@@ -1,0 +1,25 @@
+-- Own: what the tries to seal loose buckets come to.
+use Rattle.std.specs.Prelude.{◌≡◌, ◌⊎◌, ℕ, List, [], ◌∷◌, ◌++◌, length}
+use Rattle.smr_clock.specs.declared.setup.Setup.{Setup}
+use Rattle.smr_clock.specs.declared.refused.AdvanceRefused.{AdvanceRefused}
+use Rattle.smr_clock.specs.declared.view.View.{View}
+use Rattle.smr_clock.specs.Advances.{Refuses}
+use Rattle.smr_clock.specs.Belongs.{TableId}
+use Rattle.uma_bucket.specs.declared.loose.Loose.{Loose}
+use Rattle.uma_bucket.specs.declared.sealed.Sealed.{Sealed}
+use Rattle.uma_bucket.specs.Sealed.{Seals, IsSealedAt}
+
+module _ {T H P : Type 0} {g h : _} where
+  -- Each loose bucket was tried once, in order, by a pass whose view was v before and v' after. It was sealed, by the clock, or its advance was refused and it stays; both in their order.
+  abbrev pub Tries : (P → P) → TableId × Setup → View P → List (Loose T g) → List (Loose T g) → List (Sealed T H P g h) → View P → Type 0
+  Tries copied clock v [] stay sealed v' = (stay ≡ []) × (sealed ≡ []) × (v' ≡ v)
+  Tries copied clock v (b ∷ bs) stay sealed v' =
+      (next : View P) × (((s : Sealed T H P g h) × (rest : List (Sealed T H P g h)) × (sealed ≡ s ∷ rest) × Seals copied v b s next × IsSealedAt clock s × Tries copied clock next bs stay rest v')
+      ⊎ ((refused : AdvanceRefused) × (rest : List (Loose T g)) × (stay ≡ b ∷ rest) × Refuses v refused next × Tries copied clock next bs rest sealed v'))
+
+  -- The tries of all loose buckets. So many were sealed, and are the newest sealed ones, in their order.
+  pub record SealsEach (copied : P → P) (clock : TableId × Setup) (v : View P) (loose : List (Loose T g)) (sealed : List (Sealed T H P g h)) (count : ℕ) (loose_left : List (Loose T g)) (sealed_now : List (Sealed T H P g h)) (v' : View P) : Type 0 where
+    pub new : List (Sealed T H P g h)
+    pub tries : Tries copied clock v loose loose_left new v'
+    pub newest : sealed_now ≡ sealed ++ new
+    pub counted : count ≡ length new

@@ -1,0 +1,209 @@
+ghost use Rattle.std.specs.Prelude.{◌≡◌, ◌≤◌, ◌<◌, ◌^◌, [], All, true, false, IfOk, IfErr, IfSome, IfNone};
+ghost use Rattle.deed_book.specs.Book.{book_table};
+ghost use Rattle.deed_book.specs.FailShare.{share_table, causes_in};
+ghost use Rattle.smr_clock.specs.Belongs.{IsOf, clock_id, holder};
+ghost use Rattle.uma_bucket.specs.Sums.{AreOfAtMost, Balance};
+ghost use Rattle.uma_domain.specs.Domain.{domain_identity};
+ghost use Rattle.uma_domain.specs.Identity.{home_of};
+ghost use Rattle.uma_domain.specs.Listed.{IsPlainOf, IsLooseOf, IsSealedOf, IsRipeOf};
+ghost use Rattle.uma_domain.specs.Lists.{IsRaised};
+ghost use Rattle.uma_domain.specs.Taken.{taken_in, IsTakenOf};
+
+use crate::key::DomainKey;
+use crate::lists::Lists;
+use crate::rule::ListsOfKey;
+use crate::taken::Taken;
+use deed_book::{Book, FailBook, FailShare, Memory};
+use keyed_lock::KeyedLock;
+use smr_clock::{Clock, Host, Pass};
+use std::alloc::Global;
+use std::snapshot::Snapshot;
+use std::sync::Wait;
+use uma_bucket::{Bucket, Loose, Ripe, Sealed, Sums};
+use uma_life::Body;
+
+/// The lists of one memory domain of a zone, behind a lock.
+///
+/// Each call waits for the lock, makes the call of the same name on the lists, and lets the lock go. What it did to the
+/// lists is said there, since no clause can say it once the lock is let go. What comes out was listed by this domain, so it
+/// isn't empty, its items are at home in the domain's book, zone and count of domains, and its note is of the domain's
+/// clock.
+#[derive(Drop)]
+pub struct Domain<T: Body, H: Host> {
+    lists: KeyedLock<Lists<T, H>, DomainKey<H>, ListsOfKey>,
+}
+
+impl<T: Body + Drop, H: Host> Domain<T, H> {
+    /// A domain with empty lists, of a zone with so many domains over the keg whose item numbers are those of the book.
+    /// `smr` says whether readers of the zone hold no lock. The clock is that of the zone.
+    pub fn new(
+        alloc: Global,
+        clock: &Clock<H>,
+        book: Snapshot<Book>,
+        zone: u8,
+        domains: u8,
+        smr: bool,
+    ) -> Result<Domain<T, H>, Memory>
+        ensures clock { IfOk result (λ domain. (domain_identity domain).clock ≡ clock_id clock.now) }
+        ensures home { IfOk result (λ domain. (domain_identity domain).home ≡ home_of (book_table book.value) zone domains) }
+        ensures smr { IfOk result (λ domain. (domain_identity domain).smr ≡ smr) }
+    {
+        let misses = FailBook::new(alloc)?;
+        let key = DomainKey {
+            clock: Snapshot::of(clock),
+            book,
+            misses: Snapshot::of(&misses),
+            zone,
+            domains,
+            smr,
+        };
+        let lists = Lists::new(alloc, &key, misses);
+        match KeyedLock::new(alloc, lists, &key) {
+            Ok(lists) => Ok(Domain { lists }),
+            Err(_lists) => Err(Memory),
+        }
+    }
+}
+
+impl<T: Body, H: Host> Domain<T, H> {
+    /// Lists a bucket as the newest plain one. It comes back where memory is wanting, or where 2^32 items or more would be
+    /// listed.
+    pub fn put_plain<R: Wait>(&self, rt: &R, bucket: Bucket<T>) -> Result<(), Bucket<T>>
+        requires { IsPlainOf (domain_identity self.now).home bucket }
+        ensures { IfErr result (λ back. back ≡ bucket) }
+    {
+        let mut guard = self.lists.lock(rt);
+        guard.value.put_plain(bucket)
+    }
+
+    /// Lists a bucket as the newest loose one. It comes back where memory is wanting, or where 2^32 items or more would be
+    /// listed.
+    pub fn put_loose<R: Wait>(&self, rt: &R, bucket: Loose<T>) -> Result<(), Loose<T>>
+        requires { IsLooseOf (domain_identity self.now).home bucket }
+        ensures { IfErr result (λ back. back ≡ bucket) }
+    {
+        let mut guard = self.lists.lock(rt);
+        guard.value.put_loose(bucket)
+    }
+
+    /// Lists a bucket as the newest sealed one. It comes back where memory is wanting, or where 2^32 items or more would be
+    /// listed.
+    pub fn put_sealed<R: Wait>(&self, rt: &R, bucket: Sealed<T, H>) -> Result<(), Sealed<T, H>>
+        requires { IsSealedOf (domain_identity self.now) bucket }
+        ensures { IfErr result (λ back. back ≡ bucket) }
+    {
+        let mut guard = self.lists.lock(rt);
+        guard.value.put_sealed(bucket)
+    }
+
+    /// A share of the domain's book of misses that has no cause.
+    pub fn open_misses<R: Wait>(&self, rt: &R) -> FailShare
+        ensures share { causes_in result ≡ [] }
+        ensures book { share_table result ≡ (domain_identity self.now).misses }
+    {
+        let mut guard = self.lists.lock(rt);
+        guard.value.open_misses()
+    }
+
+    /// Takes the newest plain bucket. None where there was none, which is one more miss in the share.
+    pub fn take_plain<R: Wait>(&self, rt: &R, share: &mut FailShare) -> Option<Bucket<T>>
+        requires plain { (domain_identity self.now).smr ≡ false }
+        requires share { share_table share.old ≡ (domain_identity self.now).misses }
+        ensures of_domain { IfSome result (IsPlainOf (domain_identity self.now).home) }
+        ensures hit { IfSome result (λ _. share.new ≡ share.old) }
+        ensures raised { IfNone result (IsRaised share.old share.new) }
+    {
+        let mut guard = self.lists.lock(rt);
+        guard.value.take_plain(share)
+    }
+
+    /// Takes the oldest sealed bucket whose poll in this call says yes. None where each listed one's poll said no, which is
+    /// one more miss in the share.
+    pub fn take_ripe<R: Wait>(
+        &self,
+        rt: &R,
+        clock: &Clock<H>,
+        share: &mut FailShare,
+    ) -> Option<Ripe<T, H>>
+        requires smr { (domain_identity self.now).smr ≡ true }
+        requires here { clock_id clock.now ≡ (domain_identity self.now).clock }
+        requires share { share_table share.old ≡ (domain_identity self.now).misses }
+        ensures of_domain { IfSome result (IsRipeOf (domain_identity self.now)) }
+        ensures hit { IfSome result (λ _. share.new ≡ share.old) }
+        ensures raised { IfNone result (IsRaised share.old share.new) }
+    {
+        let mut guard = self.lists.lock(rt);
+        guard.value.take_ripe(clock, share)
+    }
+
+    /// Each loose bucket tries once to be sealed, oldest first. Answers how many buckets were sealed.
+    pub fn seal_loose<R: Wait>(&self, rt: &R, clock: &Clock<H>, pass: &mut Pass<H>) -> u32
+        requires here { clock_id clock.now ≡ (domain_identity self.now).clock }
+        requires pass { IsOf clock.now pass.old }
+        ensures pass { IsOf clock.now pass.new }
+        ensures phase { (holder pass.new).phase ≡ (holder pass.old).phase }
+    {
+        let mut guard = self.lists.lock(rt);
+        guard.value.seal_loose(clock, pass)
+    }
+
+    /// Takes what the domain didn't use since the last mark, and begins a new interval.
+    pub fn take_trim<R: Wait>(
+        &self,
+        rt: &R,
+        alloc: Global,
+        clock: &Clock<H>,
+    ) -> Result<Taken<T, H>, Memory>
+        requires { clock_id clock.now ≡ (domain_identity self.now).clock }
+        ensures { IfOk result (λ taken. All (IsTakenOf (domain_identity self.now)) (taken_in taken)) }
+    {
+        let mut guard = self.lists.lock(rt);
+        guard.value.take_trim(alloc, clock)
+    }
+
+    /// Takes every plain bucket, and each sealed one whose poll in this call says yes.
+    pub fn take_all<R: Wait>(
+        &self,
+        rt: &R,
+        alloc: Global,
+        clock: &Clock<H>,
+    ) -> Result<Taken<T, H>, Memory>
+        requires { clock_id clock.now ≡ (domain_identity self.now).clock }
+        ensures { IfOk result (λ taken. All (IsTakenOf (domain_identity self.now)) (taken_in taken)) }
+    {
+        let mut guard = self.lists.lock(rt);
+        guard.value.take_all(alloc, clock)
+    }
+
+    /// How many items are listed.
+    pub fn count<R: Wait>(&self, rt: &R) -> u64
+        ensures { result < 2 ^ 32 }
+    {
+        let guard = self.lists.lock(rt);
+        guard.value.count()
+    }
+
+    /// The least and the greatest count of items listed since the last mark.
+    pub fn working<R: Wait>(&self, rt: &R) -> (u64, u64)
+        ensures { (result.0 ≤ result.1) × (result.1 < 2 ^ 32) }
+    {
+        let guard = self.lists.lock(rt);
+        guard.value.working()
+    }
+
+    /// Begins a new interval.
+    pub fn mark<R: Wait>(&self, rt: &R) {
+        let mut guard = self.lists.lock(rt);
+        guard.value.mark();
+    }
+
+    /// How often the items listed passed each hook, and how many of them are freed. In the domain's own zone the ctors
+    /// exceed the dtors by those that are freed, and in every other zone they are equal, modulo 2^64.
+    pub fn sums<R: Wait>(&self, rt: &R) -> Sums
+        ensures few { AreOfAtMost (2 ^ 32) result }
+        ensures balance { Balance (domain_identity self.now).home.zone result }
+    {
+        let guard = self.lists.lock(rt);
+        guard.value.sums()
+    }
+}

@@ -1,0 +1,32 @@
+ghost use Rattle.std.specs.Prelude.{◌^◌};
+ghost use Rattle.uma_bucket.specs.Sums.{nothing_held, Adds, AreOfAtMost, Balance};
+ghost use Rattle.uma_domain.specs.Lists.{lists_identity, plain_in, loose_in, sealed_in};
+ghost use Rattle.uma_domain.specs.Sums.{times_listed, deferred_listed};
+
+use crate::lists::Lists;
+use smr_clock::Host;
+use uma_bucket::Sums;
+use uma_life::Body;
+
+/// Sums of what is listed.
+impl<T: Body, H: Host> Lists<T, H> {
+    /// How often the items listed passed each hook, and how many of them are freed. In the domain's own zone the ctors
+    /// exceed the dtors by those that are freed, and in every other zone they are equal, modulo 2^64.
+    pub fn sums(&self) -> Sums
+        ensures adds { Adds (times_listed (plain_in self.now) (loose_in self.now) (sealed_in self.now)) (deferred_listed (loose_in self.now) (sealed_in self.now)) nothing_held result }
+        ensures few { AreOfAtMost (2 ^ 32) result }
+        ensures balance { Balance (lists_identity self.now).home.zone result }
+    {
+        let mut sums = Sums::none();
+        for plain_at in 0..self.plain.len() {
+            self.plain[plain_at].add_to(&mut sums);
+        }
+        for loose_at in 0..self.loose.len() {
+            self.loose[loose_at].add_to(&mut sums);
+        }
+        for sealed_at in 0..self.sealed.len() {
+            self.sealed[sealed_at].add_to(&mut sums);
+        }
+        sums
+    }
+}

@@ -1,0 +1,4 @@
+mod body;
+mod buckets;
+mod trims;
+mod working_set;
