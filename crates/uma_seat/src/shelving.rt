@@ -11,7 +11,14 @@ use uma_life::Body;
 
 impl<T: Body, H: Host> SeatCache<T, H> {
     ghost use Rattle.uma_seat.specs.Shelf.{count_of, IsShelvedAt, IsShelvedOf};
-    ghost use Rattle.uma_seat.specs.Seat.{seat_home, seat_clock, seat_size, spares_of, shelf_of, HasPlace, IsSameSeat, KeepsTop, KeepsPlain, KeepsFreed, KeepsRack, KeepsCounts, KeepsMisses};
+    ghost use Rattle.uma_seat.specs.Seat.{seat_home, seat_clock, seat_domain, seat_size, top_bucket, top_of, spares_of, shelf_of, HasPlace, IsSameSeat, KeepsTop, KeepsPlain, KeepsFreed, KeepsRack, KeepsCounts, KeepsMisses};
+
+    /// The seat's own domain.
+    pub fn domain(&self) -> u8
+        ensures { result ≡ seat_domain self.now }
+    {
+        self.seating.domain
+    }
 
     /// How many empty spare buckets there are, at most 2. A free needs one.
     pub fn spare(&self) -> u32
@@ -58,10 +65,6 @@ impl<T: Body, H: Host> SeatCache<T, H> {
     {
         self.rack.put_oldest(shelved);
     }
-}
-
-impl<T: Body + Drop, H: Host> SeatCache<T, H> {
-    ghost use Rattle.uma_seat.specs.Seat.{top_bucket, top_of, seat_size, spares_of, shelf_of, HasPlace, IsSameSeat, KeepsTop, KeepsPlain, KeepsFreed, KeepsRack, KeepsCounts, KeepsMisses};
 
     /// The bucket is the allocation bucket, in the place of one that is empty. That becomes a spare where there is a place
     /// for one.
@@ -80,6 +83,8 @@ impl<T: Body + Drop, H: Host> SeatCache<T, H> {
         let empty = replace(&mut self.top, bucket);
         if self.rack.has_place() {
             self.rack.put_spare(empty);
+        } else {
+            empty.end();
         }
     }
 
@@ -96,11 +101,13 @@ impl<T: Body + Drop, H: Host> SeatCache<T, H> {
         ensures counts { KeepsCounts self.old self.new }
         ensures misses { KeepsMisses self.old self.new }
     {
-        let Ok(spare) = Bucket::make(alloc, self.size) else {
+        match Bucket::make(alloc, self.size) {
+            Ok(spare) => {
+                self.rack.put_spare(spare);
+                Ok(())
+            }
             // The size is in its range, so it was memory.
-            return Err(Memory);
-        };
-        self.rack.put_spare(spare);
-        Ok(())
+            Err(_) => Err(Memory),
+        }
     }
 }
