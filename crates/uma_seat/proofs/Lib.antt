@@ -3,3 +3,4 @@ pub mod OntoShelf
 pub mod Same
 pub mod Crossing
 pub mod SumSteps
+pub mod Usable

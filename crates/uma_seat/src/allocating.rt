@@ -18,6 +18,7 @@ impl<T: Body, H: Host> SeatCache<T, H> {
     pub fn try_alloc(&mut self) -> Option<Cached<T>>
         ensures last { IfSome result (λ item. usable_of self.old ≡ usable_of self.new ++ item ∷ []) }
         ensures none { IfNone result (usable_of self.old ≡ []) }
+        ensures unchanged { IfNone result (usable_of self.new ≡ []) }
         ensures taken { Pops (top_ready self.old) result (top_of self.new) }
         ensures room { IfSome result (λ _. length (top_of self.new).items < (top_of self.new).room) }
         ensures plain { plain_of self.new ≡ plain_ready self.old }
