@@ -1,5 +1,5 @@
 -- Own: what contracts see of a bucket on the shelf.
-use Rattle.std.specs.Prelude.{◌≡◌, ℕ, List, [], ◌∷◌, length}
+use Rattle.std.specs.Prelude.{◌≡◌, ◌<◌, ℕ, List, [], ◌∷◌, length}
 use Rattle.std.specs.List.{All}
 use Rattle.smr_clock.specs.declared.setup.Setup.{Setup}
 use Rattle.smr_clock.specs.Belongs.{TableId}
@@ -19,6 +19,12 @@ module _ {T H P : Type 0} {g h : _} where
   count_of (Loose domain bucket) = length (loose_items bucket)
   count_of (Sealed domain bucket) = length (loose_items (sealed_bucket bucket))
 
+  -- the domain to whose list it goes
+  abbrev pub shelved_domain : Shelved T H P g h → ℕ
+  shelved_domain (Plain domain bucket) = domain
+  shelved_domain (Loose domain bucket) = domain
+  shelved_domain (Sealed domain bucket) = domain
+
   -- the deeds and domains of its items, in their order
   abbrev pub shelved_tickets : Shelved T H P g h → List Ticket
   shelved_tickets (Plain domain bucket) = tickets_of bucket
@@ -31,9 +37,9 @@ module _ {T H P : Type 0} {g h : _} where
   note_clocks (Loose domain bucket) = []
   note_clocks (Sealed domain bucket) = note_clock (sealed_note bucket) ∷ []
 
-  -- its items are at home there
+  -- it goes to a domain that there is, and its items are at home there
   abbrev pub IsShelvedAt : Home → Shelved T H P g h → Type 0
-  IsShelvedAt home shelved = AreHome home (shelved_tickets shelved)
+  IsShelvedAt home shelved = (shelved_domain shelved < home.domains) × AreHome home (shelved_tickets shelved)
 
   -- where it is sealed it has a note of this clock
   abbrev pub IsShelvedOf : TableId × Setup → Shelved T H P g h → Type 0

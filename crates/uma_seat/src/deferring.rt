@@ -1,7 +1,7 @@
 ghost use Rattle.std.specs.Prelude.{◌≡◌, ◌<◌, ◌==◌, true, false, not, length, slice_set};
 ghost use Rattle.smr_clock.specs.Belongs.{IsOf, clock_id, view, holder};
 ghost use Rattle.uma_bucket.specs.Loose.{loose_items, loose_tickets};
-ghost use Rattle.uma_seat.specs.Shelf.{count_of, shelved_tickets, IsShelvedOf};
+ghost use Rattle.uma_seat.specs.Shelf.{count_of, shelved_domain, shelved_tickets, IsShelvedOf};
 ghost use Rattle.uma_seat.specs.Freeing.{IsTried};
 
 use crate::seat::SeatCache;
@@ -91,8 +91,8 @@ impl<T: Body, H: Host> SeatCache<T, H> {
     }
 }
 
-// A full bucket is tried once to be sealed.
-fn try_to_seal<T: Body, H: Host>(
+/// Tries once to seal a bucket on its way to the lists of this domain.
+pub fn try_to_seal<T: Body, H: Host>(
     clock: &Clock<H>,
     pass: &mut Pass<H>,
     domain: u8,
@@ -102,6 +102,7 @@ fn try_to_seal<T: Body, H: Host>(
     ensures here { IsOf clock.now pass.new }
     ensures phase { (holder pass.new).phase ≡ (holder pass.old).phase }
     ensures tried { IsTried H.copied (view pass.old) domain loose result (view pass.new) }
+    ensures domain { shelved_domain result ≡ domain }
     ensures count { count_of result ≡ length (loose_items loose) }
     ensures tickets { shelved_tickets result ≡ loose_tickets loose }
     ensures clock { IsShelvedOf (clock_id clock.now) result }

@@ -17,6 +17,7 @@ mod seating;
 mod shelving;
 mod summing;
 
+pub use deferring::try_to_seal;
 pub use fetch_end::FetchEnd;
 pub use seat::SeatCache;
 pub use seating::Seating;

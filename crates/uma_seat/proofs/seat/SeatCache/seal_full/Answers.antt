@@ -1,4 +1,4 @@
-use Rattle.std.proofs.Common.{sym, subst}
+use Rattle.std.proofs.Common.{◌<◌, sym, subst, ◌∙◌}
 use Rattle.smr_clock.specs.Belongs.{view}
 use Rattle.uma_bucket.specs.Home.{AreHome}
 use Rattle.uma_bucket.specs.Freed.{freed_item}
@@ -13,8 +13,10 @@ invariant_of-self-clause-freed_home g c = c.push_last-loose.ensures.row_home (ho
 pub invariant_of-self-clause-shelf_home : goal.invariant_of-self-clause-shelf_home
 invariant_of-self-clause-shelf_home g c =
     let home = home_of c.args.self.now.seating in
-    All-shelved (IsShelvedAt home) _ _ _ _ c.take_spare-spare.ensures.shelf c.put_newest.ensures.shelf c.args.self.now.shelf_home
-    (subst (AreHome home) (sym c.try_to_seal-newest.ensures.tickets) (c.push_last-loose.ensures.home home c.args.self.now.freed_home c.requires.home))
+    All-shelved (IsShelvedAt home) _ _ _ _ c.take_spare-spare.ensures.shelf c.put_newest.ensures.shelf c.args.self.now.shelf_home (
+      subst (λ domain. domain < home.domains) (sym (c.try_to_seal-newest.ensures.domain ∙ c.requires.own)) c.requires.home.2,
+      subst (AreHome home) (sym c.try_to_seal-newest.ensures.tickets) (c.push_last-loose.ensures.home home c.args.self.now.freed_home c.requires.home),
+    )
 
 pub invariant_of-self-clause-shelf_clock : goal.invariant_of-self-clause-shelf_clock
 invariant_of-self-clause-shelf_clock g c =

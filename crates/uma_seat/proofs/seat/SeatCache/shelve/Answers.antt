@@ -1,4 +1,4 @@
-use Rattle.std.proofs.Common.{◌≡◌}
+use Rattle.std.proofs.Common.{◌≡◌, ◌<◌, sym, subst}
 use Rattle.std.proofs.lemmas.List.Elements.{All-nil}
 use Rattle.uma_seat.specs.Seating.{home_of, clock_of}
 use Rattle.uma_seat.specs.Shelf.{IsShelvedAt, IsShelvedOf}
@@ -11,7 +11,8 @@ invariant_of-self-clause-plain_home g c = c.push_last-bucket.ensures.row_home (h
 pub invariant_of-self-clause-shelf_home : goal.invariant_of-self-clause-shelf_home
 invariant_of-self-clause-shelf_home g c =
     let home = home_of c.args.self.now.seating in
-    All-shelved (IsShelvedAt home) _ _ _ _ c.take_spare-spare.ensures.shelf c.put_newest.ensures.shelf c.args.self.now.shelf_home (c.push_last-bucket.ensures.home home c.args.self.now.plain_home c.requires.home)
+    All-shelved (IsShelvedAt home) _ _ _ _ c.take_spare-spare.ensures.shelf c.put_newest.ensures.shelf c.args.self.now.shelf_home
+    (subst (λ domain. domain < home.domains) (sym c.requires.own) c.requires.home.2, c.push_last-bucket.ensures.home home c.args.self.now.plain_home c.requires.home)
 
 pub invariant_of-self-clause-shelf_clock : goal.invariant_of-self-clause-shelf_clock
 invariant_of-self-clause-shelf_clock g c =
