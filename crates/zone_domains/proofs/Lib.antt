@@ -1,0 +1,4 @@
+pub mod Shelves
+pub mod Looks
+pub mod Puts
+pub mod Seats

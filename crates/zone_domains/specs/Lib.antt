@@ -1,0 +1,4 @@
+pub mod OneDomain
+pub mod Domains
+pub mod Flushed
+pub mod Looked
