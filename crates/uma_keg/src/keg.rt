@@ -176,6 +176,13 @@ impl<T: Body, K: Hooks<T>> Keg<T, K> {
         Snapshot::of(&self.outside.book)
     }
 
+    /// The book of the keg's numbers.
+    pub fn numbers(&self) -> &Book
+        ensures { result.now ≡ book_in self.now }
+    {
+        &self.outside.book
+    }
+
     /// The book of the keg's rights, for contracts alone.
     pub fn rights(&self) -> Snapshot<Book>
         ensures { result.value ≡ rights_in self.now }

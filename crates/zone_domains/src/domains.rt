@@ -49,6 +49,13 @@ impl<T: Body, H: Host> ZoneDomains<T, H> {
         &self.clock
     }
 
+    /// Whether the zone's readers hold no lock, so that its frees are deferred.
+    pub fn is_smr(&self) -> bool
+        ensures { result ≡ domains_smr self.now }
+    {
+        self.smr
+    }
+
     /// The domain with this number.
     pub fn get(&self, domain: u8) -> &Domain<T, H>
         requires { domain < domain_count self.now }
