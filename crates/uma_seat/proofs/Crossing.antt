@@ -1,5 +1,5 @@
 -- An item of another domain was taken.
-use Rattle.std.proofs.Common.{◌<◌, ℕ, length, map, Option, Some, None, IfSome, sym, subst}
+use Rattle.std.proofs.Common.{◌<◌, ℕ, Option, Some, None, IfSome, sym, subst}
 use Rattle.std.proofs.lemmas.List.{length-map}
 use Rattle.std.specs.Prelude.{◌≢◌}
 use Rattle.uma_life.specs.declared.cached.Cached.{Cached}

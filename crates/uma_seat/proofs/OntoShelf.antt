@@ -10,7 +10,7 @@ use Rattle.uma_bucket.specs.declared.loose.Loose.{Loose}
 use Rattle.uma_bucket.specs.declared.shelved.Shelved.{Shelved}
 use Rattle.uma_bucket.specs.declared.shelved.Shelved.TheVariants.{Plain}
 use Rattle.uma_seat.specs.declared.seat.SeatCache.{SeatCache}
-use Rattle.uma_seat.specs.Stack.{Stack, stack_of, loose_stack, stack_at, with_item, empty_stack}
+use Rattle.uma_seat.specs.Stack.{stack_of, loose_stack, stack_at, with_item, empty_stack}
 use Rattle.uma_seat.specs.Seat.{plain_of, freed_of, shelf_of, spares_of}
 use Rattle.uma_seat.specs.Freeing.{ShelvesPlain, IsTried, ShelvesFreed}
 

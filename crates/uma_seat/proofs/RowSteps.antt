@@ -1,10 +1,10 @@
 -- One bucket of a row changes.
-use Rattle.std.proofs.Common.{◌≡◌, ◌<◌, ◌+◌, ℕ, suc, List, [], ◌∷◌, ◌++◌, map, length, get_or, set, Option, Some, None, IfSome, IfNone, IsSome, refl, sym, ap, ◌∙◌, subst, arith, inl, inr}
+use Rattle.std.proofs.Common.{◌≡◌, ◌<◌, ◌+◌, ℕ, List, [], ◌∷◌, ◌++◌, map, length, get_or, set, Option, Some, None, IfSome, IfNone, IsSome, refl, sym, ap, ◌∙◌, subst, arith, inl, inr}
 use Rattle.std.specs.Prelude.{◌≢◌}
 use Rattle.std.proofs.lemmas.Bool.{cases_lt}
 use Rattle.std.specs.List.{All}
 use Rattle.std.proofs.lemmas.List.{get_or-map, map-set}
-use Rattle.std.proofs.lemmas.List.Elements.{All-set, All-pop, All-nil}
+use Rattle.std.proofs.lemmas.List.Elements.{All-pop, All-nil}
 use Rattle.uma_life.specs.declared.ticket.Ticket.{Ticket}
 use Rattle.uma_bucket.specs.Home.{Home, IsHome, AreHome}
 use Rattle.uma_seat.specs.Row.{TakesAt}

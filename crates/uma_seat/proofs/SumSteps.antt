@@ -3,7 +3,6 @@ use Rattle.std.proofs.Common.{◌≡◌, ◌<◌, ◌≤◌, ◌+◌, ◌*◌, �
 use Rattle.std.specs.List.{sum_by, filter_map, cons_option, All}
 use Rattle.std.proofs.lemmas.List.Sums.{sum_by-cons, sum_by_more}
 use Rattle.uma_life.specs.Hook.{Hook}
-use Rattle.uma_life.specs.Sum.{sum_of}
 use Rattle.uma_bucket.specs.declared.bucket.Bucket.{Bucket}
 use Rattle.uma_bucket.specs.declared.loose.Loose.{Loose}
 use Rattle.uma_bucket.specs.declared.sums.Sums.{Sums}

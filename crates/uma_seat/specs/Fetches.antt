@@ -1,5 +1,5 @@
 -- Own: how a fetch is listed in the fail book of its zone and in the share of its seat. Every fetch is, whatever its end.
-use Rattle.std.specs.Prelude.{◌≡◌, ◌<◌, ℕ, Bool, true, not, nat_lt, List}
+use Rattle.std.specs.Prelude.{◌≡◌, ℕ, Bool, true, not, nat_lt, List}
 use Rattle.std.specs.List.{count_by}
 use Rattle.deed_book.specs.declared.cause.Cause.{Cause}
 use Rattle.deed_book.specs.FailViews.{cause}

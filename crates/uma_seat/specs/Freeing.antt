@@ -1,5 +1,5 @@
 -- Own: what a free does to a seat.
-use Rattle.std.specs.Prelude.{◌≡◌, ℕ, List, [], ◌∷◌, ◌++◌, slice_set}
+use Rattle.std.specs.Prelude.{◌≡◌, ℕ, [], ◌∷◌, ◌++◌, slice_set}
 use Rattle.smr_clock.specs.declared.view.View.{View}
 use Rattle.smr_clock.specs.Advances.{Refuses as RefusesAdvance}
 use Rattle.smr_clock.specs.declared.refused.AdvanceRefused.{AdvanceRefused}
@@ -9,7 +9,7 @@ use Rattle.uma_life.specs.declared.live.Live.{Live}
 use Rattle.uma_bucket.specs.declared.loose.Loose.{Loose}
 use Rattle.uma_bucket.specs.declared.shelved.Shelved.{Shelved}
 use Rattle.uma_bucket.specs.declared.shelved.Shelved.TheVariants.{Plain, Loose as Loose', Sealed as Sealed'}
-use Rattle.uma_bucket.specs.Sealed.{sealed_bucket, Seals}
+use Rattle.uma_bucket.specs.Sealed.{Seals}
 use Rattle.uma_seat.specs.declared.seat.SeatCache.{SeatCache}
 use Rattle.uma_seat.specs.Stack.{Stack, stack_of, loose_stack, empty_stack}
 use Rattle.uma_seat.specs.Seat.{plain_of, freed_of, shelf_of, spares_of}

@@ -2,11 +2,9 @@
 use Rattle.std.specs.Prelude.{◌≡◌, ◌≢◌, ◌<◌, ℕ, ◌==◌, ◌&&◌, ◌+◌, Bool, not, cond, List, [], ◌∷◌, ◌++◌, length, slice_set, Option, MatchOption}
 use Rattle.std.specs.List.{All}
 use Rattle.smr_clock.specs.declared.setup.Setup.{Setup}
-use Rattle.smr_clock.specs.declared.host.Host.{Ghosts}
 use Rattle.smr_clock.specs.Belongs.{TableId}
 use Rattle.deed_book.specs.declared.cause.Cause.{Cause}
 use Rattle.deed_book.specs.declared.fail_share.FailShare.{FailShare}
-use Rattle.deed_book.specs.FailShare.{share_table, causes_in}
 use Rattle.zone_stats.specs.declared.ledger.SeatLedger.{SeatLedger}
 use Rattle.zone_stats.specs.LedgerSteps.{IsNew}
 use Rattle.uma_life.specs.declared.cached.Cached.{Cached}

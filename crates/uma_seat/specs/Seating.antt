@@ -1,5 +1,4 @@
 -- Own: what a seat is made for, as contracts speak of it.
-use Rattle.std.specs.Prelude.{ℕ}
 use Rattle.smr_clock.specs.declared.setup.Setup.{Setup}
 use Rattle.smr_clock.specs.Belongs.{TableId, clock_id}
 use Rattle.deed_book.specs.Book.{book_table}

@@ -1,8 +1,8 @@
-use Rattle.std.proofs.Common.{◌≡◌, ◌<◌, ◌+◌, ◌*◌, ℕ, length, get_or, ap, ◌∙◌, subst, arith}
+use Rattle.std.proofs.Common.{◌<◌, ◌+◌, ◌*◌, length, get_or, ap, ◌∙◌, arith}
 use Rattle.uma_bucket.specs.Loose.{loose_items, loose_tickets}
 use Rattle.uma_bucket.specs.Home.{AreHome}
-use Rattle.uma_bucket.specs.Sums.{times_freed, Adds}
-use Rattle.uma_seat.proofs.SumSteps.{widen, zero_sum, one_more_added, all_added, room_so_far, loose_few}
+use Rattle.uma_bucket.specs.Sums.{times_freed}
+use Rattle.uma_seat.proofs.SumSteps.{widen, one_more_added, room_so_far, loose_few}
 use Rattle.uma_seat.proofs.freed_row.FreedRow.add_to.Goals as goal
 
 pub add_to-requires : goal.add_to-requires

@@ -1,10 +1,10 @@
 use Rattle.std.proofs.Common.{◌∙◌, ap, map, sym, subst, refl}
 use Rattle.uma_bucket.specs.Freed.{freed_item, freed_ticket}
 use Rattle.std.proofs.lemmas.List.Elements.{All-set}
-use Rattle.uma_bucket.specs.Loose.{loose_tickets, loose_items, loose_size}
+use Rattle.uma_bucket.specs.Loose.{loose_tickets, loose_size}
 use Rattle.uma_bucket.specs.Home.{AreHome}
 use Rattle.uma_seat.specs.Stack.{loose_stack}
-use Rattle.uma_seat.proofs.RowSteps.{same_stack, set_row, pushed, All-there, none_home}
+use Rattle.uma_seat.proofs.RowSteps.{same_stack, set_row, All-there, none_home}
 use Rattle.uma_seat.proofs.freed_row.FreedRow.push_last.Goals as goal
 
 pub returns-clause-stacks : goal.returns-clause-stacks

@@ -1,10 +1,10 @@
 use Rattle.std.proofs.Common.{◌∙◌, ap, sym, subst, refl}
 use Rattle.uma_life.specs.Cached.{cached_ticket}
 use Rattle.std.proofs.lemmas.List.Elements.{All-set}
-use Rattle.uma_bucket.specs.Bucket.{tickets_of, items_of, size_of}
+use Rattle.uma_bucket.specs.Bucket.{tickets_of, size_of}
 use Rattle.uma_bucket.specs.Home.{AreHome}
 use Rattle.uma_seat.specs.Stack.{stack_of}
-use Rattle.uma_seat.proofs.RowSteps.{same_stack, set_row, pushed, All-there, none_home}
+use Rattle.uma_seat.proofs.RowSteps.{same_stack, set_row, All-there, none_home}
 use Rattle.uma_seat.proofs.plain_row.PlainRow.push_last.Goals as goal
 
 pub returns-clause-stacks : goal.returns-clause-stacks

@@ -1,4 +1,4 @@
-use Rattle.std.proofs.Common.{◌≡◌, ◌<◌, ◌≤◌, ◌+◌, ◌*◌, length, arith}
+use Rattle.std.proofs.Common.{◌<◌, ◌+◌, ◌*◌, length, arith}
 use Rattle.uma_seat.specs.Shelf.{count_of, IsShelvedAt}
 use Rattle.uma_seat.specs.ShelfSums.{times_shelved, deferred_shelved}
 use Rattle.uma_seat.proofs.SumSteps.{widen, one_more_added, room_so_far, shelved_few}

@@ -1,5 +1,4 @@
 use Rattle.std.proofs.Common.{◌≤◌, ◌+◌, ◌*◌, ◌^◌, length, arith}
-use Rattle.uma_bucket.specs.Sums.{AreOfAtMost}
 use Rattle.uma_seat.specs.Row.{row_len, freed_len}
 use Rattle.uma_seat.specs.Rack.{shelf_in}
 use Rattle.uma_seat.specs.Seating.{home_of}
