@@ -1,0 +1,5 @@
+mod body;
+mod clock;
+mod plain_zones;
+mod seated_zone;
+mod smr_zones;
