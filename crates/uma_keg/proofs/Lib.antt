@@ -20,7 +20,7 @@ mod UsedPlaces
 mod PairedSums
 mod TakenItem
 mod TakenItems
-mod BroughtSlabs
+pub mod BroughtSlabs
 mod FetchedItems
 mod FetchAnswers
 mod HomeSums

@@ -1,0 +1,6 @@
+mod Entries
+mod Kept
+mod Domains
+mod Given
+mod Brought
+mod Answered

@@ -1,0 +1,40 @@
+-- Own: what a keg keeps whenever its lock is free.
+use Rattle.std.specs.Prelude.{◌≡◌, ◌<◌, ◌/◌, ℕ, Some, map, min}
+use Rattle.deed_book.specs.Book.{book_table}
+use Rattle.uma_places.specs.Places.{KegPlaces, domain_at}
+use Rattle.uma_keg.specs.Keg.{places_in, table_in, rights_in, size_in, reserve_in, fetches_in, IsWithinLimits}
+use Rattle.locked_keg.specs.declared.key.KegKey.{KegKey}
+use Rattle.locked_keg.specs.declared.locked_keg.LockedKeg.{LockedKeg}
+use Rattle.locked_keg.specs.Ends.{fetch_cause}
+use Rattle.locked_keg.specs.FailBooks.{table_at, causes_at}
+use Rattle.locked_keg.specs.Key.{key_numbers, key_rights, key_fails}
+use Rattle.locked_keg.specs.LockedKeg.{keg_in, fails_in}
+
+-- the slabs that are in are of the domains below this count
+pub record HasDomainsBelow (domains : ℕ) (places : KegPlaces) : Type 0 where
+  pub each : (index domain : ℕ) → domain_at places index ≡ Some domain → domain < domains
+
+module _ {T K : Type 0} {g : _} {h : _} where
+  -- it is the keg that the key names, with its fail books
+  pub record IsOfKey (key : KegKey) (locked : LockedKeg T K g h) : Type 0 where
+    pub numbers : table_in (keg_in locked) ≡ key_numbers key
+    pub rights : book_table (rights_in (keg_in locked)) ≡ key_rights key
+    pub fails : (zone : ℕ) → table_at (fails_in locked) zone ≡ key_fails key zone
+    pub size : size_in (keg_in locked) ≡ key.size
+    pub per_slab : (places_in (keg_in locked)).per_slab ≡ min 256 (4096 / key.size)
+    pub cap : (places_in (keg_in locked)).cap ≡ key.cap
+    pub reserve : reserve_in (keg_in locked) ≡ key.reserve
+
+  -- The book of each zone lists the fetches of the zone, each by its end, as the keg itself remembers them.
+  pub record ListsFetches (locked : LockedKeg T K g h) : Type 0 where
+    pub each : (zone : ℕ) → causes_at (fails_in locked) zone ≡ map fetch_cause (fetches_in (keg_in locked) zone)
+
+  -- 1. It is the keg that the key names.
+  -- 2. The fail books list exactly the keg's own fetches.
+  -- 3. No zone exceeds its limit.
+  -- 4. Its slabs are of the domains that the key counts.
+  pub record Keeps (key : KegKey) (locked : LockedKeg T K g h) : Type 0 where
+    pub of_key : IsOfKey key locked
+    pub counted : ListsFetches locked
+    pub within : IsWithinLimits (keg_in locked)
+    pub domains : HasDomainsBelow key.domains (places_in (keg_in locked))

@@ -1,0 +1,29 @@
+//! A keg behind its lock, with the fail books of its zones.
+//!
+//! A primary zone and its secondary zones share one keg under one lock. Nothing is known of the keg outside of the lock, but
+//! what its key names, and its rule says, whenever the lock is got, that the book of each zone lists exactly the fetches
+//! that the keg itself remembers. A seat holds a share of its zone's book, so it knows of each refusal that it tells that a
+//! fetch was refused so.
+//!
+//! Every change is a method of [`LockedKeg`] with its whole contract; whoever has the lock calls it and lets the lock go.
+#![tactic(auto)]
+
+mod bringing;
+mod ends;
+mod fail_books;
+mod fetching;
+mod giving;
+mod key;
+mod locked_keg;
+mod making;
+mod rule;
+mod standing;
+mod zones;
+
+pub use key::KegKey;
+pub use locked_keg::LockedKeg;
+pub use making::KegLock;
+pub use rule::KegRule;
+
+#[cfg(test)]
+mod tests;

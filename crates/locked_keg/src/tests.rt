@@ -1,0 +1,5 @@
+mod calls;
+mod fetching;
+mod giving;
+mod marks;
+mod standing;
