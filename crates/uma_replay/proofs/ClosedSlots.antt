@@ -7,7 +7,7 @@ use Rattle.std.proofs.lemmas.List.Elements.{All-map, All-weaker}
 use Rattle.deed_book.specs.Deed.{TableId}
 use Rattle.uma_life.specs.Hook.{Hook}
 use Rattle.uma_keg.specs.Lent.{Seen, seen_of, all_seen}
-use Rattle.uma_replay.specs.declared.counted.Counted.{Counted}
+use Rattle.uma_replay.specs.Items.{Counted}
 use Rattle.uma_replay.specs.declared.held.Held.{Held}
 use Rattle.uma_replay.specs.Items.{LiveItem}
 use Rattle.uma_replay.specs.Slots.{IsHeld, SlotsFit, lives_of, slot_times, seen_slot}

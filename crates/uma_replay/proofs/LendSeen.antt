@@ -9,8 +9,8 @@ use Rattle.uma_life.specs.Hook.{Hook}
 use Rattle.uma_life.specs.Live.{live_zone}
 use Rattle.uma_life.specs.Sum.{times_of}
 use Rattle.uma_keg.specs.Lent.{Seen, seen_of, all_seen, lent_of}
-use Rattle.uma_replay.specs.contracts.counted.CountedBody.TheImpl.{ghosts as counted_body}
-use Rattle.uma_replay.specs.declared.counted.Counted.{Counted}
+use Rattle.uma_item.specs.Item.{item_life}
+use Rattle.uma_replay.specs.Items.{Counted}
 use Rattle.uma_replay.specs.declared.held.Held.{Held}
 use Rattle.uma_replay.specs.Items.{LiveItem}
 use Rattle.uma_replay.specs.Lending.{is_of, without, live_sum, refilled}
@@ -18,7 +18,7 @@ use Rattle.uma_replay.specs.Slots.{item_of, lives_of, live_times, seen_slot}
 
 -- how often an item passed a hook, by what is seen of it
 seen_times : Hook → Seen Counted → ℕ
-seen_times hook seen = times_of (counted_body.life seen.body).tally hook
+seen_times hook seen = times_of (item_life seen.body).tally hook
 
 sum_by_seen : (hook : Hook) (lives : List LiveItem) → live_sum hook lives ≡ sum_by (seen_times hook) (all_seen lives)
 unfolding seen_times

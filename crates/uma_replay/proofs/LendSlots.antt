@@ -12,13 +12,13 @@ pub record FilledBelow (z i : ℕ) (old now : List (Option Held)) (marks : List 
   pub filled : take i now ++ refilled z (drop i marks) rest (drop i now) ≡ refilled z marks lives old
 
 -- what is at a place stands first in the rest of the list
-drop_at : {X : Type 0} (xs : List X) (i : ℕ) (d : X) → i < length xs → drop i xs ≡ get_or xs i d ∷ drop (i + 1) xs
+pub drop_at : {X : Type 0} (xs : List X) (i : ℕ) (d : X) → i < length xs → drop i xs ≡ get_or xs i d ∷ drop (i + 1) xs
 drop_at xs i d within =
     let next : suc i ≡ i + 1 = omega arith in
     drop-cons xs i d within ∙ ap (λ n. get_or xs i d ∷ drop n xs) next
 
 -- a list in two parts, whose border goes past one element
-moved : {X : Type 0} (done rest all : List X) (x : X) → done ++ x ∷ rest ≡ all → (done ++ x ∷ []) ++ rest ≡ all
+pub moved : {X : Type 0} (done rest all : List X) (x : X) → done ++ x ∷ rest ≡ all → (done ++ x ∷ []) ++ rest ≡ all
 moved done rest all x is = append_assoc done (x ∷ []) rest ∙ is
 
 marked_at : (marks : List Bool) (i : ℕ) (mark : Bool) → i < length marks → get_or marks i false ≡ mark → drop i marks ≡ mark ∷ drop (i + 1) marks

@@ -4,6 +4,7 @@ pub mod CountZones
 pub mod Done
 pub mod KeptLast
 pub mod LendCensus
+pub mod LendLoop
 pub mod LendSeen
 pub mod LendSlots
 pub mod Plain

@@ -9,7 +9,7 @@ use Rattle.uma_life.specs.Live.{live_zone}
 use Rattle.uma_life.specs.Trail.{ShowsSame, open_builds}
 use Rattle.uma_life.specs.declared.body_phase.BodyPhase.TheVariants.{Built}
 use Rattle.uma_keg.specs.Lent.{Seen}
-use Rattle.uma_replay.specs.declared.counted.Counted.{Counted}
+use Rattle.uma_replay.specs.Items.{Counted}
 use Rattle.uma_replay.specs.declared.held.Held.{Held}
 use Rattle.uma_replay.specs.Items.{LiveItem}
 use Rattle.uma_replay.specs.Slots.{lives_of, live_times, slot_times, seen_slot}

@@ -13,9 +13,8 @@ use Rattle.zone_stats.specs.declared.refusal.Refusal.TheVariants.{AtLimit, Reser
 use Rattle.uma_keg.specs.declared.fetch_refused.FetchRefused.TheVariants.{Refused}
 use Rattle.uma_keg.specs.Keg.{rights_in, fetches_in, refusals_in, buried_in, refusal_of as refusal_in}
 use Rattle.uma_keg.specs.Fetched.{FetchesInto, GivesItems, IsOutIn, NamesWhatItFound}
-use Rattle.uma_replay.specs.declared.count_hooks.CountHooks.{CountHooks}
 use Rattle.uma_replay.specs.Hooks.{refusal_of}
-use Rattle.uma_replay.specs.Items.{CachedItem, CountedKeg}
+use Rattle.uma_replay.specs.Items.{CachedItem, CountedHooks, CountedKeg}
 use Rattle.uma_replay.specs.Request.{ask_of, FetchesOne, KeepsKeg, KeepsLists}
 use Rattle.uma_replay.specs.ZoneKeg.{HasOnlyPrimary, FitsKeg}
 
@@ -39,7 +38,7 @@ none_left items [] x few are = refl
 none_left items (y ∷ rest) x few are = absurd (omega (arith, ap length are, length_push rest x))
 
 -- a fetch of one item into an empty bucket gave it, where it is all that the bucket has
-FetchesOne-fetched : (old new : CountedKeg) (hooks : CountHooks) (reserve : Bool) (count : ℕ) (before after : List CachedItem) (item : CachedItem) → before ≡ [] → FetchesInto old hooks (ask_of reserve) count before after new → GivesItems old (ask_of reserve) count after → after ≡ item ∷ [] → KeepsKeg old new → KeepsLists old new → FetchesOne old reserve item new
+FetchesOne-fetched : (old new : CountedKeg) (hooks : CountedHooks) (reserve : Bool) (count : ℕ) (before after : List CachedItem) (item : CachedItem) → before ≡ [] → FetchesInto old hooks (ask_of reserve) count before after new → GivesItems old (ask_of reserve) count after → after ≡ item ∷ [] → KeepsKeg old new → KeepsLists old new → FetchesOne old reserve item new
 FetchesOne-fetched old new hooks reserve count before after item empty fetched given only keeps lists =
     let one : count ≡ 1 = omega (arith, given.some, given.few) in
     let out : IsOutIn old 0 item = All-head (IsOutIn old 0) item [] (subst (All (IsOutIn old 0)) only given.out) in
@@ -54,7 +53,7 @@ FetchesOne-fetched old new hooks reserve count before after item empty fetched g
     }
 
 -- A fetch of one item into an empty bucket gave the item that was then popped, and no other.
-pub popped_one : {old new : CountedKeg} {hooks : CountHooks} {reserve : Bool} {count : ℕ} {before after rest : List CachedItem} {popped : Option CachedItem} {item : CachedItem} → before ≡ [] → FetchesInto old hooks (ask_of reserve) count before after new → GivesItems old (ask_of reserve) count (drop (length before) after) → popped ≡ Some item → IfSome popped (λ top. after ≡ rest ++ top ∷ []) → KeepsKeg old new → KeepsLists old new → FetchesOne old reserve item new × (rest ≡ [])
+pub popped_one : {old new : CountedKeg} {hooks : CountedHooks} {reserve : Bool} {count : ℕ} {before after rest : List CachedItem} {popped : Option CachedItem} {item : CachedItem} → before ≡ [] → FetchesInto old hooks (ask_of reserve) count before after new → GivesItems old (ask_of reserve) count (drop (length before) after) → popped ≡ Some item → IfSome popped (λ top. after ≡ rest ++ top ∷ []) → KeepsKeg old new → KeepsLists old new → FetchesOne old reserve item new × (rest ≡ [])
 popped_one {old} {new} {hooks} {reserve} {count} {before} {after} {rest} {popped} {item} empty fetched gives is last keeps lists =
     let given = given_into old reserve count before after empty gives in
     let top : after ≡ rest ++ item ∷ [] = subst (λ o. IfSome o (λ top. after ≡ rest ++ top ∷ [])) is last in
@@ -62,7 +61,7 @@ popped_one {old} {new} {hooks} {reserve} {count} {before} {after} {rest} {popped
     (FetchesOne-fetched old new hooks reserve count before after item empty fetched given (top ∙ ap (λ front. front ++ item ∷ []) none) keeps lists, none)
 
 -- the refusal of a fetch with the hooks of a replay names what the keg has
-pub FitsKeg-named : (old : CountedKeg) (hooks : CountHooks) (reserve : Bool) (refusal : Refusal) → NamesWhatItFound old hooks (ask_of reserve) (Refused refusal) → FitsKeg old refusal
+pub FitsKeg-named : (old : CountedKeg) (hooks : CountedHooks) (reserve : Bool) (refusal : Refusal) → NamesWhatItFound old hooks (ask_of reserve) (Refused refusal) → FitsKeg old refusal
 FitsKeg-named old hooks reserve (AtLimit out limit) names = (names.1, names.2, names.3)
 FitsKeg-named old hooks reserve (Reserved free kept) names = (names.0, names.1, names.2)
 FitsKeg-named old hooks reserve (Full slabs made) names = names.0

@@ -14,16 +14,14 @@ use Rattle.uma_keg.specs.Keg.{places_in, zones_in, table_in, stored_in, rights_i
 use Rattle.uma_keg.specs.Fetched.{FetchesInto, RefusesFetch}
 use Rattle.uma_life.specs.Life.{Life}
 use Rattle.uma_life.specs.Hook.{Ctor, Dtor, after}
-use Rattle.uma_replay.specs.declared.counted.Counted.{Counted}
-use Rattle.uma_replay.specs.contracts.counted.CountedBody.TheImpl.{ghosts as counted_body}
-use Rattle.uma_replay.specs.declared.count_hooks.CountHooks.{CountHooks}
-use Rattle.uma_replay.specs.Items.{CachedItem, LiveItem, CountedKeg}
+use Rattle.uma_item.specs.Item.{item_life}
+use Rattle.uma_replay.specs.Items.{Counted, CountedHooks, CachedItem, LiveItem, CountedKeg}
 use Rattle.uma_replay.specs.ZoneKeg.{FitsKeg}
 use Rattle.uma_replay.specs.declared.serial_zone.SerialZone.{SerialZone}
 
--- a body's number, its phase, and how often it passed each hook
+-- an item's number, its phase, and how often it passed each hook
 abbrev pub life_of : Counted → Life
-life_of body = counted_body.life body
+life_of item = item_life item
 
 -- what a request asks of the keg: one item of its primary zone, with the right to the reserve or without it
 abbrev pub ask_of : Bool → FetchAsk
@@ -42,7 +40,7 @@ pub record KeepsLists (old new : CountedKeg) : Type 0 where
 
 -- one fetch gave one item, of the keg's book and its primary zone
 pub record FetchesOne (old : CountedKeg) (reserve : Bool) (item : CachedItem) (new : CountedKeg) : Type 0 where
-  pub hooks : CountHooks
+  pub hooks : CountedHooks
   pub fetches : FetchesInto old hooks (ask_of reserve) 1 [] (item ∷ []) new
   pub of_book : cached_table item ≡ table_in old
   pub of_zone : cached_zone item ≡ 0
@@ -73,7 +71,7 @@ pub record Serves (old : SerialZone) (arg : ℕ) (reserve : Bool) (item : LiveIt
 -- The one fetch was refused, by what it found in the keg, which the refusal names. It is at the end of the keg's list.
 pub record TurnsAway (old : SerialZone) (reserve : Bool) (new : SerialZone) : Type 0 where
   pub refusal : Refusal
-  pub hooks : CountHooks
+  pub hooks : CountedHooks
   pub refused : RefusesFetch old.keg hooks (ask_of reserve) new.keg (Refused refusal)
   pub fits : FitsKeg old.keg refusal
   pub listed : refusals_in new.keg 0 ≡ refusals_in old.keg 0 ++ refusal ∷ []

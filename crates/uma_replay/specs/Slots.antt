@@ -7,10 +7,9 @@ use Rattle.uma_life.specs.Live.{live_body, live_zone, live_table}
 use Rattle.uma_life.specs.Hook.{Hook}
 use Rattle.uma_life.specs.Sum.{times_of}
 use Rattle.uma_keg.specs.Lent.{Seen, seen_of}
-use Rattle.uma_replay.specs.declared.counted.Counted.{Counted}
+use Rattle.uma_item.specs.Item.{item_life}
 use Rattle.uma_replay.specs.declared.held.Held.{Held}
-use Rattle.uma_replay.specs.Items.{LiveItem}
-use Rattle.uma_replay.specs.contracts.counted.CountedBody.TheImpl.{ghosts as counted_body}
+use Rattle.uma_replay.specs.Items.{Counted, LiveItem}
 
 -- what a slot holds
 abbrev pub slot_at : List (Option Held) → ℕ → Option Held
@@ -27,7 +26,7 @@ lives_of z held = filter_map (item_of z) held
 
 -- how often an item passed a hook
 abbrev pub live_times : Hook → LiveItem → ℕ
-live_times hook item = times_of (counted_body.life (live_body item)).tally hook
+live_times hook item = times_of (item_life (live_body item)).tally hook
 
 -- how often the items of the zone at this place that the slots hold passed a hook
 abbrev pub slot_times : ℕ → List (Option Held) → Hook → ℕ

@@ -1,12 +1,11 @@
-use crate::count_hooks::CountHooks;
-use crate::counted::Counted;
-use uma_keg::{Census, Keg};
+use crate::counted::CountedKeg;
+use uma_keg::Census;
 use zone_stats::{HookLine, KegLine, SeatLedger, ZoneLine};
 
 /// A zone after the last line: its keg and the keg's census, the seat's ledger, and what the report says of it.
 #[derive(Drop)]
 pub(crate) struct ClosedZone {
-    pub keg: Keg<Counted, CountHooks>,
+    pub keg: CountedKeg,
     pub census: Census,
     pub ledger: SeatLedger,
     pub line: ZoneLine,

@@ -1,27 +1,9 @@
-ghost use Rattle.std.specs.Prelude.{◌≡◌};
+use crate::count_hooks::CountHooks;
+use uma_item::{Item, TrailHooks};
+use uma_keg::Keg;
 
-use uma_life::{Body, BodyPhase, Tally};
+/// An item of a replay. It has no data beside its trail, which says how often it passed each hook.
+pub type Counted = Item<()>;
 
-/// The body of a replay's items: its number, where it stands in its life, and how often it passed each hook.
-#[derive(Debug, Drop)]
-pub struct Counted {
-    pub(crate) no: u32,
-    pub(crate) phase: BodyPhase,
-    pub(crate) tally: Tally,
-}
-
-impl Body for Counted {
-    ghost life = { λ body. record { no = body.no; phase = body.phase; tally = body.tally } };
-
-    fn no(&self) -> u32 {
-        self.no
-    }
-
-    fn phase(&self) -> BodyPhase {
-        self.phase
-    }
-
-    fn tally(&self) -> Tally {
-        self.tally
-    }
-}
+/// A keg of such items, which have no counts of stays: none of them enters a secondary zone.
+pub type CountedKeg = Keg<Counted, TrailHooks<CountHooks>>;

@@ -1,12 +1,11 @@
-use crate::count_hooks::CountHooks;
-use crate::counted::Counted;
+use crate::counted::CountedKeg;
 use crate::held::Held;
 use listed::Listed;
-use uma_keg::{Census, Keg};
+use uma_keg::Census;
 use zone_stats::Report;
 
 /// The kegs of the zones, in order of naming. Contracts see the list of them.
-pub type KegList = Listed<Keg<Counted, CountHooks>>;
+pub type KegList = Listed<CountedKeg>;
 
 /// What each slot of the worker holds, from slot 0 on. Contracts see the list of it.
 pub type SlotList = Listed<Option<Held>>;

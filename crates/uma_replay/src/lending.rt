@@ -1,5 +1,5 @@
 //! The slots lend a zone's live items to the census of its keg.
-ghost use Rattle.std.specs.Prelude.{◌≡◌, ◌≤◌, ◌+◌, ◌^◌, All, IfOk, OnOk, length, map};
+ghost use Rattle.std.specs.Prelude.{◌≡◌, ◌≤◌, ◌+◌, ◌^◌, [], ◌∷◌, ◌++◌, All, IfOk, OnOk, length, map};
 ghost use Rattle.trace_text.specs.Limits.{slots as most_slots};
 ghost use Rattle.uma_keg.specs.Census.{census_out, census_tally};
 ghost use Rattle.uma_keg.specs.Keg.{table_in};
@@ -11,11 +11,10 @@ ghost use Rattle.uma_replay.specs.Lending.{is_of, without, live_sum, refilled};
 ghost use Rattle.uma_replay.specs.Slots.{lives_of, seen_slot};
 
 use crate::Memory;
-use crate::count_hooks::CountHooks;
-use crate::counted::Counted;
+use crate::counted::{Counted, CountedKeg};
 use crate::held::Held;
 use std::alloc::Global;
-use uma_keg::{Census, Keg};
+use uma_keg::Census;
 use uma_life::{Body, Live, Lives, TallySum};
 
 /// The census of a zone's keg, to which the slots lend the zone's items, and how often each hook was passed by the items
@@ -23,7 +22,7 @@ use uma_life::{Body, Live, Lives, TallySum};
 pub(crate) fn take_census(
     alloc: Global,
     zone: u32,
-    keg: &mut Keg<Counted, CountHooks>,
+    keg: &mut CountedKeg,
     slots: &mut Vec<Option<Held>>,
 ) -> Result<(Census, TallySum), Memory>
     requires of_keg { All (λ item. live_table item ≡ table_in keg.old) (lives_of zone slots.old.items) }
@@ -58,14 +57,26 @@ fn lend(
     let mut marks = Vec::with_capacity(alloc, count)?;
     let mut lives = Vec::new(alloc);
     for slot in 0..count {
-        let is_of = slots[slot].as_ref().is_some_and(|held| held.zone == zone);
-        marks.push(is_of)?;
-        if is_of {
-            let held = slots[slot].take().unwrap();
-            lives.push(held.item)?;
-        }
+        marks.push(lend_one(zone, &mut slots[slot], &mut lives)?)?;
     }
     Ok((marks, Lives::from_vec(lives)))
+}
+
+/// Takes the slot's item behind the others, if it is one of the zone, and says whether it is.
+fn lend_one(
+    zone: u32,
+    slot: &mut Option<Held>,
+    lives: &mut Vec<Live<Counted>>,
+) -> Result<bool, Memory>
+    ensures mark { IfOk result (λ mark. mark ≡ is_of zone slot.old) }
+    ensures lives { OnOk result (lives.new.items ≡ lives.old.items ++ lives_of zone (slot.old ∷ [])) }
+    ensures left { OnOk result (slot.new ≡ without zone slot.old) }
+{
+    if !slot.as_ref().is_some_and(|held| held.zone == zone) {
+        return Ok(false);
+    }
+    lives.push(slot.take().unwrap().item)?;
+    Ok(true)
 }
 
 /// Puts the items back into the marked slots, in order.

@@ -14,7 +14,7 @@ mod serial;
 mod serial_zone;
 
 pub use count_hooks::CountHooks;
-pub use counted::Counted;
+pub use counted::{Counted, CountedKeg};
 pub use gate::{FreeGate, Gate, Go};
 pub use hall::{CensusList, Hall, KegList, Played, SlotList};
 pub use held::Held;

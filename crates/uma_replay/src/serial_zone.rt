@@ -8,12 +8,13 @@ ghost use Rattle.uma_replay.specs.ZoneKeg.{HasOnlyPrimary};
 ghost use Rattle.zone_stats.specs.LedgerSteps.{HasRoom};
 
 use crate::Memory;
-use crate::count_hooks::CountHooks;
-use crate::counted::Counted;
+use crate::count_hooks::{CountHooks, primary_hooks};
+use crate::counted::{Counted, CountedKeg};
 use std::alloc::Global;
 use std::sync::Wait;
 use trace_text::ZoneHead;
 use uma_bucket::{Bucket, BucketRefused};
+use uma_item::TrailHooks;
 use uma_keg::{FetchAsk, FetchRefused, Keg, KegRefused};
 use uma_life::Live;
 use zone_stats::SeatLedger;
@@ -35,7 +36,8 @@ const ONLY_DOMAIN: u8 = 0;
 ///    `ctor` refused an item after it.
 #[derive(Drop)]
 pub(crate) struct SerialZone {
-    pub keg: Keg<Counted, CountHooks>,
+    pub keg: CountedKeg,
+    hooks: TrailHooks<CountHooks>,
     bucket: Bucket<Counted>,
     pub ledger: SeatLedger,
     pub ghost only_primary: { HasOnlyPrimary keg },
@@ -54,7 +56,7 @@ impl SerialZone {
         requires { PrimaryFits head.now }
         ensures { IfOk result (IsNewZone head.now) }
     {
-        let made = Keg::new(alloc, head.size, head.slabs, head.reserve, CountHooks);
+        let made = Keg::new(alloc, head.size, head.slabs, head.reserve, primary_hooks());
         let (mut keg, mut rights) = match made {
             Ok(made) => made,
             Err(KegRefused::Memory) => return Err(Memory),
@@ -65,6 +67,7 @@ impl SerialZone {
         keg.add_zone(right, head.limit);
         Ok(SerialZone {
             keg,
+            hooks: primary_hooks(),
             bucket: empty_bucket(alloc)?,
             ledger: SeatLedger::new(),
         })
@@ -92,7 +95,7 @@ impl SerialZone {
         };
         match self
             .keg
-            .fetch(rt, alloc, &CountHooks, ask, &mut self.bucket)
+            .fetch(rt, alloc, &self.hooks, ask, &mut self.bucket)
         {
             Ok(_) => {}
             Err(FetchRefused::Refused { refusal }) => {
@@ -101,13 +104,13 @@ impl SerialZone {
             }
             Err(FetchRefused::Memory) => return Err(Memory),
         }
-        match self.bucket.pop().unwrap().build(&CountHooks, arg) {
+        match self.bucket.pop().unwrap().build(&self.hooks, arg) {
             Ok(item) => {
                 self.ledger.count_alloc();
                 Ok(Some(item))
             }
             Err((item, code)) => {
-                self.keg.give(&CountHooks, item);
+                self.keg.give(&self.hooks, item);
                 self.ledger.count_ctor(code);
                 Ok(None)
             }
@@ -121,8 +124,8 @@ impl SerialZone {
         requires room { HasRoom self.old.ledger }
         ensures { FreesItem self.old item self.new }
     {
-        let item = item.finish(&CountHooks);
-        self.keg.give(&CountHooks, item);
+        let item = item.finish(&self.hooks);
+        self.keg.give(&self.hooks, item);
         self.ledger.count_free(false);
     }
 }

@@ -4,7 +4,7 @@ use Rattle.uma_replay.specs.Serial.{SerialState, CanPerform, Performs, HasRooms}
 use Rattle.uma_replay.proofs.SerialSlots.{zone_below, held_table}
 use Rattle.uma_replay.proofs.SerialSteps.{can_alloc, can_free, room_at, fits_request, fits_zone, fits_free, does_alloc, does_free, entry_at, held_at, taken_fits}
 use Rattle.uma_replay.proofs.serial.Serial.perform.Goals as goal
-use Rattle.uma_replay.proofs.serial.Serial.perform.Goals.{in-Some-1, in-None-1}
+use Rattle.uma_replay.proofs.serial.Serial.perform.Goals.{in-Some-1, in-None-2}
 
 pub invariant_of-self : goal.invariant_of-self
 invariant_of-self g c =
@@ -77,7 +77,7 @@ returns-in_ok-got-in-Alloc g c =
     let now = subst (λ old. Does old new) c.self.view_is does in
     elim c.match-index_mut-held_of.branch [
       | in-Some-1 w ↦ subst (Does c.args.self.now) (sym w.self-is) now
-      | in-None-1 w ↦ subst (Does c.args.self.now) (sym w.self-is) now
+      | in-None-2 w ↦ subst (Does c.args.self.now) (sym w.self-is) now
     ]
 
 pub returns-in-Some : goal.returns-in-Some

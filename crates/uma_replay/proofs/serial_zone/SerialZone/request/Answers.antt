@@ -20,13 +20,13 @@ pub returns-in-Err-Refused-clause-requests : goal.returns-in-Err-Refused-clause-
 returns-in-Err-Refused-clause-requests g c =
     let fetch = c.fetch.ensures in
     let ended = c.in-Err-Refused.ensures in
-    let Refuses : FetchRefused → Type 0 = RefusesFetch c.args.self.now.keg _ (ask_of c.args.reserve) c.fetch.new.self in
-    let Names : FetchRefused → Type 0 = NamesWhatItFound c.args.self.now.keg _ (ask_of c.args.reserve) in
+    let Refuses : FetchRefused → Type 0 = RefusesFetch c.args.self.now.keg c.args.self.now.hooks (ask_of c.args.reserve) c.fetch.new.self in
+    let Names : FetchRefused → Type 0 = NamesWhatItFound c.args.self.now.keg c.args.self.now.hooks (ask_of c.args.reserve) in
     inl (record {
       refusal = c.in-Err-Refused.refusal;
-      hooks = _;
+      hooks = c.args.self.now.hooks;
       refused = subst Refuses c.in-Err-Refused.field-0-is ended.refused;
-      fits = FitsKeg-named c.args.self.now.keg _ c.args.reserve _ (subst Names c.in-Err-Refused.field-0-is ended.names);
+      fits = FitsKeg-named c.args.self.now.keg c.args.self.now.hooks c.args.reserve _ (subst Names c.in-Err-Refused.field-0-is ended.names);
       listed = ended.refusals ∙ ap (refusals_after (refusals_in c.args.self.now.keg 0)) (ap Err c.in-Err-Refused.field-0-is);
       counted = c.count_refused.ensures;
       keeps = record { same = fetch.same; limits = fetch.limits; rights = fetch.rights };
@@ -110,6 +110,6 @@ pub invariant_of-self-clause-kept : goal.invariant_of-self-clause-kept
 invariant_of-self-clause-kept g c =
     let keg = c.args.self.now.keg in
     let ended = c.in-Err-Refused.ensures in
-    let Names : FetchRefused → Type 0 = NamesWhatItFound keg _ (ask_of c.args.reserve) in
-    KeepsLast-turned keg _ _ _ _ c.in-Err-Refused.refusal (FitsKeg-named keg _ c.args.reserve _ (subst Names c.in-Err-Refused.field-0-is ended.names)) c.args.self.now.kept
+    let Names : FetchRefused → Type 0 = NamesWhatItFound keg c.args.self.now.hooks (ask_of c.args.reserve) in
+    KeepsLast-turned keg _ _ _ _ c.in-Err-Refused.refusal (FitsKeg-named keg c.args.self.now.hooks c.args.reserve _ (subst Names c.in-Err-Refused.field-0-is ended.names)) c.args.self.now.kept
     (ended.refusals ∙ ap (refusals_after (refusals_in keg 0)) (ap Err c.in-Err-Refused.field-0-is)) c.count_refused.ensures.last
