@@ -4,3 +4,4 @@ pub mod Trimmed
 pub mod Tried
 pub mod Kept
 pub mod Summed
+pub mod Shared
