@@ -1,4 +1,5 @@
 mod body;
 mod buckets;
+mod sharing;
 mod trims;
 mod working_set;

@@ -52,7 +52,12 @@ fn cached<R: Wait>(rt: &R, alloc: Global, book: &mut Book, no: u32) -> Result<Ca
 }
 
 /// A bucket of one cached item.
-fn plain<R: Wait>(rt: &R, alloc: Global, book: &mut Book, no: u32) -> Result<Bucket<Plain>, Fail>
+pub(super) fn plain<R: Wait>(
+    rt: &R,
+    alloc: Global,
+    book: &mut Book,
+    no: u32,
+) -> Result<Bucket<Plain>, Fail>
     ensures table { book_table book.new ≡ book_table book.old }
     ensures at_home { IfOk result (IsPlainOf (home_of (book_table book.old) 0 1)) }
 {
