@@ -1,5 +1,5 @@
 -- What stays of the domain's own, and how many items go, where buckets are taken or sealed.
-use Rattle.std.proofs.Common.{◌≡◌, ◌<◌, ◌≤◌, ◌+◌, ◌-◌, ℕ, List, [], ◌∷◌, ◌++◌, length, map, sum_by, All, inl, inr, refl, sym, ap, ◌∙◌, subst, append_assoc, arith}
+use Rattle.std.proofs.Common.{◌≡◌, ◌≤◌, ◌+◌, ◌-◌, ℕ, List, [], ◌∷◌, ◌++◌, length, map, sum_by, All, inl, inr, refl, sym, ap, ◌∙◌, subst, arith}
 use Rattle.std.proofs.lemmas.List.{append-nil}
 use Rattle.std.proofs.lemmas.List.Elements.{All-nil, All-cons, All-head, All-tail, All-append, All-same, All-map}
 use Rattle.std.proofs.lemmas.List.Sums.{sum_by-cons, sum_by-append}
@@ -18,7 +18,7 @@ use Rattle.uma_domain.specs.Listed.{IsPlainOf, IsLooseOf, IsSealedOf, IsRipeOf, 
 use Rattle.uma_domain.specs.Scans.{Stays, Ripens, AllStay, TakesRipe, TakesAllRipe, TrimsSealed}
 use Rattle.uma_domain.specs.Taken.{IsTakenOf}
 use Rattle.uma_domain.specs.Tries.{Tries}
-use Rattle.uma_domain.specs.Trim.{Trims, TrimsPlain, TrimsPlainInto, TrimsSealedInto, TakesAll, in_order}
+use Rattle.uma_domain.specs.Trim.{Trims, TakesAll, in_order}
 
 all_parts : {X : Type 0} (Q : X → Type 0) (xs ys : List X) → All Q (xs ++ ys) → All Q xs × All Q ys
 all_parts Q [] ys all = (All-nil Q, all)

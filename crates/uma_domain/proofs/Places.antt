@@ -1,7 +1,7 @@
 -- Lists that are taken apart at a place.
-use Rattle.std.proofs.Common.{◌≡◌, ◌<◌, ◌≤◌, ◌+◌, ℕ, suc, List, [], ◌∷◌, ◌++◌, length, take, drop, set, get_or, refl, sym, ap, ◌∙◌, add-one, append_assoc, arith}
+use Rattle.std.proofs.Common.{◌≡◌, ◌<◌, ◌≤◌, ◌+◌, ℕ, suc, List, ◌∷◌, ◌++◌, length, take, drop, set, get_or, sym, ap, ◌∙◌, add-one, arith}
 use Rattle.std.specs.List.{remove}
-use Rattle.std.proofs.lemmas.List.{take-append-drop, drop_more, set_split, take-set, drop-set-lt, drop_at, take_at, length-take-le, take_all, drop_all, append-nil}
+use Rattle.std.proofs.lemmas.List.{take-append-drop, drop_more, set_split, take-set, drop-set-lt, drop_at, length-take-le}
 
 module _ {X : Type 0} where
   pub split_at : (xs : List X) (i : ℕ) (x : X) → i < length xs → x ≡ get_or xs i x → xs ≡ take i xs ++ x ∷ drop (i + 1) xs

@@ -1,7 +1,7 @@
 -- One poll of the bucket at a place, and a scan by such polls.
 use Rattle.std.proofs.Common.{◌≡◌, ◌<◌, ◌≤◌, ◌+◌, ℕ, List, [], ◌∷◌, ◌++◌, length, take, drop, set, get_or, Some, None, All, refl, sym, ap, ◌∙◌, subst, append_assoc, arith, true}
 use Rattle.std.specs.List.{remove}
-use Rattle.std.proofs.lemmas.List.{take-append-drop, drop_more, drop_at, take_at, length-take-le, take_all, drop_all, append-nil}
+use Rattle.std.proofs.lemmas.List.{drop_more, drop_at, take_at, length-take-le, take_all, drop_all, append-nil}
 use Rattle.std.proofs.lemmas.List.Elements.{All-get_or, all_zip_more, length_all_zip}
 use Rattle.smr_clock.specs.declared.setup.Setup.{Setup}
 use Rattle.smr_clock.specs.Belongs.{TableId}
@@ -10,9 +10,9 @@ use Rattle.smr_clock.specs.Notes.{note_clock, note_knows}
 use Rattle.smr_clock.specs.Polls.{Polls}
 use Rattle.uma_bucket.specs.declared.sealed.Sealed.{Sealed}
 use Rattle.uma_bucket.specs.declared.ripe.Ripe.{Ripe}
-use Rattle.uma_bucket.specs.Ripe.{ripe_bucket, ripe_goal, ripe_note, ripe_knows}
+use Rattle.uma_bucket.specs.Ripe.{ripe_bucket, ripe_goal, ripe_note}
 use Rattle.uma_bucket.specs.Sealed.{sealed_bucket, sealed_goal, sealed_note, sealed_knows, IsSealedAt, IsSameBucket, IsPolled, SaidNo}
-use Rattle.uma_domain.specs.Scans.{Stays, Ripens, AllStay, TakesRipe, TriesAt}
+use Rattle.uma_domain.specs.Scans.{Stays, AllStay, TakesRipe, TriesAt}
 use Rattle.uma_domain.proofs.Places.{split_at, set_at, remove_after_set, from_place, same_head}
 
 module _ {T H P : Type 0} {g h : _} where

@@ -1,6 +1,6 @@
 -- A trim, one bucket after another.
 use Rattle.std.proofs.Common.{◌≡◌, ◌<◌, ◌≤◌, ◌+◌, ◌-◌, ℕ, List, [], ◌∷◌, ◌++◌, length, take, drop, get_or, map, sum_by, Some, None, inl, inr, refl, sym, ap, ◌∙◌, subst, append_assoc, arith}
-use Rattle.std.proofs.lemmas.List.{take-append-drop, drop_more, drop_at, take_at, length-take-le, length_push, take_all, drop_all, append-nil, map_push, get_or_default}
+use Rattle.std.proofs.lemmas.List.{take-append-drop, drop_more, drop_at, take_at, length-take-le, length_push, drop_all, append-nil, map_push, get_or_default}
 use Rattle.std.proofs.lemmas.List.Sums.{sum_by-cons, sum_by_push}
 use Rattle.uma_bucket.specs.declared.bucket.Bucket.{Bucket}
 use Rattle.uma_bucket.specs.declared.sealed.Sealed.{Sealed}
@@ -8,9 +8,8 @@ use Rattle.uma_bucket.specs.declared.ripe.Ripe.{Ripe}
 use Rattle.uma_domain.specs.declared.taken.TakenBucket.{TakenBucket}
 use Rattle.uma_domain.specs.declared.taken.TakenBucket.TheVariants.{Plain as Plain', Ripe as Ripe'}
 use Rattle.uma_domain.specs.Listed.{plain_len, loose_len, sealed_len, ripe_len}
-use Rattle.uma_domain.specs.Scans.{Stays, Ripens, TriesAt, TrimsSealed}
-use Rattle.uma_domain.specs.Trim.{Trims, TrimsPlain, TrimsPlainInto, TrimsSealedInto}
-use Rattle.uma_domain.proofs.Places.{from_place}
+use Rattle.uma_domain.specs.Scans.{TriesAt, TrimsSealed}
+use Rattle.uma_domain.specs.Trim.{Trims, TrimsPlainInto, TrimsSealedInto}
 
 module _ {T : Type 0} {g : _} where
   -- the first bucket's size, where it is read at place 0

@@ -1,7 +1,5 @@
 -- Own: which buckets a domain may list, and how many items they have.
-use Rattle.std.specs.Prelude.{◌≡◌, ◌<◌, ◌+◌, ℕ, List, length, All, sum_by}
-use Rattle.smr_clock.specs.declared.setup.Setup.{Setup}
-use Rattle.smr_clock.specs.Belongs.{TableId}
+use Rattle.std.specs.Prelude.{◌<◌, ◌+◌, ℕ, List, length, sum_by}
 use Rattle.uma_bucket.specs.declared.bucket.Bucket.{Bucket}
 use Rattle.uma_bucket.specs.declared.loose.Loose.{Loose}
 use Rattle.uma_bucket.specs.declared.sealed.Sealed.{Sealed}

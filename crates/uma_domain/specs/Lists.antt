@@ -1,6 +1,5 @@
 -- Own: what contracts see of the lists under a domain's lock.
-use Rattle.std.specs.Prelude.{◌≡◌, ◌+◌, ℕ, List, [], ◌∷◌, ◌++◌, length}
-use Rattle.deed_book.specs.declared.cause.Cause.{Cause}
+use Rattle.std.specs.Prelude.{◌≡◌, ℕ, List, [], ◌∷◌, ◌++◌, length}
 use Rattle.deed_book.specs.declared.fail_share.FailShare.{FailShare}
 use Rattle.deed_book.specs.FailShare.{causes_in, share_table}
 use Rattle.deed_book.specs.FailViews.{cause}

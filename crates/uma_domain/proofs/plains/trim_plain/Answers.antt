@@ -1,6 +1,6 @@
-use Rattle.std.proofs.Common.{◌≡◌, ◌<◌, ◌≤◌, ◌+◌, ◌∙◌, ℕ, [], length, arith}
+use Rattle.std.proofs.Common.{◌≡◌, ◌<◌, ◌≤◌, ◌∙◌, length, arith}
 use Rattle.uma_domain.specs.Listed.{plain_len}
-use Rattle.uma_domain.proofs.Trimmed.{plain_begins, plain_stops, plain_takes, first_is, first_fits}
+use Rattle.uma_domain.proofs.Trimmed.{plain_takes, first_is, first_fits}
 use Rattle.uma_domain.proofs.plains.trim_plain.Goals as goal
 
 pub loop-preserved : goal.loop-preserved

@@ -1,4 +1,4 @@
-use Rattle.std.proofs.Common.{◌≡◌, ◌≤◌, ◌+◌}
+use Rattle.std.proofs.Common.{◌≡◌, ◌+◌}
 use Rattle.std.specs.VecDeque.{deque_len, deque_capacity}
 use Rattle.uma_domain.proofs.Trimmed.{TrimmingPlain}
 use Rattle.uma_domain.proofs.plains.trim_plain.Given as goal

@@ -1,4 +1,4 @@
-use Rattle.std.proofs.Common.{◌≡◌, ◌<◌, ◌≤◌, ◌∙◌, length, arith}
+use Rattle.std.proofs.Common.{◌<◌, ◌∙◌, length, arith}
 use Rattle.uma_domain.proofs.Polled.{scan_more, scan_takes}
 use Rattle.uma_domain.proofs.scans.take_first_ripe.Goals as goal
 

@@ -1,4 +1,4 @@
-use Rattle.std.proofs.Common.{◌≡◌, ◌<◌, ◌≤◌, ◌+◌, ◌∙◌, length, arith, rules}
+use Rattle.std.proofs.Common.{◌≡◌, ◌<◌, ◌≤◌, ◌∙◌, length, arith, rules}
 use Rattle.uma_domain.specs.Listed.{sealed_len}
 use Rattle.uma_domain.proofs.Trimmed.{trim_begins, next_fits, trim_stops, trim_ends, trim_keeps, trim_takes}
 use Rattle.uma_domain.proofs.scans.trim_sealed.Goals as goal

@@ -1,4 +1,4 @@
-use Rattle.std.proofs.Common.{◌≡◌, ◌<◌, ◌≤◌, ◌+◌, ◌∙◌, ◌∷◌, ◌++◌, [], List, length, ap, sym, refl, arith}
+use Rattle.std.proofs.Common.{◌<◌, ◌≤◌, ◌∙◌, ◌∷◌, ◌++◌, [], length, ap, sym, refl, arith}
 use Rattle.smr_clock.specs.Belongs.{clock_id, view}
 use Rattle.uma_domain.proofs.Tried.{tries_begin, tries_end, try_seals, try_refused}
 use Rattle.uma_domain.proofs.tries.seal_each.Goals as goal

@@ -1,9 +1,9 @@
-use Rattle.std.proofs.Common.{◌≡◌, ◌≤◌, ◌<◌, ◌+◌, ◌^◌, ◌∙◌, ◌++◌, ap, subst, sym, sum_by, All, length, arith}
+use Rattle.std.proofs.Common.{◌≡◌, ◌+◌, ◌∙◌, ap, subst, sum_by, arith}
 use Rattle.std.proofs.lemmas.List.Elements.{All-append, All-same}
 use Rattle.std.proofs.lemmas.List.Sums.{sum_by-append}
 use Rattle.smr_clock.specs.Belongs.{clock_id, view}
 use Rattle.uma_domain.specs.Identity.{key_identity}
-use Rattle.uma_domain.specs.Listed.{IsSealedOf, loose_len, sealed_len}
+use Rattle.uma_domain.specs.Listed.{IsSealedOf, sealed_len}
 use Rattle.uma_domain.specs.Tries.{Tries}
 use Rattle.uma_domain.proofs.Kept.{no_more, tries_of, tries_sum}
 use Rattle.uma_domain.proofs.lists.Lists.seal_loose.Goals as goal

@@ -1,10 +1,6 @@
-use Rattle.std.proofs.Common.{◌≡◌, ◌<◌, ◌≤◌, ◌+◌, ◌^◌, ◌∙◌, length, take, sum_by, subst, sym, arith}
+use Rattle.std.proofs.Common.{◌<◌, ◌≤◌, ◌+◌, ◌^◌, length, take, sum_by, subst, sym, arith}
 use Rattle.std.proofs.lemmas.List.Elements.{All-get_or}
 use Rattle.std.proofs.lemmas.List.Sums.{sum_by-take-le}
-use Rattle.uma_bucket.specs.Bucket.{tickets_of}
-use Rattle.uma_bucket.specs.Home.{AreHome}
-use Rattle.uma_bucket.specs.Loose.{loose_tickets}
-use Rattle.uma_bucket.specs.Sealed.{sealed_bucket}
 use Rattle.uma_domain.specs.Identity.{key_identity}
 use Rattle.uma_domain.specs.Listed.{IsPlainOf, IsLooseOf, IsSealedOf, plain_len, loose_len, sealed_len}
 use Rattle.uma_domain.specs.Sums.{plain_times, loose_times, sealed_times}

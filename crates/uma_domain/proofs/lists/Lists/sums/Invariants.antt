@@ -1,5 +1,4 @@
 use Rattle.std.proofs.Common.{◌+◌, take, sum_by}
-use Rattle.uma_life.specs.Hook.{Hook}
 use Rattle.uma_domain.specs.Identity.{key_identity}
 use Rattle.uma_domain.specs.Listed.{plain_len, loose_len, sealed_len}
 use Rattle.uma_domain.specs.Sums.{plain_times, loose_times, sealed_times}

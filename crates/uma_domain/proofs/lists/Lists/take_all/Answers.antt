@@ -1,8 +1,5 @@
-use Rattle.std.proofs.Common.{◌≡◌, ◌≤◌, ◌+◌, ◌-◌, ◌∙◌, ap, sym, subst, sum_by, arith}
+use Rattle.std.proofs.Common.{arith}
 use Rattle.uma_domain.specs.Identity.{key_identity}
-use Rattle.uma_domain.specs.Listed.{plain_len, sealed_len}
-use Rattle.uma_domain.specs.Trim.{Trims}
-use Rattle.uma_domain.specs.Working.{after, begun, working_set}
 use Rattle.uma_domain.proofs.Kept.{trim_of, trims_all}
 use Rattle.uma_domain.proofs.lists.Lists.take_all.Goals as goal
 

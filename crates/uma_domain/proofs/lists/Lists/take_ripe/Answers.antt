@@ -1,7 +1,6 @@
-use Rattle.std.proofs.Common.{◌≡◌, ◌≤◌, ◌+◌, ◌-◌, ◌∙◌, ap, sum_by, arith}
+use Rattle.std.proofs.Common.{◌≡◌, ◌∙◌, ap, arith}
 use Rattle.uma_domain.specs.Identity.{key_identity}
-use Rattle.uma_domain.specs.Listed.{sealed_len, ripe_len}
-use Rattle.uma_domain.specs.Working.{after}
+use Rattle.uma_domain.specs.Listed.{ripe_len}
 use Rattle.uma_domain.proofs.Kept.{takes_ripe_of, takes_ripe_sum, all_stay_of, all_stay_sum}
 use Rattle.uma_domain.proofs.lists.Lists.take_ripe.Goals as goal
 

@@ -1,9 +1,5 @@
-use Rattle.std.proofs.Common.{◌≡◌, ◌≤◌, ◌+◌, ◌-◌, ◌∙◌, ap, sym, subst, sum_by, arith}
 use Rattle.uma_domain.specs.Identity.{key_identity}
-use Rattle.uma_domain.specs.Listed.{plain_len, sealed_len}
-use Rattle.uma_domain.specs.Trim.{Trims}
-use Rattle.uma_domain.specs.Working.{after, begun, working_set}
-use Rattle.uma_domain.proofs.Kept.{trim_of, trims_all}
+use Rattle.uma_domain.proofs.Kept.{trim_of}
 use Rattle.uma_domain.proofs.lists.Lists.take_trim.Goals as goal
 
 pub invariant_of-self-2-clause-plain_here : goal.invariant_of-self-2-clause-plain_here

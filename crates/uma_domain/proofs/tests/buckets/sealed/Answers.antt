@@ -4,7 +4,7 @@ use Rattle.std.proofs.lemmas.List.Elements.{All-nil}
 use Rattle.deed_book.specs.Book.{book_table}
 use Rattle.uma_life.specs.Cached.{cached_ticket}
 use Rattle.uma_life.specs.Live.{live_ticket}
-use Rattle.uma_bucket.specs.Freed.{freed_item, freed_ticket}
+use Rattle.uma_bucket.specs.Freed.{freed_ticket}
 use Rattle.uma_bucket.specs.Home.{IsHome, AreHome}
 use Rattle.uma_bucket.specs.Loose.{loose_items}
 use Rattle.uma_domain.specs.Identity.{home_of}

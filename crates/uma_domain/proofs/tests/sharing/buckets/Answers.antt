@@ -1,4 +1,4 @@
-use Rattle.std.proofs.Common.{◌≡◌, ◌∙◌, sym, subst}
+use Rattle.std.proofs.Common.{◌∙◌, subst}
 use Rattle.std.proofs.lemmas.List.Elements.{All-push, All-same}
 use Rattle.deed_book.specs.Book.{book_table}
 use Rattle.uma_domain.specs.Identity.{home_of}
