@@ -1,0 +1,14 @@
+mod Balances
+mod Censused
+mod Fetches
+mod Fills
+mod FreedWaits
+mod Locked
+mod Made
+mod NewSeats
+mod Prealloc
+mod Rights
+mod Seats
+mod Serves
+mod Shelves
+pub mod Shared

@@ -1,0 +1,67 @@
+-- The rights that come with a new keg, and those that a primary zone keeps.
+use Rattle.std.proofs.Common.{◌≡◌, ◌≢◌, ◌<◌, ◌≤◌, ◌+◌, ◌-◌, ℕ, List, [], ◌∷◌, ◌++◌, length, map, take, get_or, Option, Some, None, rules, refl, sym, ap, ◌∙◌, subst, arith}
+use Rattle.std.specs.List.{All, slice_get}
+use Rattle.std.proofs.lemmas.List.{length-append, map-append, take_more, take_all}
+use Rattle.std.proofs.lemmas.List.Elements.{All-nil, All-cons, All-head, All-tail, All-push, All-get_or}
+
+-- two lists with one more element at the end
+ends_same : (ms ns : List ℕ) (m n : ℕ) → ms ++ m ∷ [] ≡ ns ++ n ∷ [] → (m ≡ n) × (ms ≡ ns)
+ends_same [] [] m n e = (cc, refl)
+ends_same [] (y ∷ ns) m n e = absurd (omega (arith, ap length e, length-append ns (n ∷ [])))
+ends_same (x ∷ ms) [] m n e = absurd (omega (arith, ap length e, length-append ms (m ∷ [])))
+ends_same (x ∷ ms) (y ∷ ns) m n e =
+    let head : x ≡ y = cc in
+    let tail : ms ++ m ∷ [] ≡ ns ++ n ∷ [] = cc in
+    let same = ends_same ms ns m n tail in
+    (same.0, ap (λ (z : ℕ). z ∷ ms) head ∙ ap (λ (zs : List ℕ). y ∷ zs) same.1)
+
+-- the number of the last right, and those of the rights before it
+pub split_last : {X : Type 0} (f : X → ℕ) (xs : List X) (x : X) (ns : List ℕ) (n : ℕ) → map f (xs ++ x ∷ []) ≡ ns ++ n ∷ [] → (f x ≡ n) × (map f xs ≡ ns)
+split_last f xs x ns n e = ends_same (map f xs) ns (f x) n (sym (map-append f xs (x ∷ [])) ∙ e)
+
+-- what holds of what a function gives of each holds so of each
+pub All-unmap : {X Y : Type 0} (P : Y → Type 0) (f : X → Y) (xs : List X) → All P (map f xs) → All (λ x. P (f x)) xs
+All-unmap P f [] all = All-nil (λ x. P (f x))
+All-unmap P f (x ∷ xs) all = All-cons (λ y. P (f y)) x xs (All-head P (f x) (map f xs) all) (All-unmap P f xs (All-tail P (f x) (map f xs) all))
+
+seven_below : All (λ n. n < 8) (7 ∷ 6 ∷ 5 ∷ 4 ∷ 3 ∷ 2 ∷ 1 ∷ [])
+seven_below = search (rules)
+
+-- the seven rights that a primary zone keeps are to zones below eight
+pub below_eight : {X : Type 0} (f : X → ℕ) (xs : List X) → map f xs ≡ 7 ∷ 6 ∷ 5 ∷ 4 ∷ 3 ∷ 2 ∷ 1 ∷ [] → All (λ x. f x < 8) xs
+below_eight f xs e = All-unmap (λ n. n < 8) f xs (subst (All (λ n. n < 8)) (sym e) seven_below)
+
+at_end : {X : Type 0} (ys : List X) (y : X) → slice_get (ys ++ y ∷ []) (length ys) ≡ Some y
+at_end [] y = refl
+at_end (x ∷ ys) y = at_end ys y
+
+-- the last element is the one that goes
+pub last_goes : {X : Type 0} (xs ys : List X) (x y : X) → xs ≡ ys ++ y ∷ [] → Some x ≡ slice_get xs (length xs - 1) → x ≡ y
+last_goes xs ys x y e at =
+    let n : length xs - 1 ≡ length ys = omega (arith, ap length e, length-append ys (y ∷ [])) in
+    let same : Some x ≡ Some y = at ∙ ap (slice_get xs) n ∙ ap (λ (l : List _). slice_get l (length ys)) e ∙ at_end ys y in
+    cc
+
+-- a list that has a last element has numbers
+pub has_numbers : {X : Type 0} (f : X → ℕ) (xs : List X) (x : X) (n : ℕ) → Some x ≡ slice_get xs n → map f xs ≢ []
+has_numbers f [] x n at e = absurd (cc)
+has_numbers f (y ∷ xs) x n at e = absurd (cc)
+
+-- what holds of the numbers of the first rights, and of the next one's, holds of one more
+pub All-map_more : {X : Type 0} (P : ℕ → Type 0) (f : X → ℕ) (xs : List X) (i : ℕ) (x : X) → i < length xs → x ≡ get_or xs i x → P (f x) → All P (map f (take i xs)) → All P (map f (take (i + 1) xs))
+All-map_more P f xs i x within at here before =
+    let ends : map f (take i xs ++ x ∷ []) ≡ map f (take i xs) ++ f x ∷ [] = map-append f (take i xs) (x ∷ []) in
+    let more : take (i + 1) xs ≡ take i xs ++ get_or xs i x ∷ [] = take_more xs i x within in
+    let same : map f (take (i + 1) xs) ≡ map f (take i xs) ++ f x ∷ [] = ap (map f) (more ∙ ap (λ (y : _). take i xs ++ y ∷ []) (sym at)) ∙ ends in
+    subst (All P) (sym same) (All-push P (map f (take i xs)) (f x) before here)
+
+pub All-map_all : {X : Type 0} (P : ℕ → Type 0) (f : X → ℕ) (xs : List X) (n : ℕ) → length xs ≤ n → All P (map f (take n xs)) → All P (map f xs)
+All-map_all P f xs n all here = subst (λ (l : List _). All P (map f l)) (take_all n xs all) here
+
+-- one more number, where one more right is kept
+pub map_more : {X Y : Type 0} (f : X → ℕ) (h : Y → ℕ) (xs : List X) (ys : List Y) (x : X) (y : Y) → map f xs ≡ map h ys → f x ≡ h y → map f (xs ++ x ∷ []) ≡ map h (ys ++ y ∷ [])
+map_more f h xs ys x y same here = map-append f xs (x ∷ []) ∙ ap (λ (l : List ℕ). l ++ f x ∷ []) same ∙ ap (λ (n : ℕ). map h ys ++ n ∷ []) here ∙ sym (map-append h ys (y ∷ []))
+
+-- an item of a list
+pub All-at : {X : Type 0} (P : X → Type 0) (xs : List X) (i : ℕ) (x : X) → All P xs → i < length xs → x ≡ get_or xs i x → P x
+All-at P xs i x all within at = subst P (sym at) (All-get_or P xs i x within all)

@@ -1,0 +1,64 @@
+use Rattle.std.proofs.Common.{Err, refl, ap, ◌∙◌}
+use Rattle.uma_keg.specs.declared.fetch_ask.FetchAsk.{FetchAsk}
+use Rattle.keyed_lock.specs.KeyedGuard.{guard_key}
+use Rattle.locked_keg.specs.LockedKeg.{keg_in}
+use Rattle.uma_zone.specs.Zone.{zone_home}
+use Rattle.uma_zone.proofs.Fetches.{turned_away}
+use Rattle.uma_zone.proofs.Seats.{lent_of, refilled_of, domain_below, fetches_home}
+use Rattle.uma_zone.proofs.zone.Zone.fetch.Goals as goal
+
+pub returns-then-not-is_added_to-clause-seat : goal.returns-then-not-is_added_to-clause-seat
+returns-then-not-is_added_to-clause-seat g c = lent_of c.args.self.now c.args.seat.now c.lend_empty.result.now c.lend_empty.ensures.bucket c.requires.seat
+
+pub drop-guard-requires-in-Ok : goal.drop-guard-requires-in-Ok
+drop-guard-requires-in-Ok g c =
+    let key = guard_key c.lock-guard.result in
+    c.fetch.ensures.keeps key (domain_below c.args.self.now c.args.seat.now c.domain.result key c.domain.ensures c.lock-guard.ensures.key c.requires.seat) c.lock-guard.ensures.kept
+
+pub drop-guard-requires-in-Err-Refused : goal.drop-guard-requires-in-Err-Refused
+drop-guard-requires-in-Err-Refused g c =
+    let key = guard_key c.lock-guard.result in
+    c.fetch.ensures.keeps key (domain_below c.args.self.now c.args.seat.now c.domain.result key c.domain.ensures c.lock-guard.ensures.key c.requires.seat) c.lock-guard.ensures.kept
+
+pub drop-guard-requires-2 : goal.drop-guard-requires-2
+drop-guard-requires-2 g c =
+    let key = guard_key c.lock-guard.result in
+    c.fetch.ensures.keeps key (domain_below c.args.self.now c.args.seat.now c.domain.result key c.domain.ensures c.lock-guard.ensures.key c.requires.seat) c.lock-guard.ensures.kept
+
+pub returns-in-Ok-clause-seat : goal.returns-in-Ok-clause-seat
+returns-in-Ok-clause-seat g c =
+    let zone = c.args.self.now in
+    let seat = c.args.seat.now in
+    let ask : FetchAsk = record { zone = zone.index; most = c.size.result; reserve = c.args.reserve; domain = c.domain.result } in
+    let done = c.fetch.ensures in
+    let locked = c.lock-guard.ensures in
+    refilled_of zone seat c.fetch.new.seat done.rest.same done.rest.misses done.fails
+    (done.home (zone_home zone) (fetches_home zone seat (keg_in c.lock-guard.result.value) ask locked.numbers locked.domains (refl {_}) c.domain.ensures c.requires.seat)) c.requires.seat
+
+pub returns-in-Err-Refused-clause-seat : goal.returns-in-Err-Refused-clause-seat
+returns-in-Err-Refused-clause-seat g c =
+    let zone = c.args.self.now in
+    let seat = c.args.seat.now in
+    let ask : FetchAsk = record { zone = zone.index; most = c.size.result; reserve = c.args.reserve; domain = c.domain.result } in
+    let done = c.fetch.ensures in
+    let locked = c.lock-guard.ensures in
+    refilled_of zone seat c.fetch.new.seat done.rest.same done.rest.misses done.fails
+    (done.home (zone_home zone) (fetches_home zone seat (keg_in c.lock-guard.result.value) ask locked.numbers locked.domains (refl {_}) c.domain.ensures c.requires.seat)) c.requires.seat
+
+pub returns-clause-seat : goal.returns-clause-seat
+returns-clause-seat g c =
+    let zone = c.args.self.now in
+    let seat = c.args.seat.now in
+    let ask : FetchAsk = record { zone = zone.index; most = c.size.result; reserve = c.args.reserve; domain = c.domain.result } in
+    let done = c.fetch.ensures in
+    let locked = c.lock-guard.ensures in
+    refilled_of zone seat c.fetch.new.seat done.rest.same done.rest.misses done.fails
+    (done.home (zone_home zone) (fetches_home zone seat (keg_in c.lock-guard.result.value) ask locked.numbers locked.domains (refl {_}) c.domain.ensures c.requires.seat)) c.requires.seat
+
+pub returns-in-Err-Refused-clause-refused : goal.returns-in-Err-Refused-clause-refused
+returns-in-Err-Refused-clause-refused g c =
+    let zone = c.args.self.now in
+    let ask : FetchAsk = record { zone = zone.index; most = c.size.result; reserve = c.args.reserve; domain = c.domain.result } in
+    let done = c.fetch.ensures in
+    let locked = c.lock-guard.ensures in
+    turned_away zone c.args.seat.now c.fetch.new.seat (keg_in c.lock-guard.result.value) zone.hooks ask c.fetch.result c.in-Err-Refused.refusal (c.is_added_to.ensures.limit c.if-not-is_added_to.false) locked.reserve locked.cap done.none done.share done.ledger done.names (c.in-Err-Refused.is ∙ ap Err c.in-Err-Refused.field-0-is)

@@ -1,0 +1,7 @@
+use Rattle.uma_zone.proofs.Seats.{still_of}
+use Rattle.uma_zone.proofs.zone.Zone.free.Goals as goal
+
+pub returns-clause-seat : goal.returns-clause-seat
+returns-clause-seat g c =
+    let done = c.free.ensures in
+    still_of c.args.self.now c.args.seat.now c.free.new.self done.same done.top done.misses done.fails c.requires.seat

@@ -1,0 +1,9 @@
+use Rattle.uma_zone.specs.Zone.{zone_home}
+use Rattle.uma_zone.proofs.Locked.{of_book}
+use Rattle.uma_zone.proofs.zone.Zone.give.Goals as goal
+
+pub give_all-requires : goal.give_all-requires
+give_all-requires g c = of_book (zone_home c.args.self.now) c.args.bucket _ c.lock-guard.ensures.numbers c.requires
+
+pub drop-guard-requires : goal.drop-guard-requires
+drop-guard-requires g c = c.give_all.ensures.keeps _ c.lock-guard.ensures.kept

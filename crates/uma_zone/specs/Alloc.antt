@@ -1,0 +1,135 @@
+-- Own: how a request ends, as contracts see it.
+use Rattle.std.specs.Prelude.{◌≡◌, ◌≤◌, ◌<◌, ◌⊎◌, ℕ, Bool, true, false, Some, None, List, [], ◌∷◌, ◌++◌, length}
+use Rattle.deed_book.specs.FailViews.{cause}
+use Rattle.uma_life.specs.declared.cached.Cached.{Cached}
+use Rattle.uma_life.specs.declared.live.Live.{Live}
+use Rattle.uma_life.specs.Cached.{cached_body, cached_ticket}
+use Rattle.uma_life.specs.Live.{live_body, live_ticket}
+use Rattle.uma_life.specs.Hook.{Ctor, after, IsCode}
+use Rattle.zone_stats.specs.declared.refusal.Refusal.{Refusal}
+use Rattle.zone_stats.specs.declared.refusal.Refusal.TheVariants.{AtLimit, Reserved, Full, Init, Ctor as Ctor'}
+use Rattle.zone_stats.specs.LedgerSteps.{CountsAlloc, CountsTurned, CountsCtor}
+use Rattle.smr_clock.specs.declared.view.View.{View}
+use Rattle.uma_bucket.specs.declared.freed.Freed.{Freed}
+use Rattle.uma_bucket.specs.Finished.{AreFinished}
+use Rattle.uma_bucket.specs.Ripe.{IsOverFrom}
+use Rattle.uma_domain.specs.Lists.{IsRaised}
+use Rattle.uma_seat.specs.declared.seat.SeatCache.{SeatCache}
+use Rattle.uma_seat.specs.Fetches.{refusal_cause}
+use Rattle.uma_seat.specs.Seat.{usable_of, top_of, ledger_of, fetches_of, misses_of}
+use Rattle.uma_zone.specs.declared.alloc_ask.AllocAsk.{AllocAsk}
+use Rattle.uma_zone.specs.declared.alloc_ask.AllocRefused.{AllocRefused}
+use Rattle.uma_zone.specs.declared.alloc_ask.AllocRefused.TheVariants.{Refused, Memory}
+use Rattle.uma_zone.specs.declared.zone.Zone.{Zone}
+use Rattle.uma_zone.specs.Zone.{zone_hooks, zone_index, zone_limit, zone_cap, zone_reserve, zone_smr}
+
+module _ {T H P : Type 0} {g h : _} where
+  -- The item was usable on the seat as the request began, the last that was put. Nothing was looked for, and nothing fetched.
+  pub record TakesOwn (old : SeatCache T H P g h) (item : Cached T g) (left : List (Cached T g)) (new : SeatCache T H P g h) : Type 0 where
+    pub last : usable_of old ≡ left ++ item ∷ []
+    pub fetches : fetches_of new ≡ fetches_of old
+    pub misses : misses_of new ≡ misses_of old
+
+  -- No item was usable, the look found nothing, and the one fetch of the request gave as many as these.
+  pub record FetchesSome (old : SeatCache T H P g h) (items : List (Cached T g)) (new : SeatCache T H P g h) : Type 0 where
+    pub empty : usable_of old ≡ []
+    pub missed : IsRaised (misses_of old) (misses_of new)
+    pub fetches : fetches_of new ≡ fetches_of old ++ cause 6 (length items) 0 ∷ []
+
+  -- Memory was wanting, for the flush, or for the one fetch after a look that found nothing. Nothing is counted, and no item was usable before or is after.
+  pub record WantsMemory (old new : SeatCache T H P g h) : Type 0 where
+    pub empty : usable_of old ≡ []
+    pub still : usable_of new ≡ []
+    pub ledger : ledger_of new ≡ ledger_of old
+    pub fetches : ((fetches_of new ≡ fetches_of old) ⊎ (IsRaised (misses_of old) (misses_of new) × (fetches_of new ≡ fetches_of old ++ cause 7 0 0 ∷ [])))
+
+module _ {T K H P : Type 0} {g k h : _} where
+  -- These items were freed, and waited in a bucket with a goal until a poll of it said yes. Each passed `dtor` after that. From the moment on at which a seat of the clock knows what the poll found, no section that was entered before the goal is open.
+  pub record AreReused (zone : Zone T K H P g k h) (items : List (Cached T g)) : Type 0 where
+    pub freed : List (Freed T g)
+    pub goal : ℕ
+    pub knows : View P
+    pub finished : AreFinished (k.leaves_dtor (zone_hooks zone)) freed items
+    pub expired : goal ≤ knows.holder.floor
+    pub over : IsOverFrom knows goal
+
+  -- No item was usable, and the look at the lists of the seat's own domain found some; nothing was fetched. In an SMR zone they waited until no section may see them.
+  pub record FindsListed (zone : Zone T K H P g k h) (old : SeatCache T H P g h) (items : List (Cached T g)) (new : SeatCache T H P g h) : Type 0 where
+    pub empty : usable_of old ≡ []
+    pub fetches : fetches_of new ≡ fetches_of old
+    pub misses : misses_of new ≡ misses_of old
+    pub reused : zone_smr zone ≡ true → AreReused zone items
+
+  -- Where the item of a request comes from: the seat itself, or else its domain's lists, or else the keg. These usable items are left behind it, and they are all that came with it.
+  abbrev pub Takes : Zone T K H P g k h → SeatCache T H P g h → Cached T g → List (Cached T g) → SeatCache T H P g h → Type 0
+  Takes zone old item left new = TakesOwn old item left new ⊎ FindsListed zone old (left ++ item ∷ []) new ⊎ FetchesSome old (left ++ item ∷ []) new
+
+  -- The seat, of which no item was usable, has items in its allocation bucket now: some that its domain listed, or some that one fetch gave.
+  pub record IsFilled (zone : Zone T K H P g k h) (old new : SeatCache T H P g h) : Type 0 where
+    pub some : 1 ≤ length (top_of new).items
+    pub from : FindsListed zone old (top_of new).items new ⊎ FetchesSome old (top_of new).items new
+    pub ledger : ledger_of new ≡ ledger_of old
+
+  -- `ctor` of the zone took the item with this argument, and left the live one.
+  pub record IsBuilt (zone : Zone T K H P g k h) (arg : ℕ) (item : Cached T g) (live : Live T g) : Type 0 where
+    pub ticket : live_ticket live ≡ cached_ticket item
+    pub passed : g.life (live_body live) ≡ after (Ctor (zone_index zone)) (g.life (cached_body item))
+    pub accepted : k.refuses_ctor (zone_hooks zone) (cached_body item) (zone_index zone) arg ≡ None
+    pub left : k.leaves_ctor (zone_hooks zone) (cached_body item) (zone_index zone) arg (live_body live)
+
+  -- An item was taken, and passed `ctor` in this request. One request and one alloc are counted.
+  pub record Serves (zone : Zone T K H P g k h) (arg : ℕ) (old : SeatCache T H P g h) (live : Live T g) (new : SeatCache T H P g h) : Type 0 where
+    pub item : Cached T g
+    pub takes : Takes zone old item (usable_of new) new
+    pub built : IsBuilt zone arg item live
+    pub counted : CountsAlloc (ledger_of old) (ledger_of new)
+
+  -- `ctor` refused the item with this code. It lies on top of the usable items, and the refusal is counted and kept.
+  pub record PutsBack (zone : Zone T K H P g k h) (arg : ℕ) (item : Cached T g) (code : ℕ) (old new : SeatCache T H P g h) : Type 0 where
+    pub back : usable_of new ≡ usable_of old ++ item ∷ []
+    pub refused : k.refuses_ctor (zone_hooks zone) (cached_body item) (zone_index zone) arg ≡ Some code
+    pub is_code : IsCode code
+    pub counted : CountsCtor (ledger_of old) (ledger_of new) code
+
+  -- The item was taken, and `ctor` refused it with this code. It lies on top of the usable items again, and the refusal is counted and kept.
+  pub record RefusesCtor (zone : Zone T K H P g k h) (arg code : ℕ) (old new : SeatCache T H P g h) : Type 0 where
+    pub item : Cached T g
+    pub left : List (Cached T g)
+    pub takes : Takes zone old item left new
+    pub back : usable_of new ≡ left ++ item ∷ []
+    pub refused : k.refuses_ctor (zone_hooks zone) (cached_body item) (zone_index zone) arg ≡ Some code
+    pub is_code : IsCode code
+    pub counted : CountsCtor (ledger_of old) (ledger_of new) code
+
+  -- What a refusal of a fetch names:
+  -- 1. The zone's own limit, above 0, and as many items outside.
+  -- 2. The keg's reserve, and some free items, none beyond it, for a request without the right to it.
+  -- 3. As many slabs as the keg may have.
+  -- 4. A code with which hooks refuse a body.
+  -- 5. No fetch runs `ctor`.
+  abbrev pub Names : Zone T K H P g k h → Bool → Refusal → Type 0
+  Names zone reserve (AtLimit out limit) = (limit ≡ zone_limit zone) × (out ≡ limit) × (0 < limit)
+  Names zone reserve (Reserved free kept) = (kept ≡ zone_reserve zone) × (0 < free) × (free ≤ kept) × (reserve ≡ false)
+  Names zone reserve (Full slabs made) = slabs ≡ zone_cap zone
+  Names zone reserve (Init code) = (hooks : K) × (body : T) × (index : ℕ) × (k.refuses_init hooks body index ≡ Some code)
+  Names zone reserve (Ctor' code) = ⊥
+
+  -- No item was usable as the request began, its look at the seat's own domain found nothing, and its one fetch was refused so. The refusal is counted and kept, and no item is usable.
+  pub record TurnsAway (zone : Zone T K H P g k h) (reserve : Bool) (refusal : Refusal) (old new : SeatCache T H P g h) : Type 0 where
+    pub empty : usable_of old ≡ []
+    pub still : usable_of new ≡ []
+    pub missed : IsRaised (misses_of old) (misses_of new)
+    pub fetches : fetches_of new ≡ fetches_of old ++ refusal_cause refusal ∷ []
+    pub counted : CountsTurned (ledger_of old) (ledger_of new) refusal
+    pub names : Names zone reserve refusal
+
+  -- why no item was taken, and what that did to the seat
+  abbrev pub RefusesToTake : Zone T K H P g k h → Bool → SeatCache T H P g h → SeatCache T H P g h → AllocRefused → Type 0
+  RefusesToTake zone reserve old new (Refused refusal) = TurnsAway zone reserve refusal old new
+  RefusesToTake zone reserve old new Memory = WantsMemory old new
+
+  -- Why a request got no item, and what it did to its seat: `ctor` refused one that was taken, or none was taken.
+  abbrev pub Refuses : Zone T K H P g k h → AllocAsk → SeatCache T H P g h → SeatCache T H P g h → AllocRefused → Type 0
+  Refuses zone ask old new (Refused (Ctor' code)) = RefusesCtor zone ask.arg code old new
+  Refuses zone ask old new (Refused refusal) = TurnsAway zone ask.reserve refusal old new
+  Refuses zone ask old new Memory = WantsMemory old new

@@ -1,0 +1,9 @@
+pub mod Right
+pub mod Zone
+pub mod Alloc
+pub mod Fetch
+pub mod Free
+pub mod Prealloc
+pub mod Seat
+pub mod Making
+pub mod SafeReuse

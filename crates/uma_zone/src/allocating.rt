@@ -1,0 +1,176 @@
+ghost use Rattle.std.specs.Prelude.{◌≡◌, ◌≢◌, ◌≤◌, ◌<◌, ◌++◌, ◌∷◌, ℕ, [], length, IfOk, IfErr, OnOk};
+ghost use Rattle.smr_clock.specs.Belongs.{IsOf, clock_id, holder};
+ghost use Rattle.zone_stats.specs.LedgerSteps.{HasRoom, CountsAlloc};
+
+use crate::alloc_ask::{AllocAsk, AllocRefused};
+use crate::zone::Zone;
+use smr_clock::{Clock, Host, Pass};
+use std::alloc::Global;
+use std::sync::Wait;
+use uma_life::{Body, Cached, Hooks, Live};
+use uma_seat::SeatCache;
+use zone_stats::Refusal;
+
+impl<T: Body, K: Hooks<T>, H: Host> Zone<T, K, H> {
+    ghost use Rattle.uma_life.specs.Live.{live_ticket};
+    ghost use Rattle.uma_life.specs.Cached.{cached_ticket};
+    ghost use Rattle.uma_bucket.specs.Home.{IsHome};
+    ghost use Rattle.uma_seat.specs.Seat.{top_of, usable_of, spares_of, shelf_of, ledger_of, fetches_of, plain_of, plain_ready, IsSameSeat, KeepsPlain, KeepsFreed, KeepsRack, KeepsMisses};
+    ghost use Rattle.zone_domains.specs.Flushed.{HasLastOf};
+    ghost use Rattle.uma_zone.specs.Zone.{zone_home, zone_clock, IsSeatOf};
+    ghost use Rattle.uma_zone.specs.Alloc.{Serves, Refuses, Takes, IsFilled, IsBuilt, PutsBack, RefusesToTake};
+
+    /// An item that passed `ctor` with the argument in this call.
+    ///
+    /// It is the one that was put last on the seat. Where none is usable there, the seat is flushed and looks once at the
+    /// lists of its own domain; where these have none, one fetch takes up to a bucket's worth from the keg. Waits until it
+    /// has the locks of these.
+    ///
+    /// # Errors
+    ///
+    /// What the one fetch found under the keg's lock: `AtLimit`, `Reserved`, `Full` or `Init`. Or `Ctor` where `ctor`
+    /// refuses the item, which lies on top of the seat's usable items again. Each is counted, and kept by the seat's
+    /// ledger. `Memory` where memory is wanting, which is counted nowhere; no item is lost.
+    pub fn alloc<R: Wait>(
+        &self,
+        rt: &R,
+        alloc: Global,
+        clock: &Clock<H>,
+        pass: &mut Pass<H>,
+        seat: &mut SeatCache<T, H>,
+        ask: AllocAsk,
+    ) -> Result<Live<T>, AllocRefused>
+        requires seat { IsSeatOf self.now seat.old }
+        requires clock { clock_id clock.now ≡ zone_clock self.now }
+        requires pass { IsOf clock.now pass.old }
+        requires room { HasRoom (ledger_of seat.old) }
+        ensures seat { IsSeatOf self.now seat.new }
+        ensures pass { IsOf clock.now pass.new }
+        ensures phase { (holder pass.new).phase ≡ (holder pass.old).phase }
+        ensures home { IfOk result (λ live. IsHome (zone_home self.now) (live_ticket live)) }
+        ensures served { IfOk result (λ live. Serves self.now ask.arg seat.old live seat.new) }
+        ensures refused { IfErr result (Refuses self.now ask seat.old seat.new) }
+        ensures spare { length (spares_of seat.old) ≤ length (spares_of seat.new) }
+        ensures shelf { HasLastOf (shelf_of seat.old) (shelf_of seat.new) }
+        ensures unflushed { usable_of seat.old ≢ [] → KeepsRack seat.old seat.new }
+        ensures plain { plain_of seat.new ≡ plain_ready seat.old }
+        ensures freed { KeepsFreed seat.old seat.new }
+        ensures same { IsSameSeat seat.old seat.new }
+    {
+        let item = self.take(rt, alloc, clock, pass, seat, ask.reserve)?;
+        self.build(seat, item, ask.arg)
+    }
+
+    // Takes an item from the seat, which is filled first where none is usable.
+    fn take<R: Wait>(
+        &self,
+        rt: &R,
+        alloc: Global,
+        clock: &Clock<H>,
+        pass: &mut Pass<H>,
+        seat: &mut SeatCache<T, H>,
+        reserve: bool,
+    ) -> Result<Cached<T>, AllocRefused>
+        requires seat { IsSeatOf self.now seat.old }
+        requires clock { clock_id clock.now ≡ zone_clock self.now }
+        requires pass { IsOf clock.now pass.old }
+        requires room { HasRoom (ledger_of seat.old) }
+        ensures seat { IsSeatOf self.now seat.new }
+        ensures pass { IsOf clock.now pass.new }
+        ensures phase { (holder pass.new).phase ≡ (holder pass.old).phase }
+        ensures home { IfOk result (λ item. IsHome (zone_home self.now) (cached_ticket item)) }
+        ensures takes { IfOk result (λ item. Takes self.now seat.old item (usable_of seat.new) seat.new) }
+        ensures ledger { OnOk result (ledger_of seat.new ≡ ledger_of seat.old) }
+        ensures top_room { OnOk result (length (top_of seat.new).items < (top_of seat.new).room) }
+        ensures refused { IfErr result (RefusesToTake self.now reserve seat.old seat.new) }
+        ensures spare { length (spares_of seat.old) ≤ length (spares_of seat.new) }
+        ensures shelf { HasLastOf (shelf_of seat.old) (shelf_of seat.new) }
+        ensures unflushed { usable_of seat.old ≢ [] → KeepsRack seat.old seat.new }
+        ensures plain { plain_of seat.new ≡ plain_ready seat.old }
+        ensures freed { KeepsFreed seat.old seat.new }
+        ensures same { IsSameSeat seat.old seat.new }
+    {
+        if let Some(item) = seat.try_alloc() {
+            return Ok(item);
+        }
+        self.fill(rt, alloc, clock, pass, seat, reserve)?;
+        match seat.try_alloc() {
+            Some(item) => Ok(item),
+            None => unreachable!(),
+        }
+    }
+
+    // Flushes a seat without a usable item, and gets it some: from the lists of its domain, or else from the keg.
+    fn fill<R: Wait>(
+        &self,
+        rt: &R,
+        alloc: Global,
+        clock: &Clock<H>,
+        pass: &mut Pass<H>,
+        seat: &mut SeatCache<T, H>,
+        reserve: bool,
+    ) -> Result<(), AllocRefused>
+        requires seat { IsSeatOf self.now seat.old }
+        requires clock { clock_id clock.now ≡ zone_clock self.now }
+        requires pass { IsOf clock.now pass.old }
+        requires room { HasRoom (ledger_of seat.old) }
+        requires none { usable_of seat.old ≡ [] }
+        ensures seat { IsSeatOf self.now seat.new }
+        ensures pass { IsOf clock.now pass.new }
+        ensures phase { (holder pass.new).phase ≡ (holder pass.old).phase }
+        ensures filled { OnOk result (IsFilled self.now seat.old seat.new) }
+        ensures refused { IfErr result (RefusesToTake self.now reserve seat.old seat.new) }
+        ensures spare { length (spares_of seat.old) ≤ length (spares_of seat.new) }
+        ensures shelf { HasLastOf (shelf_of seat.old) (shelf_of seat.new) }
+        ensures plain { KeepsPlain seat.old seat.new }
+        ensures freed { KeepsFreed seat.old seat.new }
+        ensures same { IsSameSeat seat.old seat.new }
+    {
+        if self.domains.flush(rt, clock, pass, seat).is_err() {
+            return Err(AllocRefused::Memory);
+        }
+        if self.domains.look(rt, clock, pass, &self.hooks, seat) {
+            return Ok(());
+        }
+        self.fetch(rt, alloc, seat, reserve)
+    }
+
+    // Runs `ctor` on an item that was taken, and counts the request.
+    fn build(
+        &self,
+        seat: &mut SeatCache<T, H>,
+        item: Cached<T>,
+        arg: u64,
+    ) -> Result<Live<T>, AllocRefused>
+        requires seat { IsSeatOf self.now seat.old }
+        requires room { HasRoom (ledger_of seat.old) }
+        requires top_room { length (top_of seat.old).items < (top_of seat.old).room }
+        requires home { IsHome (zone_home self.now) (cached_ticket item) }
+        ensures seat { IsSeatOf self.now seat.new }
+        ensures home { IfOk result (λ live. IsHome (zone_home self.now) (live_ticket live)) }
+        ensures built { IfOk result (IsBuilt self.now arg item) }
+        ensures counted { OnOk result (CountsAlloc (ledger_of seat.old) (ledger_of seat.new)) }
+        ensures usable { OnOk result (usable_of seat.new ≡ usable_of seat.old) }
+        ensures refused { IfErr result (λ why. (code : ℕ) × (why ≡ AllocRefused.Refused (Refusal.Ctor code)) × PutsBack self.now arg item code seat.old seat.new) }
+        ensures fetches { fetches_of seat.new ≡ fetches_of seat.old }
+        ensures misses { KeepsMisses seat.old seat.new }
+        ensures plain { KeepsPlain seat.old seat.new }
+        ensures freed { KeepsFreed seat.old seat.new }
+        ensures rack { KeepsRack seat.old seat.new }
+        ensures same { IsSameSeat seat.old seat.new }
+    {
+        match item.build(&self.hooks, arg) {
+            Ok(live) => {
+                seat.count_alloc();
+                Ok(live)
+            }
+            Err((item, code)) => {
+                seat.put_back(item);
+                seat.count_ctor(code);
+                Err(AllocRefused::Refused {
+                    refusal: Refusal::Ctor { code },
+                })
+            }
+        }
+    }
+}

@@ -1,0 +1,232 @@
+ghost use Rattle.std.specs.Prelude.{◌≡◌, ◌≤◌, ◌<◌, ◌/◌, ◌⊎◌, ◌∷◌, ◌++◌, ℕ, [], All, IfOk, IfErr, OnOk, OnErr, Err, Some, map, min};
+ghost use Rattle.deed_book.specs.Book.{book_table};
+ghost use Rattle.deed_book.specs.Deed.{deed_table, no_of};
+ghost use Rattle.deed_book.specs.FailShare.{share_table};
+ghost use Rattle.smr_clock.specs.Belongs.{clock_id};
+ghost use Rattle.uma_bucket.specs.Bucket.{IsOutOfRange};
+ghost use Rattle.uma_domain.specs.Identity.{home_of};
+ghost use Rattle.uma_keg.specs.Keg.{places_in, rights_in, size_in, reserve_in, fetches_in};
+ghost use Rattle.uma_places.specs.Places.{IsNew};
+ghost use Rattle.locked_keg.specs.Key.{key_rights, key_fails};
+ghost use Rattle.zone_domains.specs.Domains.{domains_home, domains_clock, domains_smr, domain_count};
+ghost use Rattle.uma_zone.specs.Making.{IsBucketSize, IsDomainCount};
+ghost use Rattle.uma_zone.specs.Right.{right_table, right_no};
+
+use crate::right::KeptRight;
+use crate::zone::Zone;
+use crate::zone_refused::ZoneRefused;
+use crate::zone_set::{SecondSet, ZoneSet};
+use deed_book::{Deed, FailShare, Memory};
+use locked_keg::LockedKeg;
+use smr_clock::{Clock, Host};
+use std::alloc::Global;
+use std::snapshot::Snapshot;
+use std::sync::{Arc, Wait};
+use uma_keg::Keg;
+use uma_life::{Body, Hooks};
+use zone_domains::ZoneDomains;
+
+/// The least and the greatest count of items that a bucket can have room for.
+const LEAST_BUCKET: u32 = 4;
+
+const MOST_BUCKET: u32 = 64;
+
+/// The most memory domains of a zone.
+const MOST_DOMAINS: u8 = 4;
+
+/// The most zones of a keg.
+const MOST_ZONES: u8 = 8;
+
+impl<T: Body + Drop, K: Hooks<T>, H: Host> Zone<T, K, H> {
+    ghost use Rattle.uma_zone.specs.Zone.{zone_key, zone_index, zone_home, zone_clock, zone_domains, zone_rights};
+    ghost use Rattle.uma_zone.specs.Making.{IsPrimary, IsSecondaryOf, IsSameZone, RefusesPrimary, RefusesSecondary, AcceptsSet};
+
+    /// A zone over a keg of its own, whose items have `size` bytes. The keg runs the hooks of items that come and go with
+    /// their slabs, by `keg_hooks`; the zone runs `ctor` and `dtor`, by `hooks`. The clock is that of the zone's readers,
+    /// and gets a handle more. Nothing is brought in yet. What was handed in is dropped where the making is refused.
+    ///
+    /// # Errors
+    ///
+    /// `Size`, `Slabs`, `Bucket` and `Domains`, in this order, exactly where that argument is out of its range. `Memory`
+    /// where memory is wanting, or there are too many handles of the clock.
+    pub fn primary(
+        alloc: Global,
+        clock: &Clock<H>,
+        size: u32,
+        set: ZoneSet,
+        hooks: K,
+        keg_hooks: K,
+    ) -> Result<Zone<T, K, H>, ZoneRefused>
+        ensures made { IfOk result (IsPrimary (clock_id clock.now) size set hooks) }
+        ensures accepted { OnOk result (AcceptsSet size set) }
+        ensures refused { IfErr result (RefusesPrimary size set) }
+    {
+        let (keg, rights) = Keg::new(alloc, size, set.slabs, set.reserve, keg_hooks)?;
+        check_bucket(set.bucket)?;
+        check_domains(set.domains)?;
+        Ok(Zone::over(alloc, clock, set, hooks, keg, rights)?)
+    }
+
+    // The primary zone of a new keg that came with these rights.
+    fn over(
+        alloc: Global,
+        clock: &Clock<H>,
+        set: ZoneSet,
+        hooks: K,
+        keg: Keg<T, K>,
+        mut rights: Vec<Deed>,
+    ) -> Result<Zone<T, K, H>, Memory>
+        requires least { 4 ≤ set.bucket }
+        requires most { set.bucket ≤ 64 }
+        requires some { 1 ≤ set.domains }
+        requires few { set.domains ≤ 4 }
+        requires numbered { map no_of rights.items ≡ 7 ∷ 6 ∷ 5 ∷ 4 ∷ 3 ∷ 2 ∷ 1 ∷ 0 ∷ [] }
+        requires of_keg { All (λ right. deed_table right ≡ book_table (rights_in keg)) rights.items }
+        requires new { IsNew (min 256 (4096 / size_in keg)) set.slabs (places_in keg) }
+        requires fetches { (zone : ℕ) → fetches_in keg zone ≡ [] }
+        requires reserve { reserve_in keg ≡ set.reserve }
+        ensures { IfOk result (IsPrimary (clock_id clock.now) (size_in keg) set hooks) }
+    {
+        let Some(right) = rights.pop() else {
+            unreachable!()
+        };
+        let rights = keep_rights(alloc, &keg, rights)?;
+        let domains = ZoneDomains::new(alloc, clock, keg.numbers(), 0, set.domains, set.smr)?;
+        let mut keg = LockedKeg::new(alloc, keg)?;
+        let (index, added) = keg.add_zone(right, set.limit);
+        let Ok(keg) = Arc::new(alloc, keg.lock_up(alloc, set.domains)?) else {
+            return Err(Memory);
+        };
+        Ok(Zone {
+            keg,
+            domains,
+            hooks,
+            index,
+            bucket: set.bucket,
+            limit: set.limit,
+            added: Snapshot::of(&added),
+            rights,
+        })
+    }
+
+    /// A zone over the same keg, by the next of the seven rights that this one, which is primary, keeps. Its items pass
+    /// `zone_init` and `zone_fini` of its own hooks round each stay. Waits until it has the keg's lock.
+    ///
+    /// # Errors
+    ///
+    /// `Bucket` exactly where the size of a bucket is out of its range, then `Zones` exactly where no right is left.
+    /// `Memory` where memory is wanting. The right is kept after each refusal.
+    pub fn secondary<R: Wait>(
+        &mut self,
+        rt: &R,
+        alloc: Global,
+        set: SecondSet,
+        hooks: K,
+    ) -> Result<Zone<T, K, H>, ZoneRefused>
+        requires { zone_index self.old ≡ 0 }
+        ensures made { IfOk result (IsSecondaryOf self.old set hooks) }
+        ensures right { IfOk result (λ zone. zone_rights self.old ≡ zone_rights self.new ++ zone_index zone ∷ []) }
+        ensures kept { OnErr result (zone_rights self.new ≡ zone_rights self.old) }
+        ensures refused { IfErr result (RefusesSecondary (zone_rights self.old) set) }
+        ensures out_of_range { IsOutOfRange set.bucket → result ≡ Err (ZoneRefused.Bucket set.bucket) }
+        ensures same { IsSameZone self.old self.new }
+    {
+        check_bucket(set.bucket)?;
+        let Some(next) = self.rights.last() else {
+            return Err(ZoneRefused::Zones { zones: MOST_ZONES });
+        };
+        let index = next.no();
+        let keg = Arc::try_clone(&self.keg).map_err(|_| ZoneRefused::Memory)?;
+        let domains = self.new_domains(rt, alloc, index, set.smr)?;
+        let Some(next) = self.rights.pop() else {
+            unreachable!()
+        };
+        let added = self.add(rt, next.use_up(rt), set.limit);
+        Ok(Zone {
+            keg,
+            domains,
+            hooks,
+            index,
+            bucket: set.bucket,
+            limit: set.limit,
+            added: Snapshot::of(&added),
+            rights: Vec::new(alloc),
+        })
+    }
+
+    // Domains, as many as this zone has, of a zone of its keg.
+    fn new_domains<R: Wait>(
+        &self,
+        rt: &R,
+        alloc: Global,
+        index: u8,
+        smr: bool,
+    ) -> Result<ZoneDomains<T, H>, Memory>
+        ensures home { IfOk result (λ made. domains_home made ≡ home_of (zone_home self.now).book index (zone_home self.now).domains) }
+        ensures clock { IfOk result (λ made. domains_clock made ≡ zone_clock self.now) }
+        ensures smr { IfOk result (λ made. domains_smr made ≡ smr) }
+        ensures count { IfOk result (λ made. domain_count made ≡ zone_domains self.now) }
+    {
+        let guard = self.lock(rt);
+        let book = guard.value.numbers();
+        ZoneDomains::new(
+            alloc,
+            self.domains.clock(),
+            book,
+            index,
+            self.domains.count(),
+            smr,
+        )
+    }
+
+    // Adds a zone to the keg by this right. A share of its fail book shows that it was added.
+    fn add<R: Wait>(&self, rt: &R, right: Deed, limit: u64) -> FailShare
+        requires { deed_table right ≡ key_rights (zone_key self.now) }
+        ensures { key_fails (zone_key self.now) (no_of right) ≡ Some (share_table result) }
+    {
+        let mut guard = self.lock(rt);
+        let (_, added) = guard.value.add_zone(right, limit);
+        added
+    }
+}
+
+// Keeps the rights that are left of a new keg, in their order.
+fn keep_rights<T: Body, K: Hooks<T>>(
+    alloc: Global,
+    keg: &Keg<T, K>,
+    rights: Vec<Deed>,
+) -> Result<Vec<KeptRight>, Memory>
+    requires of_keg { All (λ right. deed_table right ≡ book_table (rights_in keg.now)) rights.items }
+    requires below { All (λ right. no_of right < 8) rights.items }
+    ensures numbers { IfOk result (λ kept. map right_no kept.items ≡ map no_of rights.items) }
+    ensures of_keg { IfOk result (λ kept. All (λ right. right_table right ≡ book_table (rights_in keg.now)) kept.items) }
+{
+    let mut kept = Vec::new(alloc);
+    for right in rights {
+        let right = KeptRight::new(alloc, keg.rights(), right)?;
+        kept.push(right).map_err(|_| Memory)?;
+    }
+    Ok(kept)
+}
+
+// Refuses a size that no bucket has.
+fn check_bucket(bucket: u32) -> Result<(), ZoneRefused>
+    ensures taken { OnOk result (IsBucketSize bucket) }
+    ensures refused { IfErr result (λ why. (why ≡ ZoneRefused.Bucket bucket) × IsOutOfRange bucket) }
+{
+    if bucket < LEAST_BUCKET || bucket > MOST_BUCKET {
+        return Err(ZoneRefused::Bucket { bucket });
+    }
+    Ok(())
+}
+
+// Refuses a count of domains that no zone has.
+fn check_domains(domains: u8) -> Result<(), ZoneRefused>
+    ensures taken { OnOk result (IsDomainCount domains) }
+    ensures refused { IfErr result (λ why. (why ≡ ZoneRefused.Domains domains) × (domains < 1 ⊎ 4 < domains)) }
+{
+    if domains == 0 || domains > MOST_DOMAINS {
+        return Err(ZoneRefused::Domains { domains });
+    }
+    Ok(())
+}

@@ -1,0 +1,75 @@
+ghost use Rattle.std.specs.Prelude.{◌≡◌, ◌≤◌, [], length, OnOk, OnErr};
+ghost use Rattle.smr_clock.specs.Belongs.{IsOf, clock_id, holder};
+
+use crate::zone::Zone;
+use deed_book::Memory;
+use smr_clock::{Clock, Host, Pass};
+use std::alloc::Global;
+use std::sync::Wait;
+use uma_life::{Body, Hooks};
+use uma_seat::SeatCache;
+
+impl<T: Body, K: Hooks<T>, H: Host> Zone<T, K, H> {
+    ghost use Rattle.uma_seat.specs.Seat.{spares_of, shelf_of, IsSameSeat, KeepsTop, KeepsPlain, KeepsFreed, KeepsCounts, KeepsMisses};
+    ghost use Rattle.zone_domains.specs.Flushed.{HasLastOf};
+    ghost use Rattle.uma_zone.specs.Zone.{zone_clock, IsSeatOf};
+
+    /// Takes the buckets of the seat's shelf to the lists of their domains, oldest first. Before that each loose bucket on
+    /// the shelf tries once to be sealed, and so does each that the seat's own domain lists. After `Memory` each bucket of
+    /// the shelf is in a list, or on the shelf still. Waits until it has the locks of these domains.
+    pub fn flush<R: Wait>(
+        &self,
+        rt: &R,
+        clock: &Clock<H>,
+        pass: &mut Pass<H>,
+        seat: &mut SeatCache<T, H>,
+    ) -> Result<(), Memory>
+        requires seat { IsSeatOf self.now seat.old }
+        requires clock { clock_id clock.now ≡ zone_clock self.now }
+        requires pass { IsOf clock.now pass.old }
+        ensures seat { IsSeatOf self.now seat.new }
+        ensures pass { IsOf clock.now pass.new }
+        ensures phase { (holder pass.new).phase ≡ (holder pass.old).phase }
+        ensures flushed { OnOk result (shelf_of seat.new ≡ []) }
+        ensures stay { OnErr result (HasLastOf (shelf_of seat.old) (shelf_of seat.new)) }
+        ensures spares { spares_of seat.new ≡ spares_of seat.old }
+        ensures same { IsSameSeat seat.old seat.new }
+        ensures top { KeepsTop seat.old seat.new }
+        ensures plain { KeepsPlain seat.old seat.new }
+        ensures freed { KeepsFreed seat.old seat.new }
+        ensures counts { KeepsCounts seat.old seat.new }
+        ensures misses { KeepsMisses seat.old seat.new }
+    {
+        self.domains.flush(rt, clock, pass, seat)
+    }
+
+    /// Flushes the seat, and then makes spare buckets until there are two, so that the next frees have one. Waits as
+    /// `flush` does.
+    pub fn make_room<R: Wait>(
+        &self,
+        rt: &R,
+        alloc: Global,
+        clock: &Clock<H>,
+        pass: &mut Pass<H>,
+        seat: &mut SeatCache<T, H>,
+    ) -> Result<(), Memory>
+        requires seat { IsSeatOf self.now seat.old }
+        requires clock { clock_id clock.now ≡ zone_clock self.now }
+        requires pass { IsOf clock.now pass.old }
+        ensures seat { IsSeatOf self.now seat.new }
+        ensures pass { IsOf clock.now pass.new }
+        ensures phase { (holder pass.new).phase ≡ (holder pass.old).phase }
+        ensures two { OnOk result (length (spares_of seat.new) ≡ 2) }
+        ensures flushed { OnOk result (shelf_of seat.new ≡ []) }
+        ensures stay { OnErr result (HasLastOf (shelf_of seat.old) (shelf_of seat.new)) }
+        ensures spares { length (spares_of seat.old) ≤ length (spares_of seat.new) }
+        ensures same { IsSameSeat seat.old seat.new }
+        ensures top { KeepsTop seat.old seat.new }
+        ensures plain { KeepsPlain seat.old seat.new }
+        ensures freed { KeepsFreed seat.old seat.new }
+        ensures counts { KeepsCounts seat.old seat.new }
+        ensures misses { KeepsMisses seat.old seat.new }
+    {
+        self.domains.make_room(rt, alloc, clock, pass, seat)
+    }
+}

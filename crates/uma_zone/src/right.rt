@@ -1,0 +1,74 @@
+ghost use Rattle.std.specs.Prelude.{◌≡◌, ◌<◌, IfOk};
+ghost use Rattle.deed_book.specs.Book.{book_table};
+ghost use Rattle.deed_book.specs.Deed.{deed_table, no_of};
+ghost use Rattle.keyed_lock.specs.KeyedLock.{lock_key};
+
+use deed_book::{Book, Deed, Memory};
+use keyed_lock::{KeyedLock, LockRule};
+use std::alloc::Global;
+use std::snapshot::Snapshot;
+use std::sync::Wait;
+
+/// Which right it is: the book of its keg's rights, and its number. For contracts alone.
+#[derive(Drop)]
+pub struct RightKey {
+    pub rights: Snapshot<Book>,
+    pub no: u8,
+}
+
+/// The deed is the right that the key names.
+pub struct RightOfKey;
+
+impl LockRule<Deed, RightKey> for RightOfKey {
+    ghost use Rattle.std.specs.Prelude.{◌≡◌};
+    ghost use Rattle.deed_book.specs.Book.{book_table};
+    ghost use Rattle.deed_book.specs.Deed.{deed_table, no_of};
+
+    ghost keeps = { λ key right. (deed_table right ≡ book_table key.rights.value) × (no_of right ≡ key.no) };
+}
+
+/// A right to a zone that a keg hasn't yet. Threads share a primary zone by reference, which they can't do with a deed, so
+/// the deed lies behind a lock. Nobody takes that until the right is used up.
+#[derive(Drop)]
+pub struct KeptRight {
+    no: u8,
+    deed: KeyedLock<Deed, RightKey, RightOfKey>,
+    ghost named: { (lock_key deed).no ≡ no },
+    pub ghost below: { no < 8 },
+}
+
+impl KeptRight {
+    ghost use Rattle.uma_zone.specs.Right.{right_table, right_no};
+
+    /// Keeps a right of the keg with these rights.
+    pub fn new(alloc: Global, rights: Snapshot<Book>, right: Deed) -> Result<KeptRight, Memory>
+        requires table { deed_table right ≡ book_table rights.value }
+        requires below { no_of right < 8 }
+        ensures table { IfOk result (λ kept. right_table kept ≡ deed_table right) }
+        ensures no { IfOk result (λ kept. right_no kept ≡ no_of right) }
+    {
+        let no = right.no() as u8;
+        let key = RightKey { rights, no };
+        match KeyedLock::new(alloc, right, &key) {
+            Ok(deed) => Ok(KeptRight { no, deed }),
+            Err(_right) => Err(Memory),
+        }
+    }
+
+    /// The number of the zone that it is a right to.
+    pub fn no(&self) -> u8
+        ensures no { result ≡ right_no self.now }
+        ensures below { result < 8 }
+    {
+        self.no
+    }
+
+    /// The right itself. It waits for nobody, since nobody else has taken it.
+    pub fn use_up<R: Wait>(self, rt: &R) -> Deed
+        ensures table { deed_table result ≡ right_table self }
+        ensures no { no_of result ≡ right_no self }
+    {
+        let KeptRight { no: _, deed } = self;
+        deed.into_inner(rt)
+    }
+}

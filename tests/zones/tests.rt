@@ -1,0 +1,10 @@
+mod churning;
+mod hooks;
+mod makings;
+mod reserve_rows;
+mod secondary_rows;
+mod smr_rows;
+mod stopped;
+mod wanting;
+mod watching;
+mod worker;
