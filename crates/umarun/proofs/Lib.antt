@@ -1,1 +1,2 @@
+mod MadeText
 mod Outcomes

@@ -1,4 +1,5 @@
 pub mod Causes
 pub mod Ending
+pub mod Making
 pub mod Replaying
 pub mod Stepping

@@ -1,5 +1,7 @@
-ghost use Rattle.std.specs.Prelude.{◌≡◌, map, string_bytes};
-ghost use Rattle.umarun.specs.Ending.{command_named, command_of};
+ghost use Rattle.std.specs.Prelude.{◌≡◌, map, string_bytes, IfOk, IfSome};
+ghost use Rattle.umarun.specs.Ending.{HasRanges, command_named, command_numbered, command_of, gen_numbered};
+
+use text_lines::{TraceKind, number_in, number_within};
 
 /// What the program is asked to do.
 #[derive(Clone, Copy, Debug, PartialEq, Eq)]
@@ -8,26 +10,62 @@ pub enum Command {
     Replay,
     /// Play a schedule, and print what its steps see.
     Steps,
+    /// Print the trace that a seed gives, of `ops` steps, 1 to 50,000, of `workers` workers, 1 to 16.
+    Gen { seed: u64, workers: u32, ops: u32 },
 }
 
 impl Command {
     /// The command that the words after the program's name are, if they are one.
     pub fn of(words: &[String]) -> Option<Command>
-        ensures { result ≡ command_of (map string_bytes words.now) }
+        ensures is { result ≡ command_of (map string_bytes words.now) }
+        ensures ranges { IfSome result HasRanges }
     {
         match words {
             [word] => Command::named(word.as_bytes()),
+            [word, seed, workers, ops] => Command::numbered(
+                word.as_bytes(),
+                seed.as_bytes(),
+                workers.as_bytes(),
+                ops.as_bytes(),
+            ),
             _ => None,
         }
     }
 
     fn named(word: &[u8]) -> Option<Command>
-        ensures { result ≡ command_named word.now }
+        ensures is { result ≡ command_named word.now }
+        ensures ranges { IfSome result HasRanges }
     {
         match word {
             b"replay" => Some(Command::Replay),
             b"steps" => Some(Command::Steps),
             _ => None,
         }
+    }
+
+    /// The command of a word with three more.
+    fn numbered(word: &[u8], seed: &[u8], workers: &[u8], ops: &[u8]) -> Option<Command>
+        ensures is { result ≡ command_numbered word.now seed.now workers.now ops.now }
+        ensures ranges { IfSome result HasRanges }
+    {
+        match word {
+            b"gen" => Command::made(seed, workers, ops).ok(),
+            _ => None,
+        }
+    }
+
+    /// `gen` with these numbers, or what is wrong with the first that is none.
+    fn made(seed: &[u8], workers: &[u8], ops: &[u8]) -> Result<Command, TraceKind>
+        ensures is { result ≡ gen_numbered seed.now workers.now ops.now }
+        ensures ranges { IfOk result HasRanges }
+    {
+        let seed = number_in(seed)?;
+        let workers = number_within(workers, 1, 16)?;
+        let ops = number_within(ops, 1, 50_000)?;
+        Ok(Command::Gen {
+            seed,
+            workers: workers as u32,
+            ops: ops as u32,
+        })
     }
 }

@@ -1,5 +1,5 @@
-//! Replays a trace of allocations and frees, and prints a table in the manner of `vmstat -z`; or plays a schedule of the
-//! reclamation clock, and prints what each step sees.
+//! Replays a trace of allocations and frees, and prints a table in the manner of `vmstat -z`; plays a schedule of the
+//! reclamation clock, and prints what each step sees; or makes a trace from a number.
 #![tactic(auto)]
 
 ghost use Rattle.std.specs.Prelude.{◌≡◌, ◌≢◌};
@@ -9,6 +9,7 @@ ghost use Rattle.umarun.specs.Ending.{exit_code};
 mod command;
 mod fault;
 mod finish;
+mod making;
 mod replaying;
 mod run;
 mod stepping;

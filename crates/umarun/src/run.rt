@@ -1,10 +1,11 @@
-ghost use Rattle.std.specs.Prelude.{◌≡◌, ◌≢◌, ◌↔◌, ◌⊎◌, ℕ, map, string_bytes, Some, None, IsSome, IsNone, IfSome, IfNone, IsSomeAnd};
+ghost use Rattle.std.specs.Prelude.{◌≡◌, ◌≢◌, ◌↔◌, ◌⊎◌, ℕ, true, false, map, string_bytes, Some, None, IsSome, IsNone, IfSome, IfNone, IsSomeAnd};
 ghost use Rattle.smr_core.specs.declared.step_refused.StepRefused.{StepRefused as Turned};
 ghost use Rattle.text_lines.specs.declared.refused.TraceRefused.{TraceRefused as Refused};
 ghost use Rattle.uma_io.specs.Faults.{Rose};
 ghost use Rattle.uma_io.specs.Sink.{Adds, AddsPart};
 ghost use Rattle.uma_io.specs.Source.{Exhausts, HasMoreThan};
-ghost use Rattle.umarun.specs.Ending.{command_of, status_at};
+ghost use Rattle.umarun.specs.Ending.{command_of, reads_input, status_at};
+ghost use Rattle.umarun.specs.Making.{made_text};
 ghost use Rattle.umarun.specs.Replaying.{Replays, AreInput, AreRefused, RefusesTrace, most_bytes};
 ghost use Rattle.umarun.specs.Stepping.{ArePlayed, WritesOutput, WritesPart, RefusesText, RefusesStep};
 ghost use Rattle.zone_stats.specs.ReportText.{report_text};
@@ -12,6 +13,7 @@ ghost use Rattle.zone_stats.specs.ReportText.{report_text};
 use crate::command::Command;
 use crate::fault::Fault;
 use crate::finish::Finish;
+use crate::making::made_text;
 use crate::replaying::{replay, replayed_or_refused};
 use crate::stepping::{played_or_refused, steps};
 use std::alloc::Global;
@@ -22,8 +24,9 @@ use uma_replay::Gate;
 /// The most bytes of an input.
 pub const MOST_BYTES: u64 = 16_777_216;
 
-/// Does all that the program does: reads the words, then the whole source, then parses it, then replays or plays it, and
-/// writes the whole output. The first refusal ends it. `words` are those after the program's name.
+/// Does all that the program does: reads the words, then the whole source where the command reads it, then parses it, then
+/// replays or plays it, or makes a trace, and writes the whole output. The first refusal ends it. `words` are those after the
+/// program's name.
 pub fn run<R: Wait, S: Source, K: Sink, G: Gate + Sync>(
     rt: &R,
     alloc: Global,
@@ -39,10 +42,12 @@ pub fn run<R: Wait, S: Source, K: Sink, G: Gate + Sync>(
         × (IsNone result.fault ⊎ (result.fault ≡ Some Fault.Write))) }
     ensures hall { IsSome result.hall ↔ IsSome result.report }
 
-    // Usage exactly where the words are no command; nothing is read then.
+    // Usage exactly where the words are no command. Nothing is read but for `replay` and `steps`, which read all.
     ensures usage { result.fault ≡ Some Fault.Usage → command_of (map string_bytes words.now) ≡ None }
     ensures command { result.fault ≢ Some Fault.Usage → IsSome (command_of (map string_bytes words.now)) }
-    ensures unread { result.fault ≡ Some Fault.Usage → source.new ≡ source.old }
+    ensures unread { reads_input (command_of (map string_bytes words.now)) ≡ false → source.new ≡ source.old }
+    ensures end { reads_input (command_of (map string_bytes words.now)) ≡ true
+        → IfNone result.fault (Exhausts (S.bytes_left source.old) (S.bytes_left source.new)) }
 
     // Reading and writing fail only where a fault was counted in this call, and the input is too long only where more
     // bytes came. Each clause below on what is done with the bytes says that they were not too many.
@@ -50,7 +55,6 @@ pub fn run<R: Wait, S: Source, K: Sink, G: Gate + Sync>(
     ensures write { result.fault ≡ Some Fault.Write → Rose (K.fault_count sink.old) (K.fault_count sink.new) }
     ensures too_long { (most : ℕ) → result.fault ≡ Some (Fault.TooLong most)
         → (most ≡ most_bytes) × HasMoreThan most_bytes (S.bytes_left source.old) }
-    ensures end { IfNone result.fault (Exhausts (S.bytes_left source.old) (S.bytes_left source.new)) }
 
     // Nothing is written before a refusal.
     ensures unwritten { IsSome result.fault → result.fault ≢ Some Fault.Write → sink.new ≡ sink.old }
@@ -98,6 +102,17 @@ pub fn run<R: Wait, S: Source, K: Sink, G: Gate + Sync>(
         → ¬ (Rose (S.fault_count source.old) (S.fault_count source.new))
         → ¬ (Rose (K.fault_count sink.old) (K.fault_count sink.new))
         → (result.fault ≡ None) ⊎ (result.fault ≡ Some Fault.Memory) }
+
+    // `gen`: the canonical text of the trace that the numbers give is written, and nothing else, or memory was wanting, where
+    // writing didn't fail.
+    ensures gen_written { (seed workers ops : ℕ) → command_of (map string_bytes words.now) ≡ Some (Command.Gen seed workers ops)
+        → IfNone result.fault (Adds (K.bytes_held sink.old) (made_text seed workers ops) (K.bytes_held sink.new)) }
+    ensures gen_part { (seed workers ops : ℕ) → command_of (map string_bytes words.now) ≡ Some (Command.Gen seed workers ops)
+        → result.fault ≡ Some Fault.Write
+        → AddsPart (K.bytes_held sink.old) (made_text seed workers ops) (K.bytes_held sink.new) }
+    ensures gen_complete { (seed workers ops : ℕ) → command_of (map string_bytes words.now) ≡ Some (Command.Gen seed workers ops)
+        → ¬ (Rose (K.fault_count sink.old) (K.fault_count sink.new))
+        → (result.fault ≡ None) ⊎ (result.fault ≡ Some Fault.Memory) }
 {
     match Command::of(words) {
         None => Finish::refused(Fault::Usage),
@@ -115,11 +130,29 @@ pub fn run<R: Wait, S: Source, K: Sink, G: Gate + Sync>(
             played_or_refused();
             match steps(alloc, source) {
                 Err(fault) => Finish::refused(fault),
-                Ok(text) => match write_all(sink, &text) {
-                    Ok(()) => Finish::good(),
-                    Err(_) => Finish::refused(Fault::Write),
-                },
+                Ok(text) => written(sink, &text),
             }
         }
+        Some(Command::Gen { seed, workers, ops }) => match made_text(alloc, seed, workers, ops) {
+            Err(_) => Finish::refused(Fault::Memory),
+            Ok(text) => written(sink, &text),
+        },
+    }
+}
+
+/// Writes the whole text of a command that makes no report.
+fn written<K: Sink>(sink: &mut K, text: &[u8]) -> Finish
+    ensures status { result.status ≡ status_at result.fault }
+    ensures no_report { result.report ≡ None }
+    ensures no_hall { result.hall ≡ None }
+    ensures cause { (result.fault ≡ None) ⊎ (result.fault ≡ Some Fault.Write) }
+    ensures all { IfNone result.fault (Adds (K.bytes_held sink.old) text.now (K.bytes_held sink.new)) }
+    ensures part { result.fault ≡ Some Fault.Write → AddsPart (K.bytes_held sink.old) text.now (K.bytes_held sink.new) }
+    ensures write { result.fault ≡ Some Fault.Write → Rose (K.fault_count sink.old) (K.fault_count sink.new) }
+    ensures complete { ¬ (Rose (K.fault_count sink.old) (K.fault_count sink.new)) → result.fault ≡ None }
+{
+    match write_all(sink, text) {
+        Ok(()) => Finish::good(),
+        Err(_) => Finish::refused(Fault::Write),
     }
 }

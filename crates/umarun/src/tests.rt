@@ -3,6 +3,7 @@
 ghost use Rattle.std.specs.Prelude.{◌≤◌};
 
 mod faults;
+mod making;
 mod refusals;
 mod rows;
 mod schedules;
@@ -19,10 +20,11 @@ use uma_replay::FreeGate;
 /// The header of most rows.
 const HEADER: &str = "uma 1\nworkers 1\ndomains 1\n";
 
-/// How a source and a sink behave: how many bytes a read gives, and which calls fail, from 1.
+/// How a source and a sink behave: how many bytes a read gives, for how many there is room, and which calls fail, from 1.
 #[derive(Drop)]
 struct Outside {
     each: usize,
+    room: usize,
     failing_reads: Vec<u64>,
     failing_writes: Vec<u64>,
     ghost gives: { 1 ≤ each },
@@ -33,6 +35,7 @@ impl Outside {
     fn fine(alloc: Global) -> Outside {
         Outside {
             each: 4096,
+            room: 4096,
             failing_reads: Vec::new(alloc),
             failing_writes: Vec::new(alloc),
         }
@@ -63,7 +66,7 @@ fn end_of_bytes<R: Wait + AllocGlobal>(
         owned.push(String::from_str(alloc, word)?)?;
     }
     let mut source = MemSource::new(bytes, outside.each, outside.failing_reads);
-    let mut sink = MemSink::new(alloc, 4096, outside.failing_writes)?;
+    let mut sink = MemSink::new(alloc, outside.room, outside.failing_writes)?;
     let finish = run(rt, alloc, &owned, &mut source, &mut sink, &FreeGate);
     let written = String::from_utf8_lossy(alloc, sink.bytes())?;
     Ok((finish, written))

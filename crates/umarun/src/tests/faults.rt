@@ -9,6 +9,7 @@ const EMPTY_BOX: &str = "uma 1\nworkers 1\ndomains 1\nzone box 256 4 4 0 0 plain
 fn a_fault_of_reading_writes_nothing(rt: HostRuntime) -> Result<(), Fail> {
     let outside = Outside {
         each: 16,
+        room: 4096,
         failing_reads: vec![in rt.alloc(); 2]?,
         failing_writes: Vec::new(rt.alloc()),
     };
@@ -25,6 +26,7 @@ fn a_fault_of_reading_writes_nothing(rt: HostRuntime) -> Result<(), Fail> {
 fn a_fault_of_writing_leaves_the_report(rt: HostRuntime) -> Result<(), Fail> {
     let outside = Outside {
         each: 16,
+        room: 4096,
         failing_reads: Vec::new(rt.alloc()),
         failing_writes: vec![in rt.alloc(); 1]?,
     };

@@ -6,12 +6,16 @@ use trace_text::{TraceKind, TraceRefused};
 
 #[test]
 fn words_that_are_no_command_are_usage(rt: HostRuntime) -> Result<(), Fail> {
-    let rows: [&[&str]; 8] = [
+    let rows: [&[&str]; 12] = [
         &[],
         &["replay", "x"],
         &["steps", "1"],
         &["steps", "steps"],
         &["gen", "7", "0", "5"],
+        &["gen", "7", "17", "5"],
+        &["gen", "7", "1", "50001"],
+        &["gen", "-7", "1", "1"],
+        &["bulk", "7", "1", "1"],
         &["--help"],
         &["-replay"],
         &["Replay"],

@@ -74,3 +74,7 @@ returns-in-Err-steps-clause-steps_complete g c = λ is played unread unwritten.
     (λ line refused is. c.in-Err-steps.ensures.step line refused (ap Err is)) (λ is. c.in-Err-steps.ensures.command (ap Err is)) (λ is. c.in-Err-steps.ensures.unwritten (ap Err is))
     (λ is. unread (c.in-Err-steps.ensures.read (ap Err is))) played in
     inr (ap (λ (finish : Finish). finish.fault) c.refused-in-Err-steps.ensures ∙ ap Some memory)
+
+-- The text of a made trace is written whole where writing didn't fail.
+pub returns-clause-gen_complete : goal.returns-clause-gen_complete
+returns-clause-gen_complete g c = λ seed workers ops is unwritten. inl (c.written-in-Ok-made_text.ensures.complete unwritten)

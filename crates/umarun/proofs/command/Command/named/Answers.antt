@@ -4,7 +4,7 @@ use Rattle.std.specs.Prelude.{codes}
 use Rattle.std.proofs.lemmas.Slice.Eq.{text_from_reads}
 use Rattle.umarun.proofs.command.Command.named.Goals as goal
 
-pub returns-in-replay : goal.returns-in-replay
-returns-in-replay c =
+pub returns-in-replay-clause-is : goal.returns-in-replay-clause-is
+returns-in-replay-clause-is c =
     let is : c.args.word.now ≡ codes "replay" = text_from_reads c.args.word.now (codes "replay") (omega (arith, c.in-replay.len_at_least, c.in-replay.len_below)) (search rules) in
     rw is refl
