@@ -80,9 +80,10 @@ module _ (T H P : RattleType) (g : body.Ghosts T.Denot) (h : host.Ghosts H.Denot
 
 module _ (T K H P : RattleType) (g : body.Ghosts T.Denot) (k : hooks.Ghosts K.Denot T.Denot) (h : host.Ghosts H.Denot P.Denot) (t : IsSend T) (ks : IsSend K) (ky : IsSync K) (s : IsSend H) (y : IsSync H) where
   zone_field_sync : IsSync (Zone.the_field T K H P g k h).row
-  zone_field_sync = struct_sync (shape (Zone.the_type T K H P g k h))
-      (Arc-sync (KegLock T K g k t ks) (lock_send T K g k t ks) (lock_sync T K g k t ks),
-      (domains_field_sync T H P g h t s y, (ky, (search sendable, (search sendable, (search sendable, (search (crosses), (Vec-sync _ (search (right.the_sync)), tt))))))))
+  zone_field_sync = struct_sync (shape (Zone.the_type T K H P g k h)) (
+    Arc-sync (KegLock T K g k t ks) (lock_send T K g k t ks) (lock_sync T K g k t ks),
+    (domains_field_sync T H P g h t s y, (ky, (search sendable, (search sendable, (search sendable, (search (crosses), (Vec-sync _ (search (right.the_sync)), tt))))))),
+  )
 
   -- a zone, behind a reference
   pub zone_sync : IsSync (Zone.the_row T K H P g k h)
