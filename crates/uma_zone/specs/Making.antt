@@ -43,7 +43,7 @@ RefusesPrimary size set (Slabs named) = (named ≡ set.slabs) × IsItemSize size
 RefusesPrimary size set (Bucket named) = (named ≡ set.bucket) × IsItemSize size × IsSlabCount set.slabs × IsOutOfRange set.bucket
 RefusesPrimary size set (Domains named) = (named ≡ set.domains) × IsItemSize size × IsSlabCount set.slabs × IsBucketSize set.bucket × (set.domains < 1 ⊎ 4 < set.domains)
 RefusesPrimary size set (Zones zones) = ⊥
-RefusesPrimary size set Memory = IsItemSize size × IsSlabCount set.slabs
+RefusesPrimary size set Memory = AcceptsSet size set
 
 -- The size of a bucket out of its range, or else no right that is left; memory is wanted where neither is so.
 abbrev pub RefusesSecondary : List ℕ → SecondSet → ZoneRefused → Type 0

@@ -22,7 +22,7 @@ use smr_clock::{Clock, Host};
 use std::alloc::Global;
 use std::snapshot::Snapshot;
 use std::sync::{Arc, Wait};
-use uma_keg::Keg;
+use uma_keg::{Keg, KegRefused};
 use uma_life::{Body, Hooks};
 use zone_domains::ZoneDomains;
 
@@ -61,7 +61,16 @@ impl<T: Body + Drop, K: Hooks<T>, H: Host> Zone<T, K, H> {
         ensures accepted { OnOk result (AcceptsSet size set) }
         ensures refused { IfErr result (RefusesPrimary size set) }
     {
-        let (keg, rights) = Keg::new(alloc, size, set.slabs, set.reserve, keg_hooks)?;
+        let (keg, rights) = match Keg::new(alloc, size, set.slabs, set.reserve, keg_hooks) {
+            Ok(made) => made,
+            Err(KegRefused::Memory) => {
+                // Each number is tested before want of memory is told.
+                check_bucket(set.bucket)?;
+                check_domains(set.domains)?;
+                return Err(ZoneRefused::Memory);
+            }
+            Err(refused) => return Err(refused.into()),
+        };
         check_bucket(set.bucket)?;
         check_domains(set.domains)?;
         Ok(Zone::over(alloc, clock, set, hooks, keg, rights)?)
