@@ -120,6 +120,8 @@ impl<T: Body> Loose<T> {
         requires here { IsOf clock.now pass.old }
         ensures here { IsOf clock.now pass.new }
         ensures phase { (holder pass.new).phase ≡ (holder pass.old).phase }
+        ensures seen { (holder pass.old).seen ≤ (holder pass.new).seen }
+        ensures host { (view pass.new).host ≡ (view pass.old).host }
         ensures of_clock { IfOk result (IsSealedAt (clock_id clock.now)) }
         ensures seals { IfOk result (λ sealed. Seals H.copied (view pass.old) self sealed (view pass.new)) }
         ensures back { IfErr result (λ (loose, refused). loose ≡ self) }

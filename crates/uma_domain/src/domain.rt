@@ -1,7 +1,7 @@
 ghost use Rattle.std.specs.Prelude.{◌≡◌, ◌≤◌, ◌<◌, ◌^◌, [], All, true, false, IfOk, IfErr, IfSome, IfNone};
 ghost use Rattle.deed_book.specs.Book.{book_table};
 ghost use Rattle.deed_book.specs.FailShare.{share_table, causes_in};
-ghost use Rattle.smr_clock.specs.Belongs.{IsOf, clock_id, holder};
+ghost use Rattle.smr_clock.specs.Belongs.{IsOf, clock_id, view, holder};
 ghost use Rattle.uma_bucket.specs.Sums.{AreOfAtMost, Balance};
 ghost use Rattle.uma_domain.specs.Domain.{domain_identity};
 ghost use Rattle.uma_domain.specs.Identity.{home_of};
@@ -142,6 +142,8 @@ impl<T: Body, H: Host> Domain<T, H> {
         requires pass { IsOf clock.now pass.old }
         ensures pass { IsOf clock.now pass.new }
         ensures phase { (holder pass.new).phase ≡ (holder pass.old).phase }
+        ensures seen { (holder pass.old).seen ≤ (holder pass.new).seen }
+        ensures host { (view pass.new).host ≡ (view pass.old).host }
     {
         let mut guard = self.lists.lock(rt);
         guard.value.seal_loose(clock, pass)

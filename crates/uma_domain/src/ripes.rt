@@ -52,6 +52,8 @@ impl<T: Body, H: Host> Lists<T, H> {
         requires pass { IsOf clock.now pass.old }
         ensures pass { IsOf clock.now pass.new }
         ensures phase { (holder pass.new).phase ≡ (holder pass.old).phase }
+        ensures seen { (holder pass.old).seen ≤ (holder pass.new).seen }
+        ensures host { (view pass.new).host ≡ (view pass.old).host }
         ensures tried { SealsEach H.copied (clock_id clock.now) (view pass.old) (loose_in self.old) (sealed_in self.old) result (loose_in self.new) (sealed_in self.new) (view pass.new) }
         ensures plain { plain_in self.new ≡ plain_in self.old }
         ensures working { working_in self.new ≡ working_in self.old }

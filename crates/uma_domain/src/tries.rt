@@ -21,6 +21,8 @@ pub(crate) fn seal_each<T: Body, H: Host>(
     requires room { deque_len loose.old + deque_len sealed.old ≤ deque_capacity sealed.old }
     ensures here { IsOf clock.now pass.new }
     ensures phase { (holder pass.new).phase ≡ (holder pass.old).phase }
+    ensures seen { (holder pass.old).seen ≤ (holder pass.new).seen }
+    ensures host { (view pass.new).host ≡ (view pass.old).host }
     ensures tried { SealsEach H.copied (clock_id clock.now) (view pass.old) loose.old.items sealed.old.items result loose.new.items sealed.new.items (view pass.new) }
     ensures room { deque_len loose.new + deque_len sealed.new ≤ deque_capacity sealed.new }
 {

@@ -1,4 +1,4 @@
-ghost use Rattle.std.specs.Prelude.{◌≡◌, ◌<◌, ◌==◌, true, false, not, length, slice_set};
+ghost use Rattle.std.specs.Prelude.{◌≡◌, ◌≤◌, ◌<◌, ◌==◌, true, false, not, length, slice_set};
 ghost use Rattle.smr_clock.specs.Belongs.{IsOf, clock_id, view, holder};
 ghost use Rattle.uma_bucket.specs.Loose.{loose_items, loose_tickets};
 ghost use Rattle.uma_seat.specs.Shelf.{count_of, shelved_domain, shelved_tickets, IsShelvedOf};
@@ -30,6 +30,8 @@ impl<T: Body, H: Host> SeatCache<T, H> {
         requires here { IsOf clock.now pass.old }
         ensures here { IsOf clock.now pass.new }
         ensures phase { (holder pass.new).phase ≡ (holder pass.old).phase }
+        ensures seen { (holder pass.old).seen ≤ (holder pass.new).seen }
+        ensures host { (view pass.new).host ≡ (view pass.old).host }
         ensures put { is_filled_by_one (stack_at (freed_of self.old) (live_domain item)) ≡ false → freed_of self.new ≡ slice_set (freed_of self.old) (live_domain item) (with_item (stack_at (freed_of self.old) (live_domain item)) item) }
         ensures rack { is_filled_by_one (stack_at (freed_of self.old) (live_domain item)) ≡ false → KeepsRack self.old self.new }
         ensures unseen { is_filled_by_one (stack_at (freed_of self.old) (live_domain item)) ≡ false → view pass.new ≡ view pass.old }
@@ -77,6 +79,8 @@ impl<T: Body, H: Host> SeatCache<T, H> {
         requires here { IsOf clock.now pass.old }
         ensures here { IsOf clock.now pass.new }
         ensures phase { (holder pass.new).phase ≡ (holder pass.old).phase }
+        ensures seen { (holder pass.old).seen ≤ (holder pass.new).seen }
+        ensures host { (view pass.new).host ≡ (view pass.old).host }
         ensures full { ShelvesFreed H.copied (view pass.old) self.old (live_domain (freed_item item)) (with_item (stack_at (freed_of self.old) (live_domain (freed_item item))) (freed_item item)) self.new (view pass.new) }
         ensures same { IsSameSeat self.old self.new }
         ensures top { KeepsTop self.old self.new }
@@ -101,6 +105,8 @@ pub fn try_to_seal<T: Body, H: Host>(
     requires here { IsOf clock.now pass.old }
     ensures here { IsOf clock.now pass.new }
     ensures phase { (holder pass.new).phase ≡ (holder pass.old).phase }
+    ensures seen { (holder pass.old).seen ≤ (holder pass.new).seen }
+    ensures host { (view pass.new).host ≡ (view pass.old).host }
     ensures tried { IsTried H.copied (view pass.old) domain loose result (view pass.new) }
     ensures domain { shelved_domain result ≡ domain }
     ensures count { count_of result ≡ length (loose_items loose) }

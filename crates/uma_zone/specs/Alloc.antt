@@ -105,13 +105,14 @@ module _ {T K H P : Type 0} {g k h : _} where
   -- 1. The zone's own limit, above 0, and as many items outside.
   -- 2. The keg's reserve, and some free items, none beyond it, for a request without the right to it.
   -- 3. As many slabs as the keg may have.
-  -- 4. A code with which hooks refuse a body.
+  -- 4. A code with which hooks refuse a body: the keg's as it is brought in, or the zone's own as it enters the zone.
   -- 5. No fetch runs `ctor`.
   abbrev pub Names : Zone T K H P g k h → Bool → Refusal → Type 0
   Names zone reserve (AtLimit out limit) = (limit ≡ zone_limit zone) × (out ≡ limit) × (0 < limit)
   Names zone reserve (Reserved free kept) = (kept ≡ zone_reserve zone) × (0 < free) × (free ≤ kept) × (reserve ≡ false)
   Names zone reserve (Full slabs made) = slabs ≡ zone_cap zone
-  Names zone reserve (Init code) = (hooks : K) × (body : T) × (index : ℕ) × (k.refuses_init hooks body index ≡ Some code)
+  Names zone reserve (Init code) =
+      (hooks : K) × (body : T) × (index : ℕ) × ((index ≡ 0) ⊎ ((index ≡ zone_index zone) × (hooks ≡ zone_hooks zone))) × (k.refuses_init hooks body index ≡ Some code)
   Names zone reserve (Ctor' code) = ⊥
 
   -- No item was usable as the request began, its look at the seat's own domain found nothing, and its one fetch was refused so. The refusal is counted and kept, and no item is usable.

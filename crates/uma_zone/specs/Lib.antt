@@ -1,5 +1,6 @@
 pub mod Right
 pub mod Zone
+pub mod Told
 pub mod Alloc
 pub mod Fetch
 pub mod Free

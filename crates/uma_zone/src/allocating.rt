@@ -1,5 +1,5 @@
 ghost use Rattle.std.specs.Prelude.{◌≡◌, ◌≢◌, ◌≤◌, ◌<◌, ◌++◌, ◌∷◌, ℕ, [], length, IfOk, IfErr, OnOk};
-ghost use Rattle.smr_clock.specs.Belongs.{IsOf, clock_id, holder};
+ghost use Rattle.smr_clock.specs.Belongs.{IsOf, clock_id, view, holder};
 ghost use Rattle.zone_stats.specs.LedgerSteps.{HasRoom, CountsAlloc};
 
 use crate::alloc_ask::{AllocAsk, AllocRefused};
@@ -18,6 +18,7 @@ impl<T: Body, K: Hooks<T>, H: Host> Zone<T, K, H> {
     ghost use Rattle.uma_seat.specs.Seat.{top_of, usable_of, spares_of, shelf_of, ledger_of, fetches_of, plain_of, plain_ready, IsSameSeat, KeepsPlain, KeepsFreed, KeepsRack, KeepsMisses};
     ghost use Rattle.zone_domains.specs.Flushed.{HasLastOf};
     ghost use Rattle.uma_zone.specs.Zone.{zone_home, zone_clock, IsSeatOf};
+    ghost use Rattle.uma_zone.specs.Told.{TakesInNote};
     ghost use Rattle.uma_zone.specs.Alloc.{Serves, Refuses, Takes, IsFilled, IsBuilt, PutsBack, RefusesToTake};
 
     /// An item that passed `ctor` with the argument in this call.
@@ -47,6 +48,8 @@ impl<T: Body, K: Hooks<T>, H: Host> Zone<T, K, H> {
         ensures seat { IsSeatOf self.now seat.new }
         ensures pass { IsOf clock.now pass.new }
         ensures phase { (holder pass.new).phase ≡ (holder pass.old).phase }
+        ensures seen { (holder pass.old).seen ≤ (holder pass.new).seen }
+        ensures host { TakesInNote H.merged (view pass.old).host (view pass.new).host }
         ensures home { IfOk result (λ live. IsHome (zone_home self.now) (live_ticket live)) }
         ensures served { IfOk result (λ live. Serves self.now ask.arg seat.old live seat.new) }
         ensures refused { IfErr result (Refuses self.now ask seat.old seat.new) }
@@ -78,6 +81,8 @@ impl<T: Body, K: Hooks<T>, H: Host> Zone<T, K, H> {
         ensures seat { IsSeatOf self.now seat.new }
         ensures pass { IsOf clock.now pass.new }
         ensures phase { (holder pass.new).phase ≡ (holder pass.old).phase }
+        ensures seen { (holder pass.old).seen ≤ (holder pass.new).seen }
+        ensures host { TakesInNote H.merged (view pass.old).host (view pass.new).host }
         ensures home { IfOk result (λ item. IsHome (zone_home self.now) (cached_ticket item)) }
         ensures takes { IfOk result (λ item. Takes self.now seat.old item (usable_of seat.new) seat.new) }
         ensures ledger { OnOk result (ledger_of seat.new ≡ ledger_of seat.old) }
@@ -118,6 +123,8 @@ impl<T: Body, K: Hooks<T>, H: Host> Zone<T, K, H> {
         ensures seat { IsSeatOf self.now seat.new }
         ensures pass { IsOf clock.now pass.new }
         ensures phase { (holder pass.new).phase ≡ (holder pass.old).phase }
+        ensures seen { (holder pass.old).seen ≤ (holder pass.new).seen }
+        ensures host { TakesInNote H.merged (view pass.old).host (view pass.new).host }
         ensures filled { OnOk result (IsFilled self.now seat.old seat.new) }
         ensures refused { IfErr result (RefusesToTake self.now reserve seat.old seat.new) }
         ensures spare { length (spares_of seat.old) ≤ length (spares_of seat.new) }

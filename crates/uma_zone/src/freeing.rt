@@ -1,4 +1,4 @@
-ghost use Rattle.std.specs.Prelude.{◌≡◌, ◌<◌, ◌==◌, true, false, not, length, slice_set};
+ghost use Rattle.std.specs.Prelude.{◌≡◌, ◌≤◌, ◌<◌, ◌==◌, true, false, not, length, slice_set};
 ghost use Rattle.smr_clock.specs.Belongs.{IsOf, clock_id, view, holder};
 ghost use Rattle.zone_stats.specs.LedgerSteps.{HasRoom, CountsFree};
 
@@ -56,6 +56,8 @@ impl<T: Body, K: Hooks<T>, H: Host> Zone<T, K, H> {
         ensures seat { IsSeatOf self.now seat.new }
         ensures pass { IsOf clock.now pass.new }
         ensures phase { (holder pass.new).phase ≡ (holder pass.old).phase }
+        ensures seen { (holder pass.old).seen ≤ (holder pass.new).seen }
+        ensures host { (view pass.new).host ≡ (view pass.old).host }
         ensures put { is_filled_by_one (stack_at (freed_of seat.old) (live_domain live)) ≡ false → freed_of seat.new ≡ slice_set (freed_of seat.old) (live_domain live) (with_item (stack_at (freed_of seat.old) (live_domain live)) live) }
         ensures rack { is_filled_by_one (stack_at (freed_of seat.old) (live_domain live)) ≡ false → KeepsRack seat.old seat.new }
         ensures full { is_filled_by_one (stack_at (freed_of seat.old) (live_domain live)) ≡ true → ShelvesFreed H.copied (view pass.old) seat.old (live_domain live) (with_item (stack_at (freed_of seat.old) (live_domain live)) live) seat.new (view pass.new) }

@@ -1,5 +1,5 @@
 ghost use Rattle.std.specs.Prelude.{◌≡◌, ◌≤◌, [], length, OnOk, OnErr};
-ghost use Rattle.smr_clock.specs.Belongs.{IsOf, clock_id, holder};
+ghost use Rattle.smr_clock.specs.Belongs.{IsOf, clock_id, view, holder};
 
 use crate::zone::Zone;
 use deed_book::Memory;
@@ -30,6 +30,8 @@ impl<T: Body, K: Hooks<T>, H: Host> Zone<T, K, H> {
         ensures seat { IsSeatOf self.now seat.new }
         ensures pass { IsOf clock.now pass.new }
         ensures phase { (holder pass.new).phase ≡ (holder pass.old).phase }
+        ensures seen { (holder pass.old).seen ≤ (holder pass.new).seen }
+        ensures host { (view pass.new).host ≡ (view pass.old).host }
         ensures flushed { OnOk result (shelf_of seat.new ≡ []) }
         ensures stay { OnErr result (HasLastOf (shelf_of seat.old) (shelf_of seat.new)) }
         ensures spares { spares_of seat.new ≡ spares_of seat.old }
@@ -59,6 +61,8 @@ impl<T: Body, K: Hooks<T>, H: Host> Zone<T, K, H> {
         ensures seat { IsSeatOf self.now seat.new }
         ensures pass { IsOf clock.now pass.new }
         ensures phase { (holder pass.new).phase ≡ (holder pass.old).phase }
+        ensures seen { (holder pass.old).seen ≤ (holder pass.new).seen }
+        ensures host { (view pass.new).host ≡ (view pass.old).host }
         ensures two { OnOk result (length (spares_of seat.new) ≡ 2) }
         ensures flushed { OnOk result (shelf_of seat.new ≡ []) }
         ensures stay { OnErr result (HasLastOf (shelf_of seat.old) (shelf_of seat.new)) }

@@ -31,6 +31,8 @@ impl<T: Body, H: Host> ZoneDomains<T, H> {
         requires seat { IsSeatOf self.now seat.old }
         ensures pass { IsOf clock.now pass.new }
         ensures phase { (holder pass.new).phase ≡ (holder pass.old).phase }
+        ensures seen { (holder pass.old).seen ≤ (holder pass.new).seen }
+        ensures host { (view pass.new).host ≡ (view pass.old).host }
         ensures seat { IsSeatOf self.now seat.new }
         ensures flushed { OnOk result (shelf_of seat.new ≡ []) }
         ensures stay { OnErr result (HasLastOf (shelf_of seat.old) (shelf_of seat.new)) }
@@ -65,6 +67,8 @@ impl<T: Body, H: Host> ZoneDomains<T, H> {
         requires seat { IsSeatOf self.now seat.old }
         ensures pass { IsOf clock.now pass.new }
         ensures phase { (holder pass.new).phase ≡ (holder pass.old).phase }
+        ensures seen { (holder pass.old).seen ≤ (holder pass.new).seen }
+        ensures host { (view pass.new).host ≡ (view pass.old).host }
         ensures seat { IsSeatOf self.now seat.new }
         ensures two { OnOk result (length (spares_of seat.new) ≡ 2) }
         ensures flushed { OnOk result (shelf_of seat.new ≡ []) }
@@ -194,6 +198,8 @@ fn take_tried<T: Body, H: Host>(
     requires pass { IsOf clock.now pass.old }
     ensures pass { IsOf clock.now pass.new }
     ensures phase { (holder pass.new).phase ≡ (holder pass.old).phase }
+    ensures seen { (holder pass.old).seen ≤ (holder pass.new).seen }
+    ensures host { (view pass.new).host ≡ (view pass.old).host }
     ensures tried { IfSome result (λ tried. TakesTried H.copied (view pass.old) (shelf_of seat.old) tried (shelf_of seat.new) (view pass.new)) }
     ensures bound { IfSome result (λ tried. map bound_of (shelf_of seat.old) ≡ bound_of tried ∷ map bound_of (shelf_of seat.new)) }
     ensures can { IfSome result (CanBePut (seat_home seat.old) (seat_clock seat.old)) }

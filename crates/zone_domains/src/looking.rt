@@ -33,6 +33,7 @@ impl<T: Body, H: Host> ZoneDomains<T, H> {
         requires seat { IsSeatOf self.now seat.old }
         ensures pass { IsOf clock.now pass.new }
         ensures phase { (holder pass.new).phase ≡ (holder pass.old).phase }
+        ensures seen { (holder pass.old).seen ≤ (holder pass.new).seen }
         ensures seat { IsSeatOf self.now seat.new }
         ensures found { result ≡ true → 0 < length (top_of seat.new).items }
         ensures ripe { domains_smr self.now ≡ true → result ≡ true → IsOfRipe H.merged (K.leaves_dtor hooks.now) (view pass.old) (top_bucket seat.new) (view pass.new) }
@@ -99,6 +100,7 @@ impl<T: Body, H: Host> ZoneDomains<T, H> {
         requires seat { IsSeatOf self.now seat.old }
         ensures pass { IsOf clock.now pass.new }
         ensures phase { (holder pass.new).phase ≡ (holder pass.old).phase }
+        ensures seen { (holder pass.old).seen ≤ (holder pass.new).seen }
         ensures seat { IsSeatOf self.now seat.new }
         ensures found { result ≡ true → 0 < length (top_of seat.new).items }
         ensures ripe { result ≡ true → IsOfRipe H.merged (K.leaves_dtor hooks.now) (view pass.old) (top_bucket seat.new) (view pass.new) }

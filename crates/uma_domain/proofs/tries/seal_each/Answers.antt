@@ -8,6 +8,8 @@ pub loop-init : goal.loop-init
 loop-init g c = record {
   here = c.requires.here;
   phase = refl;
+  seen = omega arith;
+  host = refl;
   few = omega arith;
   as_many = omega arith;
   sealed = omega arith;
@@ -24,6 +26,8 @@ loop-preserved g c =
       | in-Ok w ↦ record {
         here = c.seal.ensures.here;
         phase = c.seal.ensures.phase ∙ at.phase;
+        seen = omega (arith, c.seal.ensures.seen, at.seen);
+        host = c.seal.ensures.host ∙ at.host;
         few = omega (arith, at.few, w.count-is);
         as_many = omega (arith, at.as_many, c.in-Some.ensures.cases, w.count-is, ap (λ q. q.len) w.loose-is);
         sealed = omega (arith, at.sealed, w.push_back_reserved.ensures.len, w.count-is, ap (λ q. q.len) w.sealed-is);
@@ -36,6 +40,8 @@ loop-preserved g c =
       | in-Err w ↦ record {
         here = c.seal.ensures.here;
         phase = c.seal.ensures.phase ∙ at.phase;
+        seen = omega (arith, c.seal.ensures.seen, at.seen);
+        host = c.seal.ensures.host ∙ at.host;
         few = omega (arith, at.few, w.count-is);
         as_many = omega (arith, at.as_many, c.in-Some.ensures.cases, w.push_back_reserved-in-Err.ensures.len, w.count-is, ap (λ q. q.len) w.loose-is);
         sealed = omega (arith, at.sealed, w.count-is, ap (λ q. q.len) w.sealed-is);

@@ -8,6 +8,8 @@ abbrev pub invariant-loop : goal.invariant-loop
 invariant-loop g l = record {
   here : IsOf l.clock l.pass;
   phase : (holder l.pass).phase ≡ (holder l.fn.pass).phase;
+  seen : (holder l.fn.pass).seen ≤ (holder l.pass).seen;
+  host : (view l.pass).host ≡ (view l.fn.pass).host;
   few : l.count ≤ l.counter;
   as_many : deque_len l.loose + l.count ≡ deque_len l.fn.loose;
   sealed : deque_len l.sealed ≡ deque_len l.fn.sealed + l.count;

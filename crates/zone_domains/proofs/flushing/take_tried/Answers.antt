@@ -1,4 +1,4 @@
-use Rattle.std.proofs.Common.{refl, ap, subst, sym}
+use Rattle.std.proofs.Common.{arith, refl, ap, subst, sym}
 use Rattle.std.specs.Prelude.{map}
 use Rattle.smr_clock.specs.Belongs.{view}
 use Rattle.uma_bucket.specs.declared.shelved.Shelved.{Shelved}
@@ -23,6 +23,8 @@ pub returns-in_default : goal.returns-in_default
 returns-in_default g c = record {
   pass = c.requires.pass;
   phase = refl;
+  seen = omega arith;
+  host = refl;
   tried = record { oldest = c.in_ok-whole.whole; taken = c.in_ok-whole.ensures.oldest; tries = not_loose g.H.Host.copied (view c.args.pass.now) c.in_ok-whole.whole c.in_default.not-Loose };
   bound = ap (map bound_of) c.in_ok-whole.ensures.oldest;
   can = record { filled = c.in_ok-whole.ensures.filled; at_home = c.in_ok-whole.ensures.home; of_clock = c.in_ok-whole.ensures.clock };

@@ -61,4 +61,4 @@ returns-in-Err-Refused-clause-refused g c =
     let ask : FetchAsk = record { zone = zone.index; most = c.size.result; reserve = c.args.reserve; domain = c.domain.result } in
     let done = c.fetch.ensures in
     let locked = c.lock-guard.ensures in
-    turned_away zone c.args.seat.now c.fetch.new.seat (keg_in c.lock-guard.result.value) zone.hooks ask c.fetch.result c.in-Err-Refused.refusal (c.is_added_to.ensures.limit c.if-not-is_added_to.false) locked.reserve locked.cap done.none done.share done.ledger done.names (c.in-Err-Refused.is ∙ ap Err c.in-Err-Refused.field-0-is)
+    turned_away zone c.args.seat.now c.fetch.new.seat (keg_in c.lock-guard.result.value) zone.hooks ask c.fetch.result c.in-Err-Refused.refusal refl refl (c.is_added_to.ensures.limit c.if-not-is_added_to.false) locked.reserve locked.cap done.none done.share done.ledger done.names (c.in-Err-Refused.is ∙ ap Err c.in-Err-Refused.field-0-is)
