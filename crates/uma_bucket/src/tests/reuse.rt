@@ -3,7 +3,7 @@ ghost use Rattle.smr_clock.specs.Belongs.{IsOf};
 ghost use Rattle.uma_bucket.specs.Bucket.{place_of};
 ghost use Rattle.uma_bucket.specs.Loose.{loose_place};
 
-use super::body::{Plain, PlainHooks};
+use super::body::{Plain, idle_hooks};
 use super::clock::two_seats;
 use super::stacks::cached;
 use crate::{Bucket, Freed, Loose, Sums};
@@ -31,7 +31,7 @@ fn filled<R: Wait>(
     }
     let mut loose = Loose::reuse(bucket);
     for no in numbers {
-        let Ok(item) = cached(rt, alloc, book, no)?.build(&PlainHooks, 0) else {
+        let Ok(item) = cached(rt, alloc, book, no)?.build(&idle_hooks(), 0) else {
             return Err(Fail::new("refused"));
         };
         if loose.len() < loose.size() {
@@ -60,7 +60,7 @@ fn a_bucket_waits_for_the_section_that_may_see_it(rt: HostRuntime) -> Result<(),
         panic!(rt; "no section is open")
     };
     assert_eq!(rt; ripe.len(), 4);
-    let (bucket, note) = ripe.into_cached(&PlainHooks);
+    let (bucket, note) = ripe.into_cached(&idle_hooks());
     clock.absorb(&mut writer, note);
     assert_eq!(rt; (bucket.len(), bucket.size()), (4, 4));
     assert_eq!(rt; clock.hands(&mut writer), (BELOW_WRAP + 2, BELOW_WRAP + 2));
@@ -111,7 +111,7 @@ fn opened(
     let Ok(ripe) = sealed.try_open(clock) else {
         return Err(Fail::new("not expired"));
     };
-    let (bucket, note) = ripe.into_cached(&PlainHooks);
+    let (bucket, note) = ripe.into_cached(&idle_hooks());
     clock.absorb(pass, note);
     Ok(bucket)
 }

@@ -1,7 +1,7 @@
 ghost use Rattle.std.specs.Prelude.{◌≡◌};
 ghost use Rattle.uma_bucket.specs.Bucket.{items_of, size_of};
 
-use crate::tests::body::{Plain, PlainHooks};
+use crate::tests::body::{Plain, idle_hooks};
 use crate::{Bucket, BucketRefused};
 use deed_book::Book;
 use std::alloc::Global;
@@ -41,11 +41,11 @@ pub(super) fn cached<R: Wait>(
     book: &mut Book,
     no: u32,
 ) -> Result<Cached<Plain>, Fail> {
-    let stored = Stored::bring(rt, alloc, &PlainHooks, no, 0)?;
+    let stored = Stored::bring(rt, alloc, &idle_hooks(), no, 0)?;
     if !book.is_home(no) {
         return Err(Fail::new("out"));
     }
-    let Ok(item) = stored.lend(&PlainHooks, book.issue(no, 0)) else {
+    let Ok(item) = stored.lend(&idle_hooks(), book.issue(no, 0)) else {
         return Err(Fail::new("refused"));
     };
     Ok(item)

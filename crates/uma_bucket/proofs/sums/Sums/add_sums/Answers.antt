@@ -1,7 +1,5 @@
 use Rattle.std.proofs.Common.{refl, arith}
 use Rattle.uma_life.specs.Sum.{sum_of}
-use Rattle.uma_bucket.specs.declared.sums.Sums.{Sums}
-use Rattle.uma_bucket.specs.Sums.{Adds}
 use Rattle.uma_bucket.proofs.Added.{few_joined, still_balance}
 use Rattle.uma_bucket.proofs.sums.Sums.add_sums.Goals as goal
 
