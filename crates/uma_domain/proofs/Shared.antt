@@ -1,6 +1,7 @@
 -- A domain may be shared among threads, and sent to one, where its items may be sent to one and its host may be sent and shared.
 use Rattle.std.proofs.Common.{rules}
-use Rattle.std.proofs.Crossing.{Deque-send, Vec-send, Vec-sync}
+use Rattle.std.proofs.Crossing.{Box-send, Deque-send, Vec-send, Vec-sync}
+use Rattle.std.specs.contracts.boxed.Box as Box
 use Rattle.std.specs.contracts.vec.Vec as Vec
 use Rattle.std.specs.contracts.alloc.Global as heap
 use Rattle.std.specs.contracts.impls.GlobalAllocator.TheImpl.{ghosts}
@@ -41,11 +42,14 @@ module _ (T H P : RattleType) (g : body.Ghosts T.Denot) (h : host.Ghosts H.Denot
   pub lists_send : IsSend (Lists.the_row T H P g h)
   lists_send = recorded_send (Lists.the_field T H P g h).row _ _ (Lists.the_type T H P g h).to_one lists_field_send
 
+  boxed_send : IsSend (Box.the_row (Lists.the_row T H P g h) heap.the_row ghosts)
+  boxed_send = Box-send _ lists_send
+
   pub domain_field_send : IsSend (Domain.the_field T H P g h).row
-  domain_field_send = struct_send (shape (Domain.the_type T H P g h)) (search (lock.the_field_send, lists_send), tt)
+  domain_field_send = struct_send (shape (Domain.the_type T H P g h)) (search (lock.the_field_send, boxed_send), tt)
 
   pub domain_field_sync : IsSync (Domain.the_field T H P g h).row
-  domain_field_sync = struct_sync (shape (Domain.the_type T H P g h)) (search (lock.the_field_sync, lists_send), tt)
+  domain_field_sync = struct_sync (shape (Domain.the_type T H P g h)) (search (lock.the_field_sync, boxed_send), tt)
 
   pub domain_send : IsSend (Domain.the_row T H P g h)
   domain_send = recorded_send (Domain.the_field T H P g h).row _ _ (Domain.the_type T H P g h).to_one domain_field_send

@@ -30,7 +30,8 @@ use uma_life::Body;
 /// clock.
 #[derive(Drop)]
 pub struct Domain<T: Body, H: Host> {
-    lists: KeyedLock<Lists<T, H>, DomainKey<H>, ListsOfKey>,
+    /// In a box, since each lock moves the value out and each unlock moves it in.
+    lists: KeyedLock<Box<Lists<T, H>>, DomainKey<H>, ListsOfKey>,
 }
 
 impl<T: Body + Drop, H: Host> Domain<T, H> {
@@ -57,7 +58,9 @@ impl<T: Body + Drop, H: Host> Domain<T, H> {
             domains,
             smr,
         };
-        let lists = Lists::new(alloc, &key, misses);
+        let Ok(lists) = Box::new(alloc, Lists::new(alloc, &key, misses)) else {
+            return Err(Memory);
+        };
         match KeyedLock::new(alloc, lists, &key) {
             Ok(lists) => Ok(Domain { lists }),
             Err(_lists) => Err(Memory),
