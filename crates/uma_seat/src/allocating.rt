@@ -15,6 +15,7 @@ impl<T: Body, H: Host> SeatCache<T, H> {
 
     /// Takes the item that was put last, from the allocation bucket. In a plain zone that bucket, where it is empty, is
     /// exchanged with the free bucket first. None exactly where no item is usable.
+    #[inline]
     pub fn try_alloc(&mut self) -> Option<Cached<T>>
         ensures last { IfSome result (λ item. usable_of self.old ≡ usable_of self.new ++ item ∷ []) }
         ensures none { IfNone result (usable_of self.old ≡ []) }
@@ -50,6 +51,7 @@ impl<T: Body, H: Host> SeatCache<T, H> {
     }
 
     /// Puts an item that was taken back on top of the allocation bucket.
+    #[inline]
     pub fn put_back(&mut self, item: Cached<T>)
         requires { length (top_of self.old).items < (top_of self.old).room }
         ensures top { top_of self.new ≡ with_item (top_of self.old) item }

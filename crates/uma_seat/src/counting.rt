@@ -1,4 +1,4 @@
-ghost use Rattle.std.specs.Prelude.{◌≡◌, [], ◌∷◌, ◌++◌, true, false};
+ghost use Rattle.std.specs.Prelude.{◌≡◌, [], ◌∷◌, ◌++◌, true, false, IsTrue, ◌↔◌};
 ghost use Rattle.deed_book.specs.FailBook.{fail_book_table, causes_of};
 ghost use Rattle.zone_stats.specs.Ledger.{is_ctor};
 ghost use Rattle.zone_stats.specs.LedgerSteps.{HasRoom, CountsAlloc, CountsCtor, CountsTurned};
@@ -21,7 +21,16 @@ impl<T: Body, H: Host> SeatCache<T, H> {
         self.counts.ledger()
     }
 
+    /// Whether a request and a free more can be counted. Each count asks for it.
+    #[inline]
+    pub fn room(&self) -> bool
+        ensures { IsTrue result ↔ HasRoom (ledger_of self.now) }
+    {
+        self.counts.room()
+    }
+
     /// Counts a request that got an item.
+    #[inline]
     pub fn count_alloc(&mut self)
         requires { HasRoom (ledger_of self.old) }
         ensures ledger { CountsAlloc (ledger_of self.old) (ledger_of self.new) }

@@ -1,4 +1,4 @@
-ghost use Rattle.std.specs.Prelude.{◌≡◌, ◌∷◌, ◌++◌, [], true, false, Bool};
+ghost use Rattle.std.specs.Prelude.{◌≡◌, ◌∷◌, ◌++◌, [], true, false, Bool, IsTrue, ◌↔◌};
 ghost use Rattle.deed_book.specs.FailBook.{fail_book_table, causes_of};
 ghost use Rattle.deed_book.specs.FailShare.{share_table, causes_in};
 ghost use Rattle.zone_stats.specs.Ledger.{is_ctor};
@@ -38,12 +38,21 @@ impl Counts {
         }
     }
 
+    /// The ledger, copied.
     pub fn ledger(&self) -> SeatLedger
         ensures { result ≡ ledger_in self.now }
     {
         self.ledger
     }
 
+    /// Whether a request and a free more can be counted.
+    pub fn room(&self) -> bool
+        ensures { IsTrue result ↔ HasRoom (ledger_in self.now) }
+    {
+        self.ledger.room()
+    }
+
+    /// Counts a request that got an item.
     pub fn count_alloc(&mut self)
         requires { HasRoom (ledger_in self.old) }
         ensures ledger { CountsAlloc (ledger_in self.old) (ledger_in self.new) }
@@ -53,6 +62,7 @@ impl Counts {
         self.ledger.count_alloc();
     }
 
+    /// Counts a request whose item `ctor` refused with this code. No fetch of it is listed.
     pub fn count_ctor(&mut self, code: u8)
         requires { HasRoom (ledger_in self.old) }
         ensures ledger { CountsCtor (ledger_in self.old) (ledger_in self.new) code }
@@ -62,6 +72,7 @@ impl Counts {
         self.ledger.count_ctor(code);
     }
 
+    /// Counts the free of an item, which is of another domain than the seat's where `cross`.
     pub fn count_free(&mut self, cross: bool)
         requires { HasRoom (ledger_in self.old) }
         ensures ledger { CountsFree (ledger_in self.old) (ledger_in self.new) cross }
@@ -71,6 +82,7 @@ impl Counts {
         self.ledger.count_free(cross);
     }
 
+    /// Counts a request whose fetch was refused, and lists the fetch with its cause in the book and in the share.
     pub fn count_turned(&mut self, book: &mut FailBook, refusal: Refusal)
         requires room { HasRoom (ledger_in self.old) }
         requires mine { fails_in self.old ≡ fail_book_table book.old }
@@ -86,6 +98,7 @@ impl Counts {
         self.ledger.count_refused(refusal);
     }
 
+    /// Lists a fetch with its end in the book and in the share. It is counted only where it was refused.
     pub fn count_end(&mut self, book: &mut FailBook, end: FetchEnd)
         requires room { HasRoom (ledger_in self.old) }
         requires mine { fails_in self.old ≡ fail_book_table book.old }

@@ -21,6 +21,7 @@ impl<T: Body, H: Host> SeatCache<T, H> {
     /// Takes in an item of a zone whose readers hold no lock. It stays built, and is deferred: nothing of the seat becomes
     /// usable. It is put into the bucket of its domain. One that is full then is tried once to be sealed, and is the newest
     /// on the shelf; a spare stands in its place.
+    #[inline]
     pub fn free_smr(&mut self, clock: &Clock<H>, pass: &mut Pass<H>, item: Live<T>)
         requires smr { seat_smr self.old ≡ true }
         requires spare { 0 < length (spares_of self.old) }
@@ -69,6 +70,8 @@ impl<T: Body, H: Host> SeatCache<T, H> {
         self.freed.push(domain, item);
     }
 
+    // Kept out of `free_smr`, as `shelve` is kept out of `free`.
+    #[inline(never)]
     fn seal_full(&mut self, clock: &Clock<H>, pass: &mut Pass<H>, domain: u8, item: Freed<T>)
         requires smr { seat_smr self.old ≡ true }
         requires spare { 0 < length (spares_of self.old) }

@@ -14,6 +14,7 @@ impl<T: Body, H: Host> SeatCache<T, H> {
 
     /// Takes in an item whose `dtor` ran: it is put into the bucket of its domain. One that is full then is the newest on
     /// the shelf, and a spare stands in its place.
+    #[inline]
     pub fn free(&mut self, item: Cached<T>)
         requires plain { seat_smr self.old ≡ false }
         requires spare { 0 < length (spares_of self.old) }
@@ -55,6 +56,9 @@ impl<T: Body, H: Host> SeatCache<T, H> {
         self.plain.push(domain, item);
     }
 
+    // One free of a whole bucket comes here, so it is kept out of `free`, which stands in its callers: an item that is moved
+    // through memory once more costs more than all the rest.
+    #[inline(never)]
     fn shelve(&mut self, domain: u8, item: Cached<T>)
         requires plain { seat_smr self.old ≡ false }
         requires spare { 0 < length (spares_of self.old) }

@@ -21,6 +21,7 @@ impl<T: Body, H: Host> SeatCache<T, H> {
     }
 
     /// How many empty spare buckets there are, at most 2. A free needs one.
+    #[inline]
     pub fn spare(&self) -> u32
         ensures spare { result ≡ length (spares_of self.now) }
         ensures most { result + length (shelf_of self.now) ≤ 2 }

@@ -80,7 +80,7 @@ impl PlainSeat {
         no: u32,
         domain: u8,
     ) -> Result<bool, Fail> {
-        if self.seat.spare() == 0 || !self.seat.ledger().room() || domain >= self.domains {
+        if self.seat.spare() == 0 || !self.seat.room() || domain >= self.domains {
             return Ok(false);
         }
         let item = cached(rt, alloc, &mut self.book, no, domain)?;

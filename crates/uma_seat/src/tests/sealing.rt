@@ -56,7 +56,7 @@ fn free<R: Wait>(
     let Ok(item) = cached(rt, alloc, book, no, 0)?.build(&idle_hooks(), 0) else {
         return Err(Fail::new("refused"));
     };
-    if seat.spare() == 0 || !seat.ledger().room() {
+    if seat.spare() == 0 || !seat.room() {
         return Err(Fail::new("no spare"));
     }
     seat.free_smr(clock, pass, item);
