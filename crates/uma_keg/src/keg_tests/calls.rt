@@ -21,14 +21,6 @@ use zone_stats::Refusal;
 
 pub type PlainKeg = Keg<Plain, RefusingHooks>;
 
-/// Hooks that refuse no item of these kegs.
-pub fn no_refusal() -> RefusingHooks {
-    RefusingHooks {
-        number: 9999,
-        code: 1,
-    }
-}
-
 pub fn refused(refusal: Refusal) -> Option<Result<u32, FetchRefused>> {
     Some(Err(FetchRefused::Refused { refusal }))
 }

@@ -1,13 +1,12 @@
-use crate::keg_tests::body::{Plain, PlainHooks};
-use crate::{Keg, KegCounts};
+use crate::KegCounts;
+use crate::keg_tests::calls::PlainKeg;
+use crate::keg_tests::refusing::no_refusal;
 use std::test::Fail;
 use uma_life::{Lives, TallySum};
 
-type PlainKeg = Keg<Plain, PlainHooks>;
-
 #[test]
 fn a_census_counts_slabs_and_free_items(rt: HostRuntime) -> Result<(), Fail> {
-    let (mut keg, _rights) = PlainKeg::new(rt.alloc(), 256, 4, 3, PlainHooks)?;
+    let (mut keg, _rights) = PlainKeg::new(rt.alloc(), 256, 4, 3, no_refusal())?;
     assert_eq!(rt; keg.bring(&rt, rt.alloc(), 1), Ok(()));
     assert_eq!(rt; keg.bring(&rt, rt.alloc(), 2), Ok(()));
     let lives = Lives::from_vec(Vec::new(rt.alloc()));

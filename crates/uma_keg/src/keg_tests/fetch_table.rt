@@ -2,8 +2,9 @@
 //! definition of how a fetch ends.
 ghost use Rattle.uma_keg.specs.CountsFound.{AreSmall};
 
-use crate::keg_tests::calls::{PlainKeg, adds_by_the_last, fetches, no_refusal};
+use crate::keg_tests::calls::{PlainKeg, adds_by_the_last, fetches};
 use crate::keg_tests::endings::{Found, ending, left};
+use crate::keg_tests::refusing::no_refusal;
 use crate::{FetchAsk, FetchRefused};
 use std::alloc::Global;
 use std::sync::Wait;

@@ -1,5 +1,5 @@
-use crate::keg_tests::calls::{PlainKeg, adds_by_the_last, fetches, no_refusal, refused};
-use crate::keg_tests::refusing::RefusingHooks;
+use crate::keg_tests::calls::{PlainKeg, adds_by_the_last, fetches, refused};
+use crate::keg_tests::refusing::{hooks_refusing, no_refusal};
 use crate::{FetchAsk, KegCounts};
 use std::test::Fail;
 use uma_bucket::Bucket;
@@ -100,7 +100,7 @@ fn a_refused_item_stays_in_the_keg(rt: HostRuntime) -> Result<(), Fail> {
         reserve: false,
         domain: 1,
     };
-    let hooks = RefusingHooks { number: 2, code: 9 };
+    let hooks = hooks_refusing(2, 9);
     let init = refused(Refusal::Init { code: 9 });
     assert_eq!(rt;
         fetches(&rt, rt.alloc(), &mut keg, &hooks, ask, &mut into),
@@ -123,7 +123,7 @@ fn a_refused_item_stays_in_the_keg(rt: HostRuntime) -> Result<(), Fail> {
 #[test]
 fn a_refused_slab_ends_a_fetch(rt: HostRuntime) -> Result<(), Fail> {
     for (number, slabs, free, inits, finis) in [(2, 0, 0, 2, 2), (5, 1, 4, 5, 1)] {
-        let hooks = RefusingHooks { number, code: 9 };
+        let hooks = hooks_refusing(number, 9);
         let (mut keg, mut rights) = PlainKeg::new(rt.alloc(), 1024, 3, 4, hooks)?;
         let mut into = Bucket::make(rt.alloc(), 4)?;
         assert_eq!(rt; adds_by_the_last(&mut keg, &mut rights, 0), Some(0));

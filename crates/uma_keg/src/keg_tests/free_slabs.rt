@@ -1,6 +1,6 @@
-use crate::keg_tests::body::{Plain, PlainHooks};
-use crate::keg_tests::calls::{PlainKeg, adds_by_the_last, fetches, no_refusal};
-use crate::{FetchAsk, Keg};
+use crate::FetchAsk;
+use crate::keg_tests::calls::{PlainKeg, adds_by_the_last, fetches};
+use crate::keg_tests::refusing::no_refusal;
 use std::test::Fail;
 use uma_bucket::Bucket;
 
@@ -14,13 +14,7 @@ fn the_reserve_stays_free(rt: HostRuntime) -> Result<(), Fail> {
         (4, 0, 4),
         (5, 0, 4),
     ] {
-        let (mut keg, _rights) = Keg::<Plain, PlainHooks>::new(
-            rt.alloc(),
-            2048,
-            3,
-            reserve,
-            PlainHooks,
-        )?;
+        let (mut keg, _rights) = PlainKeg::new(rt.alloc(), 2048, 3, reserve, no_refusal())?;
         assert_eq!(rt; keg.bring(&rt, rt.alloc(), 0), Ok(()));
         assert_eq!(rt; keg.bring(&rt, rt.alloc(), 1), Ok(()));
         assert_eq!(rt; keg.free_slabs(&rt), freed);
@@ -31,7 +25,7 @@ fn the_reserve_stays_free(rt: HostRuntime) -> Result<(), Fail> {
 
 #[test]
 fn the_items_of_a_slab_that_goes_are_buried(rt: HostRuntime) -> Result<(), Fail> {
-    let (mut keg, _rights) = Keg::<Plain, PlainHooks>::new(rt.alloc(), 256, 2, 0, PlainHooks)?;
+    let (mut keg, _rights) = PlainKeg::new(rt.alloc(), 256, 2, 0, no_refusal())?;
     assert_eq!(rt; keg.free_slabs(&rt), 0);
     assert_eq!(rt; keg.bring(&rt, rt.alloc(), 0), Ok(()));
     assert_eq!(rt; keg.bring(&rt, rt.alloc(), 0), Ok(()));

@@ -5,9 +5,8 @@ ghost use Rattle.uma_bucket.specs.Bucket.{items_of};
 ghost use Rattle.uma_keg.specs.Keg.{table_in};
 
 use crate::keg_tests::body::Plain;
-use crate::keg_tests::calls::{
-    PlainKeg, adds_by_the_last, builds_last, fetches, gives_last, no_refusal,
-};
+use crate::keg_tests::calls::{PlainKeg, adds_by_the_last, builds_last, fetches, gives_last};
+use crate::keg_tests::refusing::no_refusal;
 use crate::{Census, FetchAsk, KegCounts};
 use std::alloc::Global;
 use std::sync::Wait;
@@ -72,12 +71,20 @@ fn counts_lent(
     }
 }
 
+/// The last one of live items of the keg.
+fn pops_live(keg: &PlainKeg, lives: Lives<Plain>) -> Option<Live<Plain>>
+    requires { All (λ item. live_table item ≡ table_in keg.now) lives }
+    ensures { IfSome result (λ item. live_table item ≡ table_in keg.now) }
+{
+    let mut items = lives.into_vec();
+    items.pop()
+}
+
 /// Ends the use of the last live item and gives it back to the keg. Answers its number.
 fn finishes_last(keg: &mut PlainKeg, lives: Lives<Plain>) -> Option<u32>
     requires { All (λ item. live_table item ≡ table_in keg.old) lives }
 {
-    let mut items = lives.into_vec();
-    let live = items.pop()?;
+    let live = pops_live(keg, lives)?;
     let item = live.finish(&no_refusal());
     let no = item.no();
     keg.give(&no_refusal(), item);

@@ -1,72 +1,69 @@
 ghost use Rattle.std.specs.Prelude.{◌≡◌, ◌==◌, cond, None, Some};
 ghost use Rattle.uma_life.specs.Hook.{IsCode};
 
-use crate::keg_tests::body::{Plain, PlainHooks};
+use crate::keg_tests::body::Marked;
 use std::alloc::Global;
 use std::sync::Wait;
-use uma_life::{Body, Hooks, Memory, Tally};
+use uma_item::{ItemHooks, TrailHooks};
+use uma_life::Memory;
 
-/// Hooks whose `keg_init` and `zone_init` refuse the body of one number with a code. The code is also their mark, which
-/// `keg_fini` and `zone_fini` leave.
+/// Refuses the item of one number in each zone, with a code, which is also the mark that `fini` leaves.
 #[derive(Drop)]
-pub struct RefusingHooks {
+pub struct Refusing {
     pub number: u32,
     pub code: u8,
     pub ghost is_code: { IsCode code },
 }
 
-impl Hooks<Plain> for RefusingHooks {
-    ghost refuses_init = { λ hooks body zone. cond (body.no == hooks.number) (Some hooks.code) None };
+impl ItemHooks<Marked> for Refusing {
+    ghost makes = { λ hooks number made. (made.no ≡ number) × (made.mark ≡ 0) };
 
-    ghost refuses_ctor = { λ hooks body zone arg. None };
+    ghost refuses_init = { λ hooks before zone. cond (before.no == hooks.number) (Some hooks.code) None };
 
-    ghost makes = { λ hooks number body. body.mark ≡ 0 };
+    ghost leaves_fini = { λ hooks before zone left. left.mark ≡ hooks.code };
 
-    ghost leaves_init = { λ hooks body zone left. left.mark ≡ body.mark };
-
-    ghost leaves_ctor = { λ hooks body zone arg left. left.mark ≡ body.mark };
-
-    ghost leaves_dtor = { λ hooks body zone left. left.mark ≡ body.mark };
-
-    ghost leaves_fini = { λ hooks body zone left. left.mark ≡ hooks.code };
-
-    fn raw<R: Wait>(&self, rt: &R, alloc: Global, no: u32) -> Result<Plain, Memory> {
-        PlainHooks.raw(rt, alloc, no)
+    fn make<R: Wait>(&self, _rt: &R, _alloc: Global, no: u32) -> Result<Marked, Memory> {
+        Ok(Marked { no, mark: 0 })
     }
 
-    fn keg_init(&self, body: &mut Plain) -> Result<(), u8> {
-        if body.no() == self.number {
+    fn init(&self, _zone: u8, marked: &mut Marked) -> Result<(), u8> {
+        if marked.no == self.number {
             return Err(self.code);
         }
-        PlainHooks.keg_init(body)
+        Ok(())
     }
 
-    fn zone_init(&self, zone: u8, body: &mut Plain) -> Result<(), u8> {
-        if body.no() == self.number {
-            return Err(self.code);
-        }
-        PlainHooks.zone_init(zone, body)
+    fn ctor(&self, _zone: u8, _marked: &mut Marked, _arg: u64) -> Result<(), u8> {
+        Ok(())
     }
 
-    fn ctor(&self, zone: u8, body: &mut Plain, arg: u64) -> Result<(), u8> {
-        PlainHooks.ctor(zone, body, arg)
+    fn dtor(&self, _zone: u8, _marked: &mut Marked) {}
+
+    fn fini(&self, _zone: u8, marked: &mut Marked) {
+        marked.mark = self.code;
     }
 
-    fn dtor(&self, zone: u8, body: &mut Plain) {
-        PlainHooks.dtor(zone, body);
-    }
+    fn bury<R: Wait>(&self, _rt: &R, _marked: Marked) {}
+}
 
-    fn zone_fini(&self, zone: u8, body: &mut Plain) {
-        PlainHooks.zone_fini(zone, body);
-        body.mark = self.code;
-    }
+/// The hooks of a keg or of one of its zones.
+pub type RefusingHooks = TrailHooks<Refusing>;
 
-    fn keg_fini(&self, body: &mut Plain) {
-        PlainHooks.keg_fini(body);
-        body.mark = self.code;
-    }
+/// Hooks that refuse the item of this number with this code.
+pub fn hooks_refusing(number: u32, code: u8) -> RefusingHooks
+    requires { IsCode code }
+{
+    TrailHooks::with_stays(Refusing { number, code })
+}
 
-    fn bury<R: Wait>(&self, rt: &R, body: Plain) -> Tally {
-        PlainHooks.bury(rt, body)
-    }
+/// Hooks that refuse no item of these kegs, with this mark.
+pub fn marking(mark: u8) -> RefusingHooks
+    requires { IsCode mark }
+{
+    hooks_refusing(9999, mark)
+}
+
+/// Hooks that refuse no item of these kegs.
+pub fn no_refusal() -> RefusingHooks {
+    marking(1)
 }

@@ -1,12 +1,12 @@
-use crate::keg_tests::body::{Plain, PlainHooks};
-use crate::keg_tests::refusing::RefusingHooks;
-use crate::{FetchRefused, Keg, KegCounts};
+use crate::keg_tests::calls::PlainKeg;
+use crate::keg_tests::refusing::{hooks_refusing, no_refusal};
+use crate::{FetchRefused, KegCounts};
 use std::test::Fail;
 use zone_stats::Refusal;
 
 #[test]
 fn a_keg_brings_in_slabs_up_to_its_cap(rt: HostRuntime) -> Result<(), Fail> {
-    let (mut keg, _rights) = Keg::<Plain, PlainHooks>::new(rt.alloc(), 256, 2, 3, PlainHooks)?;
+    let (mut keg, _rights) = PlainKeg::new(rt.alloc(), 256, 2, 3, no_refusal())?;
     assert_eq!(rt; keg.bring(&rt, rt.alloc(), 1), Ok(()));
     assert_eq!(rt; keg.bring(&rt, rt.alloc(), 0), Ok(()));
     let full = FetchRefused::Refused {
@@ -29,8 +29,8 @@ fn a_keg_brings_in_slabs_up_to_its_cap(rt: HostRuntime) -> Result<(), Fail> {
 /// The items made before the one that is refused are ended, and are counted among the buried.
 #[test]
 fn a_refused_slab_ends_the_items_before(rt: HostRuntime) -> Result<(), Fail> {
-    let hooks = RefusingHooks { number: 2, code: 9 };
-    let (mut keg, _rights) = Keg::<Plain, RefusingHooks>::new(rt.alloc(), 256, 2, 0, hooks)?;
+    let hooks = hooks_refusing(2, 9);
+    let (mut keg, _rights) = PlainKeg::new(rt.alloc(), 256, 2, 0, hooks)?;
     let refused = FetchRefused::Refused {
         refusal: Refusal::Init { code: 9 },
     };

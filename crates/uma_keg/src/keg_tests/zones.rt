@@ -3,7 +3,8 @@ ghost use Rattle.uma_life.specs.Cached.{cached_table, cached_zone};
 ghost use Rattle.uma_keg.specs.Keg.{table_in, out_in};
 
 use crate::keg_tests::body::Plain;
-use crate::keg_tests::calls::{PlainKeg, adds_by_the_last, no_refusal};
+use crate::keg_tests::calls::{PlainKeg, adds_by_the_last};
+use crate::keg_tests::refusing::no_refusal;
 use crate::{KegCounts, KegRefused};
 use std::test::Fail;
 use uma_life::Cached;
