@@ -1,0 +1,5 @@
+mod Rows
+mod Seats
+mod Shelves
+mod Taken
+mod Told

@@ -1,0 +1,39 @@
+use Rattle.std.proofs.Common.{◌≡◌, List, [], ◌∷◌, ◌++◌, All, length, map, sum_by, fold, flat_map, sym, ap, ◌∙◌, subst, arith}
+use Rattle.std.specs.declared.snapshot.Snapshot.{Snapshot}
+use Rattle.std.proofs.lemmas.List.{length-append}
+use Rattle.smr_clock.specs.Belongs.{view}
+use Rattle.uma_domain.specs.declared.taken.TakenBucket.{TakenBucket}
+use Rattle.uma_domain.specs.Taken.{taken_in}
+use Rattle.uma_reclaim.specs.Given.{IsFromZone, items_in, counted}
+use Rattle.uma_reclaim.specs.Reclaimed.{taken_by}
+use Rattle.uma_reclaim.specs.Told.{notes_in}
+use Rattle.uma_reclaim.proofs.Rows.{counted_sum, sum_more, all_more}
+use Rattle.uma_reclaim.proofs.Told.{told_more}
+use Rattle.uma_reclaim.proofs.domains.give_back.Goals as goal
+
+pub loop-domain-preserved : goal.loop-domain-preserved
+loop-domain-preserved g c =
+    let before = c.loop-domain.invariant in
+    let Of = All (IsFromZone c.args.zone.now) in
+    let merged = g.H.Host.merged in
+    let start = (view c.args.pass.now).host in
+    let was = (view c.loop-domain.pass).host in
+    let takes = c.loop-domain.takes in
+    let take = c.of.result in
+    let gave = c.give_taken-given.ensures in
+    let same : taken_by take ≡ taken_in c.in_ok-taken.taken = ap taken_in c.of.ensures in
+    let all : c.push.new.self ≡ takes ++ take ∷ [] = c.push.ensures in
+    let items = ap (λ (l : List (Snapshot _)). sum_by items_in (map taken_by l)) all ∙ sum_more taken_by items_in takes take in
+    record {
+      each = (let e = ap length all in omega (arith, e, length-append takes (take ∷ []), before.each));
+      of_zone = subst (λ (l : List (Snapshot _)). All Of (map taken_by l)) (sym all) (all_more taken_by Of takes take before.of_zone (subst Of (sym same) c.in_ok-taken.ensures));
+      given =
+          counted_sum (sum_by items_in (map taken_by takes)) (items_in (taken_by take)) c.loop-domain.items c.give_taken-given.result c.saturating_add-items.result before.given (gave.count ∙ ap (λ (l : List (TakenBucket _ _ _ _ _)). counted (items_in l)) (sym same)) c.saturating_add-items.ensures
+          ∙ ap counted (sym items);
+      pass = gave.pass;
+      phase = gave.phase ∙ before.phase;
+      seen = omega (arith, gave.seen, before.seen);
+      told =
+          told_more merged notes_in taken_by start was (view c.give_taken-given.new.pass).host takes take before.told (gave.told ∙ ap (λ (l : List (TakenBucket _ _ _ _ _)). fold merged was (notes_in l)) (sym same))
+          ∙ ap (λ (l : List (Snapshot _)). fold merged start (flat_map notes_in (map taken_by l))) (sym all);
+    }

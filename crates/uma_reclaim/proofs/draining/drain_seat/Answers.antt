@@ -1,0 +1,39 @@
+use Rattle.std.proofs.Common.{sum_by, fold, flat_map, ap, ◌∙◌}
+use Rattle.smr_clock.specs.Belongs.{view}
+use Rattle.uma_seat.specs.Rack.{spares_in, shelf_in}
+use Rattle.uma_seat.specs.Seat.{shelf_of}
+use Rattle.uma_reclaim.specs.Cached.{cached_in}
+use Rattle.uma_reclaim.specs.Given.{items_in, counted}
+use Rattle.uma_reclaim.specs.Reclaimed.{takes_of}
+use Rattle.uma_reclaim.specs.Told.{notes_in}
+use Rattle.uma_reclaim.proofs.Rows.{counted_sum}
+use Rattle.uma_reclaim.proofs.Seats.{still_cached}
+use Rattle.uma_reclaim.proofs.Shelves.{none_stays, at_err}
+use Rattle.uma_reclaim.proofs.Told.{took_in, took_none}
+use Rattle.uma_reclaim.proofs.draining.drain_seat.Goals as goal
+
+pub returns-in_err-flush-clause-host : goal.returns-in_err-flush-clause-host
+returns-in_err-flush-clause-host g c = took_none g.H.Host.merged (view c.args.pass.now).host (view c.flush.new.pass).host c.flush.ensures.host
+
+pub returns-in_err-done-clause-host : goal.returns-in_err-done-clause-host
+returns-in_err-done-clause-host g c = took_in g.H.Host.merged (view c.args.pass.now).host (view c.flush.new.pass).host (view c.give_back.new.pass).host c.flush.ensures.host c.give_back.ensures.host
+
+pub returns-in_err-done-clause-stay : goal.returns-in_err-done-clause-stay
+returns-in_err-done-clause-stay g c = at_err _ (none_stays (shelf_of c.args.seat.now) (shelf_of c.flush.new.seat) c.in_ok-flush.ensures.flushed)
+
+pub returns-clause-host : goal.returns-clause-host
+returns-clause-host g c = took_in g.H.Host.merged (view c.args.pass.now).host (view c.flush.new.pass).host (view c.give_back.new.pass).host c.flush.ensures.host c.give_back.ensures.host
+
+pub returns-clause-told : goal.returns-clause-told
+returns-clause-told g c = c.in_ok-done.ensures.told ∙ ap (λ part. fold g.H.Host.merged part (flat_map notes_in (takes_of c.in_ok-done.done))) c.flush.ensures.host
+
+pub returns-clause-items : goal.returns-clause-items
+returns-clause-items g c =
+    counted_sum (sum_by items_in (takes_of c.in_ok-done.done)) (cached_in c.args.seat.now) c.in_ok-done.done.items c.give_cached-given.result c.saturating_add.result c.in_ok-done.ensures.items
+    (c.give_cached-given.ensures.count ∙ ap counted (still_cached c.args.seat.now c.flush.new.seat c.flush.ensures.top c.flush.ensures.plain)) c.saturating_add.ensures
+
+pub returns-clause-flushed : goal.returns-clause-flushed
+returns-clause-flushed g c = ap shelf_in c.give_cached-given.ensures.rack ∙ c.in_ok-flush.ensures.flushed
+
+pub returns-clause-spares : goal.returns-clause-spares
+returns-clause-spares g c = ap spares_in c.give_cached-given.ensures.rack ∙ c.flush.ensures.spares

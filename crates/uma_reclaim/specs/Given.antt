@@ -1,0 +1,28 @@
+-- Own: what goes back to the keg of what a domain gave up.
+use Rattle.std.specs.Prelude.{ℕ, ◌^◌, ◌-◌, List, min, sum_by}
+use Rattle.uma_bucket.specs.Ripe.{ripe_bucket, IsRipeAt}
+use Rattle.uma_domain.specs.declared.taken.TakenBucket.{TakenBucket}
+use Rattle.uma_domain.specs.declared.taken.TakenBucket.TheVariants.{Plain, Ripe}
+use Rattle.uma_domain.specs.Listed.{IsPlainOf, IsLooseOf, plain_len, ripe_len}
+use Rattle.uma_zone.specs.declared.zone.Zone.{Zone}
+use Rattle.uma_zone.specs.Zone.{zone_home, zone_clock}
+
+-- a count that stands still at its type's end
+abbrev pub counted : ℕ → ℕ
+counted items = min items (2 ^ 64 - 1)
+
+module _ {T H P : Type 0} {g h : _} where
+  -- how many items a bucket has that a domain gave up
+  abbrev pub bucket_len : TakenBucket T H P g h → ℕ
+  bucket_len (Plain bucket) = plain_len bucket
+  bucket_len (Ripe bucket) = ripe_len bucket
+
+  -- how many items a domain gave up
+  abbrev pub items_in : List (TakenBucket T H P g h) → ℕ
+  items_in buckets = sum_by bucket_len buckets
+
+module _ {T K H P : Type 0} {g k h : _} where
+  -- A domain of the zone may have listed the bucket: it isn't empty, its items are at home in the zone, and its note is of the zone's clock.
+  abbrev pub IsFromZone : Zone T K H P g k h → TakenBucket T H P g h → Type 0
+  IsFromZone zone (Plain bucket) = IsPlainOf (zone_home zone) bucket
+  IsFromZone zone (Ripe bucket) = IsLooseOf (zone_home zone) (ripe_bucket bucket) × IsRipeAt (zone_clock zone) bucket

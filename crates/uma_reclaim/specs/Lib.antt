@@ -1,0 +1,4 @@
+pub mod Given
+pub mod Cached
+pub mod Told
+pub mod Reclaimed

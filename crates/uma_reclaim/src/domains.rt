@@ -1,0 +1,77 @@
+ghost use Rattle.std.specs.Prelude.{◌≡◌, ◌≤◌, ◌<◌, length, sum_by, fold, flat_map, IfOk};
+ghost use Rattle.std.specs.List.{All};
+ghost use Rattle.smr_clock.specs.Belongs.{IsOf, clock_id, view, holder};
+ghost use Rattle.uma_domain.specs.Taken.{taken_in};
+ghost use Rattle.uma_zone.specs.Zone.{zone_clock, zone_domains};
+ghost use Rattle.uma_reclaim.specs.Given.{IsFromZone, items_in, counted};
+ghost use Rattle.uma_reclaim.specs.Told.{notes_in, TakesInNotes};
+ghost use Rattle.uma_reclaim.specs.Reclaimed.{takes_of, ComesFrom};
+
+use crate::extent::Extent;
+use crate::giving::give_taken;
+use crate::reclaimed::Reclaimed;
+use deed_book::Memory;
+use ghost_log::Log;
+use smr_clock::{Clock, Host, Pass};
+use std::alloc::Global;
+use std::snapshot::Snapshot;
+use std::sync::Wait;
+use uma_domain::Taken;
+use uma_life::{Body, Hooks};
+use uma_zone::Zone;
+
+/// Takes so much from each domain of the zone, one after another, and gives it back to the keg.
+///
+/// Where memory is wanting for a domain, that domain and those after it list what they did; the domains before it are done.
+pub(crate) fn give_back<T: Body, K: Hooks<T>, H: Host, R: Wait>(
+    rt: &R,
+    alloc: Global,
+    zone: &Zone<T, K, H>,
+    clock: &Clock<H>,
+    pass: &mut Pass<H>,
+    extent: Extent,
+) -> Result<Reclaimed<T, H>, Memory>
+    requires clock { clock_id clock.now ≡ zone_clock zone.now }
+    requires pass { IsOf clock.now pass.old }
+    ensures pass { IsOf clock.now pass.new }
+    ensures phase { (holder pass.new).phase ≡ (holder pass.old).phase }
+    ensures seen { (holder pass.old).seen ≤ (holder pass.new).seen }
+    ensures host { TakesInNotes H.merged (view pass.old).host (view pass.new).host }
+    ensures told { IfOk result (λ done. (view pass.new).host ≡ fold H.merged (view pass.old).host (flat_map notes_in (takes_of done))) }
+    ensures from { IfOk result (λ done. ComesFrom zone.now (takes_of done)) }
+    ensures items { IfOk result (λ done. done.items ≡ counted (sum_by items_in (takes_of done))) }
+    ensures slabs { IfOk result (λ done. done.slabs ≡ 0) }
+{
+    let mut items = 0u64;
+    let mut takes = Log::new();
+    for domain in 0..zone.domains() {
+        let taken = take_from(rt, alloc, zone, clock, domain, extent)?;
+        takes.push(Snapshot::of(&taken));
+        let given = give_taken(rt, zone, clock, pass, taken);
+        items = items.saturating_add(given);
+    }
+    Ok(Reclaimed {
+        items,
+        slabs: 0,
+        takes,
+    })
+}
+
+/// Takes so much from one domain of the zone.
+fn take_from<T: Body, K: Hooks<T>, H: Host, R: Wait>(
+    rt: &R,
+    alloc: Global,
+    zone: &Zone<T, K, H>,
+    clock: &Clock<H>,
+    domain: u8,
+    extent: Extent,
+) -> Result<Taken<T, H>, Memory>
+    requires clock { clock_id clock.now ≡ zone_clock zone.now }
+    requires domain { domain < zone_domains zone.now }
+    ensures { IfOk result (λ taken. All (IsFromZone zone.now) (taken_in taken)) }
+{
+    match extent {
+        Extent::Unused => zone.domain(domain).take_trim(rt, alloc, clock),
+        Extent::All => zone.domain(domain).take_all(rt, alloc, clock),
+    }
+}

@@ -1,0 +1,23 @@
+//! Reclaim: memory that a burst took comes back.
+//!
+//! After FreeBSD's uma(9). [`trim`] gives the keg back what the memory domains of a zone didn't use for a while, [`drain`]
+//! all that may be given back of what they list, and [`drain_seat`] besides the items that the calling seat has cached. Each
+//! flushes the calling seat first. A freed item that a reader may still see stays where it is: a sealed bucket whose poll
+//! says no, a loose one, and what is deferred on a seat.
+//!
+//! What the domains list after a call, and that a domain's lists stay as they were where memory is wanting for it or for one
+//! before it, no clause says, since nothing is known of the lists outside of their locks. The calls of the lists under the
+//! lock say it.
+#![tactic(auto)]
+
+mod domains;
+mod draining;
+mod emptying;
+mod extent;
+mod giving;
+mod reclaimed;
+mod trimming;
+
+pub use draining::{drain, drain_seat};
+pub use reclaimed::Reclaimed;
+pub use trimming::trim;

@@ -1,0 +1,62 @@
+ghost use Rattle.std.specs.Prelude.{◌≡◌, ◌≤◌, [], sum_by, fold, flat_map, IfOk, OnOk, OnErr};
+ghost use Rattle.smr_clock.specs.Belongs.{IsOf, clock_id, view, holder};
+ghost use Rattle.uma_seat.specs.Seat.{spares_of, shelf_of, IsSameSeat, KeepsTop, KeepsPlain, KeepsFreed, KeepsCounts, KeepsMisses};
+ghost use Rattle.zone_domains.specs.Flushed.{HasLastOf};
+ghost use Rattle.uma_zone.specs.Zone.{zone_clock, IsSeatOf};
+ghost use Rattle.uma_reclaim.specs.Given.{items_in, counted};
+ghost use Rattle.uma_reclaim.specs.Told.{notes_in, TakesInNotes};
+ghost use Rattle.uma_reclaim.specs.Reclaimed.{takes_of, ComesFrom};
+
+use crate::domains::give_back;
+use crate::extent::Extent;
+use crate::reclaimed::Reclaimed;
+use deed_book::Memory;
+use smr_clock::{Clock, Host, Pass};
+use std::alloc::Global;
+use std::sync::Wait;
+use uma_life::{Body, Hooks};
+use uma_seat::SeatCache;
+use uma_zone::Zone;
+
+/// Flushes the seat, and gives back what the domains of the zone didn't use since their last trim. No slab is given up.
+///
+/// Of each domain whole buckets go back to the keg, while the items that remain listed are at least its working set: the
+/// greatest less the least count of items that it listed since the last trim. First go the plain buckets, oldest first, and
+/// then the sealed ones whose poll says yes, oldest first, after `dtor`. Then both counts are what remains. Waits until it
+/// has the locks of the domains and of the keg.
+///
+/// After `Memory` each bucket of the seat's shelf is in a list, or on the shelf still; the domains before the one for which
+/// memory was wanting are trimmed, and that one and those behind it list what they did.
+pub fn trim<T: Body, K: Hooks<T>, H: Host, R: Wait>(
+    rt: &R,
+    alloc: Global,
+    zone: &Zone<T, K, H>,
+    clock: &Clock<H>,
+    pass: &mut Pass<H>,
+    seat: &mut SeatCache<T, H>,
+) -> Result<Reclaimed<T, H>, Memory>
+    requires seat { IsSeatOf zone.now seat.old }
+    requires clock { clock_id clock.now ≡ zone_clock zone.now }
+    requires pass { IsOf clock.now pass.old }
+    ensures seat { IsSeatOf zone.now seat.new }
+    ensures pass { IsOf clock.now pass.new }
+    ensures phase { (holder pass.new).phase ≡ (holder pass.old).phase }
+    ensures seen { (holder pass.old).seen ≤ (holder pass.new).seen }
+    ensures host { TakesInNotes H.merged (view pass.old).host (view pass.new).host }
+    ensures told { IfOk result (λ done. (view pass.new).host ≡ fold H.merged (view pass.old).host (flat_map notes_in (takes_of done))) }
+    ensures from { IfOk result (λ done. ComesFrom zone.now (takes_of done)) }
+    ensures items { IfOk result (λ done. done.items ≡ counted (sum_by items_in (takes_of done))) }
+    ensures slabs { IfOk result (λ done. done.slabs ≡ 0) }
+    ensures flushed { OnOk result (shelf_of seat.new ≡ []) }
+    ensures stay { OnErr result (HasLastOf (shelf_of seat.old) (shelf_of seat.new)) }
+    ensures spares { spares_of seat.new ≡ spares_of seat.old }
+    ensures same { IsSameSeat seat.old seat.new }
+    ensures top { KeepsTop seat.old seat.new }
+    ensures plain { KeepsPlain seat.old seat.new }
+    ensures freed { KeepsFreed seat.old seat.new }
+    ensures counts { KeepsCounts seat.old seat.new }
+    ensures misses { KeepsMisses seat.old seat.new }
+{
+    zone.flush(rt, clock, pass, seat)?;
+    give_back(rt, alloc, zone, clock, pass, Extent::Unused)
+}
