@@ -1,2 +1,4 @@
 mod doors;
 mod items;
+mod turns;
+mod turnstile;
