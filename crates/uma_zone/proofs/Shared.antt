@@ -66,7 +66,8 @@ module _ (T K : RattleType) (g : body.Ghosts T.Denot) (k : hooks.Ghosts K.Denot 
   lock_sync = search (lock.the_sync, locked_send, keg_rule.the_sync, sendable)
 
 module _ (T H P : RattleType) (g : body.Ghosts T.Denot) (h : host.Ghosts H.Denot P.Denot) (t : IsSend T) (s : IsSend H) (y : IsSync H) where
-  seat_field_send : IsSend (SeatCache.the_field T H P g h).row
+  -- a seat, as a field of a struct
+  pub seat_field_send : IsSend (SeatCache.the_field T H P g h).row
   seat_field_send = struct_send (shape (SeatCache.the_type T H P g h))
       (search (crosses, sendable) depth 20, (search sendable, (search (bucket.the_field_send), (search (plain.the_field_send), (search (freed.the_field_send), (search (rack.the_field_send), (counts.the_field_send, (share.the_field_send, tt))))))))
 

@@ -1,17 +1,6 @@
-use super::hooks::hooks;
-use super::worker::{one_pass, zone};
+use super::setting::{PLAIN, one_pass, second, zone};
 use crate::{SecondSet, ZoneRefused, ZoneSet};
 use std::test::Fail;
-
-/// Four slabs, buckets of four, no limit and no reserve, in one domain, with readers that lock.
-pub(super) const PLAIN: ZoneSet = ZoneSet {
-    slabs: 4,
-    bucket: 4,
-    limit: 0,
-    reserve: 0,
-    domains: 1,
-    smr: false,
-};
 
 #[test]
 fn a_making_names_the_first_number_out_of_range(rt: HostRuntime) -> Result<(), Fail> {
@@ -87,15 +76,15 @@ fn a_keg_has_eight_zones(rt: HostRuntime) -> Result<(), Fail> {
         smr: false,
     };
     let narrow = SecondSet { bucket: 3, ..set };
-    let Err(refused) = base.secondary(&rt, rt.alloc(), narrow, hooks()) else {
+    let Err(refused) = second(&rt, rt.alloc(), &mut base, narrow) else {
         panic!(rt; "a bucket of three")
     };
     assert_eq!(rt; refused, ZoneRefused::Bucket { bucket: 3 });
     let mut seconds = Vec::new(rt.alloc());
     for _ in 0..7 {
-        seconds.push(base.secondary(&rt, rt.alloc(), set, hooks())?)?;
+        seconds.push(second(&rt, rt.alloc(), &mut base, set)?)?;
     }
-    let Err(refused) = base.secondary(&rt, rt.alloc(), set, hooks()) else {
+    let Err(refused) = second(&rt, rt.alloc(), &mut base, set) else {
         panic!(rt; "a ninth zone")
     };
     assert_eq!(rt; refused, ZoneRefused::Zones { zones: 8 });

@@ -1,8 +1,11 @@
 mod churning;
+mod held;
 mod hooks;
+mod jobs;
 mod makings;
 mod reserve_rows;
 mod secondary_rows;
+mod setting;
 mod smr_rows;
 mod stopped;
 mod wanting;

@@ -1,5 +1,5 @@
-use super::makings::PLAIN;
-use super::worker::{new_worker, one_pass, out, release_many, request_many, zone};
+use super::setting::{PLAIN, one_pass, out, zone};
+use super::worker::new_worker;
 use crate::ZoneSet;
 use std::test::Fail;
 
@@ -10,29 +10,20 @@ fn what_a_section_may_see_is_not_handed_out(rt: HostRuntime) -> Result<(), Fail>
     let (clock, pass) = one_pass(rt.alloc(), 8)?;
     let zone = zone(rt.alloc(), &clock, 512, NODES)?;
     let mut one = new_worker(&rt, rt.alloc(), &zone, &clock, pass)?;
-    clock.enter(&mut one.pass)?;
-    assert_eq!(rt;
-        request_many(&rt, rt.alloc(), &zone, &clock, &mut one, 5)?,
-        0
-    );
-    release_many(&rt, rt.alloc(), &zone, &clock, &mut one, 5)?;
-    assert_eq!(rt;
-        request_many(&rt, rt.alloc(), &zone, &clock, &mut one, 4)?,
-        0
-    );
+    one.enter()?;
+    assert_eq!(rt; one.request_many(&rt, rt.alloc(), 5)?, 0);
+    one.release_many(&rt, rt.alloc(), 5)?;
+    assert_eq!(rt; one.request_many(&rt, rt.alloc(), 4)?, 0);
     assert!(rt; zone.counts(&rt).slabs == 2 && zone.counts(&rt).free == 4);
     assert_eq!(rt; zone.sums(&rt).deferred, 4);
-    assert!(rt; clock.hands(&mut one.pass) == (1, 3));
+    assert!(rt; one.hands() == (1, 3));
 
     // Once the section is closed the four that it might have seen come first.
-    clock.exit(&mut one.pass);
-    assert_eq!(rt;
-        request_many(&rt, rt.alloc(), &zone, &clock, &mut one, 4)?,
-        0
-    );
+    one.exit()?;
+    assert_eq!(rt; one.request_many(&rt, rt.alloc(), 4)?, 0);
     assert!(rt; zone.counts(&rt).slabs == 2 && zone.counts(&rt).free == 4);
     assert!(rt; zone.sums(&rt).deferred == 0 && one.seat.sums().deferred == 1);
-    assert!(rt; clock.hands(&mut one.pass) == (3, 3));
+    assert!(rt; one.hands() == (3, 3));
     assert_eq!(rt; out(&rt, rt.alloc(), &zone)?, 12);
     Ok(())
 }
@@ -42,19 +33,13 @@ fn a_bucket_past_the_window_stays_loose(rt: HostRuntime) -> Result<(), Fail> {
     let (clock, pass) = one_pass(rt.alloc(), 4)?;
     let zone = zone(rt.alloc(), &clock, 512, NODES)?;
     let mut one = new_worker(&rt, rt.alloc(), &zone, &clock, pass)?;
-    clock.enter(&mut one.pass)?;
-    assert_eq!(rt;
-        request_many(&rt, rt.alloc(), &zone, &clock, &mut one, 12)?,
-        0
-    );
-    release_many(&rt, rt.alloc(), &zone, &clock, &mut one, 12)?;
-    clock.exit(&mut one.pass);
-    assert_eq!(rt;
-        request_many(&rt, rt.alloc(), &zone, &clock, &mut one, 1)?,
-        0
-    );
+    one.enter()?;
+    assert_eq!(rt; one.request_many(&rt, rt.alloc(), 12)?, 0);
+    one.release_many(&rt, rt.alloc(), 12)?;
+    one.exit()?;
+    assert_eq!(rt; one.request_many(&rt, rt.alloc(), 1)?, 0);
     assert_eq!(rt; zone.sums(&rt).deferred, 8);
-    assert!(rt; clock.hands(&mut one.pass) == (5, 5));
+    assert!(rt; one.hands() == (5, 5));
     assert_eq!(rt; zone.counts(&rt).free, 4);
     Ok(())
 }

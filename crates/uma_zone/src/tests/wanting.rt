@@ -1,8 +1,6 @@
-use super::makings::PLAIN;
+use super::setting::{PLAIN, one_pass, out, zone};
 use super::stopped::Stopped;
-use super::worker::{
-    give_usable, new_worker, one_pass, out, release_many, request, request_many, zone,
-};
+use super::worker::new_worker;
 use crate::{AllocAsk, ZoneSet};
 use std::test::Fail;
 
@@ -12,17 +10,17 @@ fn no_item_is_lost_where_an_alloc_meets_no_memory(rt: HostRuntime) -> Result<(),
     let zone = zone(rt.alloc(), &clock, 1024, ZoneSet { smr: true, ..PLAIN })?;
     let mut one = new_worker(&rt, rt.alloc(), &zone, &clock, pass)?;
     // A bucket of four lies on the shelf, freed inside a section that stays open.
-    clock.enter(&mut one.pass)?;
-    request_many(&rt, rt.alloc(), &zone, &clock, &mut one, 4)?;
-    release_many(&rt, rt.alloc(), &zone, &clock, &mut one, 4)?;
+    one.enter()?;
+    one.request_many(&rt, rt.alloc(), 4)?;
+    one.release_many(&rt, rt.alloc(), 4)?;
     let before = one.seat.ledger();
     let ask = AllocAsk {
         arg: 0,
         reserve: false,
     };
     // It flushes the bucket, looks at it in vain and fetches four items.
-    let asked = request(&rt, rt.alloc(), &zone, &clock, &mut one, ask);
-    let usable = give_usable(&rt, &zone, &mut one);
+    let asked = one.request(&rt, rt.alloc(), ask);
+    let usable = one.give_usable(&rt);
     let held = one.held.len() as u64;
     let deferred = zone
         .sums(&rt)

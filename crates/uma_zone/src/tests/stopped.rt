@@ -13,6 +13,8 @@ pub(super) enum Stopped {
     Ledger,
     /// It was to free an item, and holds none.
     Empty,
+    /// It was to enter a section inside of one, or to leave one outside, or was overtaken as it entered.
+    Section,
 }
 
 impl fmt::Display for Stopped {
@@ -21,6 +23,7 @@ impl fmt::Display for Stopped {
             Stopped::Memory => write!(f, "out of memory"),
             Stopped::Ledger => write!(f, "the ledger has no room"),
             Stopped::Empty => write!(f, "nothing is held"),
+            Stopped::Section => write!(f, "no section was entered or left"),
         }
     }
 }

@@ -1,10 +1,7 @@
-use super::makings::PLAIN;
-use super::worker::{
-    new_worker, one_pass, out, release, release_many, request, request_many, zone,
-};
+use super::setting::{PLAIN, one_pass, out, zone};
+use super::worker::{Worker, new_worker};
 use crate::{AllocAsk, ZoneSet};
 use std::test::Fail;
-use uma_bucket::Shelved;
 use uma_keg::FetchRefused;
 use zone_stats::Refusal;
 
@@ -18,17 +15,11 @@ fn a_limit_counts_cached_items_too(rt: HostRuntime) -> Result<(), Fail> {
     let (clock, pass) = one_pass(rt.alloc(), 8)?;
     let zone = zone(rt.alloc(), &clock, 256, ZoneSet { limit: 4, ..PLAIN })?;
     let mut one = new_worker(&rt, rt.alloc(), &zone, &clock, pass)?;
-    assert_eq!(rt;
-        request_many(&rt, rt.alloc(), &zone, &clock, &mut one, 4)?,
-        0
-    );
-    let refused = request(&rt, rt.alloc(), &zone, &clock, &mut one, ASK)?;
+    assert_eq!(rt; one.request_many(&rt, rt.alloc(), 4)?, 0);
+    let refused = one.request(&rt, rt.alloc(), ASK)?;
     assert_eq!(rt; refused, Some(Refusal::AtLimit { out: 4, limit: 4 }));
-    release(&rt, rt.alloc(), &zone, &clock, &mut one)?;
-    assert_eq!(rt;
-        request(&rt, rt.alloc(), &zone, &clock, &mut one, ASK)?,
-        None
-    );
+    one.release(&rt, rt.alloc())?;
+    assert_eq!(rt; one.request(&rt, rt.alloc(), ASK)?, None);
     let ledger = one.seat.ledger();
     assert!(rt; ledger.requests == 6 && ledger.allocs == 5 && ledger.frees == 1);
     assert!(rt; ledger.fails == 1 && ledger.turned == 1 && ledger.last == refused);
@@ -66,10 +57,7 @@ fn the_reserve_is_for_those_that_may_use_it(rt: HostRuntime) -> Result<(), Fail>
         (may, Some(Refusal::Full { slabs: 1, made: 1 })),
     ];
     for (ask, refused) in asks {
-        assert_eq!(rt;
-            request(&rt, rt.alloc(), &zone, &clock, &mut one, ask)?,
-            refused
-        );
+        assert_eq!(rt; one.request(&rt, rt.alloc(), ask)?, refused);
     }
     let ledger = one.seat.ledger();
     assert!(rt; ledger.allocs == 4 && ledger.fails == 2 && ledger.turned == 2);
@@ -82,16 +70,13 @@ fn an_item_that_ctor_refuses_is_the_next_to_be_built(rt: HostRuntime) -> Result<
     let zone = zone(rt.alloc(), &clock, 256, PLAIN)?;
     let mut one = new_worker(&rt, rt.alloc(), &zone, &clock, pass)?;
     let seven = AllocAsk { arg: 7, ..ASK };
-    let refused = request(&rt, rt.alloc(), &zone, &clock, &mut one, seven)?;
+    let refused = one.request(&rt, rt.alloc(), seven)?;
     assert_eq!(rt; refused, Some(Refusal::Ctor { code: 7 }));
     let ledger = one.seat.ledger();
     assert!(rt; ledger.fails == 1 && ledger.turned == 0 && ledger.last == refused);
     assert_eq!(rt; out(&rt, rt.alloc(), &zone)?, 4);
     assert_eq!(rt; zone.counts(&rt).free, 12);
-    assert_eq!(rt;
-        request(&rt, rt.alloc(), &zone, &clock, &mut one, ASK)?,
-        None
-    );
+    assert_eq!(rt; one.request(&rt, rt.alloc(), ASK)?, None);
     assert_eq!(rt; out(&rt, rt.alloc(), &zone)?, 4);
     Ok(())
 }
@@ -116,15 +101,16 @@ fn making_room_takes_the_shelf_to_the_domain(rt: HostRuntime) -> Result<(), Fail
     let (clock, pass) = one_pass(rt.alloc(), 8)?;
     let zone = zone(rt.alloc(), &clock, 256, PLAIN)?;
     let mut one = new_worker(&rt, rt.alloc(), &zone, &clock, pass)?;
-    request_many(&rt, rt.alloc(), &zone, &clock, &mut one, 8)?;
+    one.request_many(&rt, rt.alloc(), 8)?;
     for _ in 0..8 {
-        release(&rt, rt.alloc(), &zone, &clock, &mut one)?;
+        one.release(&rt, rt.alloc())?;
     }
     assert_eq!(rt; one.seat.spare(), 0);
-    zone.make_room(&rt, rt.alloc(), &clock, &mut one.pass, &mut one.seat)?;
+    one.make_room(&rt, rt.alloc())?;
     assert_eq!(rt; one.seat.spare(), 2);
     assert_eq!(rt; zone.domain(0).count(&rt), 8);
-    assert!(rt; one.seat.take_shelf().is_none());
+    let Worker { mut seat, .. } = one;
+    assert!(rt; seat.take_shelf().is_none());
     Ok(())
 }
 
@@ -133,14 +119,11 @@ fn what_comes_back_to_the_keg_frees_its_slabs(rt: HostRuntime) -> Result<(), Fai
     let (clock, pass) = one_pass(rt.alloc(), 8)?;
     let zone = zone(rt.alloc(), &clock, 1024, PLAIN)?;
     let mut one = new_worker(&rt, rt.alloc(), &zone, &clock, pass)?;
-    request_many(&rt, rt.alloc(), &zone, &clock, &mut one, 4)?;
-    release_many(&rt, rt.alloc(), &zone, &clock, &mut one, 4)?;
+    one.request_many(&rt, rt.alloc(), 4)?;
+    one.release_many(&rt, rt.alloc(), 4)?;
     assert!(rt; zone.counts(&rt).slabs == 1 && zone.counts(&rt).free == 0);
     assert_eq!(rt; zone.free_slabs(&rt), 0);
-    let Some(Shelved::Plain { domain: 0, bucket }) = one.seat.take_shelf() else {
-        panic!(rt; "the shelf has no bucket")
-    };
-    assert_eq!(rt; zone.give(&rt, bucket), 4);
+    assert_eq!(rt; one.give_shelf(&rt), Some(4));
     assert_eq!(rt; zone.counts(&rt).free, 4);
     assert_eq!(rt; zone.free_slabs(&rt), 1);
     assert_eq!(rt; zone.counts(&rt).slabs, 0);
