@@ -22,3 +22,4 @@ pub mod TraceHead
 pub mod RowZones
 pub mod TraceFollowing
 pub mod NamedZones
+pub mod TextLength

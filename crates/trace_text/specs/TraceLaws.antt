@@ -1,7 +1,8 @@
 -- The laws of traces and their texts (own).
-use Rattle.std.specs.Prelude.{ℕ, ◌≡◌, List}
+use Rattle.std.specs.Prelude.{ℕ, ◌≡◌, ◌≤◌, List, length}
 use Rattle.trace_text.specs.declared.trace.Trace.{Trace}
 use Rattle.trace_text.specs.Grammar.{IsTraceText}
+use Rattle.trace_text.specs.Lines.{lines_of}
 use Rattle.trace_text.specs.Valid.{IsValid}
 
 -- bytes are a text of one trace at most
@@ -11,3 +12,7 @@ TextsAreOfOneTrace = (bytes : List ℕ) (trace other : Trace) → IsTraceText by
 -- the trace of a text is valid
 abbrev pub TextsAreOfValidTraces : Type 0
 TextsAreOfValidTraces = (bytes : List ℕ) (trace : Trace) → IsTraceText bytes trace → IsValid trace
+
+-- a trace has no more lines below its header than its text has bytes
+abbrev pub TracesAreNoLonger : Type 0
+TracesAreNoLonger = (bytes : List ℕ) (trace : Trace) → IsTraceText bytes trace → length (lines_of trace.rounds) ≤ length bytes

@@ -28,5 +28,5 @@ pub use schedule_text::{
 };
 pub use text_lines::{ParseRefused, TraceKind, TraceRefused, parse_number};
 pub use trace::Trace;
-pub use trace_laws::{texts_are_of_one_trace, texts_are_of_valid_traces};
+pub use trace_laws::{texts_are_of_one_trace, texts_are_of_valid_traces, traces_are_no_longer};
 pub use trace_reading::parse;

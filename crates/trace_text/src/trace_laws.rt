@@ -1,5 +1,5 @@
 //! The laws of traces and their texts. Each call does nothing: its contract is the law.
-ghost use Rattle.trace_text.specs.TraceLaws.{TextsAreOfOneTrace, TextsAreOfValidTraces};
+ghost use Rattle.trace_text.specs.TraceLaws.{TextsAreOfOneTrace, TextsAreOfValidTraces, TracesAreNoLonger};
 
 /// Bytes are a text of one trace at most.
 pub fn texts_are_of_one_trace()
@@ -9,4 +9,9 @@ pub fn texts_are_of_one_trace()
 /// The trace of a text is valid.
 pub fn texts_are_of_valid_traces()
     ensures { TextsAreOfValidTraces }
+{}
+
+/// A trace has no more lines below its header than its text has bytes.
+pub fn traces_are_no_longer()
+    ensures { TracesAreNoLonger }
 {}
