@@ -6,7 +6,6 @@ use Rattle.trace_text.specs.declared.head.ZoneHead.{ZoneHead}
 use Rattle.trace_text.specs.declared.head.ZoneKind.TheVariants.{Plain}
 use Rattle.trace_text.specs.declared.op.Op.TheVariants.{Alloc, Free}
 use Rattle.trace_text.specs.declared.trace.Trace.{Trace}
-use Rattle.trace_text.specs.Built.{only_round}
 use Rattle.trace_print.specs.CanonicalText.{canonical_text}
 
 box : ZoneHead
@@ -15,7 +14,7 @@ box = record { name = codes "box"; parent = None; size = 256; slabs = 4; bucket 
 three_allocs_and_a_free : Trace
 three_allocs_and_a_free = record {
   head = record { workers = 1; domains = 1; clock = None; detail = false; zones = box ∷ []; names = None };
-  rounds = only_round (Alloc 0 0 0 false ∷ Alloc 0 1 0 false ∷ Alloc 0 2 0 false ∷ Free 1 ∷ []);
+  rounds = record { ops = (Alloc 0 0 0 false ∷ Alloc 0 1 0 false ∷ Alloc 0 2 0 false ∷ Free 1 ∷ []) ∷ []; between = [] } ∷ [];
 }
 
 text_of_three_allocs_and_a_free : canonical_text three_allocs_and_a_free

@@ -1,197 +1,266 @@
--- A run of a trace's lines can go on, and at the end its ledgers stand for the trace.
-use Rattle.std.proofs.Common.{◌≡◌, ℕ, zero, suc, ◌+◌, ◌<◌, ◌≤◌, inl, inr, List, [], ◌∷◌, length, take, get_or, map, reverse, Bool, true, Option, Some, refl, sym, ap, ◌∙◌, subst, arith, append-nil, add-zero, eq-eqb}
-use Rattle.std.proofs.lemmas.Bool.{cases_Bool, lt-ltb, and_from}
-use Rattle.std.proofs.lemmas.List.{take_all, get_or_default}
-use Rattle.std.proofs.lemmas.List.Sums.{count_by_more_yes, count_by_more_no}
-use Rattle.std.proofs.lemmas.Option.{slice_get_within}
-use Rattle.std.specs.Prelude.{slice_get, All, Any, IsTrue, count_by, ◌==◌, nat_lt, if◌then◌else◌}
-use Rattle.zone_stats.specs.declared.ledger.SeatLedger.{SeatLedger}
-use Rattle.trace_text.specs.declared.head.Head.{Head}
+-- A report of which these plain facts are known stands for its trace.
+use Rattle.std.proofs.Common.{◌≡◌, ℕ, zero, suc, ◌+◌, ◌-◌, ◌*◌, ◌<◌, ◌≤◌, List, [], ◌∷◌, false, length, map, Option, None, Some, refl, sym, ap, ◌∙◌, subst, arith, append-nil, reverse}
+use Rattle.std.proofs.lemmas.Option.{same_Some, slice_get_within, get_or_from_slice_get}
+use Rattle.std.specs.Prelude.{All, IfSome, IsSome, is_some, slice_get, slice_index_or, sum_by}
 use Rattle.trace_text.specs.declared.head.ZoneHead.{ZoneHead}
-use Rattle.trace_text.specs.declared.op.Op.{Op}
-use Rattle.trace_text.specs.declared.op.Op.TheVariants.{Alloc, Free, Enter}
-use Rattle.trace_text.specs.declared.round.Round.{Round}
 use Rattle.trace_text.specs.declared.trace.Trace.{Trace}
-use Rattle.trace_text.specs.Built.{IsBuiltOp, only_round}
-use Rattle.trace_text.specs.Lines.{Line, Does, lines_of}
-use Rattle.trace_text.specs.Valid.{RoundFits, LinesFit, LineFits, OpFits}
-use Rattle.uma_replay.specs.Counting.{worker_ops, is_alloc_of, is_alloc_with, is_alloc_with_arg, is_request_of, is_bind, request_count, arg_count, free_count}
-use Rattle.uma_replay.specs.Report.{LedgerFits, FreesFit}
-use Rattle.uma_replay.proofs.Done.{done, done_more, LinesFit-at, lines_of-only_round}
-use Rattle.uma_replay.proofs.Plain.{Plain, Step, Run, IsNewPlain, Can, IsSerial, ZoneStands, is_zone}
-use Rattle.uma_replay.proofs.PlainLines.{inside_count}
-use Rattle.uma_replay.proofs.PlainRun.{Run-last}
-use Rattle.uma_replay.proofs.PlainSteps.{Goes, Goes-alloc, Goes-free, Goes-new, Goes-empty_slot}
-use Rattle.uma_replay.proofs.PlainZones.{Grows, ZoneGoes}
+use Rattle.trace_text.specs.Built.{IsBuilt}
+use Rattle.trace_text.specs.Limits.{last_slot}
+use Rattle.trace_text.specs.Lines.{Line, lines_of}
+use Rattle.trace_text.specs.Valid.{IsValid, sharer_count}
+use Rattle.zone_stats.specs.declared.ledger.SeatLedger.{SeatLedger}
+use Rattle.zone_stats.specs.declared.refusal.Refusal.{Refusal}
+use Rattle.zone_stats.specs.declared.refusal.Refusal.TheVariants.{AtLimit, Reserved, Full, Init, Ctor}
+use Rattle.zone_stats.specs.declared.report.HookLine.{HookLine}
+use Rattle.zone_stats.specs.declared.report.KegLine.{KegLine}
+use Rattle.zone_stats.specs.declared.report.Report.{Report}
+use Rattle.zone_stats.specs.declared.report.ZoneLine.{ZoneLine}
+use Rattle.zone_stats.specs.Ledger.{is_ctor}
+use Rattle.zone_stats.specs.Line.{zone_line, total_allocs, total_frees, used_items}
+use Rattle.uma_life.specs.Trail.{ShowsSame}
+use Rattle.trace_worker.specs.LedgerStands.{LedgerStands, KeptFits}
+use Rattle.trace_setting.specs.Kegs.{per_slab, primaries, index_of, rights_after}
+use Rattle.uma_replay.specs.Counting.{report_zones}
+use Rattle.uma_replay.specs.Report.{StandsFor, ZoneLedgersFit, LedgerFits, FreesFit, IsLineOf, RefusalFits, ledgers_at, KegAddsUp, UsesAreBuilt, ClockLineFits, line_title, head_title}
+use Rattle.uma_replay.proofs.Filled.{filled_slots}
+use Rattle.uma_replay.proofs.KegSums.{HaveOuts, items, keg_sum}
+use Rattle.uma_replay.proofs.OwnCounts.{requests_are, args_are, asked_some}
+use Rattle.uma_replay.proofs.Primaries.{IsPrimaryAt, primary_is}
+use Rattle.uma_replay.proofs.ZoneFrees.{IsCounted, frees_fit}
 
--- the operations are the trace's, and fit their lines
-record OpsFit (t : Trace) (ops : List Op) : Type 0 where
-  pub built : All IsBuiltOp ops
-  pub each : All (OpFits t.head) ops
-  pub lines : LinesFit [] (map (Does 0) ops)
-  pub whole : worker_ops t 0 ≡ ops
-  pub read : lines_of t.rounds ≡ map (Does 0) ops
+-- all lines of the trace, the last one first
+abbrev pub all_lines : Trace → List Line
+all_lines t = reverse (lines_of t.rounds)
 
--- the operations of worker 0 in the first round
-abbrev first_ops : List Round → List Op
-first_ops [] = []
-first_ops (r ∷ rounds) = get_or r.ops 0 []
+-- ---- one ledger
 
--- the operations of the only round fit
-round_fits : (head : Head) (ops : List Op) → All (RoundFits head) (only_round ops) → All (OpFits head) ops
-round_fits head ops fits =
-    let round : RoundFits head (record { ops = ops ∷ []; between = [] }) =
-    fits 0 (record { ops = []; between = [] }) (omega arith) in
-    round.ops 0 [] (omega arith)
+by_refusal : (t : Trace) (n z : ℕ) (head : ZoneHead) (Names : Refusal → Type 0) (refusal : Refusal)
+    → ((r : Refusal) → is_ctor r ≡ false → Names r → RefusalFits t n z head r) → KeptFits Names n z (all_lines t) refusal → RefusalFits t n z head refusal
+by_refusal t n z head Names (Ctor code) fit kept = (kept.0, asked_some t n z code kept.1)
+by_refusal t n z head Names (AtLimit out limit) fit kept = fit (AtLimit out limit) refl kept
+by_refusal t n z head Names (Reserved free reserve) fit kept = fit (Reserved free reserve) refl kept
+by_refusal t n z head Names (Full slabs made) fit kept = fit (Full slabs made) refl kept
+by_refusal t n z head Names (Init code) fit kept = fit (Init code) refl kept
 
-ops_fit : (t : Trace) (ops : List Op) → IsSerial t ops → OpsFit t ops
-ops_fit t ops serial =
-    let others : List Op = serial.built.round.0 in
-    let same_round : only_round others ≡ only_round ops = sym serial.built.round.1 ∙ serial.round in
-    let same : others ≡ ops = ap first_ops same_round in
-    let read : lines_of t.rounds ≡ map (Does 0) ops = ap lines_of serial.round ∙ lines_of-only_round ops in
-    let P : List Round → Type 0 = λ rounds. All (RoundFits t.head) rounds in
-    let Q : List Op → Type 0 = λ list. All IsBuiltOp list in
-    let L : List Line → Type 0 = λ lines. LinesFit [] lines in
+by_last : (t : Trace) (n z : ℕ) (head : ZoneHead) (o : Option Refusal) → ((r : Refusal) → o ≡ Some r → RefusalFits t n z head r) → IfSome o (RefusalFits t n z head)
+by_last t n z head None each = tt
+by_last t n z head (Some r) each = each r refl
+
+swap_args : (fails turned args others : ℕ) → fails ≤ turned + args → args ≡ others → fails ≤ turned + others
+swap_args fails turned args others most same = omega arith
+
+swap_all : (args others fails : ℕ) → args ≤ fails → args ≡ others → others ≤ fails
+swap_all args others fails most same = omega arith
+
+-- what a ledger has to do with its worker's lines fits the trace, where what its refusals name of the zone does
+pub ledger_fits : (t : Trace) (n z : ℕ) (head : ZoneHead) (l : SeatLedger) (Names : Refusal → Type 0) → z < length t.head.zones
+    → ((r : Refusal) → is_ctor r ≡ false → Names r → RefusalFits t n z head r) → LedgerStands Names n z (all_lines t) l → LedgerFits t n z head l
+ledger_fits t n z head l Names below fit stands = record {
+  requests = stands.requests ∙ requests_are t n z below;
+  law = l.law;
+  some_args = swap_args _ _ _ _ stands.some_args (args_are t n z);
+  all_args = swap_all _ _ _ stands.all_args (args_are t n z);
+  kept = by_last t n z head l.last (λ r is. by_refusal t n z head Names r fit (stands.kept r is));
+}
+
+-- ---- what is known at the end
+
+-- A zone with its ledgers and its lines. So many of its items are live, are out of the keg, and are free in the keg, which a secondary zone leaves to its primary one.
+pub record ZoneEnds (t : Trace) (report : Report) (size z : ℕ) (head : ZoneHead) (out keg_free : ℕ) : Type 0 where
+  pub ledgers : List SeatLedger
+  pub at_ledgers : slice_get report.ledgers z ≡ Some ledgers
+  pub workers : length ledgers ≡ t.head.workers
+  pub fits : (n : ℕ) (l : SeatLedger) → slice_get ledgers n ≡ Some l → LedgerFits t n z head l
+  pub counted : (n : ℕ) (l : SeatLedger) → slice_get ledgers n ≡ Some l → IsCounted n z (all_lines t) l
+  pub live : ℕ
+  pub filled : live ≤ filled_slots t.head.workers size z (all_lines t)
+  pub balance : live + total_frees ledgers ≡ total_allocs ledgers
+  pub lent : live ≤ out
+  pub secondary : IsSome head.parent → keg_free ≡ 0
+  pub at_line : slice_get report.lines z ≡ Some (zone_line head.name head.size head.limit ledgers out keg_free)
+  pub hooks : HookLine
+  pub at_hooks : slice_get report.hooks z ≡ Some hooks
+  pub named : hooks.name ≡ head.name
+  pub pairs : ShowsSame hooks.ctors (hooks.dtors + live + hooks.deferred)
+
+-- A keg with its line: what is free in it, and what is out in each of its zones.
+pub record KegEnds (t : Trace) (report : Report) (outs_of frees_of : ℕ → ℕ) (k p : ℕ) (head : ZoneHead) : Type 0 where
+  pub line : KegLine
+  pub at : slice_get report.kegs k ≡ Some line
+  pub named : line.name ≡ head.name
+  pub outs : List ℕ
+  pub free : ℕ
+  pub balanced : line.slabs * per_slab head ≡ free + sum_by (λ out. out) outs
+  pub eight : length outs ≡ 8
+  pub absent : All (λ zone. slice_index_or outs zone 0 ≡ 0) (rights_after (sharer_count t.head.zones p))
+  pub own : frees_of p ≡ free
+  pub own_out : outs_of p ≡ slice_index_or outs 0 0
+  pub shared : (z : ℕ) (h : ZoneHead) → slice_get t.head.zones z ≡ Some h → h.parent ≡ Some p → outs_of z ≡ slice_index_or outs (index_of t.head.zones z h) 0
+
+pub record Ends (t : Trace) (report : Report) (size : ℕ) (outs_of frees_of : ℕ → ℕ) : Type 0 where
+  pub valid : IsValid t
+  pub built : IsBuilt t
+  pub most : last_slot < size
+  pub ledger_count : length report.ledgers ≡ length t.head.zones
+  pub line_count : length report.lines ≡ length t.head.zones
+  pub hook_count : length report.hooks ≡ length t.head.zones
+  pub keg_count : length report.kegs ≡ length (primaries t.head.zones 0)
+  pub zone : (z : ℕ) (head : ZoneHead) → slice_get t.head.zones z ≡ Some head → ZoneEnds t report size z head (outs_of z) (frees_of z)
+  pub keg : (k p : ℕ) (head : ZoneHead) → slice_get (primaries t.head.zones 0) k ≡ Some (p, head) → KegEnds t report outs_of frees_of k p head
+  pub detail : report.detail ≡ t.head.detail
+  pub clock : ClockLineFits t t.head.clock report.clock
+
+-- ---- on options and lists
+
+pub if_some : {A : Type 0} (o : Option A) (P : A → Type 0) → ((a : A) → o ≡ Some a → P a) → IfSome o P
+if_some None P each = tt
+if_some (Some a) P each = each a refl
+
+pub if_at : {A : Type 0} (o : Option A) (P : A → Type 0) (a : A) → o ≡ Some a → P a → IfSome o P
+if_at o P a is holds = let Q : Option _ → Type 0 = λ o. IfSome o P in subst Q (sym is) holds
+
+pub some_at : {A : Type 0} (xs : List A) (i : ℕ) → i < length xs → (x : A) × (slice_get xs i ≡ Some x)
+some_at [] i below = absurd (omega arith)
+some_at (x ∷ xs) zero below = (x, refl)
+some_at (x ∷ xs) (suc i) below = some_at xs i (omega arith)
+
+same_images : {X Y Z : Type 0} (f : X → Z) (g : Y → Z) (xs : List X) (ys : List Y) → length xs ≡ length ys
+    → ((k : ℕ) (x : X) (y : Y) → slice_get xs k ≡ Some x → slice_get ys k ≡ Some y → f x ≡ g y) → map f xs ≡ map g ys
+same_images f g [] [] size each = refl
+same_images f g [] (y ∷ ys) size each = absurd (omega arith)
+same_images f g (x ∷ xs) [] size each = absurd (omega arith)
+same_images f g (x ∷ xs) (y ∷ ys) size each =
+    let first : f x ≡ g y = each zero x y refl refl in
+    let rest : map f xs ≡ map g ys = same_images f g xs ys (omega arith) (λ k. each (suc k)) in
+    cc
+
+pair_images : {X A Z : Type 0} (f : X → Z) (g : A → Z) (xs : List X) (ys : List (ℕ × A)) → length xs ≡ length ys
+    → ((k : ℕ) (x : X) (p : ℕ) (a : A) → slice_get xs k ≡ Some x → slice_get ys k ≡ Some (p, a) → f x ≡ g a) → map f xs ≡ map (λ (p, a). g a) ys
+pair_images f g [] [] size each = refl
+pair_images f g [] (y ∷ ys) size each = absurd (omega arith)
+pair_images f g (x ∷ xs) [] size each = absurd (omega arith)
+pair_images f g (x ∷ xs) ((p, a) ∷ ys) size each =
+    let first : f x ≡ g a = each zero x p a refl refl in
+    let rest : map f xs ≡ map (λ (p, a). g a) ys = pair_images f g xs ys (omega arith) (λ k. each (suc k)) in
+    cc
+
+-- ---- a zone
+
+used_live : (live allocs frees : ℕ) → live + frees ≡ allocs → allocs - frees ≡ live
+used_live live allocs frees is = omega arith
+
+all_items_of : (used live out keg_free : ℕ) → used ≡ live → live ≤ out → used + (keg_free + out - used) ≡ keg_free + out
+all_items_of used live out keg_free is most = omega arith
+
+line_items : (t : Trace) (report : Report) (size z : ℕ) (head : ZoneHead) (out keg_free : ℕ) (e : ZoneEnds t report size z head out keg_free)
+    → items (zone_line head.name head.size head.limit e.ledgers out keg_free) ≡ keg_free + out
+line_items t report size z head out keg_free e =
+    all_items_of (used_items e.ledgers) e.live out keg_free (used_live e.live (total_allocs e.ledgers) (total_frees e.ledgers) e.balance) e.lent
+
+items_at : (t : Trace) (report : Report) (size z : ℕ) (head : ZoneHead) (out keg_free : ℕ) (e : ZoneEnds t report size z head out keg_free) (line : ZoneLine)
+    → slice_get report.lines z ≡ Some line → items line ≡ keg_free + out
+items_at t report size z head out keg_free e line at =
+    ap items (same_Some line (zone_line head.name head.size head.limit e.ledgers out keg_free) (sym at ∙ e.at_line)) ∙ line_items t report size z head out keg_free e
+
+zone_uses : (t : Trace) (report : Report) (size z : ℕ) (head : ZoneHead) (out keg_free : ℕ) (e : ZoneEnds t report size z head out keg_free)
+    → UsesAreBuilt (zone_line head.name head.size head.limit e.ledgers out keg_free) e.hooks
+zone_uses t report size z head out keg_free e =
+    let used : used_items e.ledgers ≡ e.live = used_live e.live (total_allocs e.ledgers) (total_frees e.ledgers) e.balance in
+    let P : ℕ → Type 0 = λ n. ShowsSame e.hooks.ctors (e.hooks.dtors + n + e.hooks.deferred) in
+    subst P (sym used) e.pairs
+
+ledgers_of : (t : Trace) (report : Report) (size z : ℕ) (head : ZoneHead) (out keg_free : ℕ) (e : ZoneEnds t report size z head out keg_free) → ledgers_at report z ≡ e.ledgers
+ledgers_of t report size z head out keg_free e = get_or_from_slice_get report.ledgers z e.ledgers [] e.at_ledgers
+
+ledgers_fit : (t : Trace) (report : Report) (size z : ℕ) (head : ZoneHead) (out keg_free : ℕ) → ZoneEnds t report size z head out keg_free → ZoneLedgersFit t z head (ledgers_at report z)
+ledgers_fit t report size z head out keg_free e =
+    let P : List SeatLedger → Type 0 = λ ls. ZoneLedgersFit t z head ls in
+    subst P (sym (ledgers_of t report size z head out keg_free e)) (record {
+      workers = e.workers;
+      each = λ n. if_some (slice_get e.ledgers n) (LedgerFits t n z head) (λ l at. e.fits n l at);
+    })
+
+zone_frees : (t : Trace) (report : Report) (size z : ℕ) (head : ZoneHead) (out keg_free : ℕ) → IsValid t → IsBuilt t → last_slot < size
+    → ZoneEnds t report size z head out keg_free → FreesFit t z (ledgers_at report z)
+zone_frees t report size z head out keg_free valid built most e =
+    let P : List SeatLedger → Type 0 = λ ls. FreesFit t z ls in
+    subst P (sym (ledgers_of t report size z head out keg_free e))
+    (frees_fit t size z e.live e.ledgers valid built most e.workers e.counted e.filled e.balance)
+
+zone_line_of : (t : Trace) (report : Report) (size z : ℕ) (head : ZoneHead) (out keg_free : ℕ) → ZoneEnds t report size z head out keg_free
+    → IfSome (slice_get report.lines z) (IsLineOf head (ledgers_at report z))
+zone_line_of t report size z head out keg_free e =
+    let line = zone_line head.name head.size head.limit e.ledgers out keg_free in
+    let P : List SeatLedger → Type 0 = λ ls. IsLineOf head ls line in
+    if_at (slice_get report.lines z) (IsLineOf head (ledgers_at report z)) line e.at_line
+    (subst P (sym (ledgers_of t report size z head out keg_free e)) (out, keg_free, e.secondary, refl))
+
+-- ---- a keg
+
+below_other : (p a b : ℕ) → p < b → a ≡ b → p < a
+below_other p a b below same = omega arith
+
+both_add : (keg_free out free own : ℕ) → keg_free ≡ free → out ≡ own → keg_free + out ≡ free + own
+both_add keg_free out free own e1 e2 = omega arith
+
+second_add : (keg_free out own : ℕ) → keg_free ≡ 0 → out ≡ own → keg_free + out ≡ own
+second_add keg_free out own e1 e2 = omega arith
+
+keg_adds_up : (t : Trace) (report : Report) (size : ℕ) (outs_of frees_of : ℕ → ℕ) (k p : ℕ) (head : ZoneHead) → (e : Ends t report size outs_of frees_of)
+    → IsPrimaryAt t.head.zones 0 p head → (keg : KegEnds t report outs_of frees_of k p head) → KegAddsUp t report (p, head) keg.line
+keg_adds_up t report size outs_of frees_of k p head e primary keg =
+    let heads = t.head.zones in
+    let place : primary.k ≡ p = (let e : primary.k ≡ 0 + primary.k = omega arith in e) ∙ sym primary.place in
+    let P : ℕ → Type 0 = λ i. slice_get heads i ≡ Some head in
+    let at : slice_get heads p ≡ Some head = subst P place primary.at in
+    let below : p < length heads = slice_get_within heads p head at in
+    let found = some_at report.lines p (let size : length report.lines ≡ length heads = e.line_count in below_other _ _ _ below size) in
+    let have : HaveOuts heads report.lines keg.outs keg.free p = record {
+      own = λ h line at_h at_line.
+          items_at t report size p h (outs_of p) (frees_of p) (e.zone p h at_h) line at_line ∙ both_add _ _ _ _ keg.own keg.own_out;
+      shared = λ z h line at_h at_line parent.
+          let none : frees_of z ≡ 0 = (e.zone z h at_h).secondary (ap is_some parent) in
+          items_at t report size z h (outs_of z) (frees_of z) (e.zone z h at_h) line at_line ∙ second_add _ _ _ none (keg.shared z h at_h parent);
+    } in
+    keg_sum heads report.lines keg.outs keg.free p head found.0 e.line_count at primary.own found.1 keg.eight (e.valid.head.most_of_a_keg p below) keg.absent have ∙ sym keg.balanced
+
+-- ---- the report
+
+pub stands_plain : (t : Trace) (report : Report) (size : ℕ) (outs_of frees_of : ℕ → ℕ) → Ends t report size outs_of frees_of → StandsFor t report
+stands_plain t report size outs_of frees_of e =
+    let heads = t.head.zones in
+    let are : report_zones t.head ≡ heads = rw e.built.names (append-nil heads) in
+    let line_name = λ (line : HookLine). line.name in
+    let keg_name = λ (line : KegLine). line.name in
+    let head_name = λ (head : ZoneHead). head.name in
     record {
-      built = subst Q same serial.built.round.2;
-      each = round_fits t.head ops (subst P serial.round serial.valid.rounds);
-      lines = subst L read serial.valid.lines;
-      whole = rw serial.round (append-nil ops);
-      read = read;
-    }
-
-line_fits : (t : Trace) (ops : List Op) (i : ℕ) (d : Op) → OpsFit t ops → i < length ops
-    → LineFits (done ops i) (Does 0 (get_or ops i d))
-line_fits t ops i d fit below =
-    let P : List Line → Type 0 = λ lines. LineFits lines (Does 0 (get_or ops i d)) in
-    subst P (append-nil (done ops i)) (LinesFit-at [] ops i d fit.lines below)
-
--- what an operation of the trace needs is there
-can_go_on : (t : Trace) (seen : List Op) (before : List Line) (s : Plain) (op : Op) → IsBuiltOp op → OpFits t.head op
-    → LineFits before (Does 0 op)
-    → Goes t seen before s → Can t.head.zones s op
-can_go_on t seen before s (Alloc zone slot arg reserve) built fits line g =
-    (fits.0, omega (arith, fits.1), fits.2, Goes-empty_slot t seen before s slot g (omega (arith, fits.1)) line)
-can_go_on t seen before s (Free slot) built fits line g = omega (arith, fits)
-can_go_on t seen before s op built fits line g = absurd built
-
-is_alloc_itself : (zone slot arg : ℕ) (reserve : Bool) → IsTrue (is_alloc_with zone arg (Alloc zone slot arg reserve))
-is_alloc_itself zone slot arg reserve = and_from (zone == zone) (arg == arg) (eq-eqb zone zone refl) (eq-eqb arg arg refl)
-
--- how the ledgers and slots go along with one operation more
-goes_on : (t : Trace) (seen more : List Op) (before : List Line) (op : Op) (old new : Plain) → IsBuiltOp op
-    → OpFits t.head op → LineFits before (Does 0 op)
-    → Grows seen op more → Any (λ o. o ≡ op) (worker_ops t 0) → Step t.head.zones old op new → Goes t seen before old
-    → Goes t more (Does 0 op ∷ before) new
-goes_on t seen more before (Alloc zone slot arg reserve) old new built fits line grows there step g =
-    let P : Op → Type 0 = λ o. IsTrue (is_alloc_with zone arg o) in
-    let is : P there.1 = subst P (sym there.4) (is_alloc_itself zone slot arg reserve) in
-    Goes-alloc t seen more before old new zone slot arg reserve grows (omega (arith, fits.1)) line
-    (there.0, there.1, there.2, there.3, is) step g
-goes_on t seen more before (Free slot) old new built fits line grows there step g =
-    Goes-free t seen more before old new slot grows (omega (arith, fits)) line step g
-goes_on t seen more before op old new built fits line grows there step g = absurd built
-
-grows_by : (ops : List Op) (i : ℕ) (d : Op) → i < length ops → Grows (take i ops) (get_or ops i d) (take (i + 1) ops)
-grows_by ops i d below p = elim (cases_Bool (p (get_or ops i d))) [
-  | inl passes ↦ rw passes (count_by_more_yes p ops i d below passes)
-  | inr refused ↦ rw refused (count_by_more_no p ops i d below refused ∙ sym (add-zero _))
-]
-
--- after the first `i` operations
-goes_along : (t : Trace) (ops : List Op) (start : Plain) (d : Op) → OpsFit t ops → Goes t [] [] start → (i : ℕ)
-    → i ≤ length ops → (now : Plain)
-    → Run t.head.zones start (take i ops) now → Goes t (take i ops) (done ops i) now
-goes_along t ops start d fit new zero within now run =
-    let P : Plain → Type 0 = λ s. Goes t [] [] s in subst P (sym run) new
-goes_along t ops start d fit new (suc i) within now run =
-    let below : i < length ops = omega arith in
-    let last = Run-last t.head.zones start ops i d now below run in
-    let earlier = goes_along t ops start d fit new i (omega arith) last.0 last.1 in
-    let P : List Op → Type 0 = λ list. Any (λ o. o ≡ get_or ops i d) list in
-    let there : Any (λ o. o ≡ get_or ops i d) (worker_ops t 0) =
-    subst P (sym fit.whole) (i, get_or ops i d, below, get_or_default ops i (get_or ops i d) d below, refl) in
-    let later =
-    goes_on t (take i ops) (take (i + 1) ops) (done ops i) (get_or ops i d) last.0 now (fit.built i d below)
-    (fit.each i d below)
-    (line_fits t ops i d fit below) (grows_by ops i d below) there last.2 earlier in
-    let L : List Line → Type 0 = λ lines. Goes t (take (i + 1) ops) lines now in
-    let N : ℕ → Type 0 = λ j. Goes t (take j ops) (done ops j) now in
-    let next : i + 1 ≡ suc i = omega arith in
-    subst N next (subst L (sym (done_more ops i d below)) later)
-
--- what a line of the trace needs is there, as far as the run has come: an alloc line's slot holds nothing
-pub plain_can : (t : Trace) (ops : List Op) (start now : Plain) (i : ℕ) (d : Op) → IsSerial t ops
-    → IsNewPlain (length t.head.zones) start
-    → Run t.head.zones start (take i ops) now → i < length ops → Can t.head.zones now (get_or ops i d)
-plain_can t ops start now i d serial new run below =
-    let fit = ops_fit t ops serial in
-    let g = goes_along t ops start d fit (Goes-new t start (length t.head.zones) new) i (omega arith) now run in
-    can_go_on t (take i ops) (done ops i) now (get_or ops i d) (fit.built i d below) (fit.each i d below)
-    (line_fits t ops i d fit below) g
-
-goes_to_end : (t : Trace) (ops : List Op) (start end : Plain) → OpsFit t ops → IsNewPlain (length t.head.zones) start
-    → Run t.head.zones start ops end
-    → Goes t ops (reverse (map (Does 0) ops)) end
-goes_to_end t ops start end fit new run =
-    let all : take (length ops) ops ≡ ops = take_all (length ops) ops (omega arith) in
-    let R : List Op → Type 0 = λ taken. Run t.head.zones start taken end in
-    let G : List Op → Type 0 = λ taken. Goes t taken (reverse (map (Does 0) taken)) end in
-    subst G all (goes_along t ops start Enter fit (Goes-new t start (length t.head.zones) new) (length ops)
-    (omega arith) end (subst R (sym all) run))
-
--- the requests of a zone line are its allocs
-requests_are : (t : Trace) (ops : List Op) (z : ℕ) → worker_ops t 0 ≡ ops → z < length t.head.zones
-    → request_count t 0 z ≡ count_by (is_alloc_of z) ops
-requests_are t ops z whole below =
-    let by : Bool → ℕ = λ is_zone_line. count_by (λ op. if is_zone_line then is_alloc_of z op else is_bind op) ops in
-    let line : by (nat_lt z (length t.head.zones)) ≡ by true = ap by (lt-ltb z (length t.head.zones) below) in
-    ap (count_by (is_request_of t.head z)) whole ∙ line
-
-ledger_fits : (t : Trace) (ops : List Op) (z : ℕ) (head : ZoneHead) (l : SeatLedger) (before : List Line)
-    (reading items : List (Option ℕ)) → worker_ops t 0 ≡ ops
-    → z < length t.head.zones → ZoneGoes t z head ops before reading items l → LedgerFits t 0 z head l
-ledger_fits t ops z head l before reading items whole below g =
-    let c = g.counts in
-    let args : arg_count t 0 z ≡ count_by (is_alloc_with_arg z) ops = ap (count_by (is_alloc_with_arg z)) whole in
-    record {
-      requests = c.all_asked ∙ sym (requests_are t ops z whole below);
-      law = l.law;
-      some_args = omega (arith, c.some_args, args);
-      all_args = omega (arith, c.all_args, args);
-      kept = g.kept;
-    }
-
-frees_fit : (t : Trace) (ops : List Op) (z : ℕ) (head : ZoneHead) (l : SeatLedger) (reading items : List (Option ℕ))
-    → lines_of t.rounds ≡ map (Does 0) ops
-    → count_by (is_zone z) items ≤ count_by (is_zone z) reading
-    → ZoneGoes t z head ops (reverse (map (Does 0) ops)) reading items l → FreesFit t z (l ∷ [])
-frees_fit t ops z head l reading items read few g =
-    let c = g.counts in
-    let lines : free_count z (reverse (lines_of t.rounds)) ≡ free_count z (reverse (map (Does 0) ops)) =
-    ap (λ list. free_count z (reverse list)) read in
-    record {
-      freed = omega (arith, c.lines, c.used, c.lacks, l.law.answered, lines);
-      refused = omega (arith, c.lines, c.used, few, l.law.answered, lines);
-    }
-
--- at the end each ledger stands for the trace, and counts what the slots hold
-pub plain_stands : (t : Trace) (ops : List Op) (start end : Plain) → IsSerial t ops
-    → IsNewPlain (length t.head.zones) start → Run t.head.zones start ops end
-    → (z : ℕ) (head : ZoneHead) (ledger : SeatLedger) → slice_get t.head.zones z ≡ Some head
-    → slice_get end.ledgers z ≡ Some ledger
-    → ZoneStands t z head ledger end.slots
-plain_stands t ops start end serial new run z head ledger is_head found =
-    let fit = ops_fit t ops serial in
-    let g = goes_to_end t ops start end fit new run in
-    let zone = g.zones z head ledger is_head found in
-    record {
-      fits =
-          ledger_fits t ops z head ledger (reverse (map (Does 0) ops)) g.reading end.slots fit.whole
-          (slice_get_within t.head.zones z head is_head) zone;
-      frees =
-          frees_fit t ops z head ledger g.reading end.slots fit.read
-          (inside_count z end.slots g.reading (g.size ∙ sym g.reads.size) g.inside) zone;
-      used = zone.counts.used;
+      zones = same_images line_title head_title report.lines heads e.line_count
+          (λ k line head at_line at. ap line_title (same_Some line (zone_line head.name head.size head.limit (e.zone k head at).ledgers (outs_of k) (frees_of k)) (sym at_line ∙ (e.zone k head at).at_line)))
+          ∙ ap (map head_title) (sym are);
+      ledger_count = e.ledger_count ∙ ap length (sym are);
+      ledgers = let P : List ZoneHead → Type 0 = λ zs. (z : ℕ) → IfSome (slice_get zs z) (λ head. ZoneLedgersFit t z head (ledgers_at report z)) in
+          subst P (sym are) (λ z. if_some (slice_get heads z) (λ head. ZoneLedgersFit t z head (ledgers_at report z))
+          (λ head at. ledgers_fit t report size z head (outs_of z) (frees_of z) (e.zone z head at)));
+      frees = λ z below. let found = some_at heads z below in
+          zone_frees t report size z found.0 (outs_of z) (frees_of z) e.valid e.built e.most (e.zone z found.0 found.1);
+      lines = let P : List ZoneHead → Type 0 = λ zs. (z : ℕ) → IfSome (slice_get zs z) (λ head. IfSome (slice_get report.lines z) (IsLineOf head (ledgers_at report z))) in
+          subst P (sym are) (λ z. if_some (slice_get heads z) (λ head. IfSome (slice_get report.lines z) (IsLineOf head (ledgers_at report z)))
+          (λ head at. zone_line_of t report size z head (outs_of z) (frees_of z) (e.zone z head at)));
+      hook_names = same_images line_name head_name report.hooks heads e.hook_count
+          (λ k line head at_line at. let zone = e.zone k head at in ap line_name (same_Some line zone.hooks (sym at_line ∙ zone.at_hooks)) ∙ zone.named)
+          ∙ ap (map head_name) (sym are);
+      keg_names = pair_images keg_name head_name report.kegs (primaries heads 0) e.keg_count
+          (λ k line p head at_line at. let keg = e.keg k p head at in ap keg_name (same_Some line keg.line (sym at_line ∙ keg.at)) ∙ keg.named)
+          ∙ ap (λ zs. map (λ (place, head). head.name) (primaries zs 0)) (sym are);
+      detail = e.detail;
+      kegs = λ k. if_some (slice_get (primaries heads 0) k) (λ primary. IfSome (slice_get report.kegs k) (KegAddsUp t report primary))
+          (λ (p, head) at. let keg = e.keg k p head at in
+          if_at (slice_get report.kegs k) (KegAddsUp t report (p, head)) keg.line keg.at
+          (keg_adds_up t report size outs_of frees_of k p head e (primary_is heads 0 k p head at) keg));
+      uses = λ z below. let found = some_at heads z below in
+          let zone = e.zone z found.0 found.1 in
+          let line = zone_line found.0.name found.0.size found.0.limit zone.ledgers (outs_of z) (frees_of z) in
+          if_at (slice_get report.lines z) (λ line. IfSome (slice_get report.hooks z) (UsesAreBuilt line)) line zone.at_line
+          (if_at (slice_get report.hooks z) (UsesAreBuilt line) zone.hooks zone.at_hooks (zone_uses t report size z found.0 (outs_of z) (frees_of z) zone));
+      clock = e.clock;
     }

@@ -1,322 +1,388 @@
--- What a serial replay leaves stands for its trace.
-use Rattle.std.proofs.Common.{◌≡◌, ℕ, zero, suc, ◌+◌, ◌*◌, ◌<◌, List, [], ◌∷◌, length, map, get_or, option_map, Option, None, Some, refl, sym, ap, ◌∙◌, subst, arith, append-nil}
-use Rattle.std.proofs.lemmas.Bool.{false≢true}
+-- What a replay leaves stands for its trace.
+use Rattle.std.proofs.Common.{◌≡◌, ℕ, zero, suc, ◌+◌, ◌*◌, ◌/◌, ◌<◌, ◌≤◌, List, [], ◌∷◌, true, false, cond, length, map, min, take, option_map, Option, None, Some, refl, sym, ap, ◌∙◌, subst, arith}
+use Rattle.std.proofs.lemmas.Bool.{false≢true, true≢false, eqb-true}
 use Rattle.std.proofs.lemmas.List.{length-map}
-use Rattle.std.proofs.lemmas.List.Elements.{All-weaker}
-use Rattle.std.proofs.lemmas.Option.{slice_get-map, slice_get_within, get_or_from_slice_get, same_Some, IfSome_then}
-use Rattle.std.specs.Prelude.{All, IfSome, is_some, slice_get, count_by, sum_by}
+use Rattle.std.proofs.lemmas.List.Sums.{sum_by-cons}
+use Rattle.std.proofs.lemmas.Option.{none-some, same_Some, slice_get_within, get_or_from_slice_get}
+use Rattle.std.specs.Prelude.{All, IfSome, IsSome, is_some, slice_get, slice_index_or, sum_by}
+use Rattle.std.specs.Option.{option_map_or}
+use Rattle.smr_clock.specs.Belongs.{setup_of}
+use Rattle.trace_text.specs.declared.head.ClockHead.{ClockHead}
+use Rattle.trace_text.specs.declared.head.Head.{Head}
 use Rattle.trace_text.specs.declared.head.ZoneHead.{ZoneHead}
-use Rattle.trace_text.specs.declared.op.Op.{Op}
 use Rattle.trace_text.specs.declared.trace.Trace.{Trace}
-use Rattle.zone_stats.specs.declared.ledger.SeatLedger.{SeatLedger}
-use Rattle.zone_stats.specs.declared.report.HookLine.{HookLine}
-use Rattle.zone_stats.specs.declared.report.KegLine.{KegLine}
-use Rattle.zone_stats.specs.declared.report.Report.{Report}
-use Rattle.zone_stats.specs.declared.report.ZoneLine.{ZoneLine}
-use Rattle.zone_stats.specs.Line.{zone_line, used_items}
-use Rattle.uma_keg.specs.Census.{census_counts, census_outs, census_out, census_tally}
-use Rattle.uma_places.specs.declared.counts.KegCounts.{KegCounts}
-use Rattle.uma_life.specs.Hook.{Ctor, Dtor}
+use Rattle.trace_text.specs.Built.{IsBuilt}
+use Rattle.trace_text.specs.Lines.{Line}
+use Rattle.trace_text.specs.Valid.{IsValid, HeadFits, KegFits, ZoneFits, sharer_count}
+use Rattle.uma_keg.specs.declared.census.Census.{Census}
+use Rattle.uma_keg.specs.Census.{census_counts, census_out, census_outs}
+use Rattle.uma_life.specs.declared.tally_sum.TallySum.{TallySum}
+use Rattle.uma_life.specs.Hook.{Ctor as CtorOf, Dtor as DtorOf}
 use Rattle.uma_life.specs.Sum.{sum_of}
 use Rattle.uma_life.specs.Trail.{ShowsSame}
-use Rattle.uma_replay.specs.declared.closed_zone.ClosedZone.{ClosedZone}
-use Rattle.uma_replay.specs.declared.hall.Hall.{Hall}
-use Rattle.uma_replay.specs.declared.held.Held.{Held}
-use Rattle.uma_replay.specs.declared.serial_zone.SerialZone.{SerialZone}
-use Rattle.uma_replay.specs.Closing.{IsClosed, times_by}
-use Rattle.uma_replay.specs.Counting.{report_zones}
-use Rattle.uma_replay.specs.Hall.{IsClosedAs, ClosesAll, HallStands}
-use Rattle.uma_replay.specs.Plays.{Plays}
-use Rattle.uma_replay.specs.Report.{StandsFor, ZoneLedgersFit, LedgerFits, FreesFit, IsLineOf, ledgers_at, primaries, KegAddsUp, UsesAreBuilt, line_title, head_title, items_of_keg}
-use Rattle.uma_replay.specs.Serial.{SerialState}
-use Rattle.uma_replay.specs.Slots.{lives_of, slot_times, IsHeld}
-use Rattle.uma_replay.specs.ZoneKeg.{per_slab}
-use Rattle.uma_replay.proofs.Plain.{IsSerial, ZoneStands, is_zone}
-use Rattle.uma_replay.proofs.PlainStands.{plain_stands}
-use Rattle.uma_replay.proofs.ReportCounts.{uses_show, used_and_free, sum_first, ArePrimary, primary_at, primary_names, items_at}
-use Rattle.uma_replay.proofs.ReportSlots.{count_lives, same_zones, lives_built, IsPrimaryItem}
-use Rattle.uma_replay.proofs.Steps.{plain_of, slot_zone, some_within, of_both}
-use Rattle.uma_replay.proofs.StepsRun.{Done, plain_new}
+use Rattle.uma_seat.specs.Seat.{ledger_of}
+use Rattle.uma_zone.specs.Zone.{zone_index}
+use Rattle.zone_stats.specs.declared.ledger.SeatLedger.{SeatLedger}
+use Rattle.zone_stats.specs.declared.refusal.Refusal.{Refusal}
+use Rattle.zone_stats.specs.declared.refusal.Refusal.TheVariants.{AtLimit, Reserved, Full, Init, Ctor}
+use Rattle.zone_stats.specs.declared.report.ClockLine.{ClockLine}
+use Rattle.zone_stats.specs.declared.report.Report.{Report}
+use Rattle.zone_stats.specs.Ledger.{is_ctor}
+use Rattle.zone_stats.specs.Line.{zone_line, total_allocs, total_frees}
+use Rattle.trace_worker.specs.declared.held.Held.{Held}
+use Rattle.trace_worker.specs.declared.worker.Worker.{Worker}
+use Rattle.trace_worker.specs.Items.{BareClock, CountedSeat, CountedZone}
+use Rattle.trace_worker.specs.LedgerStands.{LedgerStands}
+use Rattle.trace_worker.specs.Live.{is_of, live_count}
+use Rattle.trace_worker.specs.Slots.{slot_at}
+use Rattle.trace_worker.specs.Stands.{NamesZone, Stands}
+use Rattle.trace_worker.specs.Together.{AllStand, AddsUp, ledger_at, all_live, all_frees, all_allocs}
+use Rattle.trace_setting.specs.Kegs.{keg_place, index_of, per_slab, primaries}
+use Rattle.trace_setting.specs.Zones.{AreZones, IsZoneOf}
+use Rattle.trace_totals.specs.Clock.{ReadsHands}
+use Rattle.trace_totals.specs.Closes.{AllClose, KegCloses}
+use Rattle.uma_replay.specs.Report.{StandsFor, RefusalFits, ClockLineFits}
+use Rattle.uma_replay.specs.Reporting.{IsReportOf, AreLedgersOf, keg_number, hook_line, keg_line, clock_line, shown_free}
+use Rattle.uma_replay.proofs.Entries.{clock_stands}
+use Rattle.uma_replay.proofs.Filled.{filled_at, filled_slots}
+use Rattle.uma_replay.proofs.PlainStands.{Ends, KegEnds, ZoneEnds, all_lines, ledger_fits, some_at, stands_plain}
+use Rattle.uma_replay.proofs.Primaries.{IsPrimaryAt, keg_at, keg_within, primary_is, same_number}
+use Rattle.uma_replay.proofs.Upto.{upto}
+use Rattle.uma_replay.proofs.ZoneFrees.{row_filled, all_filled}
 
--- what holds of what is there
-if_some : {A : Type 0} (o : Option A) (P : A → Type 0) → ((a : A) → o ≡ Some a → P a) → IfSome o P
-if_some None P each = tt
-if_some (Some a) P each = each a refl
+-- ---- what a refusal names
 
-if_at : {A : Type 0} (o : Option A) (P : A → Type 0) (a : A) → o ≡ Some a → P a → IfSome o P
-if_at o P a is holds = let Q : Option _ → Type 0 = λ o. IfSome o P in subst Q (sym is) holds
+pub names_fit : (t : Trace) (n z : ℕ) (head : ZoneHead) (zone : CountedZone) → IsZoneOf t.head.zones t.head.domains z head zone
+    → (r : Refusal) → is_ctor r ≡ false → NamesZone zone r → RefusalFits t n z head r
+names_fit t n z head zone is (AtLimit out limit) other names = (names.1.0 ∙ is.limit, names.1.1, names.1.2)
+names_fit t n z head zone is (Reserved free kept) other names = (names.1.0 ∙ is.reserve, names.1.1, names.1.2)
+names_fit t n z head zone is (Full slabs made) other names = names.1 ∙ is.cap
+-- no init of the replay refuses
+names_fit t n z head zone is (Init code) other names = absurd (none-some code names.1.4)
+names_fit t n z head zone is (Ctor code) other names = absurd (true≢false other)
 
-at_some_then : {A : Type 0} (o : Option A) (P : A → Type 0) (a : A) → o ≡ Some a → IfSome o P → P a
-at_some_then o P a is holds = let Q : Option _ → Type 0 = λ o. IfSome o P in subst Q is holds
+-- ---- ledgers and live items
 
-mapped : {A B : Type 0} (f : A → B) (o : Option A) (P : B → Type 0) → ((a : A) → o ≡ Some a → P (f a))
-    → IfSome (option_map f o) P
-mapped f None P each = tt
-mapped f (Some a) P each = each a refl
+abbrev tail_of : {A : Type 0} → List A → List A
+tail_of [] = []
+tail_of (x ∷ xs) = xs
 
-if_mapped : {A B : Type 0} (f : A → B) (o : Option A) (p : Option B) (P : B → Type 0) → p ≡ option_map f o
-    → ((a : A) → o ≡ Some a → P (f a)) → IfSome p P
-if_mapped f o p P is each = let Q : Option _ → Type 0 = λ p. IfSome p P in subst Q (sym is) (mapped f o P each)
+ledger_sums : {W : Type 0} (f : W → Option SeatLedger) (g : SeatLedger → ℕ) (ws : List W) (ls : List SeatLedger) → map f ws ≡ map Some ls → sum_by (λ w. option_map_or g (f w) 0) ws ≡ sum_by g ls
+ledger_sums f g [] [] same = refl
+ledger_sums f g [] (l ∷ ls) same = absurd (let size = ap length same in omega arith)
+ledger_sums f g (w ∷ ws) [] same = absurd (let size = ap length same in omega arith)
+ledger_sums f g (w ∷ ws) (l ∷ ls) same =
+    let first : f w ≡ Some l = same_Some (f w) (Some l) (ap (λ xs. slice_get xs 0) same) in
+    let rest : sum_by (λ w. option_map_or g (f w) 0) ws ≡ sum_by g ls = ledger_sums f g ws ls (ap tail_of same) in
+    let here : option_map_or g (f w) 0 ≡ g l = ap (λ o. option_map_or g o 0) first in
+    omega (arith, sum_by-cons (λ w. option_map_or g (f w) 0) w ws, sum_by-cons g l ls, here, rest)
 
--- as many entries of the same image each
-same_images : {X Y Z : Type 0} (f : X → Z) (g : Y → Z) (xs : List X) (ys : List Y) → length xs ≡ length ys
-    → ((k : ℕ) (x : X) (y : Y) → slice_get xs k ≡ Some x → slice_get ys k ≡ Some y → f x ≡ g y) → map f xs ≡ map g ys
-same_images f g [] [] size each = refl
-same_images f g [] (y ∷ ys) size each = absurd (omega arith)
-same_images f g (x ∷ xs) [] size each = absurd (omega arith)
-same_images f g (x ∷ xs) (y ∷ ys) size each =
-    let first : f x ≡ g y = each zero x y refl refl in
-    let rest : map f xs ≡ map g ys = same_images f g xs ys (omega arith) (λ k. each (suc k)) in
-    cc
+ledger_found : {W : Type 0} (f : W → Option SeatLedger) (ws : List W) (ls : List SeatLedger) (n : ℕ) (l : SeatLedger) → map f ws ≡ map Some ls → slice_get ls n ≡ Some l
+    → (w : W) × (slice_get ws n ≡ Some w) × (f w ≡ Some l)
+ledger_found f [] [] n l same at = absurd (none-some l at)
+ledger_found f [] (first ∷ ls) n l same at = absurd (let size = ap length same in omega arith)
+ledger_found f (w ∷ ws) [] n l same at = absurd (none-some l at)
+ledger_found f (w ∷ ws) (first ∷ ls) zero l same at =
+    let head : f w ≡ Some first = same_Some (f w) (Some first) (ap (λ xs. slice_get xs 0) same) in (w, refl, head ∙ at)
+ledger_found f (w ∷ ws) (first ∷ ls) (suc n) l same at = ledger_found f ws ls n l (ap tail_of same) at
 
--- the zone at place `z` at the end, with what the report says of it
-record ZoneEnds (t : Trace) (report : Report) (zones : List ClosedZone) (held : List (Option Held)) (z : ℕ)
-    (head : ZoneHead) : Type 0 where
-  zone : ClosedZone
-  at : slice_get zones z ≡ Some zone
-  closed : IsClosed z head held zone
-  fits : LedgerFits t 0 z head zone.ledger
-  frees : FreesFit t z (zone.ledger ∷ [])
-  live : length (lives_of z held) + zone.ledger.frees ≡ zone.ledger.allocs
-  ledgers : ledgers_at report z ≡ zone.ledger ∷ []
-  line : slice_get report.lines z ≡ Some zone.line
-  hooks : slice_get report.hooks z ≡ Some zone.hooks
-  keg_lines : slice_get report.kegs z ≡ Some zone.keg_line
+seat_found : (o : Option CountedSeat) (l : SeatLedger) → option_map ledger_of o ≡ Some l → (seat : CountedSeat) × (o ≡ Some seat) × (ledger_of seat ≡ l)
+seat_found None l is = absurd (none-some l is)
+seat_found (Some seat) l is = (seat, refl, same_Some (ledger_of seat) l is)
 
--- the closed zone counts what the slots hold
-zone_live : (z : ℕ) (held old : List (Option Held)) (allocs frees : ℕ) → map slot_zone held ≡ map slot_zone old
-    → count_by (is_zone z) (map slot_zone old) + frees ≡ allocs
-    → length (lives_of z held) + frees ≡ allocs
-zone_live z held old allocs frees same used = omega (arith, count_lives z held, ap (count_by (is_zone z)) same, used)
+sum-term : {W : Type 0} (f : W → ℕ) (ws : List W) (n : ℕ) (w : W) → slice_get ws n ≡ Some w → f w ≤ sum_by f ws
+sum-term f [] n w at = absurd (none-some w at)
+sum-term f (first ∷ ws) zero w at = omega (arith, sum_by-cons f first ws, ap f (same_Some first w at))
+sum-term f (first ∷ ws) (suc n) w at = omega (arith, sum_by-cons f first ws, sum-term f ws n w at)
 
-listed : {X : Type 0} (f : ClosedZone → X) (zones : List ClosedZone) (xs : List X) (z : ℕ) (zone : ClosedZone)
-    → xs ≡ map f zones → slice_get zones z ≡ Some zone → slice_get xs z ≡ Some (f zone)
-listed f zones xs z zone is at = ap (λ list. slice_get list z) is ∙ (slice_get-map f zones z ∙ ap (option_map f) at)
+held_zone : (z : ℕ) (o : Option Held) → is_of z o ≡ true → (it : Held) × (o ≡ Some it) × (it.zone ≡ z)
+held_zone z None is = absurd (false≢true is)
+held_zone z (Some it) is = (it, refl, eqb-true it.zone z is)
 
-zone_ends : (t : Trace) (ops : List Op) (end : SerialState) (report : Report) (hall : Hall) → IsSerial t ops
-    → Done t.head.zones ops end
-    → (closes : ClosesAll t.head end report hall) → (z : ℕ) (head : ZoneHead) → slice_get t.head.zones z ≡ Some head
-    → ZoneEnds t report closes.zones closes.held z head
-zone_ends t ops end report hall serial done closes z head at =
-    let below : z < length t.head.zones = slice_get_within t.head.zones z head at in
-    let found = some_within closes.zones z (omega (arith, closes.count)) in
-    let old = some_within end.zones z (omega (arith, done.fits.count)) in
-    let was : IsClosedAs old.0 found.0 = of_both IsClosedAs (slice_get end.zones z) (slice_get closes.zones z)
-    old.0 found.0 old.1 found.1 (closes.closed_as z) in
-    let at_ledger : slice_get (map (λ (zone : SerialZone). zone.ledger) end.zones) z ≡ Some found.0.ledger =
-    slice_get-map (λ (zone : SerialZone). zone.ledger) end.zones z ∙
-    (ap (option_map (λ (zone : SerialZone). zone.ledger)) old.1 ∙ ap Some (sym was.ledger)) in
-    let stands : ZoneStands t z head found.0.ledger (map slot_zone end.slots) =
-    plain_stands t ops (plain_of done.start) (plain_of end) serial (plain_new t.head.zones done.start done.untouched)
-    done.run z head found.0.ledger at at_ledger in
-    record {
-      zone = found.0;
-      at = found.1;
-      closed = of_both (λ head. IsClosed z head closes.held) (slice_get t.head.zones z) (slice_get closes.zones z)
-          head found.0 at found.1 (closes.each z);
-      fits = stands.fits;
-      frees = stands.frees;
-      live = zone_live z closes.held end.slots found.0.ledger.allocs found.0.ledger.frees
-          (same_zones end.slots closes.held closes.same_slots) stands.used;
-      ledgers = get_or_from_slice_get report.ledgers z (found.0.ledger ∷ []) []
-          (listed (λ (zone : ClosedZone). zone.ledger ∷ []) closes.zones report.ledgers z found.0
-          closes.played.ledgers found.1);
-      line = listed (λ (zone : ClosedZone). zone.line) closes.zones report.lines z found.0 closes.played.lines found.1;
-      hooks = listed (λ (zone : ClosedZone). zone.hooks)
-          closes.zones report.hooks z found.0 closes.played.hooks found.1;
-      keg_lines = listed (λ (zone : ClosedZone). zone.keg_line)
-          closes.zones report.kegs z found.0 closes.played.keg_lines found.1;
-    }
+-- what a worker's slots hold of a zone, the reading fills
+worker_filled : (zones : List CountedZone) (clock : BareClock) (n z size : ℕ) (lines : List Line) (w : Worker) → Stands zones clock n lines w → length w.slots ≤ size
+    → live_count z w.slots ≤ upto (filled_at z lines n) 0 size
+worker_filled zones clock n z size lines w stands most =
+    row_filled z n lines size (is_of z) w.slots most (λ slot o at is.
+    let found = held_zone z o is in
+    let here : slot_at w.slots slot ≡ Some found.0 = get_or_from_slice_get w.slots slot (Some found.0) None (at ∙ ap Some found.1) in
+    stands.filled slot found.0 here ∙ ap Some found.2)
 
--- USED is what the slots hold
-used_live : (live : ℕ) (l : SeatLedger) → live + l.frees ≡ l.allocs → used_items (l ∷ []) ≡ live
-used_live live l is = omega arith
+-- ---- what a replay leaves
 
--- all items that are out are of the primary zone
-outs_first : (t : Trace) (report : Report) (zones : List ClosedZone) (held : List (Option Held)) (z : ℕ)
-    (head : ZoneHead) (e : ZoneEnds t report zones held z head)
-    → sum_by (λ out. out) (census_outs e.zone.census) ≡ census_out e.zone.census 0
-outs_first t report zones held z head e =
-    sum_first (census_outs e.zone.census) (λ k some below. e.closed.census.no_zone k
-    (omega (arith, e.closed.census.eight))
-    (λ has. absurd (let only : k ≡ 0 = e.closed.only_primary.no_other k has in omega arith)))
+-- all that is known when the report is made
+pub record Leaves (t : Trace) (zones : List CountedZone) (clock : BareClock) (workers : List Worker) (censuses : List Census) (tallies : List TallySum) (deferred : List ℕ) (read write gave_up : ℕ)
+    (report : Report) : Type 0 where
+  pub valid : IsValid t
+  pub built : IsBuilt t
+  pub count : length workers ≡ t.head.workers
+  pub stand : AllStand zones clock (all_lines t) workers
+  pub adds_up : (z : ℕ) → AddsUp z workers
+  pub are : AreZones t.head clock zones
+  pub start : (c : ClockHead) → t.head.clock ≡ Some c → (setup_of clock).about.start ≡ c.start
+  pub window : (c : ClockHead) → t.head.clock ≡ Some c → (setup_of clock).about.window ≡ c.window
+  pub closes : AllClose t.head zones workers censuses tallies deferred
+  pub hands : ReadsHands clock workers read write
+  pub is : IsReportOf t.head workers censuses tallies deferred read write gave_up report
 
-keg_adds_up : (t : Trace) (report : Report) (zones : List ClosedZone) (held : List (Option Held)) (z : ℕ)
-    (head : ZoneHead) → ArePrimary t.head.zones → slice_get t.head.zones z ≡ Some head
-    → (e : ZoneEnds t report zones held z head)
-    → items_of_keg (0 + z) 0 t.head.zones report.lines ≡ e.zone.keg_line.slabs * per_slab head
-keg_adds_up t report zones held z head all at e =
-    let c = e.zone.census in
-    let counts = census_counts c in
-    let live = length (lives_of z held) in
-    let balanced : counts.slabs * counts.per_slab ≡ counts.free + census_out c 0 =
-    c.balanced ∙ ap (λ out. counts.free + out) (outs_first t report zones held z head e) in
-    let each : counts.per_slab ≡ per_slab head =
-    ap (λ (k : KegCounts). k.per_slab) e.closed.census.counts ∙ e.closed.made.per_slab in
-    let used : used_items (e.zone.ledger ∷ []) ≡ live = used_live live e.zone.ledger e.live in
-    let line = zone_line head.name head.size head.limit (e.zone.ledger ∷ []) (census_out c 0) counts.free in
-    let items : items_of_keg (0 + z) 0 t.head.zones report.lines ≡ line.used + line.free =
-    items_at t.head.zones report.lines (0 + z) 0 z head line refl all at (e.line ∙ ap Some e.closed.line) in
-    let sum : line.used + line.free ≡ counts.slabs * per_slab head =
-    used_and_free (used_items (e.zone.ledger ∷ [])) (census_out c 0) counts.free counts.slabs counts.per_slab
-    (per_slab head) (omega (arith, used, e.closed.lent)) balanced each in
-    let slabs : e.zone.keg_line.slabs ≡ counts.slabs = ap (λ (k : KegLine). k.slabs) e.closed.keg_line in
-    items ∙ (sum ∙ ap (λ n. n * per_slab head) (sym slabs))
+-- ---- on numbers
 
-uses_built : (t : Trace) (report : Report) (zones : List ClosedZone) (held : List (Option Held)) (z : ℕ)
-    (head : ZoneHead) → All IsPrimaryItem held
-    → (e : ZoneEnds t report zones held z head) → UsesAreBuilt e.zone.line e.zone.hooks
-uses_built t report zones held z head primary e =
-    let c = e.zone.census in
-    let live = length (lives_of z held) in
-    let built : ShowsSame (times_by c held z (Ctor 0)) (times_by c held z (Dtor 0) + live + 0) =
-    uses_show (sum_of (census_tally c) (Ctor 0)) (sum_of (census_tally c) (Dtor 0)) (slot_times z held (Ctor 0))
-    (slot_times z held (Dtor 0)) live
-    (c.paired.builds 0 (omega arith)) (lives_built z held primary) in
-    let used : e.zone.line.used ≡ live = ap (λ (l : ZoneLine). l.used) e.closed.line
-    ∙ used_live live e.zone.ledger e.live in
-    let P : ℕ → Type 0 = λ n. ShowsSame (times_by c held z (Ctor 0)) (times_by c held z (Dtor 0) + n + 0) in
-    let Q : HookLine → Type 0 = λ h. UsesAreBuilt e.zone.line h in
-    subst Q (sym e.closed.hooks) (subst P (sym used) built)
+below_same : (i a b : ℕ) → i < b → a ≡ b → i < a
+below_same i a b below same = omega arith
 
-are_primary : (t : Trace) (ops : List Op) → IsSerial t ops → ArePrimary t.head.zones
-are_primary t ops serial k =
-    if_some (slice_get t.head.zones k) (λ (head : ZoneHead). head.parent ≡ None) (λ head at.
-    let is : get_or t.head.zones k head ≡ head = get_or_from_slice_get t.head.zones k head head at in
-    let P : ZoneHead → Type 0 = λ h. h.parent ≡ None in
-    subst P is (serial.built.zones k head (slice_get_within t.head.zones k head at)).parent)
+le_same : (a b c : ℕ) → a ≤ b → b ≡ c → a ≤ c
+le_same a b c below same = omega arith
 
-zones_are : (t : Trace) (ops : List Op) → IsSerial t ops → report_zones t.head ≡ t.head.zones
-zones_are t ops serial = rw serial.built.names (append-nil t.head.zones)
+same_le : (a b c : ℕ) → a ≡ b → b ≤ c → a ≤ c
+same_le a b c same below = omega arith
 
--- what holds of the first holds of each of one
-of_one : {X : Type 0} (x : X) (Q : ℕ → X → Type 0) → Q 0 x → (k : ℕ) → IfSome (slice_get (x ∷ []) k) (Q k)
-of_one x Q q zero = q
-of_one x Q q (suc k) = tt
+sum_same : (live frees allocs frees' allocs' : ℕ) → live + frees ≡ allocs → frees ≡ frees' → allocs ≡ allocs' → live + frees' ≡ allocs'
+sum_same live frees allocs frees' allocs' sum is_frees is_allocs = omega arith
 
-ledgers_fit : (t : Trace) (z : ℕ) (head : ZoneHead) (l : SeatLedger) → t.head.workers ≡ 1 → LedgerFits t 0 z head l
-    → ZoneLedgersFit t z head (l ∷ [])
-ledgers_fit t z head l one fits = record {
-  workers = sym one;
-  each = of_one l (λ w ledger. LedgerFits t w z head ledger)
-      fits;
-}
+earlier_below : (parent z count : ℕ) → parent < z → z < count → parent < count
+earlier_below parent z count first second = omega arith
 
-primary_items : (held : List (Option Held)) (tables : List _) → All (λ slot. IfSome slot (IsHeld tables)) held
-    → All IsPrimaryItem held
-primary_items held tables fit =
-    All-weaker (λ slot. IfSome slot (IsHeld tables)) IsPrimaryItem
-    (λ slot is. IfSome_then slot is (λ h held. held.of_zone)) held fit
+add_le : (a b c : ℕ) → a ≤ b → a ≤ c + b
+add_le a b c below = omega arith
 
-line_is : (t : Trace) (report : Report) (zones : List ClosedZone) (held : List (Option Held)) (z : ℕ) (head : ZoneHead)
-    → head.parent ≡ None
-    → (e : ZoneEnds t report zones held z head) → IsLineOf head (ledgers_at report z) e.zone.line
-line_is t report zones held z head primary e =
-    let out = census_out e.zone.census 0 in
-    let free = (census_counts e.zone.census).free in (
-      out,
-      free,
-      (λ some. absurd (false≢true (sym (ap is_some primary) ∙ some))),
-      e.closed.line ∙ ap (λ ledgers. zone_line head.name head.size head.limit ledgers out free) (sym e.ledgers),
-    )
+plus_none : (k : ℕ) → k ≡ 0 + k
+plus_none k = omega arith
 
-pub StandsFor-serial : (t : Trace) (ops : List Op) (end : SerialState) (report : Report) (hall : Hall) → IsSerial t ops
-    → Done t.head.zones ops end
-    → ClosesAll t.head end report hall → StandsFor t report
-StandsFor-serial t ops end report hall serial done closes =
-    let heads = t.head.zones in
-    let zones = closes.zones in
-    let held = closes.held in
-    let are : report_zones t.head ≡ heads = zones_are t ops serial in
-    let primary : ArePrimary heads = are_primary t ops serial in
-    let items : All IsPrimaryItem held = primary_items held _ closes.fit.each in
-    let ends = zone_ends t ops end report hall serial done closes in
-    let line_name = λ (line : HookLine). line.name in
-    let keg_name = λ (line : KegLine). line.name in
-    let head_name = λ (head : ZoneHead). head.name in
-    let lines : length report.lines ≡ length heads =
-    ap length closes.played.lines ∙ (length-map zones (λ (zone : ClosedZone). zone.line) ∙ closes.count) in
-    let hooks : length report.hooks ≡ length heads =
-    ap length closes.played.hooks ∙ (length-map zones (λ (zone : ClosedZone). zone.hooks) ∙ closes.count) in
-    let kegs : length report.kegs ≡ length heads =
-    ap length closes.played.keg_lines ∙ (length-map zones (λ (zone : ClosedZone). zone.keg_line) ∙ closes.count) in
-    record {
-      zones =
-          same_images line_title head_title report.lines heads lines
-          (λ k line head at_line at. let e = ends k head at in
-          ap line_title (same_Some line e.zone.line (sym at_line ∙ e.line) ∙ e.closed.line))
-          ∙ ap (map head_title) (sym are);
-      ledger_count = ap length closes.played.ledgers ∙ (length-map zones (λ (zone : ClosedZone). zone.ledger ∷ []) ∙
-          (closes.count ∙ ap length (sym are)));
-      ledgers = let P : List ZoneHead → Type 0 = λ zs. (z : ℕ) → IfSome (slice_get zs z)
-          (λ head. ZoneLedgersFit t z head (ledgers_at report z)) in
-          subst P (sym are) (λ z. if_some (slice_get heads z) (λ head. ZoneLedgersFit t z head (ledgers_at report z))
-          (λ head at. let e = ends z head at in
-          let Q : List SeatLedger → Type 0 = λ ls. ZoneLedgersFit t z head ls in
-          subst Q (sym e.ledgers) (ledgers_fit t z head e.zone.ledger serial.built.workers e.fits)));
-      frees = λ z below. let found = some_within heads z below in let e = ends z found.0 found.1 in
-          let Q : List SeatLedger → Type 0 = λ ls. FreesFit t z ls in
-          subst Q (sym e.ledgers) e.frees;
-      lines = let P : List ZoneHead → Type 0 = λ zs. (z : ℕ) → IfSome (slice_get zs z)
-          (λ head. IfSome (slice_get report.lines z) (IsLineOf head (ledgers_at report z))) in
-          subst P (sym are) (λ z. if_some (slice_get heads z)
-          (λ head. IfSome (slice_get report.lines z) (IsLineOf head (ledgers_at report z)))
-          (λ head at. let e = ends z head at in
-          let no_parent : head.parent ≡ None =
-          at_some_then (slice_get heads z) (λ (head : ZoneHead). head.parent ≡ None) head at (primary z) in
-          if_at (slice_get report.lines z) (IsLineOf head (ledgers_at report z)) e.zone.line e.line
-          (line_is t report zones held z head no_parent e)));
-      hook_names =
-          same_images line_name head_name report.hooks heads hooks (λ k line head at_line at. let e = ends k head at in
-          ap line_name (same_Some line e.zone.hooks (sym at_line ∙ e.hooks) ∙ e.closed.hooks))
-          ∙ ap (map head_name) (sym are);
-      keg_names =
-          same_images keg_name head_name report.kegs heads kegs (λ k line head at_line at. let e = ends k head at in
-          ap keg_name (same_Some line e.zone.keg_line (sym at_line ∙ e.keg_lines) ∙ e.closed.keg_line))
-          ∙ (sym (primary_names heads 0 primary) ∙ ap (λ zs. map (λ (place, head). head.name) (primaries zs 0))
-          (sym are));
-      detail = closes.played.detail;
-      kegs = λ k.
-          if_mapped (λ head. (0 + k, head)) (slice_get heads k) (slice_get (primaries heads 0) k)
-          (λ p. IfSome (slice_get report.kegs k) (KegAddsUp t report p))
-          (primary_at heads 0 k primary) (λ head at. let e = ends k head at in
-          if_at (slice_get report.kegs k) (KegAddsUp t report (0 + k, head)) e.zone.keg_line e.keg_lines
-          (keg_adds_up t report zones held k head primary at e));
-      uses = λ z below. let found = some_within heads z below in let e = ends z found.0 found.1 in
-          if_at (slice_get report.lines z) (λ line. IfSome (slice_get report.hooks z) (UsesAreBuilt line))
-          e.zone.line e.line
-          (if_at (slice_get report.hooks z) (UsesAreBuilt e.zone.line) e.zone.hooks e.hooks
-          (uses_built t report zones held z found.0 items e));
-    }
+far_seen : (start window c_start c_window seen write : ℕ) → start ≡ c_start → window ≡ c_window → start + window ≤ seen → seen ≤ write → c_start + c_window ≤ write
+far_seen start window c_start c_window seen write e1 e2 past most = omega arith
 
-pub HallStands-serial : (t : Trace) (ops : List Op) (end : SerialState) (report : Report) (hall : Hall) → IsSerial t ops
-    → Done t.head.zones ops end
-    → ClosesAll t.head end report hall → HallStands t report hall
-HallStands-serial t ops end report hall serial done closes = record {
-  zones = closes.zones;
-  held = closes.held;
-  count = closes.count;
-  each = closes.each;
-  live = λ z. if_some (slice_get closes.zones z) (λ zone. length (lives_of z closes.held)
-      + zone.ledger.frees ≡ zone.ledger.allocs) (λ zone at.
-      let found = some_within t.head.zones z (let below = slice_get_within closes.zones z zone at in omega
-      (arith, closes.count)) in
-      let e = zone_ends t ops end report hall serial done closes z found.0 found.1 in
-      let P : ClosedZone → Type 0 = λ zone. length (lives_of z closes.held) + zone.ledger.frees ≡ zone.ledger.allocs in
-      subst P (same_Some e.zone zone (sym e.at ∙ at)) e.live);
-  fit = closes.fit;
-  played = closes.played;
-}
+least_size : (n : ℕ) → 65535 < 65536 + n
+least_size n = omega arith
 
-pub Plays-serial : (t : Trace) (ops : List Op) (end : SerialState) (report : Report) (hall : Hall) → IsSerial t ops
-    → Done t.head.zones ops end
-    → ClosesAll t.head end report hall → Plays t report hall
-Plays-serial t ops end report hall serial done closes = record {
-  ops = ops;
-  round = serial.round;
-  start = done.start;
-  untouched = done.untouched;
-  end = end;
-  performs = done.performs;
-  closes = closes;
-}
+at_some : {A : Type 0} (o : Option A) (P : A → Type 0) (a : A) → o ≡ Some a → IfSome o P → P a
+at_some o P a is holds = let Q : Option _ → Type 0 = λ o. IfSome o P in subst Q is holds
+
+-- ---- the keg of a zone
+
+-- the primary zone of the keg
+pub record HasPrimary (heads : List ZoneHead) (z : ℕ) (line : ZoneHead) : Type 0 where
+  pub primary : ZoneHead
+  pub at : slice_get heads (keg_place z line) ≡ Some primary
+  pub own : primary.parent ≡ None
+
+by_parent : (heads : List ZoneHead) (z : ℕ) (line : ZoneHead) (o : Option ℕ) → line.parent ≡ o → slice_get heads z ≡ Some line → KegFits heads z o line → HasPrimary heads z line
+by_parent heads z line None is at fits =
+    let place : z ≡ keg_place z line = sym (ap (λ o. option_map_or (λ parent. parent) o z) is) in
+    let P : ℕ → Type 0 = λ i. slice_get heads i ≡ Some line in
+    record { primary = line; at = subst P place at; own = is }
+by_parent heads z line (Some parent) is at fits =
+    let place : parent ≡ keg_place z line = sym (ap (λ o. option_map_or (λ parent. parent) o z) is) in
+    let within : z < length heads = slice_get_within heads z line at in
+    let found = some_at heads parent (earlier_below parent z (length heads) fits.earlier within) in
+    let shares = at_some (slice_get heads parent) (λ (primary : ZoneHead). (primary.parent ≡ None) × (line.size ≡ primary.size) × (line.slabs ≡ primary.slabs) × (line.reserve ≡ primary.reserve)) found.0 found.1 fits.shares in
+    let P : ℕ → Type 0 = λ i. slice_get heads i ≡ Some found.0 in
+    record { primary = found.0; at = subst P place found.1; own = shares.0 }
+
+pub has_primary : (h : Head) (z : ℕ) (line : ZoneHead) → HeadFits h → slice_get h.zones z ≡ Some line → HasPrimary h.zones z line
+has_primary h z line fits at =
+    let zone : ZoneFits h z line = at_some (slice_get h.zones z) (ZoneFits h z) line at (fits.zones z) in
+    by_parent h.zones z line line.parent refl at zone.keg
+
+-- what is out of the keg in the zone, by its keg's census
+abbrev out_in : List ZoneHead → ℕ → ZoneHead → Option Census → ℕ
+out_in heads z line census = option_map_or (λ c. census_out c (index_of heads z line)) census 0
+
+abbrev free_in : ZoneHead → Option Census → ℕ
+free_in line census = option_map_or (shown_free line) census 0
+
+unfoldable out_at : List ZoneHead → List Census → ℕ → ℕ
+out_at heads censuses z = option_map_or (λ line. out_in heads z line (slice_get censuses (keg_number heads (keg_place z line)))) (slice_get heads z) 0
+
+unfoldable free_at : List ZoneHead → List Census → ℕ → ℕ
+free_at heads censuses z = option_map_or (λ line. free_in line (slice_get censuses (keg_number heads (keg_place z line)))) (slice_get heads z) 0
+
+out_is : (heads : List ZoneHead) (censuses : List Census) (z : ℕ) (line : ZoneHead) (census : Census) → slice_get heads z ≡ Some line
+    → slice_get censuses (keg_number heads (keg_place z line)) ≡ Some census → out_at heads censuses z ≡ census_out census (index_of heads z line)
+unfolding out_at
+out_is heads censuses z line census at found =
+    ap (λ o. option_map_or (λ line. out_in heads z line (slice_get censuses (keg_number heads (keg_place z line)))) o 0) at ∙ ap (out_in heads z line) found
+
+free_is : (heads : List ZoneHead) (censuses : List Census) (z : ℕ) (line : ZoneHead) (census : Census) → slice_get heads z ≡ Some line
+    → slice_get censuses (keg_number heads (keg_place z line)) ≡ Some census → free_at heads censuses z ≡ shown_free line census
+unfolding free_at
+free_is heads censuses z line census at found =
+    ap (λ o. option_map_or (λ line. free_in line (slice_get censuses (keg_number heads (keg_place z line)))) o 0) at ∙ ap (free_in line) found
+
+over_none : (o : Option ℕ) (free : ℕ) → IsSome o → cond (is_some o) 0 free ≡ 0
+over_none None free is = absurd (false≢true is)
+over_none (Some parent) free is = refl
+
+own_free : (o : Option ℕ) (free : ℕ) → o ≡ None → cond (is_some o) 0 free ≡ free
+own_free o free is = let f : Option ℕ → ℕ = λ o. cond (is_some o) 0 free in ap f is
+
+-- ---- the parts of the report, each with all that is known
+
+module _ (t : Trace) (zones : List CountedZone) (clock : BareClock) (workers : List Worker) (censuses : List Census) (tallies : List TallySum) (deferred : List ℕ) (read write gave_up : ℕ) (report : Report)
+    (l : Leaves t zones clock workers censuses tallies deferred read write gave_up report) where
+  abbrev heads : List ZoneHead
+  heads = t.head.zones
+
+  -- a zone, with its keg's census and sums
+  record InKeg (z : ℕ) (line : ZoneHead) : Type 0 where
+    zone : CountedZone
+    at_zone : slice_get zones z ≡ Some zone
+    is_zone : IsZoneOf heads t.head.domains z line zone
+    census : Census
+    at_census : slice_get censuses (keg_number heads (keg_place z line)) ≡ Some census
+    tally : TallySum
+    at_tally : slice_get tallies (keg_number heads (keg_place z line)) ≡ Some tally
+    primary : CountedZone
+    closes : KegCloses t.head zones workers deferred (keg_place z line) primary census tally
+
+  in_keg : (z : ℕ) (line : ZoneHead) → slice_get heads z ≡ Some line → InKeg z line
+  in_keg z line at =
+      let has = has_primary t.head z line l.valid.head at in
+      let p = keg_place z line in
+      let k = keg_number heads p in
+      let zone = some_at zones z (below_same z (length zones) (length heads) (slice_get_within heads z line at) l.are.count) in
+      let owner = some_at zones p (below_same p (length zones) (length heads) (slice_get_within heads p has.primary has.at) l.are.count) in
+      let within : k < length (primaries heads 0) = keg_within heads p has.primary has.at has.own in
+      let census = some_at censuses k (below_same k (length censuses) (length (primaries heads 0)) within l.closes.censuses_count) in
+      let tally = some_at tallies k (below_same k (length tallies) (length (primaries heads 0)) within l.closes.tallies_count) in
+      record {
+        zone = zone.0;
+        at_zone = zone.1;
+        is_zone = l.are.each z line zone.0 at zone.1;
+        census = census.0;
+        at_census = census.1;
+        tally = tally.0;
+        at_tally = tally.1;
+        primary = owner.0;
+        closes = l.closes.kegs k p has.primary owner.0 census.0 tally.0 (keg_at heads p has.primary has.at has.own) owner.1 census.1 tally.1;
+      }
+
+  abbrev size : ℕ
+  size = 65536 + sum_by (λ (w : Worker). length w.slots) workers
+
+  live_filled : (z : ℕ) → all_live z workers ≤ filled_slots t.head.workers size z (all_lines t)
+  live_filled z =
+      all_filled z t.head.workers size (all_lines t) (λ (w : Worker). live_count z w.slots) workers l.count (λ n w at.
+      worker_filled zones clock n z size (all_lines t) w (l.stand.stands n w at) (add_le _ _ 65536 (sum-term (λ (w : Worker). length w.slots) workers n w at)))
+
+  one_ledger : (n z : ℕ) (line : ZoneHead) (own : List SeatLedger) (ledger : SeatLedger) → slice_get heads z ≡ Some line → AreLedgersOf z workers own → slice_get own n ≡ Some ledger
+      → (zone : CountedZone) × (IsZoneOf heads t.head.domains z line zone) × LedgerStands (NamesZone zone) n z (all_lines t) ledger
+  one_ledger n z line own ledger at_line are at =
+      let found = ledger_found (ledger_at z) workers own n ledger are at in
+      let seat = seat_found (slice_get found.0.seats.items z) ledger found.2 in
+      let keg = in_keg z line at_line in
+      let P : SeatLedger → Type 0 = λ ledger. LedgerStands (NamesZone keg.zone) n z (all_lines t) ledger in
+      (keg.zone, keg.is_zone, subst P seat.2 ((l.stand.stands n found.0 found.1).ledgers z keg.zone seat.0 keg.at_zone seat.1))
+
+  zone_ends : (z : ℕ) (line : ZoneHead) → slice_get heads z ≡ Some line → ZoneEnds t report size z line (out_at heads censuses z) (free_at heads censuses z)
+  zone_ends z line at =
+      let below : z < length heads = slice_get_within heads z line at in
+      let keg = in_keg z line at in
+      let index = index_of heads z line in
+      let shown = some_at report.lines z (below_same z (length report.lines) (length heads) below l.is.lines.count) in
+      let hooks = some_at report.hooks z (below_same z (length report.hooks) (length heads) below l.is.hooks.count) in
+      let own = some_at report.ledgers z (below_same z (length report.ledgers) (length heads) below l.is.ledgers.count) in
+      let are : AreLedgersOf z workers own.0 = l.is.ledgers.each z own.0 own.1 in
+      let waiting = some_at deferred z (below_same z (length deferred) (length heads) below l.closes.deferred_count) in
+      let out : out_at heads censuses z ≡ census_out keg.census index = out_is heads censuses z line keg.census at keg.at_census in
+      let free : free_at heads censuses z ≡ shown_free line keg.census = free_is heads censuses z line keg.census at keg.at_census in
+      let lent : all_live z workers ≤ census_out keg.census (zone_index keg.zone) = keg.closes.lent z line keg.zone at refl keg.at_zone in
+      let pairs = keg.closes.pairs z line keg.zone at refl keg.at_zone in
+      let P : ℕ → Type 0 = λ i. ShowsSame (sum_of keg.tally (CtorOf i)) (sum_of keg.tally (DtorOf i) + all_live z workers + slice_index_or deferred z 0) in
+      let Q : ℕ → Type 0 = λ d. ShowsSame (sum_of keg.tally (CtorOf index)) (sum_of keg.tally (DtorOf index) + all_live z workers + d) in
+      let built = subst Q (get_or_from_slice_get deferred z waiting.0 0 waiting.1) (subst P keg.is_zone.index pairs) in
+      record {
+        ledgers = own.0;
+        at_ledgers = own.1;
+        workers = sym (length-map own.0 Some) ∙ (sym (ap length are) ∙ (length-map workers (ledger_at z) ∙ l.count));
+        fits = λ n ledger at_ledger.
+            let one = one_ledger n z line own.0 ledger at are at_ledger in
+            ledger_fits t n z line ledger (NamesZone one.0) below (names_fit t n z line one.0 one.1) one.2;
+        counted = λ n ledger at_ledger.
+            let one = one_ledger n z line own.0 ledger at are at_ledger in
+            record { requests = one.2.requests; frees = one.2.frees };
+        live = all_live z workers;
+        filled = live_filled z;
+        balance = sum_same (all_live z workers) (all_frees z workers) (all_allocs z workers) (total_frees own.0) (total_allocs own.0) (l.adds_up z)
+            (ledger_sums (ledger_at z) (λ ledger. ledger.frees) workers own.0 are) (ledger_sums (ledger_at z) (λ ledger. ledger.allocs) workers own.0 are);
+        lent = le_same _ _ _ lent (ap (census_out keg.census) keg.is_zone.index ∙ sym out);
+        secondary = λ parent. free ∙ over_none line.parent (census_counts keg.census).free parent;
+        at_line = shown.1 ∙ ap Some (l.is.lines.each z shown.0 shown.1 line own.0 keg.census at own.1 keg.at_census)
+            ∙ (ap (λ o. Some (zone_line line.name line.size line.limit own.0 o (shown_free line keg.census))) (sym out)
+            ∙ ap (λ f. Some (zone_line line.name line.size line.limit own.0 (out_at heads censuses z) f)) (sym free));
+        hooks = hook_line line.name index keg.tally waiting.0;
+        at_hooks = hooks.1 ∙ ap Some (l.is.hooks.each z hooks.0 hooks.1 waiting.0 waiting.1 line keg.tally at keg.at_tally);
+        named = refl;
+        pairs = built;
+      }
+
+  keg_ends : (k p : ℕ) (head : ZoneHead) → slice_get (primaries heads 0) k ≡ Some (p, head) → KegEnds t report (out_at heads censuses) (free_at heads censuses) k p head
+  keg_ends k p head at =
+      let primary : IsPrimaryAt heads 0 p head = primary_is heads 0 k p head at in
+      let place : primary.k ≡ p = plus_none primary.k ∙ sym primary.place in
+      let A : ℕ → Type 0 = λ i. slice_get heads i ≡ Some head in
+      let at_head : slice_get heads p ≡ Some head = subst A place primary.at in
+      let within : k < length (primaries heads 0) = slice_get_within (primaries heads 0) k (p, head) at in
+      let census = some_at censuses k (below_same k (length censuses) (length (primaries heads 0)) within l.closes.censuses_count) in
+      let tally = some_at tallies k (below_same k (length tallies) (length (primaries heads 0)) within l.closes.tallies_count) in
+      let owner = some_at zones p (below_same p (length zones) (length heads) (slice_get_within heads p head at_head) l.are.count) in
+      let shown = some_at report.kegs k (below_same k (length report.kegs) (length (primaries heads 0)) within l.is.kegs.count) in
+      let is_keg = l.is.kegs.each k shown.0 shown.1 in
+      let closes = l.closes.kegs k p head owner.0 census.0 tally.0 at owner.1 census.1 tally.1 in
+      let is_zone = l.are.each p head owner.0 at_head owner.1 in
+      let counts = census_counts census.0 in
+      let each : counts.per_slab ≡ per_slab head = closes.per_slab ∙ ap (λ size. min 256 (4096 / size)) is_zone.size in
+      let own : keg_place p head ≡ p = ap (λ o. option_map_or (λ parent. parent) o p) primary.own in
+      -- a zone of the keg finds this census
+      let number : (q : ℕ) → q ≡ p → slice_get censuses (keg_number heads q) ≡ Some census.0 =
+      λ q is. ap (λ q. slice_get censuses (keg_number heads q)) is ∙ (ap (slice_get censuses) (same_number heads p k head at) ∙ census.1) in
+      let first : index_of heads p head ≡ 0 = ap (λ o. option_map_or (λ parent. sharer_count (take p heads) parent + 1) o 0) primary.own in
+      let B : List ℕ → Type 0 = λ rights. All (λ zone. census_out census.0 zone ≡ 0) rights in
+      record {
+        line = keg_line head.name census.0 tally.0;
+        at = shown.1 ∙ ap Some (is_keg.is p head census.0 tally.0 at census.1 tally.1);
+        named = refl;
+        outs = census_outs census.0;
+        free = counts.free;
+        balanced = ap (λ n. counts.slabs * n) (sym each) ∙ census.0.balanced;
+        eight = is_keg.eight census.0 census.1;
+        absent = subst B (l.are.rights p head owner.0 at_head primary.own owner.1) closes.absent;
+        own = free_is heads censuses p head census.0 at_head (number (keg_place p head) own) ∙ own_free head.parent counts.free primary.own;
+        own_out = out_is heads censuses p head census.0 at_head (number (keg_place p head) own) ∙ ap (census_out census.0) first;
+        shared = λ z h at_h parent. out_is heads censuses z h census.0 at_h (number (keg_place z h) (ap (λ o. option_map_or (λ parent. parent) o z) parent));
+      }
+
+  by_clock : (o : Option ClockHead) → t.head.clock ≡ o → ClockLineFits t o (option_map (λ (c : ClockHead). clock_line read write workers) o)
+  by_clock None is = tt
+  by_clock (Some c) is =
+      let start = l.start c is in
+      let window = l.window c is in
+      let line : ClockLine = clock_line read write workers in
+      clock_stands t c line workers (λ w. w.entered) (λ w. w.late) l.valid l.built l.count
+      (λ n w at. (l.stand.stands n w at).enters_add_up)
+      (λ n w at late. far_seen _ _ _ _ _ _ start window ((l.stand.stands n w at).overtaken late) (l.hands.greatest_seen n w at))
+      refl refl
+      (record {
+        read_odd = l.hands.read_odd;
+        write_odd = l.hands.write_odd;
+        start = same_le c.start _ read (sym start) l.hands.start;
+        in_order = l.hands.in_order;
+        within = le_same write _ _ l.hands.within (ap (λ n. read + n) window);
+      })
+
+  ends : Ends t report size (out_at heads censuses) (free_at heads censuses)
+  ends = record {
+    valid = l.valid;
+    built = l.built;
+    most = least_size (sum_by (λ (w : Worker). length w.slots) workers);
+    ledger_count = l.is.ledgers.count;
+    line_count = l.is.lines.count;
+    hook_count = l.is.hooks.count;
+    keg_count = l.is.kegs.count;
+    zone = zone_ends;
+    keg = keg_ends;
+    detail = l.is.detail;
+    clock = let P : Option ClockLine → Type 0 = λ o. ClockLineFits t t.head.clock o in subst P (sym l.is.clock) (by_clock t.head.clock refl);
+  }
+
+  pub stands_for : StandsFor t report
+  stands_for = stands_plain t report size (out_at heads censuses) (free_at heads censuses) ends

@@ -1,5 +1,5 @@
 -- Counting over the lines of a trace (own).
-use Rattle.std.specs.Prelude.{ℕ, ◌+◌, List, [], ◌∷◌, ◌++◌, Bool, true, false, ◌&&◌, ◌==◌, nat_lt, None, if◌then◌else◌, slice_get, count_by, length}
+use Rattle.std.specs.Prelude.{ℕ, ◌+◌, List, [], ◌∷◌, ◌++◌, Bool, true, false, not, ◌&&◌, ◌==◌, nat_lt, None, if◌then◌else◌, slice_get, count_by, length}
 use Rattle.std.specs.List.{flat_map}
 use Rattle.std.specs.Option.{option_map_or}
 use Rattle.trace_text.specs.declared.head.Head.{Head}
@@ -7,11 +7,11 @@ use Rattle.trace_text.specs.declared.head.NamesHead.{NamesHead}
 use Rattle.trace_text.specs.declared.head.ZoneHead.{ZoneHead}
 use Rattle.trace_text.specs.declared.head.ZoneKind.TheVariants.{Smr}
 use Rattle.trace_text.specs.declared.op.Op.{Op}
-use Rattle.trace_text.specs.declared.op.Op.TheVariants.{Alloc, Free, Bind}
+use Rattle.trace_text.specs.declared.op.Op.TheVariants.{Alloc, Free, Enter, Bind, Look}
 use Rattle.trace_text.specs.declared.round.Round.{Round}
 use Rattle.trace_text.specs.declared.trace.Trace.{Trace}
 use Rattle.trace_text.specs.Lines.{Line, Does}
-use Rattle.trace_text.specs.Reading.{held}
+use Rattle.trace_text.specs.Reading.{held, in_section}
 
 -- the zone of the entries of a name cache: SMR, of size 64, without limit and reserve
 abbrev pub entry_zone : NamesHead → ZoneHead
@@ -65,3 +65,14 @@ frees_of z before line = false
 abbrev pub free_count : ℕ → List Line → ℕ
 free_count z [] = 0
 free_count z (line ∷ earlier) = free_count z earlier + (if frees_of z earlier line then 1 else 0)
+
+-- the line wants a section: an `enter` line, or a `look` line of a worker that is in none
+abbrev pub is_entry : List Line → Line → Bool
+is_entry before (Does w Enter) = true
+is_entry before (Does w (Look key)) = not (in_section before w)
+is_entry before line = false
+
+-- how many of these lines do; they stand with the last one first
+abbrev pub enter_count : List Line → ℕ
+enter_count [] = 0
+enter_count (line ∷ earlier) = enter_count earlier + (if is_entry earlier line then 1 else 0)

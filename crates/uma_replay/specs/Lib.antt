@@ -1,14 +1,4 @@
-pub mod Closing
 pub mod Counting
-pub mod Hall
-pub mod Hooks
-pub mod Items
-pub mod Lending
-pub mod Plays
 pub mod Report
-pub mod Request
-pub mod Serial
-pub mod SerialZones
-pub mod Slots
-pub mod ZoneKeg
-pub mod Kept
+pub mod Reporting
+pub mod Hall

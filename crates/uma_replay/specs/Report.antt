@@ -1,22 +1,23 @@
 -- The report stands for the trace: what the totals of a report have to do with the lines of its trace, whatever the
 -- workers' schedule was. It is counting over the trace and sums over the ledgers (own).
-use Rattle.std.specs.Prelude.{ℕ, ◌≡◌, ◌+◌, ◌*◌, ◌<◌, ◌≤◌, ◌==◌, List, [], ◌∷◌, length, map, reverse, Any, IsTrue, IsSome, IfSome, is_some, if◌then◌else◌, slice_get, slice_index_or}
-use Rattle.std.specs.Option.{option_map_or}
+use Rattle.std.specs.Prelude.{ℕ, ◌≡◌, ◌+◌, ◌*◌, ◌%◌, ◌<◌, ◌≤◌, ◌==◌, List, [], ◌∷◌, length, map, reverse, Any, Option, Some, None, IsTrue, IsSome, IfSome, if◌then◌else◌, slice_get, slice_index_or}
 use Rattle.zone_stats.specs.declared.ledger.SeatLedger.{SeatLedger}
 use Rattle.zone_stats.specs.declared.refusal.Refusal.{Refusal}
 use Rattle.zone_stats.specs.declared.refusal.Refusal.TheVariants.{AtLimit, Reserved, Full, Init, Ctor}
+use Rattle.zone_stats.specs.declared.report.ClockLine.{ClockLine}
 use Rattle.zone_stats.specs.declared.report.HookLine.{HookLine}
 use Rattle.zone_stats.specs.declared.report.KegLine.{KegLine}
 use Rattle.zone_stats.specs.declared.report.Report.{Report}
 use Rattle.zone_stats.specs.declared.report.ZoneLine.{ZoneLine}
 use Rattle.zone_stats.specs.Ledger.{LedgerLaw}
 use Rattle.zone_stats.specs.Line.{zone_line, total_fails, total_frees}
+use Rattle.trace_text.specs.declared.head.ClockHead.{ClockHead}
 use Rattle.trace_text.specs.declared.head.ZoneHead.{ZoneHead}
 use Rattle.trace_text.specs.declared.trace.Trace.{Trace}
 use Rattle.trace_text.specs.Lines.{lines_of}
 use Rattle.uma_life.specs.Trail.{ShowsSame}
-use Rattle.uma_replay.specs.Counting.{report_zones, worker_ops, is_alloc_with, request_count, arg_count, free_count}
-use Rattle.uma_replay.specs.ZoneKeg.{per_slab}
+use Rattle.trace_setting.specs.Kegs.{per_slab, primaries, keg_place}
+use Rattle.uma_replay.specs.Counting.{report_zones, worker_ops, is_alloc_with, request_count, arg_count, free_count, enter_count}
 
 -- A kept refusal names what its zone has: the zone's own limit, its keg's reserve and capacity, or a constructor's
 -- argument above 0 of the worker's requests. Only the names zone's entries are ever refused by their init, with 255.
@@ -57,15 +58,6 @@ abbrev pub IsLineOf : ZoneHead → List SeatLedger → ZoneLine → Type 0
 IsLineOf head ledgers line = (out keg_free : ℕ) × (IsSome head.parent → keg_free ≡ 0)
     × (line ≡ zone_line head.name head.size head.limit ledgers out keg_free)
 
--- The primary zones among these, by their places. Each has a keg, which the secondary zones over it share.
-abbrev pub primaries : List ZoneHead → ℕ → List (ℕ × ZoneHead)
-primaries [] place = []
-primaries (head ∷ heads) place = if is_some head.parent then primaries heads (place + 1) else (place, head) ∷ primaries heads (place + 1)
-
--- the place of the zone whose keg the zone at place `z` has: its parent's, or its own
-abbrev pub keg_place : ℕ → ZoneHead → ℕ
-keg_place z head = option_map_or (λ parent. parent) head.parent z
-
 -- USED and FREE of the zones that share the keg of the zone at place `keg`, summed up; `z` is the place of the first
 abbrev pub items_of_keg : ℕ → ℕ → List ZoneHead → List ZoneLine → ℕ
 items_of_keg keg z (head ∷ heads) (line ∷ lines) =
@@ -79,6 +71,27 @@ KegAddsUp t report (place, head) line = items_of_keg place 0 t.head.zones report
 -- each item that is used, or whose free is deferred, passed a ctor more than dtors, as counters of 64 bits show it
 abbrev pub UsesAreBuilt : ZoneLine → HookLine → Type 0
 UsesAreBuilt line hooks = ShowsSame hooks.ctors (hooks.dtors + line.used + hooks.deferred)
+
+-- The clock's line: its hands, and how the entries into sections ended.
+pub record ClockStands (t : Trace) (c : ClockHead) (line : ClockLine) : Type 0 where
+  -- the hands are odd, as the trace's START is, from START on, and at most WINDOW apart
+  pub read_odd : line.read % 2 ≡ 1
+  pub write_odd : line.write % 2 ≡ 1
+  pub start : c.start ≤ line.read
+  pub in_order : line.read ≤ line.write
+  pub within : line.write ≤ line.read + c.window
+  -- each line that wants a section got one or came too late; where none was too late, the sections are the trace's alone
+  pub entries : enter_count (reverse (lines_of t.rounds)) ≤ line.entered + line.late
+  pub in_time : line.late ≡ 0 → line.entered ≡ enter_count (reverse (lines_of t.rounds))
+  -- none is too late before the write hand is WINDOW above START
+  pub never_late : line.write < c.start + c.window → line.late ≡ 0
+
+-- a trace with a clock has its line in the report, and one without has none
+abbrev pub ClockLineFits : Trace → Option ClockHead → Option ClockLine → Type 0
+ClockLineFits t (Some c) (Some line) = ClockStands t c line
+ClockLineFits t (Some c) None = ⊥
+ClockLineFits t None (Some line) = ⊥
+ClockLineFits t None None = Unit {0}
 
 -- the name, size and limit of a line
 abbrev pub line_title : ZoneLine → List ℕ × ℕ × ℕ
@@ -105,3 +118,5 @@ pub record StandsFor (t : Trace) (report : Report) : Type 0 where
   pub kegs : (k : ℕ) → IfSome (slice_get (primaries t.head.zones 0) k) (λ primary. IfSome (slice_get report.kegs k) (KegAddsUp t report primary))
   -- ctors and dtors come in pairs, but for the items that are used or deferred; of the names zone's this isn't said
   pub uses : (z : ℕ) → z < length t.head.zones → IfSome (slice_get report.lines z) (λ line. IfSome (slice_get report.hooks z) (UsesAreBuilt line))
+  -- the clock's line, where the trace has a clock
+  pub clock : ClockLineFits t t.head.clock report.clock

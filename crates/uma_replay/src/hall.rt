@@ -1,24 +1,25 @@
-use crate::counted::CountedKeg;
-use crate::held::Held;
 use listed::Listed;
+use smr_clock::{Bare, Clock};
+use trace_worker::{CountedZone, Worker};
 use uma_keg::Census;
 use zone_stats::Report;
 
-/// The kegs of the zones, in order of naming. Contracts see the list of them.
-pub type KegList = Listed<CountedKeg>;
+/// The zones, in order of naming. Contracts see the list of them.
+pub type ZoneList = Listed<CountedZone>;
 
-/// What each slot of the worker holds, from slot 0 on. Contracts see the list of it.
-pub type SlotList = Listed<Option<Held>>;
+/// The workers, in order of number. Contracts see the list of them.
+pub type Workers = Listed<Worker>;
 
-/// A census of each keg, in order. Contracts see the list of them.
+/// A census of each keg, in the order of the primary zones. Contracts see the list of them.
 pub type CensusList = Listed<Census>;
 
-/// All that a replay leaves behind: the kegs, the slots with their live items, and of each keg the census from which the
-/// report was made.
+/// All that a replay leaves behind: the zones and their clock, the workers with their seats, passes and live items, and of
+/// each keg the census from which the report was made.
 #[derive(Drop)]
 pub struct Hall {
-    pub kegs: KegList,
-    pub slots: SlotList,
+    pub zones: ZoneList,
+    pub clock: Clock<Bare>,
+    pub workers: Workers,
     pub censuses: CensusList,
 }
 

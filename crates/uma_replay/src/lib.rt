@@ -1,22 +1,17 @@
 //! The replay of a trace, and what its report has to do with the trace.
 #![tactic(auto)]
 
-mod closed_zone;
-mod closing;
-mod count_hooks;
-mod counted;
-mod gate;
+mod collecting;
+mod ending;
 mod hall;
-mod held;
-mod lending;
-mod replay;
-mod serial;
-mod serial_zone;
+mod lines;
+mod numbering;
+mod replaying;
+mod reporting;
+mod summing_up;
 
-pub use count_hooks::CountHooks;
-pub use counted::{Counted, CountedKeg};
-pub use gate::{FreeGate, Gate, Go};
-pub use hall::{CensusList, Hall, KegList, Played, SlotList};
-pub use held::Held;
-pub use replay::replay_serial;
+pub use collecting::collect;
+pub use hall::{CensusList, Hall, Played, Workers, ZoneList};
+pub use replaying::replay;
+pub use trace_worker::{FreeGate, Gate, Go};
 pub use zone_stats::Memory;

@@ -19,7 +19,6 @@ use Rattle.trace_text.specs.TraceLaws.{TextsAreOfOneTrace}
 use Rattle.uma_io.specs.Source.{HasMoreThan}
 use Rattle.uma_replay.specs.declared.hall.Hall.{Hall}
 use Rattle.uma_replay.specs.Hall.{HallStands}
-use Rattle.uma_replay.specs.Plays.{Plays}
 use Rattle.uma_replay.specs.Report.{StandsFor}
 use Rattle.umarun.specs.Causes.{parse_fault}
 use Rattle.umarun.specs.declared.fault.Fault.{Fault}
@@ -49,12 +48,12 @@ replayed_not_refused verdict one report hall bytes replays (inr refused) = input
 
 -- the bytes that were left are those that were read
 pub replays : (left : Option (List ℕ)) (read given : List ℕ) (trace : Trace) (report : Report) (hall : Hall) → IfSome left (λ all. read ≡ all) → given ≡ read → length read ≤ most_bytes
-    → IsTraceText given trace → IsBuilt trace → StandsFor trace report → HallStands trace report hall → Plays trace report hall → IfSome left (Replays report hall)
-replays None read given trace report hall all same within text built stands in_hall plays = tt
-replays (Some left) read given trace report hall all same within text built stands in_hall plays =
+    → IsTraceText given trace → IsBuilt trace → StandsFor trace report → HallStands trace report hall → IfSome left (Replays report hall)
+replays None read given trace report hall all same within text built stands in_hall = tt
+replays (Some left) read given trace report hall all same within text built stands in_hall =
     let P : List ℕ → Type 0 = λ bytes. Replays report hall bytes in
     let Q : List ℕ → Type 0 = λ bytes. IsTraceText bytes trace in
-    subst P all (record { within = within; trace = trace; text = subst Q same text; built = built; stands = stands; hall_stands = in_hall; plays = plays })
+    subst P all (record { within = within; trace = trace; text = subst Q same text; built = built; stands = stands; hall_stands = in_hall })
 
 bad_by : (why : ParseRefused) (fault : Fault) (refused : TraceRefused) (bytes : List ℕ) → ((r : TraceRefused) → ◌≡◌ {A = Result Trace ParseRefused} (Err why) (Err (parsing.Trace r)) → AreBad r bytes)
     → fault ≡ parse_fault why → fault ≡ faults.Trace refused → AreBad refused bytes

@@ -8,16 +8,21 @@ use Rattle.trace_text.specs.Grammar.{IsTraceText, trace_test}
 use Rattle.trace_text.specs.Built.{IsBuilt}
 use Rattle.uma_replay.specs.declared.hall.Hall.{Hall}
 use Rattle.uma_replay.specs.Hall.{HallStands}
-use Rattle.uma_replay.specs.Plays.{Plays}
 use Rattle.uma_replay.specs.Report.{StandsFor}
+use Rattle.umarun.specs.declared.ended.Ended.{Ended}
+use Rattle.umarun.specs.declared.ended.Ended.TheVariants.{Plain}
 use Rattle.zone_stats.specs.declared.report.Report.{Report}
 
 -- the most bytes of an input
 abbrev pub most_bytes : ℕ
 most_bytes = 16777216
 
+-- the hall of a replay
+abbrev pub hall_in : Ended → Hall
+hall_in (Plain hall) = hall
+
 -- The bytes are the text of a trace that is replayed so far, at most so many. The report stands for the trace, and for the
--- hall; the hall is what the trace's lines left, one after another.
+-- hall that the trace's lines left.
 pub record Replays (report : Report) (hall : Hall) (bytes : List ℕ) : Type 0 where
   pub within : length bytes ≤ most_bytes
   pub trace : Trace
@@ -25,7 +30,6 @@ pub record Replays (report : Report) (hall : Hall) (bytes : List ℕ) : Type 0 w
   pub built : IsBuilt trace
   pub stands : StandsFor trace report
   pub hall_stands : HallStands trace report hall
-  pub plays : Plays trace report hall
 
 -- the bytes are the text of a trace that is replayed so far, at most so many
 abbrev pub AreInput : List ℕ → Type 0

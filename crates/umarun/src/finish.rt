@@ -1,7 +1,8 @@
 ghost use Rattle.std.specs.Prelude.{◌≡◌};
 
+use crate::ended::Ended;
 use crate::fault::Fault;
-use uma_replay::{Hall, Played};
+use uma_replay::Played;
 use zone_stats::Report;
 
 /// How a run ended, for the program's exit status.
@@ -55,7 +56,7 @@ pub struct Finish {
     pub status: Status,
     pub fault: Option<Fault>,
     pub report: Option<Report>,
-    pub hall: Option<Hall>,
+    pub hall: Option<Ended>,
 }
 
 impl Finish {
@@ -98,13 +99,13 @@ impl Finish {
 
     /// A run whose replay is done.
     pub(crate) fn replayed(played: Played, fault: Option<Fault>) -> Finish
-        ensures { result ≡ record { status = status_at fault; fault = fault; report = Some played.report; hall = Some played.hall } }
+        ensures { result ≡ record { status = status_at fault; fault = fault; report = Some played.report; hall = Some (Ended.Plain played.hall) } }
     {
         Finish {
             status: fault.map_or(Status::Good, |fault| fault.status()),
             fault,
             report: Some(played.report),
-            hall: Some(played.hall),
+            hall: Some(Ended::Plain { hall: played.hall }),
         }
     }
 }

@@ -7,6 +7,7 @@ ghost use Rattle.std.specs.Process.{exit_status};
 ghost use Rattle.umarun.specs.Ending.{exit_code};
 
 mod command;
+mod ended;
 mod fault;
 mod finish;
 mod making;
@@ -21,6 +22,7 @@ use std::io::ErrorKind;
 use std::process::ExitCode;
 use std::rt::Env;
 use std::sync::Wait;
+use std::thread::Threads;
 use std::{env, io};
 use uma_io::{StdSink, StdSource};
 use uma_replay::FreeGate;
@@ -42,7 +44,7 @@ fn end<R: Eprint>(rt: &R, finish: &Finish) -> ExitCode
 }
 
 /// Runs on the words and the standard streams of the process.
-fn program<R: Env + AllocGlobal + Input + Print + Wait>(rt: &R) -> Finish {
+fn program<R: Env + AllocGlobal + Input + Print + Threads + Wait + Sync>(rt: &R) -> Finish {
     match words(rt) {
         Ok(words) => {
             let mut source = StdSource::new(rt.reader());

@@ -1,8 +1,9 @@
 //! What the command `replay` does.
-ghost use Rattle.std.specs.Prelude.{◌≡◌, ℕ, List, IfSome, IfOk, OnOk, IsErrOf};
+ghost use Rattle.std.specs.Prelude.{◌≡◌, ◌≤◌, ℕ, List, length, IfSome, IfOk, OnOk, IsErrOf};
 ghost use Rattle.text_lines.specs.declared.refused.TraceRefused.{TraceRefused as Refused};
 ghost use Rattle.trace_text.specs.Grammar.{IsTraceText};
 ghost use Rattle.trace_text.specs.Built.{IsBuilt};
+ghost use Rattle.trace_text.specs.Lines.{lines_of};
 ghost use Rattle.trace_text.specs.Valid.{IsValid};
 ghost use Rattle.smr_core.specs.declared.step_refused.StepRefused.{StepRefused as Turned};
 ghost use Rattle.uma_io.specs.Faults.{Rose};
@@ -16,21 +17,25 @@ use crate::fault::Fault;
 use crate::run::MOST_BYTES;
 use std::alloc::Global;
 use std::sync::Wait;
+use std::thread::Threads;
 use text_lines::one_verdict;
 use trace_text::{
     ParseRefused, Trace, TraceKind, TraceRefused, is_built, parse, texts_are_of_one_trace,
+    traces_are_no_longer,
 };
 use uma_io::{Source, read_all};
-use uma_replay::{Played, replay_serial};
+use uma_replay::{Gate, Played};
 use zone_stats::table_text;
 
-/// Reads a trace, replays it, and answers its report with what it leaves behind, and the report's text.
-pub fn replay<R: Wait, S: Source>(
+/// Reads a trace, replays it under a gate, and answers its report with what it leaves behind, and the report's text.
+pub fn replay<R: Threads + Wait + Sync, S: Source, G: Gate + Sync>(
     rt: &R,
     alloc: Global,
     source: &mut S,
+    gate: &G,
 ) -> Result<(Played, Vec<u8>), Fault>
     ensures replays { IfOk result (λ done. IfSome (S.bytes_left source.old) (Replays done.0.report done.0.hall)) }
+    ensures free { G.is_free gate.now → IfOk result (λ done. done.0.report.gave_up ≡ 0) }
     ensures text { IfOk result (λ done. done.1.items ≡ report_text done.0.report) }
     ensures end { OnOk result (Exhausts (S.bytes_left source.old) (S.bytes_left source.new)) }
     ensures read { IsErrOf result Fault.Read → Rose (S.fault_count source.old) (S.fault_count source.new) }
@@ -44,7 +49,7 @@ pub fn replay<R: Wait, S: Source>(
 {
     let bytes = read_all(alloc, source, MOST_BYTES)?;
     let trace = built_trace(alloc, &bytes)?;
-    let played = replay_serial(rt, alloc, &trace)?;
+    let played = uma_replay::replay(rt, alloc, &trace, gate)?;
     let text = table_text(alloc, &played.report)?;
     Ok((played, text))
 }
@@ -54,8 +59,10 @@ fn built_trace(alloc: Global, bytes: &[u8]) -> Result<Trace, ParseRefused>
     ensures read { IfOk result (IsTraceText bytes.now) }
     ensures valid { IfOk result IsValid }
     ensures built { IfOk result IsBuilt }
+    ensures few { IfOk result (λ trace. length (lines_of trace.rounds) ≤ length bytes.now) }
     ensures refused { (refused : Refused) → IsErrOf result (ParseRefused.Trace refused) → AreBad refused bytes.now }
 {
+    traces_are_no_longer();
     let trace = parse(alloc, bytes)?;
     if !is_built(&trace) {
         return Err(UNBUILT);

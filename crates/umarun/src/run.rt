@@ -6,7 +6,7 @@ ghost use Rattle.uma_io.specs.Sink.{Adds, AddsPart};
 ghost use Rattle.uma_io.specs.Source.{Exhausts, HasMoreThan};
 ghost use Rattle.umarun.specs.Ending.{command_of, reads_input, status_at};
 ghost use Rattle.umarun.specs.Making.{made_text};
-ghost use Rattle.umarun.specs.Replaying.{Replays, AreInput, AreRefused, RefusesTrace, most_bytes};
+ghost use Rattle.umarun.specs.Replaying.{Replays, AreInput, AreRefused, RefusesTrace, hall_in, most_bytes};
 ghost use Rattle.umarun.specs.Stepping.{ArePlayed, WritesOutput, WritesPart, RefusesText, RefusesStep};
 ghost use Rattle.zone_stats.specs.ReportText.{report_text};
 
@@ -18,6 +18,7 @@ use crate::replaying::{replay, replayed_or_refused};
 use crate::stepping::{played_or_refused, steps};
 use std::alloc::Global;
 use std::sync::Wait;
+use std::thread::Threads;
 use uma_io::{Sink, Source, write_all};
 use uma_replay::Gate;
 
@@ -27,13 +28,13 @@ pub const MOST_BYTES: u64 = 16_777_216;
 /// Does all that the program does: reads the words, then the whole source where the command reads it, then parses it, then
 /// replays or plays it, or makes a trace, and writes the whole output. The first refusal ends it. `words` are those after the
 /// program's name.
-pub fn run<R: Wait, S: Source, K: Sink, G: Gate + Sync>(
+pub fn run<R: Threads + Wait + Sync, S: Source, K: Sink, G: Gate + Sync>(
     rt: &R,
     alloc: Global,
     words: &[String],
     source: &mut S,
     sink: &mut K,
-    _gate: &G,
+    gate: &G,
 ) -> Finish
     // The status is that of the fault, and a run without a fault is good. A report and its hall are there once a replay is
     // done.
@@ -59,11 +60,12 @@ pub fn run<R: Wait, S: Source, K: Sink, G: Gate + Sync>(
     // Nothing is written before a refusal.
     ensures unwritten { IsSome result.fault → result.fault ≢ Some Fault.Write → sink.new ≡ sink.old }
 
-    // `replay`: a report stands for the trace that the bytes read are the text of, and for the kegs, censuses and slots of
-    // its hall; its text is written, and nothing else. A text is refused only at its first bad line, for the first thing that
+    // `replay`: a report stands for the trace that the bytes read are the text of, and for the zones, clock, workers and
+    // censuses of its hall; its text is written, and nothing else. Under a free gate no operation gave up waiting. A text is refused only at its first bad line, for the first thing that
     // is wrong with it, or, with line 0, where its trace isn't one of those that are replayed so far.
-    ensures replays { IfSome result.report (λ report. IfSome result.hall (λ hall.
-        IfSome (S.bytes_left source.old) (Replays report hall))) }
+    ensures replays { IfSome result.report (λ report. IfSome result.hall (λ ended.
+        IfSome (S.bytes_left source.old) (Replays report (hall_in ended)))) }
+    ensures free { G.is_free gate.now → IfSome result.report (λ report. report.gave_up ≡ 0) }
     ensures replay_written { IfNone result.fault (IfSome result.report (λ report.
         Adds (K.bytes_held sink.old) (report_text report) (K.bytes_held sink.new))) }
     ensures replay_part { result.fault ≡ Some Fault.Write → IfSome result.report (λ report.
@@ -118,7 +120,7 @@ pub fn run<R: Wait, S: Source, K: Sink, G: Gate + Sync>(
         None => Finish::refused(Fault::Usage),
         Some(Command::Replay) => {
             replayed_or_refused();
-            match replay(rt, alloc, source) {
+            match replay(rt, alloc, source, gate) {
                 Err(fault) => Finish::refused(fault),
                 Ok((played, text)) => match write_all(sink, &text) {
                     Ok(()) => Finish::replayed(played, None),

@@ -8,14 +8,16 @@ mod refusals;
 mod rows;
 mod schedules;
 mod usage;
+mod zones;
 
 use crate::finish::Finish;
 use crate::run::run;
 use std::alloc::Global;
 use std::sync::Wait;
 use std::test::Fail;
+use std::thread::Threads;
 use uma_io::{MemSink, MemSource};
-use uma_replay::FreeGate;
+use uma_replay::{FreeGate, Gate};
 
 /// The header of most rows.
 const HEADER: &str = "uma 1\nworkers 1\ndomains 1\n";
@@ -43,7 +45,7 @@ impl Outside {
 }
 
 /// Runs with these words on this input, and answers the end and what was written.
-fn end_of<R: Wait + AllocGlobal>(
+fn end_of<R: AllocGlobal + Threads + Wait + Sync>(
     rt: &R,
     words: &[&str],
     input: &str,
@@ -54,11 +56,33 @@ fn end_of<R: Wait + AllocGlobal>(
 }
 
 /// The same on these bytes.
-fn end_of_bytes<R: Wait + AllocGlobal>(
+fn end_of_bytes<R: AllocGlobal + Threads + Wait + Sync>(
     rt: &R,
     words: &[&str],
     bytes: Vec<u8>,
     outside: Outside,
+) -> Result<(Finish, String), Fail> {
+    ended(rt, words, bytes, outside, &FreeGate)
+}
+
+/// The same under a gate, where nothing of the outside fails.
+fn end_under<R: AllocGlobal + Threads + Wait + Sync, G: Gate + Sync>(
+    rt: &R,
+    words: &[&str],
+    input: &str,
+    gate: &G,
+) -> Result<(Finish, String), Fail> {
+    let bytes = Vec::from_slice(rt.alloc(), input.as_bytes())?;
+    ended(rt, words, bytes, Outside::fine(rt.alloc()), gate)
+}
+
+/// Runs with these words on these bytes under a gate, and answers the end and what was written.
+fn ended<R: AllocGlobal + Threads + Wait + Sync, G: Gate + Sync>(
+    rt: &R,
+    words: &[&str],
+    bytes: Vec<u8>,
+    outside: Outside,
+    gate: &G,
 ) -> Result<(Finish, String), Fail> {
     let alloc = rt.alloc();
     let mut owned = Vec::new(alloc);
@@ -67,12 +91,15 @@ fn end_of_bytes<R: Wait + AllocGlobal>(
     }
     let mut source = MemSource::new(bytes, outside.each, outside.failing_reads);
     let mut sink = MemSink::new(alloc, outside.room, outside.failing_writes)?;
-    let finish = run(rt, alloc, &owned, &mut source, &mut sink, &FreeGate);
+    let finish = run(rt, alloc, &owned, &mut source, &mut sink, gate);
     let written = String::from_utf8_lossy(alloc, sink.bytes())?;
     Ok((finish, written))
 }
 
 /// Replays this input, where nothing of the outside fails.
-fn replayed<R: Wait + AllocGlobal>(rt: &R, input: &str) -> Result<(Finish, String), Fail> {
+fn replayed<R: AllocGlobal + Threads + Wait + Sync>(
+    rt: &R,
+    input: &str,
+) -> Result<(Finish, String), Fail> {
     end_of(rt, &["replay"], input, Outside::fine(rt.alloc()))
 }

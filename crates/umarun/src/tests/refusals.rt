@@ -1,4 +1,4 @@
-//! The refusals that ledgers keep, and what a run leaves behind.
+//! The refusals that ledgers keep.
 use super::*;
 use zone_stats::Refusal;
 
@@ -46,30 +46,5 @@ fn the_last_refusal_is_kept_with_its_numbers(rt: HostRuntime) -> Result<(), Fail
         assert_eq!(rt; ledgers.len(), 1, "{lines}");
         assert_eq!(rt; ledgers.as_slice()[0].last, Some(refusal), "{lines}");
     }
-    Ok(())
-}
-
-/// Slots 0 and 65535 hold items at the end, and the census is that of the keg's last state.
-#[test]
-fn a_run_leaves_its_kegs_slots_and_censuses(rt: HostRuntime) -> Result<(), Fail> {
-    let input = format!(in rt.alloc();
-        "{HEADER}zone box 1024 2 4 0 0 plain\nalloc 0 box 0\nalloc 0 box 7\nalloc 0 box 65535\nfree 0 7\nend\n"
-    )?;
-    let (finish, _) = replayed(&rt, input.as_str())?;
-    let hall = finish.hall.expect(&rt, "a hall");
-    assert_eq!(rt; (hall.kegs.len(), hall.censuses.len()), (1, 1));
-    let slots = hall.slots.as_slice();
-    assert_eq!(rt; slots.len(), 65_536);
-    for (slot, number) in [(0, Some(0)), (7, None), (65_535, Some(2))] {
-        let held = slots[slot].as_ref().map(|held| (held.zone, held.item.no()));
-        assert_eq!(rt; held, number.map(|number| (0, number)));
-    }
-    let keg = &hall.kegs.as_slice()[0];
-    let census = &hall.censuses.as_slice()[0];
-    assert_eq!(rt; census.counts(), keg.counts());
-    assert_eq!(rt;
-        (census.outs()[0], keg.out(0), keg.counts().free),
-        (2, 2, 2)
-    );
     Ok(())
 }

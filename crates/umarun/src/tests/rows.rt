@@ -33,10 +33,10 @@ fn tables() -> [(&'static str, &'static str); 6] {
             "zone box 256 4 4 0 0 plain\nalloc 0 box 0 arg 7\n",
             "box                256        0        0       16          0        1     0        0\n",
         ),
-        // An item in a slot passed ctor, and the slab's sixteen passed keg_init.
+        // An item in a slot passed ctor, three more are cached on the seat, and the slab's sixteen passed keg_init.
         (
             "detail\nzone box 256 4 4 0 0 plain\nalloc 0 box 0\n",
-            "box                256        0        1       15          1        0     0        0\nhooks box 0 1 0 0 0\nkeg box 1 15 16 0\n",
+            "box                256        0        1       15          1        0     0        0\nhooks box 0 1 0 0 0\nkeg box 1 12 16 0\n",
         ),
     ]
 }
@@ -64,7 +64,7 @@ fn refused_lines() -> [(&'static str, u64, TraceKind); 4] {
             TraceKind::SlotBusy,
         ),
         ("free 0 0\nend\n", 5, TraceKind::SlotEmpty),
-        ("round\nend\n", 0, TraceKind::Unbuilt),
+        ("trim 0 box\nend\n", 0, TraceKind::Unbuilt),
     ]
 }
 

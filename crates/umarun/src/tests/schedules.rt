@@ -297,7 +297,10 @@ fn a_refused_step_is_named_and_nothing_is_written(rt: HostRuntime) -> Result<(),
 }
 
 /// Plays the schedule of these lines behind the head.
-fn played<R: Wait + AllocGlobal>(rt: &R, lines: &str) -> Result<(Finish, String), Fail> {
+fn played<R: AllocGlobal + Threads + Wait + Sync>(
+    rt: &R,
+    lines: &str,
+) -> Result<(Finish, String), Fail> {
     let alloc = rt.alloc();
     let input = format!(in alloc; "smr 1\n{lines}")?;
     end_of(rt, &["steps"], input.as_str(), Outside::fine(alloc))

@@ -1,0 +1,91 @@
+-- A worker of a replay may be sent to a thread, and the zones, whose items and hooks are the replay's, may be shared among threads.
+use Rattle.std.proofs.Crossing.{Vec-send, crosses, sync as heap_sync}
+use Rattle.std.specs.contracts.alloc.Global as heap
+use denote.RattleType.{RattleType}
+use denote.Builtin.{unit, u64}
+use denote.Param.{param}
+use denote.Ref.{ShrRef}
+use denote.Slice.{ShrSlice}
+use base.Fml.{Lft}
+use denote.Param.Send.{AllSync, IsSend, IsSync, recorded_send, recorded_sync, struct_send, struct_sync, shr_sync, shr_slice_sync, sendable}
+use denote.Struct.Field.{rows}
+use denote.Struct.Tuple.{TupleAt, parts, type_at}
+use denote.Struct.Struct.{Struct}
+use mir.Syntax.{Lifetime, Sym}
+use Rattle.std.proofs.Common.{List, [], ◌∷◌}
+use denote.Struct.Declared.{shape}
+use Rattle.smr_clock.specs.contracts.bare.Bare as Bare
+use Rattle.smr_clock.proofs.bare.Bare.TheSendSync as bare
+use Rattle.smr_clock.specs.contracts.bare.BareHost.TheImpl as bare_host
+use Rattle.smr_clock.specs.contracts.clock.Clock as Clock
+use Rattle.smr_clock.proofs.clock.Clock.TheSendSync as clock
+use Rattle.smr_clock.proofs.pass.Pass.TheSendSync as pass
+use Rattle.trace_text.specs.contracts.trace.Trace as Trace
+use Rattle.trace_text.proofs.trace.Trace.TheSendSync as trace
+use Rattle.uma_zone.specs.contracts.zone.Zone as Zone
+use Rattle.uma_zone.proofs.Shared.{seat_send, zone_sync}
+use Rattle.trace_worker.specs.contracts.count_hooks.CountHooks as CountHooks
+use Rattle.trace_worker.specs.contracts.count_hooks.CountHooksHooksCounted.TheImpl as count_hooks
+use Rattle.trace_worker.specs.contracts.counted.Counted as Counted
+use Rattle.trace_worker.specs.contracts.counted.CountedBody.TheImpl as counted_body
+use Rattle.trace_worker.proofs.counted.Counted.TheSendSync as counted
+use Rattle.trace_worker.proofs.count_hooks.CountHooks.TheSendSync as counts
+use Rattle.trace_worker.specs.contracts.running.Running as Running
+use Rattle.trace_worker.proofs.slots.Slots.TheSendSync as slots
+use Rattle.trace_worker.specs.contracts.worker.Worker as Worker
+
+worker_field_send : IsSend Worker.the_field.row
+worker_field_send = struct_send (shape Worker.the_type) (
+  search (pass.the_field_send),
+  (
+    Vec-send _ (seat_send Counted.the_row Bare.the_row unit _ _ counted.the_send bare.the_send bare.the_sync),
+    (search (slots.the_send), (search sendable, (search sendable, tt))),
+  ),
+)
+
+running_field_send : IsSend Running.the_field.row
+running_field_send = struct_send (shape Running.the_type) (worker_field_send, (search sendable, (search sendable, (search (crosses, sendable) depth 20, tt))))
+
+pub running_send : IsSend Running.the_row
+running_send = recorded_send Running.the_field.row _ _ Running.the_type.to_one running_field_send
+
+pub counted_zone_sync : IsSync (Zone.the_row Counted.the_row CountHooks.the_row Bare.the_row unit counted_body.ghosts count_hooks.ghosts bare_host.ghosts)
+counted_zone_sync = zone_sync Counted.the_row CountHooks.the_row Bare.the_row unit _ _ _ counted.the_send counts.the_send counts.the_sync bare.the_send bare.the_sync
+
+pub clock_sync : IsSync (Clock.the_row Bare.the_row unit bare_host.ghosts)
+clock_sync = search (clock.the_sync, sendable) depth 20
+
+pub trace_sync : IsSync Trace.the_row
+trace_sync = search (trace.the_sync, sendable)
+
+parts_sync : (Ts : List RattleType) → AllSync Ts → AllSync (rows (parts Ts))
+parts_sync [] all = tt
+parts_sync (T ∷ Ts) all = (all.0, parts_sync Ts all.1)
+
+-- what captures only such values
+pub tuple_sync : (ν : Sym) (Ts : List RattleType) → AllSync Ts → IsSync (TupleAt ν Ts)
+tuple_sync ν Ts all = recorded_sync (Struct (shape (type_at ν Ts))) _ _ (type_at ν Ts).to_one (struct_sync (shape (type_at ν Ts)) (parts_sync Ts all))
+
+abbrev pub ZoneRow : RattleType
+ZoneRow = Zone.the_row Counted.the_row CountHooks.the_row Bare.the_row unit counted_body.ghosts count_hooks.ghosts bare_host.ghosts
+
+-- what a round's threads share: the handle, the allocator, the trace, the zones, the clock, the gate and the round
+module _ (R G : RattleType) (ℓ1 ℓ2 ℓ3 ℓ4 ℓ5 ℓ6 ℓ7 : Lifetime) (κ1 κ2 κ3 κ4 κ5 κ6 κ7 : Lft) where
+  abbrev pub shared : List RattleType
+  shared = ShrRef ℓ1 κ1 (param 0 R) ∷ ShrRef ℓ2 κ2 heap.the_row ∷ ShrRef ℓ3 κ3 Trace.the_row ∷ ShrSlice ℓ4 κ4 ZoneRow
+      ∷ ShrRef ℓ5 κ5 (Clock.the_row Bare.the_row unit bare_host.ghosts) ∷ ShrRef ℓ6 κ6 (param 1 G) ∷ ShrRef ℓ7 κ7 u64 ∷ []
+
+  shared_each : IsSync (param 0 R) → IsSync (param 1 G) → AllSync shared
+  shared_each r h = (
+    shr_sync _ _ _ r,
+    (
+      shr_sync _ _ _ heap_sync,
+      (
+        shr_sync _ _ _ trace_sync,
+        (shr_slice_sync _ _ _ counted_zone_sync, (shr_sync _ _ _ clock_sync, (shr_sync _ _ _ h, (shr_sync _ _ u64 (search sendable), tt)))),
+      ),
+    ),
+  )
+
+  pub shared_sync : (ν : Sym) → IsSync (param 0 R) → IsSync (param 1 G) → IsSync (TupleAt ν shared)
+  shared_sync ν r h = tuple_sync ν shared (shared_each r h)

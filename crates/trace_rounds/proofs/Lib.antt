@@ -1,0 +1,10 @@
+pub mod AfterRound
+pub mod Bounds
+pub mod Crossed
+pub mod GaveUp
+pub mod GiveLines
+pub mod Items
+pub mod Lists
+pub mod Played
+pub mod RoundLines
+pub mod SameFor

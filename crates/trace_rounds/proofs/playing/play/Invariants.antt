@@ -1,0 +1,9 @@
+use Rattle.trace_rounds.specs.Rounds.{AreAfter, GaveUpAsBefore}
+use Rattle.trace_worker.specs.OwnLines.{lines_before}
+use Rattle.trace_rounds.proofs.playing.play.Given as goal
+
+abbrev pub invariant-loop-round : goal.invariant-loop-round
+invariant-loop-round g l = record {
+  after : AreAfter l.zones l.clock (lines_before l.trace.rounds l.round) l.workers;
+  free : g.G.Gate.is_free l.gate → GaveUpAsBefore l.initial.workers l.workers;
+}

@@ -1,0 +1,26 @@
+-- The parts of a round (own): its workers' lists, and the lines between it and the next. A round past the last one has none.
+use Rattle.std.specs.Prelude.{ℕ, ◌<◌, ◌≤◌, List, [], slice_get}
+use Rattle.std.specs.Option.{option_map_or}
+use Rattle.trace_text.specs.declared.between.Between.{Between}
+use Rattle.trace_text.specs.declared.between.Between.TheVariants.{Give}
+use Rattle.trace_text.specs.declared.op.Op.{Op}
+use Rattle.trace_text.specs.declared.round.Round.{Round}
+use Rattle.trace_text.specs.Limits.{last_slot}
+use Rattle.trace_text.specs.Lines.{Line, worker_lines}
+use Rattle.trace_worker.specs.OwnLines.{stacked, lines_before}
+
+-- the lists of operations of round `k`, in order of workers
+abbrev pub lists_of : List Round → ℕ → List (List Op)
+lists_of rounds k = option_map_or (λ (r : Round). r.ops) (slice_get rounds k) []
+
+-- the lines between round `k` and the next
+abbrev pub gives_of : List Round → ℕ → List Between
+gives_of rounds k = option_map_or (λ (r : Round). r.between) (slice_get rounds k) []
+
+-- the lines up to the last one of round `k`'s workers
+abbrev pub after_workers : List Round → ℕ → List Line
+after_workers rounds k = stacked (worker_lines 0 (lists_of rounds k)) (lines_before rounds k)
+
+-- giver and taker are among so many workers, and the taker has such a slot
+abbrev pub IsAmong : ℕ → Between → Type 0
+IsAmong count (Give giver slot taker slot2) = (giver < count) × (taker < count) × (slot2 ≤ last_slot)

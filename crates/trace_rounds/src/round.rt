@@ -1,0 +1,49 @@
+ghost use Rattle.std.specs.Prelude.{◌≡◌, ◌<◌, All, OnOk, length};
+ghost use Rattle.trace_rounds.specs.Rounds.{AllReady, AllWorked, EachGaveUpAsBefore, HasEnded};
+ghost use Rattle.trace_worker.specs.Turn.{HasWorked, IsReady};
+
+use smr_clock::{Bare, Clock};
+use std::alloc::Global;
+use std::sync::Wait;
+use std::thread::{self, Threads};
+use trace_text::Trace;
+use trace_worker::{CountedZone, Gate, Memory, Running};
+
+/// A round: each worker does its own list of it, on a thread of its own, and all threads are joined.
+pub(crate) fn work_round<R: Threads + Wait + Sync, G: Gate + Sync>(
+    rt: &R,
+    alloc: Global,
+    trace: &Trace,
+    zones: &[CountedZone],
+    clock: &Clock<Bare>,
+    gate: &G,
+    round: usize,
+    workers: &mut [Running],
+)
+    requires some { 0 < length workers.old }
+    requires ready { AllReady trace.now zones.now clock.now round workers.old }
+    ensures worked { AllWorked trace.now zones.now clock.now round workers.old workers.new }
+    ensures free { G.is_free gate.now → EachGaveUpAsBefore workers.old workers.new }
+{
+    let threads = workers.len();
+    thread::for_each_mut(
+        rt,
+        workers,
+        threads,
+        &|number, running: &mut Running|
+            requires { IsReady trace.now zones.now clock.now round number running.old }
+            ensures free { G.is_free gate.entry.now → running.new.gave_up ≡ running.old.gave_up }
+            ensures worked { OnOk running.new.ended (HasWorked trace.entry.now zones.entry.now clock.entry.now round number running.old running.new) }
+        { running.turn(rt, alloc, trace, zones, clock, gate, round, number) },
+    );
+}
+
+/// Whether each worker's last turn ended without want of memory.
+pub(crate) fn all_ended(workers: &[Running]) -> Result<(), Memory>
+    ensures { OnOk result (All HasEnded workers.now) }
+{
+    for running in workers {
+        running.ended?;
+    }
+    Ok(())
+}

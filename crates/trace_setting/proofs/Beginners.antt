@@ -1,0 +1,110 @@
+-- A worker before its first line.
+use Rattle.std.proofs.Common.{◌≡◌, ℕ, ◌≤◌, ◌%◌, List, [], ◌∷◌, ◌++◌, Option, None, Some, inl, inr, refl, sym, ap, ◌∙◌, subst, length, zero-le, arith}
+use Rattle.std.proofs.lemmas.List.{get_or_past}
+use Rattle.std.proofs.lemmas.Option.{none-some}
+use Rattle.std.specs.Prelude.{slice_get}
+use Rattle.smr_clock.specs.Belongs.{holder}
+use Rattle.smr_core.specs.declared.phase.Phase.TheVariants.{Outside}
+use Rattle.uma_seat.specs.Seat.{ledger_of}
+use Rattle.zone_stats.specs.declared.ledger.SeatLedger.{SeatLedger}
+use Rattle.zone_stats.specs.declared.refusal.Refusal.{Refusal}
+use Rattle.zone_stats.specs.LedgerSteps.{IsNew}
+use Rattle.trace_worker.specs.declared.held.Held.{Held}
+use Rattle.trace_worker.specs.declared.running.Running.{Running}
+use Rattle.trace_worker.specs.declared.worker.Worker.{Worker}
+use Rattle.trace_worker.specs.Counting.{asked, argued, enters}
+use Rattle.trace_worker.specs.Items.{BareClock, BarePass, CountedSeat, CountedZone}
+use Rattle.trace_worker.specs.LedgerStands.{LedgerStands}
+use Rattle.trace_worker.specs.Making.{AreSeats, IsNewWorker}
+use Rattle.trace_worker.specs.Slots.{slot_at}
+use Rattle.trace_worker.specs.Stands.{Stands, NamesZone}
+use Rattle.trace_worker.specs.Worker.{Fits}
+use Rattle.trace_setting.specs.Beginners.{IsUnused, IsBeginner}
+use Rattle.trace_setting.specs.Clock.{IsNewPass}
+use Rattle.trace_setting.proofs.Lists.{pushed, has_too, none_above, none_below, both_none}
+
+asked_none : (n z : ℕ) → asked n z [] ≡ 0
+unfolding asked
+asked_none n z = refl
+
+argued_none : (n z : ℕ) → argued n z [] ≡ 0
+unfolding argued
+argued_none n z = refl
+
+enters_none : (n : ℕ) → enters n [] ≡ 0
+unfolding enters
+enters_none n = refl
+
+-- a new ledger stands for no line
+ledger_stands : (Names : Refusal → Type 0) (n z : ℕ) (ledger : SeatLedger) → IsNew ledger → LedgerStands Names n z [] ledger
+ledger_stands Names n z ledger new = record {
+  requests = new.requests ∙ sym (asked_none n z);
+  some_args = none_below _ new.fails;
+  all_args = none_below _ (argued_none n z);
+  frees = none_below _ new.frees;
+  kept = λ refusal is. absurd (none-some refusal (sym new.last ∙ is));
+}
+
+-- no slot of an empty list is filled
+nothing_in : (slots : List (Option Held)) (slot : ℕ) (it : Held) → slots ≡ [] → slot_at slots slot ≡ Some it → ⊥
+nothing_in slots slot it empty found =
+    let P : List (Option Held) → Type 0 = λ list. slot_at list slot ≡ Some it in
+    let none : Option Held = None in
+    none-some it (sym (get_or_past [] slot none zero-le) ∙ subst P empty found)
+
+no_slots : (slots : List (Option Held)) → slots ≡ [] → length slots ≤ 65536
+no_slots slots is = let none : length slots ≡ 0 = ap length is in omega arith
+
+stands_new : (zones : List CountedZone) (clock : BareClock) (n domain : ℕ) (pass : BarePass) (w : Worker) → IsNewWorker zones pass domain w → IsNewPass clock pass → Stands zones clock n [] w
+stands_new zones clock n domain pass w new new_pass =
+    let outside : (holder w.pass).phase ≡ Outside = ap (λ (p : BarePass). (holder p).phase) new.pass_kept ∙ new_pass.outside in
+    record {
+      ledgers = λ z zone seat at_zone at_seat. ledger_stands (NamesZone zone) n z (ledger_of seat) (new.seats.each z zone seat at_zone at_seat).fresh.ledger;
+      few = no_slots w.slots new.slots;
+      filled = λ slot it found. absurd (nothing_in w.slots slot it new.slots found);
+      outside = λ _. outside;
+      between = inl outside;
+      enters_add_up = both_none new.entered new.late (enters_none n);
+      begun = subst (λ (p : BarePass). clock.setup.about.start ≤ (holder p).seen) (sym new.pass_kept) new_pass.begun;
+      overtaken = λ some. absurd (none_above new.late some);
+    }
+
+unused_at : (zones : List CountedZone) (domain : ℕ) (seats : List CountedSeat) → AreSeats zones domain seats → (z : ℕ) (seat : CountedSeat) → slice_get seats z ≡ Some seat → IsUnused domain seat
+unused_at zones domain seats are z seat at_seat =
+    let zone = has_too zones seats z seat are.count at_seat in
+    let new = are.each z zone.0 seat zone.1 at_seat in
+    record { own = new.fresh.own; ledger = new.fresh.ledger }
+
+beginner : (zones : List CountedZone) (clock : BareClock) (domain : ℕ) (pass : BarePass) (w : Worker) (r : Running) → Fits zones clock w → IsNewWorker zones pass domain w → IsNewPass clock pass
+    → w ≡ r.worker → r.asked ≡ 0 → r.gave_up ≡ 0 → IsBeginner zones clock domain r
+beginner zones clock domain pass w r fits new new_pass is asked gave_up =
+    let S : Worker → Type 0 = λ x. (n : ℕ) → Stands zones clock n [] x in
+    let U : Worker → Type 0 = λ x. (z : ℕ) (seat : CountedSeat) → slice_get x.seats.items z ≡ Some seat → IsUnused domain seat in
+    record {
+      fits = subst (Fits zones clock) is fits;
+      stands = subst S is (λ n. stands_new zones clock n domain pass w new new_pass);
+      empty = ap (λ (x : Worker). x.slots) (sym is) ∙ new.slots;
+      seats = subst U is (unused_at zones domain w.seats.items new.seats);
+      asked = asked;
+      gave_up = gave_up;
+    }
+
+pub beginner_is : (zones : List CountedZone) (clock : BareClock) (domain : ℕ) (pass : BarePass) (w : Worker) (r : Running) → Fits zones clock w → IsNewWorker zones pass domain w → IsNewPass clock pass
+    → r.worker ≡ w → r.asked ≡ 0 → r.gave_up ≡ 0 → IsBeginner zones clock domain r
+beginner_is zones clock domain pass w r fits new new_pass is asked gave_up = beginner zones clock domain pass w r fits new new_pass (sym is) asked gave_up
+
+abbrev pub Begin : List CountedZone → BareClock → ℕ → List Running → Type 0
+Begin zones clock domains workers = (n : ℕ) (r : Running) → slice_get workers n ≡ Some r → IsBeginner zones clock (n % domains) r
+
+pub Begin-none : (zones : List CountedZone) (clock : BareClock) (domains : ℕ) → Begin zones clock domains []
+Begin-none zones clock domains n r at = absurd (none-some r at)
+
+pub Begin-more : (zones : List CountedZone) (clock : BareClock) (domains : ℕ) (workers : List Running) (new : Running) → IsBeginner zones clock (length workers % domains) new → Begin zones clock domains workers
+    → Begin zones clock domains (workers ++ new ∷ [])
+Begin-more zones clock domains workers new is are n r at = elim (pushed workers new n r at) [
+  | inl last ↦
+      let P : ℕ → Type 0 = λ i. IsBeginner zones clock (i % domains) new in
+      let Q : Running → Type 0 = λ x. IsBeginner zones clock (n % domains) x in
+      subst Q last.1 (subst P (sym last.0) is)
+  | inr before ↦ are n r before
+]

@@ -1,0 +1,13 @@
+pub mod Adding
+pub mod Afterwards
+pub mod Bounds
+pub mod Closing
+pub mod Collected
+pub mod Gathering
+pub mod Heard
+pub mod Indexes
+pub mod Kegs
+pub mod Kept
+pub mod Modulo
+pub mod Picks
+pub mod Summed

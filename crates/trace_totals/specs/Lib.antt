@@ -1,0 +1,6 @@
+pub mod Clock
+pub mod Closes
+pub mod Notes
+pub mod Picking
+pub mod Summing
+pub mod Taking

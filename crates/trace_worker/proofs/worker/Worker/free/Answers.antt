@@ -1,0 +1,84 @@
+use Rattle.std.proofs.Common.{◌≡◌, ◌≤◌, ◌<◌, Some, refl, sym, ◌∙◌, length}
+use Rattle.std.specs.Vec.{with_item}
+use Rattle.smr_clock.specs.Belongs.{IsOf, holder}
+use Rattle.uma_zone.specs.Zone.{IsSeatOf}
+use Rattle.trace_worker.specs.declared.worker.Worker.{Worker}
+use Rattle.trace_worker.specs.Requests.{GivesBack}
+use Rattle.trace_worker.specs.Slots.{slot_at}
+use Rattle.trace_worker.proofs.AtPlace.{seat_at, clock_at, room_at, fits_free, fits_none, held_below, home_at, frees_at, frees_none}
+use Rattle.trace_worker.proofs.Ends.{both_ok, three_ok}
+use Rattle.trace_worker.proofs.Numbers.{below_as}
+use Rattle.trace_worker.proofs.worker.Worker.free.Goals as goal
+
+pub returns-in_default-clause-fits : goal.returns-in_default-clause-fits
+returns-in_default-clause-fits g c = fits_none c.args.zones.now c.args.clock.now c.args.self.now c.args.slot c.take.new.self c.requires.fits c.take.ensures.left
+
+pub returns-in_default-clause-frees : goal.returns-in_default-clause-frees
+returns-in_default-clause-frees g c = frees_none c.args.zones.now c.args.self.now c.args.slot c.take.new.self (sym c.take.ensures.taken ∙ c.in_default.is) c.take.ensures.left
+
+pub index_mut-seat-requires : goal.index_mut-seat-requires
+index_mut-seat-requires g c =
+    let it = c.in-Some.held in
+    let holds : slot_at c.args.self.now.slots c.args.slot ≡ Some it = sym c.take.ensures.taken ∙ c.in-Some.is in
+    let below : it.zone < length c.args.zones.now = held_below c.args.zones.now it (c.requires.fits.slots c.args.slot it holds) in
+    below_as (below_as below c.requires.fits.seats.count) c.args.self.now.seats.ok.0
+
+pub bounds-zones-place : goal.bounds-zones-place
+bounds-zones-place g c =
+    let it = c.in-Some.held in
+    let holds : slot_at c.args.self.now.slots c.args.slot ≡ Some it = sym c.take.ensures.taken ∙ c.in-Some.is in
+    held_below c.args.zones.now it (c.requires.fits.slots c.args.slot it holds)
+
+pub give_back-requires-clause-seat : goal.give_back-requires-clause-seat
+give_back-requires-clause-seat g c =
+    let it = c.in-Some.held in
+    let holds : slot_at c.args.self.now.slots c.args.slot ≡ Some it = sym c.take.ensures.taken ∙ c.in-Some.is in
+    let below : it.zone < length c.args.zones.now = held_below c.args.zones.now it (c.requires.fits.slots c.args.slot it holds) in
+    seat_at c.args.zones.now c.args.self.now.seats.items c.in-Some.held.zone c.index-zones-place.result c.index_mut-seat.result.now c.requires.fits.seats below c.index-zones-place.is c.index_mut-seat.ensures.value
+
+pub give_back-requires-clause-clock : goal.give_back-requires-clause-clock
+give_back-requires-clause-clock g c =
+    let it = c.in-Some.held in
+    let holds : slot_at c.args.self.now.slots c.args.slot ≡ Some it = sym c.take.ensures.taken ∙ c.in-Some.is in
+    let below : it.zone < length c.args.zones.now = held_below c.args.zones.now it (c.requires.fits.slots c.args.slot it holds) in
+    clock_at c.args.clock.now c.args.zones.now c.in-Some.held.zone c.index-zones-place.result c.requires.clock below c.index-zones-place.is
+
+pub give_back-requires-clause-room : goal.give_back-requires-clause-room
+give_back-requires-clause-room g c =
+    let it = c.in-Some.held in
+    let holds : slot_at c.args.self.now.slots c.args.slot ≡ Some it = sym c.take.ensures.taken ∙ c.in-Some.is in
+    let below : it.zone < length c.args.zones.now = held_below c.args.zones.now it (c.requires.fits.slots c.args.slot it holds) in
+    room_at c.args.self.now.seats.items c.in-Some.held.zone c.index_mut-seat.result.now c.requires.rooms.ledgers (below_as below c.requires.fits.seats.count) c.index_mut-seat.ensures.value
+
+pub give_back-requires-clause-home : goal.give_back-requires-clause-home
+give_back-requires-clause-home g c =
+    let it = c.in-Some.held in
+    let holds : slot_at c.args.self.now.slots c.args.slot ≡ Some it = sym c.take.ensures.taken ∙ c.in-Some.is in
+    home_at c.args.zones.now it c.index-zones-place.result (c.requires.fits.slots c.args.slot it holds) c.index-zones-place.is
+
+pub returns-clause-fits : goal.returns-clause-fits
+returns-clause-fits g c =
+    let old : Worker = c.args.self.now in
+    let it = c.in-Some.held in
+    let new : Worker = record { pass = c.give_back.new.pass; seats = with_item old.seats it.zone c.give_back.new.seat; slots = c.take.new.self; entered = old.entered; late = old.late } in
+    let holds : slot_at old.slots c.args.slot ≡ Some it = sym c.take.ensures.taken ∙ c.in-Some.is in
+    let below : it.zone < length c.args.zones.now = held_below c.args.zones.now it (c.requires.fits.slots c.args.slot it holds) in
+    both_ok c.give_back.result
+    (λ (is_seat : IsSeatOf c.index-zones-place.result c.give_back.new.seat) (pass : IsOf c.args.clock.now c.give_back.new.pass).
+    fits_free c.args.zones.now c.args.clock.now old new it.zone c.args.slot c.index-zones-place.result c.index_mut-seat.result.now c.give_back.new.seat
+    c.requires.fits below c.index-zones-place.is c.index_mut-seat.ensures.value is_seat pass refl c.take.ensures.left)
+    c.give_back.ensures.seat c.give_back.ensures.pass
+
+pub returns-clause-frees : goal.returns-clause-frees
+returns-clause-frees g c =
+    let old : Worker = c.args.self.now in
+    let it = c.in-Some.held in
+    let new : Worker = record { pass = c.give_back.new.pass; seats = with_item old.seats it.zone c.give_back.new.seat; slots = c.take.new.self; entered = old.entered; late = old.late } in
+    let holds : slot_at old.slots c.args.slot ≡ Some it = sym c.take.ensures.taken ∙ c.in-Some.is in
+    three_ok c.give_back.result
+    (λ (phase : (holder c.give_back.new.pass).phase ≡ (holder old.pass).phase) (seen : (holder old.pass).seen ≤ (holder c.give_back.new.pass).seen)
+    (gives : GivesBack c.index-zones-place.result c.index_mut-seat.result.now it.item c.give_back.new.seat).
+    frees_at c.args.zones.now c.args.clock.now old new c.args.slot it c.index-zones-place.result c.index_mut-seat.result.now c.give_back.new.seat
+    c.requires.fits holds c.index-zones-place.is c.index_mut-seat.ensures.value gives refl c.take.ensures.left
+    (record { phase = phase; seen = seen; entered = refl; late = refl }))
+    c.give_back.ensures.phase c.give_back.ensures.seen c.give_back.ensures.gives_back

@@ -1,0 +1,16 @@
+pub mod Boxed
+pub mod Counting
+pub mod Giving
+pub mod Hooks
+pub mod Items
+pub mod LedgerStands
+pub mod Live
+pub mod Making
+pub mod OwnLines
+pub mod Performs
+pub mod Requests
+pub mod Slots
+pub mod Stands
+pub mod Together
+pub mod Turn
+pub mod Worker

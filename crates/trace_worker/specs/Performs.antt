@@ -1,0 +1,115 @@
+-- What each kind of line does to its worker (own).
+use Rattle.std.specs.Prelude.{◌≡◌, ◌<◌, ◌≤◌, ◌+◌, ◌⊎◌, ℕ, Bool, List, length, Option, Some, None, option_map, slice_get, slice_set}
+use Rattle.smr_core.specs.declared.phase.Phase.TheVariants.{Outside, Inside}
+use Rattle.smr_clock.specs.declared.refused.Overtaken.{Overtaken}
+use Rattle.smr_clock.specs.Belongs.{view}
+use Rattle.smr_clock.specs.Sections.{Enters, Misses}
+use Rattle.smr_clock.specs.Steps.{clearing}
+use Rattle.trace_text.specs.declared.op.Op.{Op}
+use Rattle.trace_text.specs.Limits.{last_slot}
+use Rattle.trace_text.specs.declared.op.Op.TheVariants.{Alloc, Free, Enter, Exit, Prealloc}
+use Rattle.uma_zone.specs.declared.alloc_ask.AllocAsk.{AllocAsk}
+use Rattle.trace_worker.specs.declared.held.Held.{Held}
+use Rattle.trace_worker.specs.declared.worker.Worker.{Worker}
+use Rattle.trace_worker.specs.Items.{CountedSeat, CountedZone, LiveItem}
+use Rattle.trace_worker.specs.Requests.{Requests, GivesBack}
+use Rattle.trace_worker.specs.Slots.{slot_at, filled, emptied}
+use Rattle.trace_worker.specs.Live.{holding}
+use Rattle.trace_worker.specs.Worker.{phase_of, seen_of}
+
+-- neither its section nor its counts of sections change, and its pass forgets nothing
+pub record KeepsSection (old new : Worker) : Type 0 where
+  pub phase : phase_of new ≡ phase_of old
+  pub seen : seen_of old ≤ seen_of new
+  pub entered : new.entered ≡ old.entered
+  pub late : new.late ≡ old.late
+
+-- an `alloc` line: one request by the worker's seat of its zone, whose item, if there is one, its slot holds
+pub record Allocs (zones : List CountedZone) (old : Worker) (zone slot : ℕ) (ask : AllocAsk) (new : Worker) : Type 0 where
+  pub of : CountedZone
+  pub is_zone : slice_get zones zone ≡ Some of
+  pub before : CountedSeat
+  pub at : slice_get old.seats.items zone ≡ Some before
+  pub after : CountedSeat
+  pub got : Option LiveItem
+  pub requests : Requests of ask before got after
+  pub seats : new.seats.items ≡ slice_set old.seats.items zone after
+  pub slots : new.slots ≡ filled old.slots slot (option_map (holding zone) got)
+  pub section : KeepsSection old new
+
+-- the free of what a slot holds, by the worker's seat of its zone
+pub record Frees (zones : List CountedZone) (old : Worker) (slot : ℕ) (it : Held) (new : Worker) : Type 0 where
+  pub holds : slot_at old.slots slot ≡ Some it
+  pub of : CountedZone
+  pub is_zone : slice_get zones it.zone ≡ Some of
+  pub before : CountedSeat
+  pub at : slice_get old.seats.items it.zone ≡ Some before
+  pub after : CountedSeat
+  pub gives_back : GivesBack of before it.item after
+  pub seats : new.seats.items ≡ slice_set old.seats.items it.zone after
+  pub slots : new.slots ≡ emptied old.slots slot
+  pub section : KeepsSection old new
+
+-- a `free` line; of a slot whose request was refused it does nothing and counts nothing
+abbrev pub FreesSlot : List CountedZone → Worker → ℕ → Worker → Type 0
+FreesSlot zones old slot new = ((it : Held) × Frees zones old slot it new) ⊎ ((slot_at old.slots slot ≡ None) × (new ≡ old))
+
+-- the seats and the slots stay
+pub record KeepsHolds (old new : Worker) : Type 0 where
+  pub seats : new.seats ≡ old.seats
+  pub slots : new.slots ≡ old.slots
+
+-- the pass is in a section now, which is counted as entered
+pub record EntersInTime (old new : Worker) : Type 0 where
+  pub enters : Enters (view old.pass) (view new.pass)
+  pub phase : phase_of new ≡ Inside
+  pub seen : seen_of old ≤ seen_of new
+  pub entered : new.entered ≡ old.entered + 1
+  pub late : new.late ≡ old.late
+  pub holds : KeepsHolds old new
+
+-- the enter was overtaken, which is counted as late
+pub record EntersLate (old new : Worker) : Type 0 where
+  pub overtaken : Overtaken
+  pub misses : Misses (view old.pass) overtaken (view new.pass)
+  pub phase : phase_of new ≡ Outside
+  pub seen : seen_of old ≤ seen_of new
+  pub entered : new.entered ≡ old.entered
+  pub late : new.late ≡ old.late + 1
+  pub holds : KeepsHolds old new
+
+-- an `exit` line; after an enter that was late it does nothing
+pub record Leaves (old new : Worker) : Type 0 where
+  pub left : phase_of old ≡ Inside → view new.pass ≡ clearing (view old.pass)
+  pub nothing : phase_of old ≡ Outside → new.pass ≡ old.pass
+  pub phase : phase_of new ≡ Outside
+  pub seen : seen_of old ≤ seen_of new
+  pub entered : new.entered ≡ old.entered
+  pub late : new.late ≡ old.late
+  pub holds : KeepsHolds old new
+
+-- what a request asks
+abbrev pub ask_of : ℕ → Bool → AllocAsk
+ask_of arg reserve = record { arg = arg; reserve = reserve }
+
+-- a worker's pass is outside a section or in one, between two lines
+abbrev pub IsBetween : Worker → Type 0
+IsBetween w = (phase_of w ≡ Outside) ⊎ (phase_of w ≡ Inside)
+
+-- What a line needs. Lines of names and of reclaim aren't done yet.
+abbrev pub CanPerform : List CountedZone → Worker → Op → Type 0
+CanPerform zones w (Alloc zone slot arg reserve) = (zone < length zones) × (arg ≤ 254) × (slot_at w.slots slot ≡ None) × (slot ≤ last_slot)
+CanPerform zones w (Free slot) = Unit {0}
+CanPerform zones w Enter = phase_of w ≡ Outside
+CanPerform zones w Exit = IsBetween w
+CanPerform zones w (Prealloc zone items) = (zone < length zones) × (items ≤ 262144)
+CanPerform zones w op = ⊥
+
+-- what it does
+abbrev pub Performs : List CountedZone → Worker → Op → Worker → Type 0
+Performs zones old (Alloc zone slot arg reserve) new = Allocs zones old zone slot (ask_of arg reserve) new
+Performs zones old (Free slot) new = FreesSlot zones old slot new
+Performs zones old Enter new = EntersInTime old new ⊎ EntersLate old new
+Performs zones old Exit new = Leaves old new
+Performs zones old (Prealloc zone items) new = new ≡ old
+Performs zones old op new = ⊥

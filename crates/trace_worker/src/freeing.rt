@@ -1,0 +1,136 @@
+ghost use Rattle.std.specs.Prelude.{◌≡◌, ◌<◌, ◌≤◌, length, OnOk};
+ghost use Rattle.smr_clock.specs.Belongs.{IsOf, clock_id, holder};
+ghost use Rattle.uma_bucket.specs.Home.{IsHome};
+ghost use Rattle.uma_life.specs.Live.{live_ticket};
+ghost use Rattle.uma_seat.specs.Seat.{ledger_of, spares_of};
+ghost use Rattle.uma_zone.specs.Zone.{zone_home, zone_clock, IsSeatOf};
+ghost use Rattle.zone_stats.specs.LedgerSteps.{HasRoom};
+ghost use Rattle.trace_worker.specs.Performs.{FreesSlot};
+ghost use Rattle.trace_worker.specs.Requests.{MakesReady, Releases, GivesBack};
+ghost use Rattle.trace_worker.specs.Worker.{AreOfClock, Fits, HasRooms};
+
+use crate::Memory;
+use crate::counted::Counted;
+use crate::items::{CountedSeat, CountedZone};
+use crate::worker::Worker;
+use smr_clock::{Bare, Clock, Pass};
+use std::alloc::Global;
+use std::sync::Wait;
+use uma_life::Live;
+
+impl Worker {
+    /// A `free` line: the item that the slot holds is freed by the worker's seat of its zone, which is made ready first
+    /// where it has no spare bucket. Where the slot is empty, since its request was refused, nothing is done. Waits as
+    /// [`uma_zone::Zone::make_room`] does.
+    ///
+    /// After `Memory` the replay is over; the item is lost.
+    pub fn free<R: Wait>(
+        &mut self,
+        rt: &R,
+        alloc: Global,
+        zones: &[CountedZone],
+        clock: &Clock<Bare>,
+        slot: u32,
+    ) -> Result<(), Memory>
+        requires clock { AreOfClock clock.now zones.now }
+        requires fits { Fits zones.now clock.now self.old }
+        requires rooms { HasRooms self.old }
+        ensures fits { OnOk result (Fits zones.now clock.now self.new) }
+        ensures frees { OnOk result (FreesSlot zones.now self.old slot self.new) }
+    {
+        let Some(held) = self.slots.take(slot) else {
+            return Ok(());
+        };
+        let place = held.zone as usize;
+        let seat = &mut self.seats[place];
+        give_back(
+            rt,
+            alloc,
+            &zones[place],
+            clock,
+            &mut self.pass,
+            seat,
+            held.item,
+        )
+    }
+}
+
+/// Makes the seat ready, and frees the item.
+fn give_back<R: Wait>(
+    rt: &R,
+    alloc: Global,
+    zone: &CountedZone,
+    clock: &Clock<Bare>,
+    pass: &mut Pass<Bare>,
+    seat: &mut CountedSeat,
+    item: Live<Counted>,
+) -> Result<(), Memory>
+    requires seat { IsSeatOf zone.now seat.old }
+    requires clock { clock_id clock.now ≡ zone_clock zone.now }
+    requires pass { IsOf clock.now pass.old }
+    requires room { HasRoom (ledger_of seat.old) }
+    requires home { IsHome (zone_home zone.now) (live_ticket item) }
+    ensures seat { OnOk result (IsSeatOf zone.now seat.new) }
+    ensures pass { OnOk result (IsOf clock.now pass.new) }
+    ensures phase { OnOk result ((holder pass.new).phase ≡ (holder pass.old).phase) }
+    ensures seen { OnOk result ((holder pass.old).seen ≤ (holder pass.new).seen) }
+    ensures gives_back { OnOk result (GivesBack zone.now seat.old item seat.new) }
+{
+    make_ready(rt, alloc, zone, clock, pass, seat)?;
+    release(zone, clock, pass, seat, item);
+    Ok(())
+}
+
+/// Makes room for the next frees where the seat has no spare bucket.
+fn make_ready<R: Wait>(
+    rt: &R,
+    alloc: Global,
+    zone: &CountedZone,
+    clock: &Clock<Bare>,
+    pass: &mut Pass<Bare>,
+    seat: &mut CountedSeat,
+) -> Result<(), Memory>
+    requires seat { IsSeatOf zone.now seat.old }
+    requires clock { clock_id clock.now ≡ zone_clock zone.now }
+    requires pass { IsOf clock.now pass.old }
+    ensures seat { IsSeatOf zone.now seat.new }
+    ensures pass { IsOf clock.now pass.new }
+    ensures phase { (holder pass.new).phase ≡ (holder pass.old).phase }
+    ensures seen { (holder pass.old).seen ≤ (holder pass.new).seen }
+    ensures ready { OnOk result (MakesReady seat.old seat.new) }
+{
+    if seat.spare() > 0 {
+        return Ok(());
+    }
+    match zone.make_room(rt, alloc, clock, pass, seat) {
+        Ok(()) => Ok(()),
+        Err(_) => Err(Memory),
+    }
+}
+
+/// Frees an item by the zone's kind.
+fn release(
+    zone: &CountedZone,
+    clock: &Clock<Bare>,
+    pass: &mut Pass<Bare>,
+    seat: &mut CountedSeat,
+    item: Live<Counted>,
+)
+    requires seat { IsSeatOf zone.now seat.old }
+    requires clock { clock_id clock.now ≡ zone_clock zone.now }
+    requires pass { IsOf clock.now pass.old }
+    requires spare { 0 < length (spares_of seat.old) }
+    requires room { HasRoom (ledger_of seat.old) }
+    requires home { IsHome (zone_home zone.now) (live_ticket item) }
+    ensures seat { IsSeatOf zone.now seat.new }
+    ensures pass { IsOf clock.now pass.new }
+    ensures phase { (holder pass.new).phase ≡ (holder pass.old).phase }
+    ensures seen { (holder pass.old).seen ≤ (holder pass.new).seen }
+    ensures released { Releases zone.now seat.old item seat.new }
+{
+    if zone.is_smr() {
+        zone.free_smr(clock, pass, seat, item);
+    } else {
+        zone.free(seat, item);
+    }
+}

@@ -1,0 +1,61 @@
+ghost use Rattle.std.specs.Prelude.{◌≡◌, ◌<◌, All, IfOk};
+ghost use Rattle.smr_clock.specs.Belongs.{IsOf};
+ghost use Rattle.uma_zone.specs.Zone.{zone_domains};
+ghost use Rattle.trace_worker.specs.Worker.{Fits};
+ghost use Rattle.trace_worker.specs.Making.{IsNewWorker, AreSeats};
+
+use crate::Memory;
+use crate::items::{CountedSeat, CountedZone};
+use crate::slots::Slots;
+use crate::worker::Worker;
+use smr_clock::{Bare, Clock, Pass};
+use std::alloc::Global;
+use std::sync::Wait;
+
+impl Worker {
+    /// A worker in a memory domain, with a new seat of each zone and room for so many slots. Waits until it has the locks
+    /// of the zones' kegs and of their domains.
+    pub fn new<R: Wait>(
+        rt: &R,
+        alloc: Global,
+        zones: &[CountedZone],
+        clock: &Clock<Bare>,
+        pass: Pass<Bare>,
+        domain: u8,
+        slots: usize,
+    ) -> Result<Worker, Memory>
+        requires domain { All (λ zone. domain < zone_domains zone) zones.now }
+        requires pass { IsOf clock.now pass }
+        ensures fits { IfOk result (Fits zones.now clock.now) }
+        ensures new { IfOk result (IsNewWorker zones.now pass domain) }
+    {
+        let seats = new_seats(rt, alloc, zones, domain)?;
+        Ok(Worker {
+            pass,
+            seats,
+            slots: Slots::with_room(alloc, slots)?,
+            entered: 0,
+            late: 0,
+        })
+    }
+}
+
+// A seat of each zone in this memory domain, in order.
+fn new_seats<R: Wait>(
+    rt: &R,
+    alloc: Global,
+    zones: &[CountedZone],
+    domain: u8,
+) -> Result<Vec<CountedSeat>, Memory>
+    requires { All (λ zone. domain < zone_domains zone) zones.now }
+    ensures { IfOk result (λ seats. AreSeats zones.now domain seats.items) }
+{
+    let mut seats = Vec::with_capacity(alloc, zones.len())?;
+    for zone in zones {
+        let Ok(seat) = zone.seat(rt, alloc, domain) else {
+            return Err(Memory);
+        };
+        seats.push(seat)?;
+    }
+    Ok(seats)
+}

@@ -1,0 +1,93 @@
+ghost use Rattle.std.specs.Prelude.{◌≡◌, ◌<◌, ◌≤◌, length, OnOk};
+ghost use Rattle.trace_worker.specs.Performs.{CanPerform, Performs};
+ghost use Rattle.trace_worker.specs.Worker.{AreOfClock, Fits, HasRooms, HasSeats};
+ghost use Rattle.uma_zone.specs.Zone.{IsSeatOf};
+
+use crate::Memory;
+use crate::items::{CountedSeat, CountedZone};
+use crate::worker::Worker;
+use smr_clock::{Bare, Clock};
+use std::alloc::Global;
+use std::sync::Wait;
+use trace_text::Op;
+use uma_keg::FetchRefused;
+use uma_zone::AllocAsk;
+
+impl Worker {
+    /// Does one line of the worker, by its kind. Waits where the zones' calls do.
+    ///
+    /// After the Err, which is want of memory, the replay is over.
+    pub fn perform<R: Wait>(
+        &mut self,
+        rt: &R,
+        alloc: Global,
+        zones: &[CountedZone],
+        clock: &Clock<Bare>,
+        op: Op,
+    ) -> Result<(), Memory>
+        requires can { CanPerform zones.now self.old op }
+        requires clock { AreOfClock clock.now zones.now }
+        requires fits { Fits zones.now clock.now self.old }
+        requires rooms { HasRooms self.old }
+        ensures fits { OnOk result (Fits zones.now clock.now self.new) }
+        ensures performs { OnOk result (Performs zones.now self.old op self.new) }
+    {
+        match op {
+            Op::Alloc {
+                zone,
+                slot,
+                arg,
+                reserve,
+            } => {
+                let ask = AllocAsk { arg, reserve };
+                self.alloc(rt, alloc, zones, clock, zone, slot, ask)
+            }
+            Op::Free { slot } => self.free(rt, alloc, zones, clock, slot),
+            Op::Enter => {
+                self.enter(clock);
+                Ok(())
+            }
+            Op::Exit => {
+                self.exit(clock);
+                Ok(())
+            }
+            Op::Prealloc { zone, items } => self.prealloc(rt, alloc, zones, zone, items),
+            _ => unreachable!(),
+        }
+    }
+
+    /// A `prealloc` line: brings in the slabs that so many items fill, of the domain of the worker's seat. A refusal but
+    /// want of memory is passed over, and counts nothing. The worker stays as it is. Waits until it has the keg's lock.
+    pub fn prealloc<R: Wait>(
+        &self,
+        rt: &R,
+        alloc: Global,
+        zones: &[CountedZone],
+        zone: u32,
+        items: u64,
+    ) -> Result<(), Memory>
+        requires zone { zone < length zones.now }
+        requires items { items ≤ 262144 }
+        requires seats { HasSeats zones.now self.now.seats.items }
+    {
+        let place = zone as usize;
+        bring(rt, alloc, &zones[place], &self.seats[place], items)
+    }
+}
+
+/// Brings in the slabs that so many items fill, of the seat's domain.
+fn bring<R: Wait>(
+    rt: &R,
+    alloc: Global,
+    zone: &CountedZone,
+    seat: &CountedSeat,
+    items: u64,
+) -> Result<(), Memory>
+    requires items { items ≤ 262144 }
+    requires seat { IsSeatOf zone.now seat.now }
+{
+    match zone.prealloc(rt, alloc, items, seat.domain()) {
+        Ok(_) | Err(FetchRefused::Refused { .. }) => Ok(()),
+        Err(FetchRefused::Memory) => Err(Memory),
+    }
+}

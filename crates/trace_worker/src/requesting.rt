@@ -1,0 +1,101 @@
+ghost use Rattle.std.specs.Prelude.{◌≡◌, ◌<◌, ◌≤◌, None, IfOk, OnOk, length, option_map};
+ghost use Rattle.smr_clock.specs.Belongs.{IsOf, clock_id, holder};
+ghost use Rattle.uma_seat.specs.Seat.{ledger_of};
+ghost use Rattle.uma_zone.specs.Zone.{zone_clock, IsSeatOf};
+ghost use Rattle.zone_stats.specs.LedgerSteps.{HasRoom};
+ghost use Rattle.trace_worker.specs.Performs.{Allocs};
+ghost use Rattle.trace_worker.specs.Requests.{Requests};
+ghost use Rattle.trace_worker.specs.Live.{holding};
+ghost use Rattle.trace_worker.specs.Slots.{slot_at, filled};
+ghost use Rattle.trace_worker.specs.Worker.{AreOfClock, Fits, HasRooms};
+
+use crate::Memory;
+use crate::counted::Counted;
+use crate::held::Held;
+use crate::items::{CountedSeat, CountedZone};
+use crate::slots::Slots;
+use crate::worker::Worker;
+use smr_clock::{Bare, Clock, Pass};
+use std::alloc::Global;
+use std::sync::Wait;
+use uma_life::Live;
+use uma_zone::{AllocAsk, AllocRefused};
+
+impl Worker {
+    /// An `alloc` line: one request of a zone by the worker's seat. The slot holds the item then, or stays empty where
+    /// the request is refused. Waits as [`uma_zone::Zone::alloc`] does.
+    ///
+    /// After `Memory` the replay is over; the worker may have lost an item.
+    pub fn alloc<R: Wait>(
+        &mut self,
+        rt: &R,
+        alloc: Global,
+        zones: &[CountedZone],
+        clock: &Clock<Bare>,
+        zone: u32,
+        slot: u32,
+        ask: AllocAsk,
+    ) -> Result<(), Memory>
+        requires zone { zone < length zones.now }
+        requires empty { slot_at self.old.slots slot ≡ None }
+        requires clock { AreOfClock clock.now zones.now }
+        requires fits { Fits zones.now clock.now self.old }
+        requires rooms { HasRooms self.old }
+        ensures fits { OnOk result (Fits zones.now clock.now self.new) }
+        ensures allocs { OnOk result (Allocs zones.now self.old zone slot ask self.new) }
+    {
+        let place = zone as usize;
+        let seat = &mut self.seats[place];
+        let got = request(rt, alloc, &zones[place], clock, &mut self.pass, seat, ask)?;
+        fill(alloc, &mut self.slots, slot, held_of(zone, got))
+    }
+}
+
+/// One request of a zone. None where it is refused, which the seat's ledger counts and keeps.
+pub(crate) fn request<R: Wait>(
+    rt: &R,
+    alloc: Global,
+    zone: &CountedZone,
+    clock: &Clock<Bare>,
+    pass: &mut Pass<Bare>,
+    seat: &mut CountedSeat,
+    ask: AllocAsk,
+) -> Result<Option<Live<Counted>>, Memory>
+    requires seat { IsSeatOf zone.now seat.old }
+    requires clock { clock_id clock.now ≡ zone_clock zone.now }
+    requires pass { IsOf clock.now pass.old }
+    requires room { HasRoom (ledger_of seat.old) }
+    ensures seat { IsSeatOf zone.now seat.new }
+    ensures pass { IsOf clock.now pass.new }
+    ensures phase { (holder pass.new).phase ≡ (holder pass.old).phase }
+    ensures seen { (holder pass.old).seen ≤ (holder pass.new).seen }
+    ensures requests { IfOk result (λ got. Requests zone.now ask seat.old got seat.new) }
+{
+    match zone.alloc(rt, alloc, clock, pass, seat, ask) {
+        Ok(item) => Ok(Some(item)),
+        Err(AllocRefused::Refused { .. }) => Ok(None),
+        Err(AllocRefused::Memory) => Err(Memory),
+    }
+}
+
+/// What a slot holds after a request.
+fn held_of(zone: u32, got: Option<Live<Counted>>) -> Option<Held>
+    ensures { result ≡ option_map (holding zone) got }
+{
+    got.map(|item| Held { zone, item })
+}
+
+/// Puts what is held, if there is something, into the slot.
+pub(crate) fn fill(
+    alloc: Global,
+    slots: &mut Slots,
+    slot: u32,
+    held: Option<Held>,
+) -> Result<(), Memory>
+    ensures { OnOk result (slots.new ≡ filled slots.old slot held) }
+{
+    match held {
+        Some(held) => slots.put(alloc, slot, held),
+        None => Ok(()),
+    }
+}

@@ -1,0 +1,39 @@
+ghost use Rattle.std.specs.Prelude.{◌≡◌, ◌⊎◌, ◌<◌, ◌^◌};
+ghost use Rattle.smr_core.specs.declared.phase.Phase.{Phase};
+ghost use Rattle.trace_worker.specs.Items.{CountedZone};
+ghost use Rattle.trace_worker.specs.Performs.{EntersInTime, EntersLate, IsBetween, Leaves};
+ghost use Rattle.trace_worker.specs.Worker.{phase_of};
+ghost use Rattle.smr_clock.specs.Belongs.{IsOf};
+
+use crate::worker::Worker;
+use smr_clock::{Bare, Clock};
+use smr_core::Phase;
+
+impl Worker {
+    /// An `enter` line: enters a section, which is counted as entered, or as late where it was overtaken.
+    pub fn enter(&mut self, clock: &Clock<Bare>)
+        requires outside { phase_of self.old ≡ Phase.Outside }
+        requires pass { IsOf clock.now self.old.pass }
+        requires entered { self.old.entered < 2 ^ 62 }
+        requires late { self.old.late < 2 ^ 62 }
+        ensures pass { IsOf clock.now self.new.pass }
+        ensures enters { EntersInTime self.old self.new ⊎ EntersLate self.old self.new }
+    {
+        match clock.enter(&mut self.pass) {
+            Ok(()) => self.entered += 1,
+            Err(_) => self.late += 1,
+        }
+    }
+
+    /// An `exit` line: leaves the section. After an enter that was late there is none, and nothing is done.
+    pub fn exit(&mut self, clock: &Clock<Bare>)
+        requires between { IsBetween self.old }
+        requires pass { IsOf clock.now self.old.pass }
+        ensures pass { IsOf clock.now self.new.pass }
+        ensures leaves { Leaves self.old self.new }
+    {
+        if self.pass.phase() == Phase::Inside {
+            clock.exit(&mut self.pass);
+        }
+    }
+}

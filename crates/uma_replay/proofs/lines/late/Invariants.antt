@@ -1,0 +1,8 @@
+-- The first workers are summed up.
+use Rattle.std.specs.Prelude.{◌≡◌, take}
+use Rattle.std.specs.List.{sum_by}
+use Rattle.trace_worker.specs.declared.worker.Worker.{Worker}
+use Rattle.uma_replay.proofs.lines.late.Given as goal
+
+abbrev pub invariant-loop-number : goal.invariant-loop-number
+invariant-loop-number l = l.total ≡ sum_by (λ (w : Worker). w.late) (take l.number l.workers)

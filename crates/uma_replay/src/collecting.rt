@@ -1,0 +1,65 @@
+ghost use Rattle.std.specs.Prelude.{◌≡◌, ◌<◌, ℕ, IfOk, Some, length, slice_get};
+ghost use Rattle.trace_worker.specs.declared.worker.Worker.{Worker};
+ghost use Rattle.trace_worker.specs.Together.{ledger_at};
+ghost use Rattle.uma_replay.specs.Reporting.{AreLedgers, AreLedgersOf, zone_count};
+
+use crate::Memory;
+use crate::hall::Workers;
+use listed::Listed;
+use std::alloc::Global;
+use trace_worker::Worker;
+use zone_stats::{Ledgers, SeatLedger, ZoneLedgers};
+
+/// The ledgers of the workers' seats: zone by zone in order, in each from worker 0 on. Each worker has a seat of each zone.
+pub fn collect(alloc: Global, workers: &Workers) -> Result<Ledgers, Memory>
+    requires { (n : ℕ) (w : Worker) → slice_get workers.now n ≡ Some w → length w.seats.items ≡ zone_count workers.now }
+    ensures { IfOk result (AreLedgers (zone_count workers.now) workers.now) }
+{
+    collect_zones(alloc, seat_count(workers.as_slice()), workers)
+}
+
+/// Of how many zones worker 0 has a seat.
+fn seat_count(workers: &[Worker]) -> usize
+    ensures { result ≡ zone_count workers.now }
+{
+    match workers.first() {
+        Some(worker) => worker.seats.len(),
+        None => 0,
+    }
+}
+
+/// The ledgers of the workers' seats in so many zones.
+pub(crate) fn collect_zones(
+    alloc: Global,
+    zones: usize,
+    workers: &Workers,
+) -> Result<Ledgers, Memory>
+    requires { (n : ℕ) (w : Worker) → slice_get workers.now n ≡ Some w → length w.seats.items ≡ zones }
+    ensures { IfOk result (AreLedgers zones workers.now) }
+{
+    let mut ledgers = Vec::with_capacity(alloc, zones)?;
+    for place in 0..zones {
+        ledgers.push(seat_ledgers(alloc, place, workers.as_slice())?)?;
+    }
+    Ok(Listed::from_vec(ledgers))
+}
+
+/// The ledgers of the workers' seats in one zone.
+fn seat_ledgers(alloc: Global, place: usize, workers: &[Worker]) -> Result<ZoneLedgers, Memory>
+    requires { (n : ℕ) (w : Worker) → slice_get workers.now n ≡ Some w → place < length w.seats.items }
+    ensures { IfOk result (AreLedgersOf place workers.now) }
+{
+    let mut ledgers = Vec::with_capacity(alloc, workers.len())?;
+    for number in 0..workers.len() {
+        ledgers.push(seat_ledger(place, &workers[number]))?;
+    }
+    Ok(Listed::from_vec(ledgers))
+}
+
+/// The ledger of a worker's seat.
+fn seat_ledger(place: usize, worker: &Worker) -> SeatLedger
+    requires { place < length worker.now.seats.items }
+    ensures { ledger_at place worker.now ≡ Some result }
+{
+    worker.seats[place].ledger()
+}

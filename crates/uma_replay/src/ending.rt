@@ -1,0 +1,191 @@
+//! The end of a replay, when all lines are done.
+ghost use Rattle.std.specs.Prelude.{◌≡◌, ◌≤◌, ◌<◌, ◌^◌, IfOk, OnOk, length};
+ghost use Rattle.std.specs.List.{sum_by};
+ghost use Rattle.smr_clock.specs.Belongs.{setup_of};
+ghost use Rattle.smr_clock.specs.Notes.{IsNoteOf, note_holder};
+ghost use Rattle.trace_setting.specs.Clock.{window_of as window_for};
+ghost use Rattle.trace_text.specs.Built.{IsBuilt};
+ghost use Rattle.trace_text.specs.Lines.{lines_of};
+ghost use Rattle.trace_text.specs.Valid.{IsValid};
+ghost use Rattle.trace_worker.specs.declared.running.Running.{Running};
+ghost use Rattle.trace_worker.specs.Together.{crew};
+ghost use Rattle.trace_totals.specs.Clock.{ReadsHands};
+ghost use Rattle.trace_totals.specs.Closes.{AllClose};
+ghost use Rattle.uma_replay.specs.Hall.{AreDone, HallStands};
+
+use crate::Memory;
+use crate::hall::{Hall, Played, Workers, ZoneList};
+use crate::summing_up::report_of;
+use listed::Listed;
+use smr_clock::{Bare, Clock, Note};
+use std::alloc::Global;
+use std::sync::Wait;
+use trace_text::{ClockHead, Trace};
+use trace_totals::{Totals, read_hands, take_totals};
+use trace_worker::{CountedZone, Running, Worker};
+
+/// What the clock, the zones and the workers come to.
+#[derive(Drop)]
+pub(crate) struct Ended {
+    pub(crate) read: u64,
+    pub(crate) write: u64,
+    pub(crate) totals: Totals,
+}
+
+/// Ends a replay: reads the clock's hands, takes a census of each keg, and makes the report.
+pub(crate) fn close<R: Wait>(
+    rt: &R,
+    alloc: Global,
+    trace: &Trace,
+    clock: Clock<Bare>,
+    zones: Vec<CountedZone>,
+    mut workers: Vec<Worker>,
+    begun: Note<Bare>,
+    gave_up: u64,
+) -> Result<Played, Memory>
+    requires valid { IsValid trace.now }
+    requires built { IsBuilt trace.now }
+    requires few { length (lines_of trace.now.rounds) ≤ 16777216 }
+    requires done { AreDone trace.now zones.items clock workers.items }
+    requires begun_here { IsNoteOf clock begun }
+    requires begun { (setup_of clock).about.start ≤ (note_holder begun).floor }
+    ensures hall { IfOk result (λ played. HallStands trace.now played.report played.hall) }
+    ensures gave_up { IfOk result (λ played. played.report.gave_up ≡ gave_up) }
+{
+    let ended = take_stock(
+        rt,
+        alloc,
+        trace,
+        &clock,
+        zones.as_slice(),
+        workers.as_mut_slice(),
+        begun,
+    )?;
+    let zones = Listed::from_vec(zones);
+    let workers = Listed::from_vec(workers);
+    reported(alloc, trace, clock, zones, workers, ended, gave_up)
+}
+
+/// Reads the clock's hands, and takes a census of each keg.
+fn take_stock<R: Wait>(
+    rt: &R,
+    alloc: Global,
+    trace: &Trace,
+    clock: &Clock<Bare>,
+    zones: &[CountedZone],
+    workers: &mut [Worker],
+    begun: Note<Bare>,
+) -> Result<Ended, Memory>
+    requires valid { IsValid trace.now }
+    requires done { AreDone trace.now zones.now clock.now workers.old }
+    requires begun_here { IsNoteOf clock.now begun }
+    requires begun { (setup_of clock.now).about.start ≤ (note_holder begun).floor }
+    ensures done { OnOk result (AreDone trace.now zones.now clock.now workers.new) }
+    ensures hands { IfOk result (λ e. ReadsHands clock.now workers.new e.read e.write) }
+    ensures closes { IfOk result (λ e. AllClose trace.now.head zones.now workers.new e.totals.censuses.items e.totals.tallies.items e.totals.deferred.items) }
+{
+    let (read, write) = look(trace, clock, zones, workers, begun);
+    let totals = take_totals(rt, alloc, &trace.head, zones, clock, workers)?;
+    Ok(Ended {
+        read,
+        write,
+        totals,
+    })
+}
+
+/// Reads the clock's hands, the read hand first.
+fn look(
+    trace: &Trace,
+    clock: &Clock<Bare>,
+    zones: &[CountedZone],
+    workers: &mut [Worker],
+    begun: Note<Bare>,
+) -> (u64, u64)
+    requires valid { IsValid trace.now }
+    requires done { AreDone trace.now zones.now clock.now workers.old }
+    requires begun_here { IsNoteOf clock.now begun }
+    requires begun { (setup_of clock.now).about.start ≤ (note_holder begun).floor }
+    ensures done { AreDone trace.now zones.now clock.now workers.new }
+    ensures hands { ReadsHands clock.now workers.new result.0 result.1 }
+{
+    let window = window_of(trace.head.clock);
+    read_hands(clock, workers, begun, window)
+}
+
+/// The report of what the replay came to, with all that it leaves behind.
+fn reported(
+    alloc: Global,
+    trace: &Trace,
+    clock: Clock<Bare>,
+    zones: ZoneList,
+    workers: Workers,
+    ended: Ended,
+    gave_up: u64,
+) -> Result<Played, Memory>
+    requires valid { IsValid trace.now }
+    requires built { IsBuilt trace.now }
+    requires few { length (lines_of trace.now.rounds) ≤ 16777216 }
+    requires done { AreDone trace.now zones clock workers }
+    requires hands { ReadsHands clock workers ended.read ended.write }
+    requires closes { AllClose trace.now.head zones workers ended.totals.censuses.items ended.totals.tallies.items ended.totals.deferred.items }
+    ensures hall { IfOk result (λ played. HallStands trace.now played.report played.hall) }
+    ensures gave_up { IfOk result (λ played. played.report.gave_up ≡ gave_up) }
+{
+    let Ended {
+        read,
+        write,
+        totals,
+    } = ended;
+    let report = report_of(
+        alloc,
+        &trace.head,
+        &workers,
+        totals.censuses.as_slice(),
+        totals.tallies.as_slice(),
+        totals.deferred.as_slice(),
+        read,
+        write,
+        gave_up,
+    )?;
+    let hall = Hall {
+        zones,
+        clock,
+        workers,
+        censuses: Listed::from_vec(totals.censuses),
+    };
+    Ok(Played { report, hall })
+}
+
+/// How far the write hand of a trace's clock may be above its read hand.
+fn window_of(head: Option<ClockHead>) -> u64
+    ensures { result ≡ window_for head }
+{
+    match head {
+        Some(clock) => clock.window,
+        None => 1024,
+    }
+}
+
+/// How often all workers gave up waiting for their gate.
+pub(crate) fn all_gave_up(workers: &[Running]) -> u64
+    requires { sum_by (λ (r : Running). r.gave_up) workers.now < 2 ^ 64 }
+    ensures { result ≡ sum_by (λ (r : Running). r.gave_up) workers.now }
+{
+    let mut total = 0;
+    for number in 0..workers.len() {
+        total += workers[number].gave_up;
+    }
+    total
+}
+
+/// The workers, out of their turns.
+pub(crate) fn dismiss(alloc: Global, runnings: Vec<Running>) -> Result<Vec<Worker>, Memory>
+    ensures { IfOk result (λ workers. workers.items ≡ crew runnings.items) }
+{
+    let mut workers = Vec::with_capacity(alloc, runnings.len())?;
+    for running in runnings {
+        let Running { worker, .. } = running;
+        workers.push(worker)?;
+    }
+    Ok(workers)
+}

@@ -1,0 +1,57 @@
+//! The report as a whole.
+ghost use Rattle.std.specs.Prelude.{◌≡◌, ◌<◌, ◌^◌, ℕ, IfOk, Some, length, slice_get};
+ghost use Rattle.std.specs.List.{sum_by};
+ghost use Rattle.trace_setting.specs.Kegs.{primaries};
+ghost use Rattle.trace_worker.specs.declared.worker.Worker.{Worker};
+ghost use Rattle.uma_replay.specs.Reporting.{HaveKegs, IsReportOf};
+
+use crate::Memory;
+use crate::collecting::collect_zones;
+use crate::hall::Workers;
+use crate::lines::clock_line;
+use crate::reporting::{hook_lines, keg_lines, zone_lines};
+use std::alloc::Global;
+use trace_text::Head;
+use uma_keg::Census;
+use uma_life::TallySum;
+use zone_stats::Report;
+
+/// The report of a replay, by what its workers counted, a census and the hooks' sums of each keg, how many items of each
+/// zone are deferred, the clock's hands, and how often a worker gave up waiting.
+pub(crate) fn report_of(
+    alloc: Global,
+    head: &Head,
+    workers: &Workers,
+    censuses: &[Census],
+    tallies: &[TallySum],
+    deferred: &[u64],
+    read: u64,
+    write: u64,
+    gave_up: u64,
+) -> Result<Report, Memory>
+    requires kegs { HaveKegs head.now.zones (length (primaries head.now.zones 0)) }
+    requires censuses { length censuses.now ≡ length (primaries head.now.zones 0) }
+    requires tallies { length tallies.now ≡ length (primaries head.now.zones 0) }
+    requires deferred { length deferred.now ≡ length head.now.zones }
+    requires seats { (n : ℕ) (w : Worker) → slice_get workers.now n ≡ Some w → length w.seats.items ≡ length head.now.zones }
+    requires entered { sum_by (λ (w : Worker). w.entered) workers.now < 2 ^ 64 }
+    requires late { sum_by (λ (w : Worker). w.late) workers.now < 2 ^ 64 }
+    ensures { IfOk result (IsReportOf head.now workers.now censuses.now tallies.now deferred.now read write gave_up) }
+{
+    let heads = head.zones.as_slice();
+    let ledgers = collect_zones(alloc, heads.len(), workers)?;
+    let lines = zone_lines(alloc, heads, ledgers.as_slice(), censuses)?;
+    let hooks = hook_lines(alloc, heads, tallies, deferred)?;
+    let kegs = keg_lines(alloc, heads, censuses, tallies)?;
+    let clock = clock_line(head.clock, read, write, workers.as_slice());
+    Ok(Report {
+        lines,
+        ledgers,
+        hooks,
+        kegs,
+        clock,
+        names: None,
+        detail: head.detail,
+        gave_up,
+    })
+}

@@ -1,0 +1,8 @@
+use uma_replay::Hall;
+
+/// What the replay of a run leaves behind.
+#[derive(Drop)]
+pub enum Ended {
+    /// That of a trace without names.
+    Plain { hall: Hall },
+}
