@@ -1,5 +1,5 @@
 -- An empty shelf has the last of any buckets, of which none is left.
-use Rattle.std.proofs.Common.{◌≡◌, List, [], ◌++◌, map, Result, Ok, Err, OnOk, OnErr, sym, ap, ◌∙◌}
+use Rattle.std.proofs.Common.{◌≡◌, List, [], ◌++◌, map, Result, Ok, Err, OnErr, sym, ap, ◌∙◌}
 use Rattle.std.proofs.lemmas.List.{append-nil}
 use Rattle.uma_bucket.specs.declared.shelved.Shelved.{Shelved}
 use Rattle.zone_domains.specs.Flushed.{bound_of, HasLastOf}
@@ -10,11 +10,7 @@ none_stays {T} {H} {P} {g} {h} was is none = record {
   split = sym (ap (λ (l : List (Shelved T H P g h)). map bound_of was ++ map bound_of l) none ∙ append-nil (map bound_of was));
 }
 
--- what holds anyhow holds at an Ok, and at an Err
-pub at_ok : {A E F : Type 0} (result : Result A E) → F → OnOk result F
-at_ok (Ok a) x = x
-at_ok (Err e) x = tt
-
+-- what holds anyhow holds at an Err
 pub at_err : {A E F : Type 0} (result : Result A E) → F → OnErr result F
 at_err (Ok a) x = tt
 at_err (Err e) x = x

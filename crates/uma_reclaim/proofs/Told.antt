@@ -29,7 +29,3 @@ module _ {P : Type 0} (merged : P → P → P) where
   -- it took in nothing
   pub took_none : (was is : P) → is ≡ was → TakesInNotes merged was is
   took_none was is same = record { notes = []; told = same }
-
-  -- so much is known of what it took in
-  pub took : (was is : P) (notes : List P) → is ≡ fold merged was notes → TakesInNotes merged was is
-  took was is notes told = record { notes = notes; told = told }

@@ -1,0 +1,9 @@
+mod body;
+mod crossing;
+mod held;
+mod rows;
+mod sections;
+mod setting;
+mod stopped;
+mod wanting;
+mod worker;

@@ -1,0 +1,119 @@
+ghost use Rattle.std.specs.Prelude.{◌≡◌, All, IfOk};
+ghost use Rattle.smr_clock.specs.Belongs.{IsOf, clock_id};
+ghost use Rattle.uma_zone.specs.Zone.{zone_index, zone_clock, zone_smr, zone_domains};
+
+use super::body::{IdleHooks, Plain, hooks};
+use smr_clock::{Bare, Clock, Pass};
+use std::alloc::Global;
+use std::sync::Wait;
+use std::test::Fail;
+use uma_life::{Lives, TallySum};
+use uma_zone::{SecondSet, Zone, ZoneRefused, ZoneSet};
+
+pub(super) type TestZone = Zone<Plain, IdleHooks, Bare>;
+
+/// Four slabs, buckets of four, no limit and no reserve, in one domain, with readers that lock.
+pub(super) const PLAIN: ZoneSet = ZoneSet {
+    slabs: 4,
+    bucket: 4,
+    limit: 0,
+    reserve: 0,
+    domains: 1,
+    smr: false,
+};
+
+/// A clock of so many seats from 1 on with this window, and its passes.
+pub(super) fn new_clock(
+    alloc: Global,
+    seats: u32,
+    window: u64,
+) -> Result<(Clock<Bare>, Vec<Pass<Bare>>), Fail>
+    ensures { IfOk result (λ made. All (IsOf made.0) made.1.items) }
+{
+    let (clock, passes) = Clock::<Bare>::new(alloc, seats, 1, window)?;
+    Ok((clock, passes))
+}
+
+/// Takes one of the passes of a clock.
+pub(super) fn take_pass(
+    clock: &Clock<Bare>,
+    passes: &mut Vec<Pass<Bare>>,
+) -> Result<Pass<Bare>, Fail>
+    requires { All (IsOf clock.now) passes.old.items }
+    ensures here { IfOk result (IsOf clock.now) }
+    ensures left { All (IsOf clock.now) passes.new.items }
+{
+    match passes.pop() {
+        Some(pass) => Ok(pass),
+        None => Err(Fail::new("no pass")),
+    }
+}
+
+/// A clock of one seat from 1 on with this window, and its pass.
+pub(super) fn one_pass(alloc: Global, window: u64) -> Result<(Clock<Bare>, Pass<Bare>), Fail>
+    ensures { IfOk result (λ made. IsOf made.0 made.1) }
+{
+    let (clock, mut passes) = new_clock(alloc, 1, window)?;
+    let pass = take_pass(&clock, &mut passes)?;
+    Ok((clock, pass))
+}
+
+/// A primary zone of items of this size.
+pub(super) fn zone(
+    alloc: Global,
+    clock: &Clock<Bare>,
+    size: u32,
+    set: ZoneSet,
+) -> Result<TestZone, ZoneRefused>
+    ensures index { IfOk result (λ made. zone_index made ≡ 0) }
+    ensures clock { IfOk result (λ made. zone_clock made ≡ clock_id clock.now) }
+    ensures smr { IfOk result (λ made. zone_smr made ≡ set.smr) }
+    ensures domains { IfOk result (λ made. zone_domains made ≡ set.domains) }
+{
+    Zone::primary(alloc, clock, size, set, hooks(), hooks())
+}
+
+/// A secondary zone over the keg of a primary one.
+pub(super) fn second<R: Wait>(
+    rt: &R,
+    alloc: Global,
+    base: &mut TestZone,
+    set: SecondSet,
+) -> Result<TestZone, ZoneRefused>
+    requires { zone_index base.old ≡ 0 }
+    ensures clock { IfOk result (λ made. zone_clock made ≡ zone_clock base.old) }
+    ensures domains { IfOk result (λ made. zone_domains made ≡ zone_domains base.old) }
+    ensures same_index { zone_index base.new ≡ zone_index base.old }
+    ensures same_clock { zone_clock base.new ≡ zone_clock base.old }
+    ensures same_domains { zone_domains base.new ≡ zone_domains base.old }
+{
+    base.secondary(rt, alloc, set, hooks())
+}
+
+/// How many items of the primary zone are outside of the keg, and how often the keg's items passed each hook, by a census
+/// that is lent nothing.
+pub(super) fn census<R: Wait>(
+    rt: &R,
+    alloc: Global,
+    zone: &TestZone,
+) -> Result<(u128, TallySum), Fail> {
+    let Ok((census, _)) = zone.census(rt, alloc, Lives::from_vec(Vec::new(alloc))) else {
+        return Err(Fail::new("no memory"));
+    };
+    Ok((u128::from(census.outs()[0]), *census.tally()))
+}
+
+/// Slabs that are in, and free items.
+pub(super) fn keg<R: Wait>(rt: &R, zone: &TestZone) -> (u32, u64) {
+    let counts = zone.counts(rt);
+    (counts.slabs, counts.free)
+}
+
+/// How many items a domain lists.
+pub(super) fn listed<R: Wait>(rt: &R, zone: &TestZone, domain: u8) -> u64 {
+    if domain < zone.domains() {
+        zone.domain(domain).count(rt)
+    } else {
+        0
+    }
+}
