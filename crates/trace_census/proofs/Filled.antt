@@ -1,12 +1,11 @@
 -- One slot is emptied, filled, or left as it is.
-use Rattle.std.proofs.Common.{◌≡◌, ℕ, ◌+◌, ◌-◌, ◌<◌, Bool, true, false, cond, List, [], ◌∷◌, ◌++◌, Option, None, Some, Result, Ok, Err, refl, sym, ap, ◌∙◌, arith, length, replicate, reverse, set, append-nil}
-use Rattle.std.specs.Prelude.{OnOk}
+use Rattle.std.proofs.Common.{◌≡◌, ℕ, ◌+◌, ◌-◌, ◌<◌, Bool, true, false, cond, List, [], ◌∷◌, ◌++◌, Option, None, Some, refl, sym, ap, ◌∙◌, arith, length, replicate, reverse, set, append-nil}
 use Rattle.std.proofs.lemmas.List.{length-set, set-set, reverse-append}
 use Rattle.trace_worker.specs.declared.held.Held.{Held}
 use Rattle.trace_worker.specs.Items.{LiveItem}
 use Rattle.trace_worker.specs.Live.{holding}
 use Rattle.trace_worker.specs.Slots.{slot_at, padded, with_held, emptied}
-use Rattle.trace_census.specs.Slots.{left_of, next_held, next_lives}
+use Rattle.trace_census.specs.Slots.{left_of, next_held}
 
 -- a slot within the list is filled where it lies
 pub with_within : {A : Type 0} (slots : List (Option A)) (slot : ℕ) (it : A) → slot < length slots → with_held slots slot it ≡ set slots slot (Some it)
@@ -35,9 +34,6 @@ popped old new item is = ap reverse is ∙ reverse-append new (item ∷ [])
 pub held-more : (z : ℕ) (lives rest : List LiveItem) (item : LiveItem) (slot : Option Held) → lives ≡ item ∷ rest → next_held (Some z) lives slot ≡ Some (holding z item)
 held-more z lives rest item slot is = ap (λ l. next_held (Some z) l slot) is
 
-pub lives-more : (z : ℕ) (lives rest : List LiveItem) (item : LiveItem) → lives ≡ item ∷ rest → next_lives (Some z) lives ≡ rest
-lives-more z lives rest item is = ap (λ l. next_lives (Some z) l) is
-
 -- ---- what is left in a slot
 
 pub left-none : (of : ℕ → Bool) (slots now : List (Option Held)) (slot : ℕ) → slot_at slots slot ≡ None → now ≡ emptied slots slot → now ≡ set slots slot (left_of of (slot_at slots slot))
@@ -59,14 +55,3 @@ pub put-marked : (slots now : List (Option Held)) (slot z : ℕ) (mark : Option 
     → now ≡ set slots slot (next_held mark (reverse lives) (slot_at slots slot))
 put-marked slots now slot z mark lives rest item within marked is put =
     put ∙ with_within slots slot (holding z item) within ∙ ap (set slots slot) (sym (held-more z (reverse lives) rest item (slot_at slots slot) is)) ∙ ap (λ m. set slots slot (next_held m (reverse lives) (slot_at slots slot))) (sym marked)
-
-pub left-marked : (z : ℕ) (mark : Option ℕ) (lives rest : List LiveItem) (item : LiveItem) → mark ≡ Some z → reverse lives ≡ item ∷ rest → rest ≡ next_lives mark (reverse lives)
-left-marked z mark lives rest item marked is = sym (lives-more z (reverse lives) rest item is) ∙ ap (λ m. next_lives m (reverse lives)) (sym marked)
-
-pub on_ok : {A E P Q : Type 0} (r : Result A E) → (P → Q) → OnOk r P → OnOk r Q
-on_ok (Ok a) f p = f p
-on_ok (Err e) f p = p
-
-pub any_ok : {A E Q : Type 0} (r : Result A E) → Q → OnOk r Q
-any_ok (Ok a) q = q
-any_ok (Err e) q = tt

@@ -1,7 +1,6 @@
 -- Each item in a slot is at home in its zone, which stands on a line: so the items of a keg's zones are of its book, and each zone's have their own number.
-use Rattle.std.proofs.Common.{◌≡◌, ℕ, zero, suc, ◌+◌, ◌<◌, ◌≤◌, inl, inr, Bool, true, false, cond, List, [], ◌∷◌, Option, Some, None, length, take, refl, sym, ap, ◌∙◌, subst, arith}
-use Rattle.std.specs.Prelude.{◌==◌, slice_get, IfSome}
-use Rattle.std.specs.Option.{option_map_or}
+use Rattle.std.proofs.Common.{◌≡◌, ℕ, ◌<◌, ◌≤◌, inl, inr, Bool, true, false, cond, List, Option, Some, None, length, refl, sym, ap, ◌∙◌, subst, arith}
+use Rattle.std.specs.Prelude.{◌==◌, slice_get}
 use Rattle.std.proofs.lemmas.Bool.{eq-eqb, ne_eqb, cases_eq, cases_Bool}
 use Rattle.std.proofs.lemmas.Option.{same_Some, slice_get_within}
 use Rattle.uma_life.specs.Live.{live_table, live_zone}
@@ -9,22 +8,20 @@ use Rattle.uma_bucket.specs.Home.{Home}
 use Rattle.uma_zone.specs.Zone.{zone_home, zone_index}
 use Rattle.trace_text.specs.declared.head.Head.{Head}
 use Rattle.trace_text.specs.declared.head.ZoneHead.{ZoneHead}
-use Rattle.trace_text.specs.Valid.{HeadFits, KegFits, ZoneFits, sharer_count}
+use Rattle.trace_text.specs.Valid.{HeadFits, sharer_count}
 use Rattle.trace_worker.specs.declared.held.Held.{Held}
 use Rattle.trace_worker.specs.declared.worker.Worker.{Worker}
 use Rattle.trace_worker.specs.Items.{BareClock, CountedZone}
 use Rattle.trace_worker.specs.Worker.{IsHeld}
+use Rattle.trace_worker.proofs.Belongs.{some_within}
 use Rattle.trace_setting.specs.Kegs.{index_of, keg_place}
 use Rattle.trace_setting.specs.Zones.{AreZones}
+use Rattle.trace_setting.proofs.HeadFacts.{secondary_fits}
+use Rattle.trace_setting.proofs.KegLists.{index_none}
 use Rattle.trace_census.specs.Lending.{AllFit}
 use Rattle.trace_census.specs.Slots.{in_keg}
 use Rattle.trace_census.proofs.Sums.{CountsAs, EachOf, LentIs}
 use Rattle.trace_census.proofs.Zones.{OfKeg, first, second, of_keg, in_keg_from, in_keg_is, numbers_differ, number_most}
-
-some_within : {X : Type 0} (xs : List X) (k : ℕ) → k < length xs → (x : X) × (slice_get xs k ≡ Some x)
-some_within [] k below = absurd (omega arith)
-some_within (x ∷ xs) zero below = (x, refl)
-some_within (x ∷ xs) (suc k) below = some_within xs k (omega arith)
 
 below_as : (k m n : ℕ) → k < m → m ≡ n → k < n
 below_as k m n below same = omega arith
@@ -101,11 +98,6 @@ lent_numbers head clock zones workers p z line zone are fits at_line of_it at_zo
 
 -- ---- a zone's number is below 8
 
-keg_of : (head : Head) (z : ℕ) (line : ZoneHead) → HeadFits head → slice_get head.zones z ≡ Some line → KegFits head.zones z line.parent line
-keg_of head z line fits at =
-    let P : Option ZoneHead → Type 0 = λ o. IfSome o (ZoneFits head z) in
-    (subst P at (fits.zones z)).keg
-
 before : (p z n : ℕ) → p < z → z < n → p < n
 before p z n one two = omega arith
 
@@ -115,14 +107,16 @@ not_more m n one two = omega arith
 eight_by : (head : Head) (z : ℕ) (line : ZoneHead) (o : Option ℕ) → line.parent ≡ o → HeadFits head → slice_get head.zones z ≡ Some line → index_of head.zones z line < 8
 eight_by head z line None is fits at =
     let P : ℕ → Type 0 = λ n. n < 8 in
-    subst P (sym (ap (λ o. option_map_or (λ parent. sharer_count (take z head.zones) parent + 1) o 0) is)) (omega arith)
+    subst P (sym (index_none head.zones z line is)) (omega arith)
 eight_by head z line (Some p) is fits at =
-    let P : Option ℕ → Type 0 = λ o. KegFits head.zones z o line in
-    let earlier : p < z = (subst P is (keg_of head z line fits at)).earlier in
+    let earlier : p < z = (secondary_fits head z line p fits at is).earlier in
     let within : z < length head.zones = slice_get_within head.zones z line at in
     not_more (index_of head.zones z line) (sharer_count head.zones p) (number_most head.zones p z line at is) (fits.most_of_a_keg p (before p z (length head.zones) earlier within))
+
+pub number_below_eight : (head : Head) (z : ℕ) (line : ZoneHead) → HeadFits head → slice_get head.zones z ≡ Some line → index_of head.zones z line < 8
+number_below_eight head z line fits at = eight_by head z line line.parent refl fits at
 
 pub below_eight : (head : Head) (clock : BareClock) (zones : List CountedZone) (z : ℕ) (line : ZoneHead) (zone : CountedZone) → HeadFits head → AreZones head clock zones → slice_get head.zones z ≡ Some line → slice_get zones z ≡ Some zone → zone_index zone < 8
 below_eight head clock zones z line zone fits are at_line at_zone =
     let P : ℕ → Type 0 = λ n. n < 8 in
-    subst P (sym (are.each z line zone at_line at_zone).index) (eight_by head z line line.parent refl fits at_line)
+    subst P (sym (are.each z line zone at_line at_zone).index) (number_below_eight head z line fits at_line)

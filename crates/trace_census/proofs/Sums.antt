@@ -2,7 +2,6 @@
 use Rattle.std.proofs.Common.{◌≡◌, ℕ, zero, suc, ◌+◌, ◌*◌, ◌<◌, ◌≤◌, ◌%◌, ◌^◌, Bool, true, false, cond, List, [], ◌∷◌, ◌++◌, Option, Some, None, length, refl, sym, ap, ◌∙◌, arith}
 use Rattle.std.specs.Prelude.{◌==◌, option_to_list, slice_get}
 use Rattle.std.specs.List.{All, cons_option, sum_by}
-use Rattle.std.proofs.Math.Nat.{mod-add-mod, add-mod-mod}
 use Rattle.std.proofs.lemmas.List.{length-append, length-map}
 use Rattle.std.proofs.lemmas.List.Elements.{All-nil, All-cons, All-append}
 use Rattle.std.proofs.lemmas.List.Sums.{sum_by-cons, sum_by-append}
@@ -11,6 +10,7 @@ use Rattle.uma_life.specs.Live.{live_zone}
 use Rattle.uma_life.specs.Sum.{times_of}
 use Rattle.uma_life.specs.Trail.{ShowsSame}
 use Rattle.uma_keg.specs.Lent.{Seen, seen_of, all_seen, lent_of}
+use Rattle.uma_bucket.proofs.Tallied.{both_show}
 use Rattle.trace_text.specs.declared.head.ZoneHead.{ZoneHead}
 use Rattle.trace_worker.specs.declared.held.Held.{Held}
 use Rattle.trace_worker.specs.declared.worker.Worker.{Worker}
@@ -163,11 +163,6 @@ pub same_length : (back lives : List LiveItem) → all_seen back ≡ all_seen li
 same_length back lives same = sym (length-map back seen_of) ∙ ap length same ∙ length-map lives seen_of
 
 -- ---- hooks come in pairs, but for the live items
-
-both_show : (a b c d : ℕ) → ShowsSame a b → ShowsSame c d → ShowsSame (a + c) (b + d)
-both_show a b c d first second =
-    sym (mod-add-mod a (2 ^ 64) c) ∙ ap (λ m. (m + c) % 2 ^ 64) first ∙ mod-add-mod b (2 ^ 64) c
-    ∙ sym (add-mod-mod b c (2 ^ 64)) ∙ ap (λ m. (b + m) % 2 ^ 64) second ∙ add-mod-mod b d (2 ^ 64)
 
 four : (a b c d : ℕ) → (a + b) + (c + d) ≡ (a + c) + (b + d)
 four a b c d = omega arith

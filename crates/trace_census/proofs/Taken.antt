@@ -1,14 +1,14 @@
 -- What a census of the lent items says, zone by zone.
 use Rattle.std.proofs.Common.{◌≡◌, ℕ, ◌+◌, ◌<◌, ◌≤◌, ◌%◌, ◌^◌, List, Some, sym, ap, ◌∙◌, subst}
-use Rattle.std.specs.Prelude.{◌/◌, All, min, slice_get}
+use Rattle.std.specs.Prelude.{slice_get}
 use Rattle.uma_keg.specs.declared.census.Census.{Census}
-use Rattle.uma_keg.specs.Census.{census_counts, census_out, census_tally, census_table}
+use Rattle.uma_keg.specs.Census.{census_out, census_tally}
 use Rattle.uma_keg.specs.Lent.{all_seen, lent_of}
 use Rattle.uma_life.specs.declared.tally_sum.TallySum.{TallySum}
 use Rattle.uma_life.specs.Hook.{Hook, Ctor, Dtor}
 use Rattle.uma_life.specs.Sum.{sum_of}
 use Rattle.uma_life.specs.Trail.{ShowsSame}
-use Rattle.uma_zone.specs.Zone.{zone_home, zone_index, zone_size, zone_cap, zone_reserve, zone_rights}
+use Rattle.uma_zone.specs.Zone.{zone_index}
 use Rattle.trace_text.specs.declared.head.Head.{Head}
 use Rattle.trace_text.specs.declared.head.ZoneHead.{ZoneHead}
 use Rattle.trace_text.specs.Valid.{HeadFits}
@@ -17,18 +17,14 @@ use Rattle.trace_worker.specs.Items.{BareClock, CountedZone, LiveItem}
 use Rattle.trace_worker.specs.Together.{all_live}
 use Rattle.trace_setting.specs.Kegs.{keg_place}
 use Rattle.trace_setting.specs.Zones.{AreZones}
-use Rattle.trace_census.specs.Lending.{AllFit, TakesCensus}
+use Rattle.trace_census.specs.Lending.{AllFit, IsCensusOf, TakesCensus}
 use Rattle.trace_census.specs.Slots.{all_lent, in_keg, live_sum}
 use Rattle.trace_census.proofs.Placed.{below_eight, lent_numbers}
 use Rattle.trace_census.proofs.Sums.{all_count, lent_is, lives_pair, pairs_with, same_sum}
 
 -- what the zone's call says of the census
 pub record Says (primary : CountedZone) (lives : List LiveItem) (census : Census) : Type 0 where
-  pub table : census_table census ≡ (zone_home primary).book
-  pub cap : (census_counts census).cap ≡ zone_cap primary
-  pub reserve : (census_counts census).reserve ≡ zone_reserve primary
-  pub per_slab : (census_counts census).per_slab ≡ min 256 (4096 / zone_size primary)
-  pub absent : All (λ zone. census_out census zone ≡ 0) (zone_rights primary)
+  pub counts : IsCensusOf primary census
   pub lent : (zone : ℕ) → zone < 8 → lent_of lives zone ≤ census_out census zone
 
 -- the zones, the workers that belong to them, and the items that these lend to the keg of the zone at place `p`
@@ -54,11 +50,7 @@ pub takes_census : (head : Head) (clock : BareClock) (zones : List CountedZone) 
     → Lends head clock zones workers p lives → Says primary lives census → all_seen back ≡ all_seen lives → ((hook : Hook) → sum_of tally hook ≡ sum_of (census_tally census) hook + live_sum hook back)
     → TakesCensus head zones workers p primary census tally
 takes_census head clock zones workers p primary census tally lives back lends says seen sums = record {
-  table = says.table;
-  cap = says.cap;
-  reserve = says.reserve;
-  per_slab = says.per_slab;
-  absent = says.absent;
+  counts = says.counts;
   lent = λ z line zone at_line of_it at_zone.
       let P : ℕ → Type 0 = λ n. n ≤ census_out census (zone_index zone) in
       subst P (count_is head clock zones workers p lives z line zone lends at_line of_it at_zone) (says.lent (zone_index zone) (below_eight head clock zones z line zone lends.head_fits lends.are at_line at_zone));

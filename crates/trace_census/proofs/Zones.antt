@@ -9,6 +9,7 @@ use Rattle.std.proofs.lemmas.Option.{slice_get_within, get_or_from_slice_get}
 use Rattle.trace_text.specs.declared.head.ZoneHead.{ZoneHead}
 use Rattle.trace_text.specs.Valid.{sharer_count}
 use Rattle.trace_setting.specs.Kegs.{index_of, keg_place}
+use Rattle.trace_setting.proofs.KegLists.{index_none}
 use Rattle.trace_census.specs.Slots.{in_keg}
 
 -- the sum of what a function gives for each place of a zone of the keg; `k` is the place of the first of these lines
@@ -113,9 +114,6 @@ not_suc n m none more = omega arith
 
 not_less : (m n : ℕ) → m + 1 ≤ n → m + 1 ≡ n + 1 → ⊥
 not_less m n less same = omega arith
-
-index_none : (heads : List ZoneHead) (z : ℕ) (line : ZoneHead) → line.parent ≡ None → index_of heads z line ≡ 0
-index_none heads z line is = ap (λ o. option_map_or (λ parent. sharer_count (take z heads) parent + 1) o 0) is
 
 index_some : (heads : List ZoneHead) (z p : ℕ) (line : ZoneHead) → line.parent ≡ Some p → index_of heads z line ≡ sharer_count (take z heads) p + 1
 index_some heads z p line is = ap (λ o. option_map_or (λ parent. sharer_count (take z heads) parent + 1) o 0) is

@@ -34,13 +34,17 @@ abbrev pub lent_times : Hook → ℕ → ℕ → List ZoneHead → List Worker �
 lent_times hook p z [] workers = 0
 lent_times hook p z (line ∷ lines) workers = cond (keg_place z line == p) (sum_by (slot_times hook z) workers) 0 + lent_times hook p (z + 1) lines workers
 
--- The census of the keg whose primary zone stands at place `p`, and how often each hook was passed by its items and those in the slots.
-pub record TakesCensus (head : Head) (zones : List CountedZone) (workers : List Worker) (p : ℕ) (primary : CountedZone) (census : Census) (tally : TallySum) : Type 0 where
+-- the census is of the keg of this primary zone: it has the keg's numbers, and no items of zones that the keg hasn't
+pub record IsCensusOf (primary : CountedZone) (census : Census) : Type 0 where
   pub table : census_table census ≡ (zone_home primary).book
   pub cap : (census_counts census).cap ≡ zone_cap primary
   pub reserve : (census_counts census).reserve ≡ zone_reserve primary
   pub per_slab : (census_counts census).per_slab ≡ min 256 (4096 / zone_size primary)
   pub absent : All (λ zone. census_out census zone ≡ 0) (zone_rights primary)
+
+-- The census of the keg whose primary zone stands at place `p`, and how often each hook was passed by its items and those in the slots.
+pub record TakesCensus (head : Head) (zones : List CountedZone) (workers : List Worker) (p : ℕ) (primary : CountedZone) (census : Census) (tally : TallySum) : Type 0 where
+  pub counts : IsCensusOf primary census
   pub lent : (z : ℕ) (line : ZoneHead) (zone : CountedZone) → slice_get head.zones z ≡ Some line → keg_place z line ≡ p → slice_get zones z ≡ Some zone → all_live z workers ≤ census_out census (zone_index zone)
   pub hooks : (hook : Hook) → sum_of tally hook ≡ sum_of (census_tally census) hook + lent_times hook p 0 head.zones workers
   -- ctors and dtors come in pairs, but for the live items

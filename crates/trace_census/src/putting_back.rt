@@ -77,11 +77,10 @@ fn put_one(
     ensures slots { OnOk result (slots.new ≡ slice_set slots.old slot (next_held mark (reverse lives.old.items) (slot_at slots.old slot))) }
     ensures lives { OnOk result (reverse lives.new.items ≡ next_lives mark (reverse lives.old.items)) }
 {
-    let Some(zone) = mark else {
-        return Ok(());
-    };
-    let Some(item) = lives.pop() else {
-        return Ok(());
-    };
-    slots.put(alloc, slot, Held { zone, item })
+    if let Some(zone) = mark
+        && let Some(item) = lives.pop()
+    {
+        slots.put(alloc, slot, Held { zone, item })?;
+    }
+    Ok(())
 }

@@ -69,23 +69,26 @@ tuple_sync ν Ts all = recorded_sync (Struct (shape (type_at ν Ts))) _ _ (type_
 abbrev pub ZoneRow : RattleType
 ZoneRow = Zone.the_row Counted.the_row CountHooks.the_row Bare.the_row unit counted_body.ghosts count_hooks.ghosts bare_host.ghosts
 
--- what a round's threads share: the handle, the allocator, the trace, the zones, the clock, the gate and the round
-module _ (R G : RattleType) (ℓ1 ℓ2 ℓ3 ℓ4 ℓ5 ℓ6 ℓ7 : Lifetime) (κ1 κ2 κ3 κ4 κ5 κ6 κ7 : Lft) where
+-- what a round's threads share: the handle, the allocator, the trace, the zones, the clock, the gate, the calls of reclaim and the round
+module _ (R G C : RattleType) (ℓ1 ℓ2 ℓ3 ℓ4 ℓ5 ℓ6 ℓ7 ℓ8 : Lifetime) (κ1 κ2 κ3 κ4 κ5 κ6 κ7 κ8 : Lft) where
   abbrev pub shared : List RattleType
   shared = ShrRef ℓ1 κ1 (param 0 R) ∷ ShrRef ℓ2 κ2 heap.the_row ∷ ShrRef ℓ3 κ3 Trace.the_row ∷ ShrSlice ℓ4 κ4 ZoneRow
-      ∷ ShrRef ℓ5 κ5 (Clock.the_row Bare.the_row unit bare_host.ghosts) ∷ ShrRef ℓ6 κ6 (param 1 G) ∷ ShrRef ℓ7 κ7 u64 ∷ []
+      ∷ ShrRef ℓ5 κ5 (Clock.the_row Bare.the_row unit bare_host.ghosts) ∷ ShrRef ℓ6 κ6 (param 1 G) ∷ ShrRef ℓ7 κ7 (param 2 C) ∷ ShrRef ℓ8 κ8 u64 ∷ []
 
-  shared_each : IsSync (param 0 R) → IsSync (param 1 G) → AllSync shared
-  shared_each r h = (
+  shared_each : IsSync (param 0 R) → IsSync (param 1 G) → IsSync (param 2 C) → AllSync shared
+  shared_each r h k = (
     shr_sync _ _ _ r,
     (
       shr_sync _ _ _ heap_sync,
       (
         shr_sync _ _ _ trace_sync,
-        (shr_slice_sync _ _ _ counted_zone_sync, (shr_sync _ _ _ clock_sync, (shr_sync _ _ _ h, (shr_sync _ _ u64 (search sendable), tt)))),
+        (
+          shr_slice_sync _ _ _ counted_zone_sync,
+          (shr_sync _ _ _ clock_sync, (shr_sync _ _ _ h, (shr_sync _ _ _ k, (shr_sync _ _ u64 (search sendable), tt)))),
+        ),
       ),
     ),
   )
 
-  pub shared_sync : (ν : Sym) → IsSync (param 0 R) → IsSync (param 1 G) → IsSync (TupleAt ν shared)
-  shared_sync ν r h = tuple_sync ν shared (shared_each r h)
+  pub shared_sync : (ν : Sym) → IsSync (param 0 R) → IsSync (param 1 G) → IsSync (param 2 C) → IsSync (TupleAt ν shared)
+  shared_sync ν r h k = tuple_sync ν shared (shared_each r h k)

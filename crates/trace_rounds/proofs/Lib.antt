@@ -6,5 +6,6 @@ pub mod GiveLines
 pub mod Items
 pub mod Lists
 pub mod Played
+pub mod Plays
 pub mod RoundLines
 pub mod SameFor

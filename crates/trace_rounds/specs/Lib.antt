@@ -1,3 +1,4 @@
 pub mod DoneBy
 pub mod Parts
+pub mod Plays
 pub mod Rounds

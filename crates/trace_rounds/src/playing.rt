@@ -1,5 +1,6 @@
 ghost use Rattle.std.specs.Prelude.{◌≡◌, ◌<◌, ◌+◌, ℕ, OnOk, length, reverse};
 ghost use Rattle.trace_rounds.specs.Parts.{gives_of as gives_at};
+ghost use Rattle.trace_rounds.specs.Plays.{AllPlay, AllPlayRound};
 ghost use Rattle.trace_rounds.specs.Rounds.{AllAsked, AreAfter, GaveUpAsBefore, IsBegun, Suits};
 ghost use Rattle.trace_text.specs.Lines.{lines_of};
 ghost use Rattle.trace_worker.specs.OwnLines.{lines_before};
@@ -12,40 +13,45 @@ use std::alloc::Global;
 use std::sync::Wait;
 use std::thread::Threads;
 use trace_text::{Between, Trace};
-use trace_worker::{CountedZone, Gate, Memory, Running};
+use trace_worker::{CountedZone, Gate, Memory, ReclaimCalls, Running};
 
 /// All rounds of a trace: in each round every worker does its own list on a thread of its own, and behind it the round's
 /// `give` lines are done in order. Waits where a worker's lines do. After `Memory` the replay is over.
-pub fn play<R: Threads + Wait + Sync, G: Gate + Sync>(
+pub fn play<R: Threads + Wait + Sync, G: Gate + Sync, C: ReclaimCalls + Sync>(
     rt: &R,
     alloc: Global,
     trace: &Trace,
     zones: &[CountedZone],
     clock: &Clock<Bare>,
     gate: &G,
+    reclaim: &C,
     workers: &mut [Running],
 ) -> Result<(), Memory>
     requires ready { IsBegun trace.now zones.now clock.now workers.old }
     ensures stands { OnOk result (AllStand zones.now clock.now (reverse (lines_of trace.now.rounds)) (crew workers.new)) }
     ensures adds_up { OnOk result ((z : ℕ) → AddsUp z (crew workers.new)) }
+    ensures plays { OnOk result (AllPlay zones.now trace.now.rounds workers.old workers.new) }
     ensures count { length workers.new ≡ length workers.old }
     ensures asked { OnOk result (AllAsked (reverse (lines_of trace.now.rounds)) workers.new) }
     ensures free { G.is_free gate.now → OnOk result (GaveUpAsBefore workers.old workers.new) }
 {
     for round in 0..trace.rounds.len() {
-        play_round(rt, alloc, trace, zones, clock, gate, round, workers)?;
+        play_round(
+            rt, alloc, trace, zones, clock, gate, reclaim, round, workers,
+        )?;
     }
     Ok(())
 }
 
 /// One round, and the `give` lines behind it.
-fn play_round<R: Threads + Wait + Sync, G: Gate + Sync>(
+fn play_round<R: Threads + Wait + Sync, G: Gate + Sync, C: ReclaimCalls + Sync>(
     rt: &R,
     alloc: Global,
     trace: &Trace,
     zones: &[CountedZone],
     clock: &Clock<Bare>,
     gate: &G,
+    reclaim: &C,
     round: usize,
     workers: &mut [Running],
 ) -> Result<(), Memory>
@@ -53,9 +59,12 @@ fn play_round<R: Threads + Wait + Sync, G: Gate + Sync>(
     requires round { round < length trace.now.rounds }
     requires after { AreAfter zones.now clock.now (lines_before trace.now.rounds round) workers.old }
     ensures after { OnOk result (AreAfter zones.now clock.now (lines_before trace.now.rounds (round + 1)) workers.new) }
+    ensures plays { OnOk result (AllPlayRound zones.now trace.now.rounds round workers.old workers.new) }
     ensures free { G.is_free gate.now → OnOk result (GaveUpAsBefore workers.old workers.new) }
 {
-    work_round(rt, alloc, trace, zones, clock, gate, round, workers);
+    work_round(
+        rt, alloc, trace, zones, clock, gate, reclaim, round, workers,
+    );
     all_ended(workers)?;
     give_all(alloc, gives_of(trace, round), workers)
 }

@@ -7,16 +7,17 @@ use std::alloc::Global;
 use std::sync::Wait;
 use std::thread::{self, Threads};
 use trace_text::Trace;
-use trace_worker::{CountedZone, Gate, Memory, Running};
+use trace_worker::{CountedZone, Gate, Memory, ReclaimCalls, Running};
 
 /// A round: each worker does its own list of it, on a thread of its own, and all threads are joined.
-pub(crate) fn work_round<R: Threads + Wait + Sync, G: Gate + Sync>(
+pub(crate) fn work_round<R: Threads + Wait + Sync, G: Gate + Sync, C: ReclaimCalls + Sync>(
     rt: &R,
     alloc: Global,
     trace: &Trace,
     zones: &[CountedZone],
     clock: &Clock<Bare>,
     gate: &G,
+    reclaim: &C,
     round: usize,
     workers: &mut [Running],
 )
@@ -34,7 +35,7 @@ pub(crate) fn work_round<R: Threads + Wait + Sync, G: Gate + Sync>(
             requires { IsReady trace.now zones.now clock.now round number running.old }
             ensures free { G.is_free gate.entry.now → running.new.gave_up ≡ running.old.gave_up }
             ensures worked { OnOk running.new.ended (HasWorked trace.entry.now zones.entry.now clock.entry.now round number running.old running.new) }
-        { running.turn(rt, alloc, trace, zones, clock, gate, round, number) },
+        { running.turn(rt, alloc, trace, zones, clock, gate, reclaim, round, number) },
     );
 }
 

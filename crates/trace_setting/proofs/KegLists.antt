@@ -1,7 +1,7 @@
 -- The lines of a keg among the first ones of a list, and with one line more.
 use Rattle.std.proofs.Common.{◌≡◌, ◌≢◌, ℕ, zero, suc, ◌+◌, ◌-◌, ◌<◌, ◌≤◌, List, [], ◌∷◌, ◌++◌, Option, None, Some, Bool, true, false, cond, inl, inr, ◌⊎◌, refl, sym, ap, ◌∙◌, arith, length, take, eq-eqb}
 use Rattle.std.proofs.lemmas.Bool.{ne_eqb}
-use Rattle.std.proofs.lemmas.List.{take-append-le, length-append}
+use Rattle.std.proofs.lemmas.List.{take-append-le, length-append, same_from_push}
 use Rattle.std.proofs.Math.Seq.{take-append_seam}
 use Rattle.std.proofs.lemmas.List.Sums.{sum_by-cons, sum_by_push, sum_by-take-le}
 use Rattle.std.proofs.lemmas.Option.{none-some, same_Some, slice_get_within}
@@ -10,6 +10,7 @@ use Rattle.std.specs.Option.{option_map_or}
 use Rattle.trace_text.specs.declared.head.ZoneHead.{ZoneHead}
 use Rattle.trace_text.specs.Valid.{sharer_count}
 use Rattle.trace_setting.specs.Kegs.{index_of, rights_after}
+use Rattle.trace_setting.proofs.Lists.{no_sum}
 
 -- a secondary zone's parent stands before it
 abbrev pub Earlier : List ZoneHead → Type 0
@@ -57,9 +58,6 @@ count_other lines line place p is apart = same_sum (count_push lines line place)
 -- no more zones share a keg in the first lines than in all
 pub count_take : (lines : List ZoneHead) (count place : ℕ) → sharer_count (take count lines) place ≤ sharer_count lines place
 count_take lines count place = sum_by-take-le (of_line place) lines count
-
-no_sum : {a b c : ℕ} → a ≡ b + c → b ≡ 0 → c ≡ 0 → a ≡ 0
-no_sum e f g = omega arith
 
 -- no line has a parent of this place
 abbrev NoParent : ℕ → List ZoneHead → Type 0
@@ -115,16 +113,6 @@ take_next (y ∷ xs) (suc count) x is = ap (λ (n : ℕ). take n (y ∷ xs)) (su
 
 -- ---- the rights that a keg keeps
 
-ends_same : (ms ns : List ℕ) (m n : ℕ) → ms ++ m ∷ [] ≡ ns ++ n ∷ [] → (m ≡ n) × (ms ≡ ns)
-ends_same [] [] m n e = (cc, refl)
-ends_same [] (y ∷ ns) m n e = absurd (omega (arith, ap length e, length-append ns (n ∷ [])))
-ends_same (x ∷ ms) [] m n e = absurd (omega (arith, ap length e, length-append ms (m ∷ [])))
-ends_same (x ∷ ms) (y ∷ ns) m n e =
-    let head : x ≡ y = cc in
-    let tail : ms ++ m ∷ [] ≡ ns ++ n ∷ [] = cc in
-    let same = ends_same ms ns m n tail in
-    (same.0, ap (λ (z : ℕ). z ∷ ms) head ∙ ap (λ (zs : List ℕ). y ∷ zs) same.1)
-
 -- the next right is the last one, and where seven were used there is none
 abbrev Next : ℕ → Type 0
 Next count = (rights_after count ≡ rights_after (count + 1) ++ (count + 1) ∷ []) ⊎ ((rights_after count ≡ []) × (7 ≤ count))
@@ -154,7 +142,9 @@ no_end rest right e = absurd (omega (arith, ap length e, length-append rest (rig
 -- the right that a keg gives next, and those that it keeps then
 pub right_given : (count : ℕ) (rest : List ℕ) (right : ℕ) → rights_after count ≡ rest ++ right ∷ [] → (right ≡ count + 1) × (rest ≡ rights_after (count + 1))
 right_given count rest right e = elim (next count) [
-  | inl more ↦ ends_same rest (rights_after (count + 1)) right (count + 1) (sym e ∙ more)
+  | inl more ↦
+      let parts = same_from_push rest (rights_after (count + 1)) right (count + 1) (sym e ∙ more) in
+      (parts.1, parts.0)
   | inr none ↦ absurd (no_end rest right (sym none.0 ∙ e))
 ]
 

@@ -106,11 +106,5 @@ pub sum_none : {X : Type 0} (f : X → ℕ) (xs : List X) → ((n : ℕ) (x : X)
 sum_none f [] each = refl
 sum_none f (x ∷ xs) each = no_sum (sum_by-cons f x xs) (each zero x refl) (sum_none f xs (λ n y at. each (suc n) y at))
 
--- a place within a list has an entry
-pub some_at : {X : Type 0} (xs : List X) (i : ℕ) → i < length xs → (x : X) × (slice_get xs i ≡ Some x)
-some_at [] i within = absurd (omega (arith, within))
-some_at (x ∷ xs) zero within = (x, refl)
-some_at (x ∷ xs) (suc i) within = some_at xs i (omega (arith, within))
-
 pub not_below : (i count n : ℕ) → count ≤ i → count ≡ n → n ≤ i
 not_below i count n past e = omega arith

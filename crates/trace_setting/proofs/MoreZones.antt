@@ -15,12 +15,13 @@ use Rattle.trace_text.specs.Valid.{HeadFits, sharer_count}
 use Rattle.uma_zone.specs.Making.{IsSameZone}
 use Rattle.uma_zone.specs.Zone.{zone_key, zone_index, zone_home, zone_clock, zone_rights}
 use Rattle.trace_worker.specs.Items.{BareClock, CountedZone}
+use Rattle.trace_worker.proofs.Belongs.{some_within}
 use Rattle.trace_setting.specs.Kegs.{rights_after}
 use Rattle.trace_setting.specs.Zones.{AreZones, IsZoneOf}
 use Rattle.trace_setting.specs.ZonesSoFar.{with_lines, cut, IsFirst, IsFurther}
 use Rattle.trace_setting.proofs.HeadFacts.{IsAlike, alike_of, earlier_lines, few_sharers, secondary_fits}
 use Rattle.trace_setting.proofs.KegLists.{Earlier, count_primary, count_parent, count_other, count_behind, index_none, index_before, index_last, right_given, right_left, at_of_take, take_next}
-use Rattle.trace_setting.proofs.Lists.{pushed_both, before_pushed, written, All_there, All_get, below_all, at_most, behind_all, some_at}
+use Rattle.trace_setting.proofs.Lists.{pushed_both, before_pushed, written, All_there, All_get, below_all, at_most, behind_all}
 
 -- a zone's book is the one that its key names
 book_of : (zone : CountedZone) → (zone_home zone).book ≡ key_numbers (zone_key zone)
@@ -32,26 +33,14 @@ of_one_keg a b same = (same, book_of a ∙ ap key_numbers same ∙ sym (book_of 
 -- a line more behind leaves a zone's number
 zone_before : (lines : List ZoneHead) (more : ZoneHead) (domains z : ℕ) (line : ZoneHead) (zone : CountedZone) → z < length lines → IsZoneOf lines domains z line zone → IsZoneOf (lines ++ more ∷ []) domains z line zone
 zone_before lines more domains z line zone below was = record {
-  size = was.size;
-  cap = was.cap;
-  reserve = was.reserve;
-  bucket = was.bucket;
-  limit = was.limit;
-  smr = was.smr;
-  domain_count = was.domain_count;
+  numbers = was.numbers;
   index = was.index ∙ sym (index_before lines more z line (at_most below));
 }
 
 first_is : (head : Head) (clock : BareClock) (lines : List ZoneHead) (z : ℕ) (line : ZoneHead) (zone : CountedZone) → line.parent ≡ None → IsFirst (clock_id clock) head.domains line zone
     → IsZoneOf lines head.domains z line zone
 first_is head clock lines z line zone is_primary made = record {
-  size = made.size;
-  cap = made.cap;
-  reserve = made.reserve;
-  bucket = made.bucket;
-  limit = made.limit;
-  smr = made.smr;
-  domain_count = made.domain_count;
+  numbers = made.numbers;
   index = made.index ∙ sym (index_none lines z line is_primary);
 }
 
@@ -97,13 +86,15 @@ same_self zone = record { same_key = refl; domains = refl; index = refl; bucket 
 -- a zone that is as another but for its rights has its numbers
 zone_same : (lines : List ZoneHead) (domains z : ℕ) (line : ZoneHead) (old new : CountedZone) → IsSameZone old new → IsZoneOf lines domains z line old → IsZoneOf lines domains z line new
 zone_same lines domains z line old new same was = record {
-  size = ap (λ (k : KegKey). k.size) same.same_key ∙ was.size;
-  cap = ap (λ (k : KegKey). k.cap) same.same_key ∙ was.cap;
-  reserve = ap (λ (k : KegKey). k.reserve) same.same_key ∙ was.reserve;
-  bucket = same.bucket ∙ was.bucket;
-  limit = same.limit ∙ was.limit;
-  smr = ap domains_smr same.domains ∙ was.smr;
-  domain_count = ap domain_count same.domains ∙ was.domain_count;
+  numbers = record {
+    size = ap (λ (k : KegKey). k.size) same.same_key ∙ was.numbers.size;
+    cap = ap (λ (k : KegKey). k.cap) same.same_key ∙ was.numbers.cap;
+    reserve = ap (λ (k : KegKey). k.reserve) same.same_key ∙ was.numbers.reserve;
+    bucket = same.bucket ∙ was.numbers.bucket;
+    limit = same.limit ∙ was.numbers.limit;
+    smr = ap domains_smr same.domains ∙ was.numbers.smr;
+    domain_count = ap domain_count same.domains ∙ was.numbers.domain_count;
+  };
   index = same.index ∙ was.index;
 }
 
@@ -133,13 +124,15 @@ given_right head clock lines zones p line primary old new zone are at_primary is
 further_is : (head : Head) (lines : List ZoneHead) (p : ℕ) (line primary : ZoneHead) (old new zone : CountedZone) → line.parent ≡ Some p → IsAlike line primary → IsZoneOf lines head.domains p primary old
     → IsFurther line old new zone → zone_index zone ≡ sharer_count lines p + 1 → IsZoneOf (lines ++ line ∷ []) head.domains (length lines) line zone
 further_is head lines p line primary old new zone is_parent alike is_old made index = record {
-  size = ap (λ (k : KegKey). k.size) made.same_key ∙ is_old.size ∙ sym alike.1;
-  cap = ap (λ (k : KegKey). k.cap) made.same_key ∙ is_old.cap ∙ sym alike.2;
-  reserve = ap (λ (k : KegKey). k.reserve) made.same_key ∙ is_old.reserve ∙ sym alike.3;
-  bucket = made.bucket;
-  limit = made.limit;
-  smr = made.smr;
-  domain_count = made.domain_count ∙ is_old.domain_count;
+  numbers = record {
+    size = ap (λ (k : KegKey). k.size) made.same_key ∙ is_old.numbers.size ∙ sym alike.1;
+    cap = ap (λ (k : KegKey). k.cap) made.same_key ∙ is_old.numbers.cap ∙ sym alike.2;
+    reserve = ap (λ (k : KegKey). k.reserve) made.same_key ∙ is_old.numbers.reserve ∙ sym alike.3;
+    bucket = made.bucket;
+    limit = made.limit;
+    smr = made.smr;
+    domain_count = made.domain_count ∙ is_old.numbers.domain_count;
+  };
   index = index ∙ sym (index_last lines line p is_parent);
 }
 
@@ -223,7 +216,7 @@ parent_there head clock place parent line zones old fits at is are is_old =
     let within = slice_get_within head.zones place line at in
     let earlier = (secondary_fits head place line parent fits at is).earlier in
     let below = subst (λ (n : ℕ). parent < n) (sym (length-take-le place head.zones (at_most within))) earlier in
-    let there = some_at (take place head.zones) parent below in
+    let there = some_within (take place head.zones) parent below in
     record {
       below = below;
       primary = there.0;

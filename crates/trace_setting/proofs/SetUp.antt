@@ -26,7 +26,7 @@ use Rattle.trace_setting.proofs.Lists.{All_there, both_none, has_too, map_at, su
 pub zones_in : (head : Head) (clock : BareClock) (zones : List CountedZone) → AreZones head clock zones → All (λ (zone : CountedZone). zone_domains zone ≡ head.domains) zones
 zones_in head clock zones are =
     All_there (λ (zone : CountedZone). zone_domains zone ≡ head.domains) zones
-    (λ z zone at. let line = has_too head.zones zones z zone are.count at in (are.each z line.0 zone line.1 at).domain_count)
+    (λ z zone at. let line = has_too head.zones zones z zone are.count at in (are.each z line.0 zone line.1 at).numbers.domain_count)
 
 pub as_many : (count : ℕ) (clock : BareClock) (passes : List BarePass) → ArePasses count clock passes → ArePasses (length passes) clock passes
 as_many count clock passes are = record { one_each = refl; each = are.each }

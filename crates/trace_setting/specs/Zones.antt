@@ -14,8 +14,8 @@ abbrev pub is_smr : ZoneKind → Bool
 is_smr Plain = false
 is_smr Smr = true
 
--- a zone with the numbers of its line, which stands at place `z`
-pub record IsZoneOf (heads : List ZoneHead) (domains z : ℕ) (line : ZoneHead) (zone : CountedZone) : Type 0 where
+-- a zone with the numbers of its line, and with so many domains
+pub record HasNumbers (domains : ℕ) (line : ZoneHead) (zone : CountedZone) : Type 0 where
   pub size : zone_size zone ≡ line.size
   pub cap : zone_cap zone ≡ line.slabs
   pub reserve : zone_reserve zone ≡ line.reserve
@@ -23,6 +23,10 @@ pub record IsZoneOf (heads : List ZoneHead) (domains z : ℕ) (line : ZoneHead) 
   pub limit : zone_limit zone ≡ line.limit
   pub smr : zone_smr zone ≡ is_smr line.kind
   pub domain_count : zone_domains zone ≡ domains
+
+-- the zone of the line at place `z` of these: it has its numbers, and its own number in its keg
+pub record IsZoneOf (heads : List ZoneHead) (domains z : ℕ) (line : ZoneHead) (zone : CountedZone) : Type 0 where
+  pub numbers : HasNumbers domains line zone
   pub index : zone_index zone ≡ index_of heads z line
 
 -- One zone a line, of readers by this clock.

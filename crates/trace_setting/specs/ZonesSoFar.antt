@@ -5,10 +5,10 @@ use Rattle.smr_clock.specs.Belongs.{TableId}
 use Rattle.trace_text.specs.declared.head.Head.{Head}
 use Rattle.trace_text.specs.declared.head.ZoneHead.{ZoneHead}
 use Rattle.uma_zone.specs.Making.{IsSameZone}
-use Rattle.uma_zone.specs.Zone.{zone_key, zone_index, zone_clock, zone_smr, zone_domains, zone_bucket, zone_limit, zone_size, zone_cap, zone_reserve, zone_rights}
+use Rattle.uma_zone.specs.Zone.{zone_key, zone_index, zone_clock, zone_smr, zone_domains, zone_bucket, zone_limit, zone_rights}
 use Rattle.trace_worker.specs.Items.{CountedZone}
 use Rattle.trace_setting.specs.Kegs.{rights_after}
-use Rattle.trace_setting.specs.Zones.{is_smr}
+use Rattle.trace_setting.specs.Zones.{HasNumbers, is_smr}
 
 -- the head with these zone lines
 abbrev pub with_lines : List ZoneHead → Head → Head
@@ -22,13 +22,7 @@ cut count head = with_lines (take count head.zones) head
 pub record IsFirst (clock : TableId × Setup) (domains : ℕ) (line : ZoneHead) (zone : CountedZone) : Type 0 where
   pub same_clock : zone_clock zone ≡ clock
   pub index : zone_index zone ≡ 0
-  pub size : zone_size zone ≡ line.size
-  pub cap : zone_cap zone ≡ line.slabs
-  pub reserve : zone_reserve zone ≡ line.reserve
-  pub bucket : zone_bucket zone ≡ line.bucket
-  pub limit : zone_limit zone ≡ line.limit
-  pub smr : zone_smr zone ≡ is_smr line.kind
-  pub domain_count : zone_domains zone ≡ domains
+  pub numbers : HasNumbers domains line zone
   pub rights : zone_rights zone ≡ rights_after 0
 
 -- the zone of a `second` line over a primary one, which gave the next of its rights for it

@@ -3,7 +3,7 @@ ghost use Rattle.trace_text.specs.Built.{IsBuilt, IsBuiltOp, IsBuiltRound};
 
 use crate::{Op, OpList, Round, Trace};
 
-/// Whether a trace is one of those that are replayed so far: no `names` line, and no line of names or of reclaim.
+/// Whether a trace is one of those that are replayed so far: no `names` line, and no line of names.
 pub fn is_built(trace: &Trace) -> bool
     ensures { IsTrue result ↔ IsBuilt trace.now }
 {
@@ -33,7 +33,14 @@ fn is_built_op(op: &Op) -> bool
 {
     matches!(
         op,
-        Op::Alloc { .. } | Op::Free { .. } | Op::Enter | Op::Exit | Op::Prealloc { .. }
+        Op::Alloc { .. }
+            | Op::Free { .. }
+            | Op::Enter
+            | Op::Exit
+            | Op::Prealloc { .. }
+            | Op::Trim { .. }
+            | Op::Drain { .. }
+            | Op::DrainSeat { .. }
     )
 }
 
@@ -44,26 +51,27 @@ mod tests {
     use std::test::Fail;
 
     /// Traces that are replayed.
-    const BUILT: [&str; 6] = [
+    const BUILT: [&str; 10] = [
         "uma 1\nworkers 1\ndomains 1\nend",
         "uma 1\nworkers 16\ndomains 4\ndetail\nround\nround\nend",
         "uma 1\nworkers 1\ndomains 1\nclock 1 8\nzone box 256 4 4 0 0 smr\nenter 0\nexit 0\nend",
         "uma 1\nworkers 1\ndomains 1\nzone box 256 4 4 0 0 plain\nsecond sub box 4 0 plain\nprealloc 0 sub 9\nend",
         "uma 1\nworkers 1\ndomains 1\nzone box 64 4 8 9 3 plain\nalloc 0 box 0 arg 254 reserve\nfree 0 0\nend",
         "uma 1\nworkers 1\ndomains 1\nzone box 256 4 4 0 0 plain\nalloc 0 box 0\nround\ngive 0 0 0 1\nend",
-    ];
-
-    /// Traces that aren't, each for one thing alone.
-    const UNBUILT: [&str; 5] = [
-        "uma 1\nworkers 1\ndomains 1\nclock 1 8\nnames dir 8 2 4\nend",
         "uma 1\nworkers 1\ndomains 1\nzone box 256 4 4 0 0 plain\ntrim 0 box\nend",
         "uma 1\nworkers 1\ndomains 1\nzone box 256 4 4 0 0 plain\ndrain 0 box\nend",
         "uma 1\nworkers 1\ndomains 1\nzone box 256 4 4 0 0 plain\nround\ndrainseat 0 box\nend",
         "uma 1\nworkers 2\ndomains 1\nzone box 256 4 4 0 0 plain\nalloc 0 box 0\ntrim 1 box\nend",
     ];
 
+    /// Traces that aren't.
+    const UNBUILT: [&str; 2] = [
+        "uma 1\nworkers 1\ndomains 1\nclock 1 8\nnames dir 8 2 4\nend",
+        "uma 1\nworkers 1\ndomains 1\nclock 1 8\nnames dir 8 2 4\nbind 0 3 30\nend",
+    ];
+
     #[test]
-    fn zones_rounds_and_sections_are_built(rt: HostRuntime) -> Result<(), Fail> {
+    fn zones_rounds_sections_and_reclaim_are_built(rt: HostRuntime) -> Result<(), Fail> {
         for text in BUILT {
             let trace = parse(rt.alloc(), text.as_bytes())?;
             assert!(rt; is_built(&trace), "{text}");
@@ -72,7 +80,7 @@ mod tests {
     }
 
     #[test]
-    fn names_and_reclaim_are_not_built(rt: HostRuntime) -> Result<(), Fail> {
+    fn names_are_not_built(rt: HostRuntime) -> Result<(), Fail> {
         for text in UNBUILT {
             let trace = parse(rt.alloc(), text.as_bytes())?;
             assert!(rt; !is_built(&trace), "{text}");

@@ -1,5 +1,5 @@
 -- That the sums of a keg fit: a census's, what the slots lent, and its zones'.
-use Rattle.std.proofs.Common.{◌≡◌, ℕ, zero, suc, ◌+◌, ◌*◌, ◌^◌, ◌<◌, ◌≤◌, List, [], ◌∷◌, cond, Option, None, Some, refl, sym, ap, subst, arith, length}
+use Rattle.std.proofs.Common.{◌≡◌, ℕ, ◌+◌, ◌*◌, ◌^◌, ◌<◌, ◌≤◌, List, [], ◌∷◌, cond, Option, None, Some, refl, sym, ap, subst, arith, length}
 use Rattle.std.specs.Prelude.{slice_get}
 use Rattle.std.specs.List.{sum_by}
 use Rattle.std.specs.Option.{option_map_or}
@@ -18,6 +18,7 @@ use Rattle.trace_worker.specs.declared.held.Held.{Held}
 use Rattle.trace_worker.specs.declared.worker.Worker.{Worker}
 use Rattle.trace_worker.specs.Items.{counted_life, CountedZone, LiveItem}
 use Rattle.trace_worker.specs.Live.{item_of}
+use Rattle.trace_worker.proofs.Belongs.{some_within}
 use Rattle.trace_census.specs.Lending.{AreFew, TakesCensus, TakesCensusAt, live_times, lent_times, slot_times}
 use Rattle.trace_totals.specs.Taking.{is_of_keg}
 use Rattle.trace_totals.proofs.Indexes.{few_zones}
@@ -74,15 +75,9 @@ counts_below : (head : Head) (zones : List CountedZone) (workers : List Worker) 
 counts_below head zones workers p primary census lent fits few takes hook =
     both_fit (sum_of (census_tally census) hook) (lent_times hook p 0 head.zones workers) (sum_of lent hook) (takes.hooks hook) (census.bounded hook) (lent_few hook p head.zones workers few (few_zones head fits))
 
--- a list has an element at each place below its length
-one_below : {X : Type 0} (l : List X) (n : ℕ) → n < length l → (x : X) × (slice_get l n ≡ Some x)
-one_below [] n below = absurd (omega arith)
-one_below (x ∷ l) zero below = (x, refl)
-one_below (x ∷ l) (suc n) below = one_below l n (omega arith)
-
 -- what a census and the slots come to
 pub lent_below : (head : Head) (zones : List CountedZone) (workers : List Worker) (p : ℕ) (census : Census) (lent : TallySum) → HeadFits head → AreFew workers → p < length zones → TakesCensusAt head zones workers p census lent → AreBelow (2 ^ 126) lent
 lent_below head zones workers p census lent fits few within takes = counts_of_one zones within takes
   where
     counts_of_one : (l : List CountedZone) → p < length l → ((primary : CountedZone) → slice_get l p ≡ Some primary → TakesCensus head zones workers p primary census lent) → AreBelow (2 ^ 126) lent
-    counts_of_one l below takes = let primary = one_below l p below in counts_below head zones workers p primary.0 census lent fits few (takes primary.0 primary.1)
+    counts_of_one l below takes = let primary = some_within l p below in counts_below head zones workers p primary.0 census lent fits few (takes primary.0 primary.1)

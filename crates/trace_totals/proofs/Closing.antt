@@ -15,22 +15,24 @@ use Rattle.uma_life.specs.Hook.{Hook, Ctor, Dtor}
 use Rattle.uma_life.specs.Sum.{sum_of}
 use Rattle.uma_life.specs.Trail.{ShowsSame}
 use Rattle.uma_bucket.specs.declared.sums.Sums.{Sums}
+use Rattle.uma_bucket.proofs.Tallied.{both_show}
 use Rattle.uma_zone.specs.Zone.{zone_index}
 use Rattle.trace_worker.specs.declared.worker.Worker.{Worker}
 use Rattle.trace_worker.specs.Items.{BareClock, CountedZone}
 use Rattle.trace_worker.specs.Together.{all_live}
 use Rattle.trace_setting.specs.Kegs.{index_of, keg_place}
 use Rattle.trace_setting.specs.Zones.{AreZones}
+use Rattle.trace_setting.proofs.Lists.{has_too}
+use Rattle.trace_census.proofs.Placed.{number_below_eight}
 use Rattle.trace_census.specs.Lending.{KeepsWorkers, TakesCensus, lent_times, slot_times}
-use Rattle.trace_totals.specs.Closes.{AllClose, KegCloses, keg_times, zone_times}
+use Rattle.trace_totals.specs.Closes.{AllClose, KegCloses, keg_times, seat_times, seat_deferred, zone_times}
 use Rattle.trace_totals.specs.Picking.{picked}
-use Rattle.trace_totals.specs.Summing.{SumsUp, seat_times, seat_deferred}
+use Rattle.trace_totals.specs.Summing.{SumsUp}
 use Rattle.trace_totals.specs.Taking.{AllSumUp, TakesKeg, TakesKegs, is_of_keg, keg_sums}
 use Rattle.trace_totals.proofs.Bounds.{lent_is}
-use Rattle.trace_totals.proofs.Heard.{at_too}
-use Rattle.trace_totals.proofs.Indexes.{differ, index_small}
+use Rattle.trace_totals.proofs.Indexes.{differ}
 use Rattle.trace_totals.proofs.Kept.{keeps_back, lent_kept, live_kept, seat_deferred_kept, seat_times_kept}
-use Rattle.trace_totals.proofs.Modulo.{both_show, shows_as}
+use Rattle.trace_totals.proofs.Modulo.{shows_as}
 use Rattle.trace_totals.proofs.Picks.{kegged, kegged_le, picked_one, picked_shows, sum_plus}
 
 -- ---- plain numbers
@@ -60,11 +62,7 @@ module _ (old new : List Worker) (keeps : KeepsWorkers old new) where
 
   census_kept : (head : Head) (zones : List CountedZone) (p : ℕ) (primary : CountedZone) (census : Census) (lent : TallySum) → TakesCensus head zones old p primary census lent → TakesCensus head zones new p primary census lent
   census_kept head zones p primary census lent takes = record {
-    table = takes.table;
-    cap = takes.cap;
-    reserve = takes.reserve;
-    per_slab = takes.per_slab;
-    absent = takes.absent;
+    counts = takes.counts;
     lent = λ z line zone at of there. (let P : ℕ → Type 0 = λ n. n ≤ census_out census (zone_index zone) in subst P (sym (live_kept old new keeps z)) (takes.lent z line zone at of there));
     hooks = λ hook. takes.hooks hook ∙ ap (λ (n : ℕ). sum_of (census_tally census) hook + n) (sym (lent_kept old new keeps hook p 0 head.zones));
     pairs = λ z line zone at of there.
@@ -100,7 +98,7 @@ module _ (head : Head) (clock : BareClock) (zones : List CountedZone) (workers :
 
   -- the zone at a place where there are sums
   up_at : (n : ℕ) (s : Sums) → slice_get sums n ≡ Some s → (zone : CountedZone) × (slice_get zones n ≡ Some zone) × SumsUp zone n workers s
-  up_at n s at = let zone = at_too zones sums n s all.count at in (zone.0, zone.1, all.each n zone.0 s zone.1 at)
+  up_at n s at = let zone = has_too zones sums n s all.count at in (zone.0, zone.1, all.each n zone.0 s zone.1 at)
 
   keg_hooks : (hook : Hook) (p : ℕ) → keg_times hook p 0 head.zones workers ≤ lent_times hook p 0 head.zones workers + keg_sums hook p head.zones sums
   keg_hooks hook p =
@@ -152,11 +150,7 @@ module _ (head : Head) (clock : BareClock) (zones : List CountedZone) (workers :
   keg_closes : (deferred : List ℕ) → deferred ≡ map (λ s. s.deferred) sums → (p : ℕ) (primary : CountedZone) (census : Census) (lent tally : TallySum) → TakesCensus head zones workers p primary census lent
       → ((hook : Hook) → sum_of tally hook ≡ sum_of lent hook + keg_sums hook p head.zones sums) → KegCloses head zones workers deferred p primary census tally
   keg_closes deferred is_deferred p primary census lent tally takes adds = record {
-    table = takes.table;
-    cap = takes.cap;
-    reserve = takes.reserve;
-    per_slab = takes.per_slab;
-    absent = takes.absent;
+    counts = takes.counts;
     lent = takes.lent;
     hooks = λ hook.
         counted_all (sum_of (census_tally census) hook) (keg_times hook p 0 head.zones workers) (sum_of tally hook) (sum_of lent hook) (lent_times hook p 0 head.zones workers) (keg_sums hook p head.zones sums)
@@ -165,8 +159,8 @@ module _ (head : Head) (clock : BareClock) (zones : List CountedZone) (workers :
         let i = zone_index zone in
         let index : i ≡ index_of head.zones z line = (are.each z line zone at there).index in
         let L : ℕ → Type 0 = λ n. n < 8 in
-        let small : i < 8 = subst L (sym index) (index_small head z line fits at) in
-        let s = at_too sums head.zones z line (sym as_many) at in
+        let small : i < 8 = subst L (sym index) (number_below_eight head z line fits at) in
+        let s = has_too sums head.zones z line (sym as_many) at in
         let picks : picked (of_keg p i) (λ s. s.deferred) 0 head.zones sums ≡ s.0.deferred = ap (λ (n : ℕ). picked (of_keg p n) (λ s. s.deferred) 0 head.zones sums) index ∙ deferred_one p z line s.0 at of s.1 in
         let here : slice_index_or deferred z 0 ≡ s.0.deferred = get_or_from_slice_get deferred z s.0.deferred 0 (deferred_at deferred z s.0 is_deferred s.1) in
         let D = sum_of lent (Dtor i) in
@@ -182,7 +176,7 @@ module _ (head : Head) (clock : BareClock) (zones : List CountedZone) (workers :
   zone_defers : (deferred : List ℕ) → deferred ≡ map (λ s. s.deferred) sums → (z count : ℕ) → slice_get deferred z ≡ Some count → sum_by (seat_deferred z) workers ≤ count
   zone_defers deferred is z count at =
       let many : length deferred ≡ length sums = ap length is ∙ length-map sums (λ s. s.deferred) in
-      let s = at_too sums deferred z count many at in
+      let s = has_too sums deferred z count many at in
       let same : s.0.deferred ≡ count = same_Some s.0.deferred count (sym (deferred_at deferred z s.0 is s.1) ∙ at) in
       let P : ℕ → Type 0 = λ n. sum_by (seat_deferred z) workers ≤ n in
       subst P same (up_at z s.0 s.1).2.deferred

@@ -7,17 +7,16 @@ use Rattle.uma_bucket.specs.declared.sums.Sums.{Sums}
 use Rattle.uma_bucket.specs.Sums.{AreOfAtMost}
 use Rattle.trace_worker.specs.declared.worker.Worker.{Worker}
 use Rattle.trace_worker.specs.Items.{BareClock, CountedZone}
+use Rattle.trace_setting.proofs.Lists.{has_too, pushed}
 use Rattle.trace_census.specs.Lending.{AllFit}
 use Rattle.trace_totals.specs.Summing.{HasSeat, SumsUp}
 use Rattle.trace_totals.specs.Taking.{AllSumUp}
-use Rattle.trace_totals.proofs.Heard.{at_too}
-use Rattle.trace_totals.proofs.Picks.{pushed}
 
 -- a worker that fits has a seat of each zone
 pub has_seats : (zones : List CountedZone) (clock : BareClock) (workers : List Worker) → AllFit zones clock workers → (z n : ℕ) (zone : CountedZone) (w : Worker) → slice_get zones z ≡ Some zone → slice_get workers n ≡ Some w → HasSeat zone z w
 has_seats zones clock workers fits z n zone w is_zone at =
     let seats = (fits n w at).seats in
-    let seat = at_too w.seats.items zones z zone (sym seats.count) is_zone in
+    let seat = has_too w.seats.items zones z zone (sym seats.count) is_zone in
     record { seat = seat.0; at = seat.1; of_zone = seats.each z zone seat.0 is_zone seat.1 }
 
 -- the first so many zones were summed up
@@ -54,4 +53,4 @@ module _ (zones : List CountedZone) (workers : List Worker) where
   sums_all count sums all so = record { count = so.as_many ∙ all; each = so.each }
 
   pub all_small : (sums : List Sums) → AllSumUp zones workers sums → (n : ℕ) (s : Sums) → slice_get sums n ≡ Some s → AreOfAtMost (2 ^ 35) s
-  all_small sums all n s at = let zone = at_too zones sums n s all.count at in (all.each n zone.0 s zone.1 at).few
+  all_small sums all n s at = let zone = has_too zones sums n s all.count at in (all.each n zone.0 s zone.1 at).few

@@ -7,11 +7,11 @@ use Rattle.std.specs.Prelude.{slice_get, slice_set, slice_index_or}
 use Rattle.smr_clock.specs.Belongs.{IsOf, setup_of}
 use Rattle.smr_clock.specs.Notes.{note_holder}
 use Rattle.trace_worker.specs.declared.worker.Worker.{Worker}
-use Rattle.trace_worker.specs.Items.{BareClock}
+use Rattle.trace_worker.specs.Items.{BareClock, BareNote}
 use Rattle.trace_worker.specs.Worker.{seen_of}
-use Rattle.trace_totals.specs.Notes.{BareNote}
+use Rattle.trace_setting.proofs.Lists.{has_too, written}
 use Rattle.trace_totals.specs.Clock.{AllLearn, Gathers, Learns, LearnsAt, LooksAt, PassesOn, ReadsHands, TakesAt, floor_of}
-use Rattle.trace_totals.proofs.Heard.{set_at, at_too, one_at, first_set, heard, known, below_both, below_one, none_below, le_both, le_same}
+use Rattle.trace_totals.proofs.Heard.{one_at, first_set, heard, known, below_both, below_one, none_below, le_both, le_same}
 
 learns_self : (clock : BareClock) (w : Worker) → IsOf clock w.pass → Learns clock w w
 learns_self clock w here = record { seats = refl; slots = refl; entered = refl; late = refl; here = here; phase = refl; seen = le_refl (seen_of w); floor = le_refl (floor_of w) }
@@ -40,9 +40,9 @@ learn_step clock i old mid new after all one = record {
   count = ap length one.set ∙ length-set mid i after ∙ all.count;
   each = λ n b a was is.
       let P : List Worker → Type 0 = λ l. slice_get l n ≡ Some a in
-      elim (set_at mid i n after a (subst P one.set is)) [
+      elim (written mid i after n a (subst P one.set is)) [
         | inl here ↦
-            let m = at_too mid old n b (sym all.count) was in
+            let m = has_too mid old n b (sym all.count) was in
             let same : one.before ≡ m.0 = sym (one.at b) ∙ ap (λ (j : ℕ). get_or mid j b) (sym here.0) ∙ get_or_from_slice_get mid n m.0 b m.1 in
             let Q : Worker → Type 0 = λ w. Learns clock w after in
             let R : Worker → Type 0 = λ w. Learns clock m.0 w in
@@ -53,7 +53,7 @@ learn_step clock i old mid new after all one = record {
 
 -- each pass is still of the clock
 pub here_after : (clock : BareClock) (old new : List Worker) → AllLearn clock old new → (n : ℕ) (w : Worker) → slice_get new n ≡ Some w → IsOf clock w.pass
-here_after clock old new all n w at = let b = at_too old new n w all.count at in (all.each n b.0 w b.1 at).here
+here_after clock old new all n w at = let b = has_too old new n w all.count at in (all.each n b.0 w b.1 at).here
 
 passed_on : (clock : BareClock) (k : ℕ) (old mid new : List Worker) → AllLearn clock old mid → PassesOn clock k mid new → AllLearn clock old new
 passed_on clock k old mid new all passes =
@@ -101,7 +101,7 @@ module _ (clock : BareClock) (k : ℕ) (old mid new : List Worker) (g : Gathers 
     seen = λ n f w below first at. heard seen_of k mid passes.gives.after passes.takes.after g.seen (λ a b was is. (learned.each 0 a b was (back 0 b is)).seen) told_seen n f w below (there 0 f first) (there n w at);
     floor = λ n f w below first at. heard floor_of k mid passes.gives.after passes.takes.after g.floor (λ a b was is. (learned.each 0 a b was (back 0 b is)).floor) told_floor n f w below (there 0 f first) (there n w at);
     start = λ f first.
-        let b = at_too mid new 0 f learned.count first in
+        let b = has_too mid new 0 f learned.count first in
         le_both (setup_of clock).about.start (floor_of b.0) (floor_of f) (g.start b.0 b.1) (learned.each 0 b.0 f b.1 first).floor;
   }
 

@@ -1,22 +1,11 @@
 -- What a list with one or two elements set has at a place, and what the first element knows of the others once it heard of each.
-use Rattle.std.proofs.Common.{◌≡◌, ℕ, zero, suc, ◌+◌, ◌<◌, ◌≤◌, inl, inr, ◌⊎◌, List, [], ◌∷◌, Some, refl, sym, ap, ◌∙◌, subst, arith, length}
+use Rattle.std.proofs.Common.{◌≡◌, ℕ, ◌+◌, ◌<◌, ◌≤◌, inl, inr, List, [], ◌∷◌, Some, sym, ap, ◌∙◌, subst, arith, length}
 use Rattle.std.proofs.lemmas.Option.{same_Some, none-some, slice_get_within}
 use Rattle.std.proofs.lemmas.List.{length-set}
 use Rattle.std.specs.Prelude.{slice_get, slice_set}
+use Rattle.trace_setting.proofs.Lists.{has_too, written}
 
 -- plain numbers
-both_suc : (n i : ℕ) → (n ≡ i → ⊥) → suc n ≡ suc i → ⊥
-both_suc n i apart same = apart (omega arith)
-
-suc_zero : (i : ℕ) → zero ≡ suc i → ⊥
-suc_zero i same = omega arith
-
-zero_suc : (i : ℕ) → suc i ≡ zero → ⊥
-zero_suc i same = omega arith
-
-same_suc : (n i : ℕ) → n ≡ i → suc n ≡ suc i
-same_suc n i same = ap suc same
-
 pub below_last : (n k : ℕ) → n < k + 1 → (n ≡ k → ⊥) → n < k
 below_last n k below apart = omega arith
 
@@ -34,25 +23,6 @@ le_both a b c p q = omega arith
 
 pub le_same : (a b : ℕ) → a ≡ b → a ≤ b
 le_same a b same = omega arith
-
--- what a list with one element set has at a place
-pub set_at : {X : Type 0} (xs : List X) (i n : ℕ) (x y : X) → slice_get (slice_set xs i x) n ≡ Some y → ((n ≡ i) × (x ≡ y)) ⊎ ((n ≡ i → ⊥) × (slice_get xs n ≡ Some y))
-set_at [] i n x y e = absurd (none-some y e)
-set_at (w ∷ xs) zero zero x y e = inl (refl, same_Some x y e)
-set_at (w ∷ xs) zero (suc n) x y e = inr (zero_suc n, e)
-set_at (w ∷ xs) (suc i) zero x y e = inr (suc_zero i, e)
-set_at (w ∷ xs) (suc i) (suc n) x y e = elim (set_at xs i n x y e) [
-  | inl here ↦ inl (same_suc n i here.0, here.1)
-  | inr there ↦ inr (both_suc n i there.0, there.1)
-]
-
--- where one list has an element, another as long has one
-pub at_too : {X Y : Type 0} (xs : List X) (ys : List Y) (n : ℕ) (y : Y) → length ys ≡ length xs → slice_get ys n ≡ Some y → (x : X) × (slice_get xs n ≡ Some x)
-at_too [] [] n y same e = absurd (none-some y e)
-at_too [] (v ∷ ys) n y same e = absurd (omega arith)
-at_too (u ∷ xs) [] n y same e = absurd (none-some y e)
-at_too (u ∷ xs) (v ∷ ys) zero y same e = (u, refl)
-at_too (u ∷ xs) (v ∷ ys) (suc n) y same e = at_too xs ys n y (omega arith) e
 
 -- an element at a place is the only one there
 pub one_at : {X : Type 0} (xs : List X) (n : ℕ) (x y : X) → slice_get xs n ≡ Some x → slice_get xs n ≡ Some y → x ≡ y
@@ -72,12 +42,12 @@ pub heard : {X : Type 0} (know : X → ℕ) (k : ℕ) (mid : List X) (giver firs
 heard {X} know k mid giver first before kept told n f w below is_first at =
     let is_f : first ≡ f = first_set (slice_set mid k giver) first f is_first in
     let tells : know giver ≤ know f = (let P : X → Type 0 = λ x. know giver ≤ know x in subst P is_f told) in
-    elim (set_at (slice_set mid k giver) 0 n first w at) [
+    elim (written (slice_set mid k giver) 0 first n w at) [
       | inl here ↦ le_same (know w) (know f) (ap know (sym here.1 ∙ is_f))
-      | inr there ↦ elim (set_at mid k n giver w there.1) [
+      | inr there ↦ elim (written mid k giver n w there.1) [
         | inl gave ↦ (let Q : X → Type 0 = λ x. know x ≤ know f in subst Q gave.1 tells)
         | inr same ↦
-            let old = at_too mid (slice_set (slice_set mid k giver) 0 first) 0 f (length-set (slice_set mid k giver) 0 first ∙ length-set mid k giver) is_first in
+            let old = has_too mid (slice_set (slice_set mid k giver) 0 first) 0 f (length-set (slice_set mid k giver) 0 first ∙ length-set mid k giver) is_first in
             le_both (know w) (know old.0) (know f) (before n old.0 w (below_last n k below same.0) old.1 same.1) (kept old.0 f old.1 is_first)
       ]
     ]
@@ -86,7 +56,7 @@ heard {X} know k mid giver first before kept told n f w below is_first at =
 pub known : {X : Type 0} (know : X → ℕ) (mid : List X) (first : X) (n : ℕ) (f w : X)
     → ((n : ℕ) (f w : X) → n < length mid → slice_get mid 0 ≡ Some f → slice_get mid n ≡ Some w → know w ≤ know f)
     → slice_get mid 0 ≡ Some f → know f ≤ know first → slice_get (slice_set mid 0 first) n ≡ Some w → know w ≤ know first
-known {X} know mid first n f w before at more found = elim (set_at mid 0 n first w found) [
+known {X} know mid first n f w before at more found = elim (written mid 0 first n w found) [
   | inl here ↦ le_same (know w) (know first) (ap know (sym here.1))
   | inr there ↦ le_both (know w) (know f) (know first) (before n f w (slice_get_within mid n w there.1) at there.1) more
 ]

@@ -1,5 +1,5 @@
 -- One keg after another, in the order of the primary zones' lines.
-use Rattle.std.proofs.Common.{◌≡◌, ℕ, suc, ◌+◌, ◌<◌, ◌≤◌, inl, inr, List, [], ◌∷◌, ◌++◌, Bool, true, false, Some, refl, sym, ap, ◌∙◌, subst, arith, length, take, get_or, is_some}
+use Rattle.std.proofs.Common.{◌≡◌, ℕ, suc, ◌+◌, ◌<◌, ◌≤◌, inl, inr, List, [], ◌∷◌, ◌++◌, Bool, true, false, Some, refl, sym, ap, ◌∙◌, subst, arith, length, take, take_all, get_or, is_some, le_refl}
 use Rattle.std.proofs.lemmas.List.{length-append, length-take-le, take_more}
 use Rattle.std.proofs.lemmas.Option.{none-some, slice_get_within}
 use Rattle.std.specs.Prelude.{slice_get, if◌then◌else◌}
@@ -11,9 +11,8 @@ use Rattle.uma_bucket.specs.declared.sums.Sums.{Sums}
 use Rattle.trace_worker.specs.declared.worker.Worker.{Worker}
 use Rattle.trace_worker.specs.Items.{CountedZone}
 use Rattle.trace_setting.specs.Kegs.{primaries}
+use Rattle.trace_setting.proofs.Lists.{pushed}
 use Rattle.trace_totals.specs.Taking.{TakesKeg, TakesKegs}
-use Rattle.trace_totals.proofs.Modulo.{take_whole}
-use Rattle.trace_totals.proofs.Picks.{pushed}
 
 here : (z : ℕ) → z + 0 ≡ z
 here z = omega arith
@@ -123,4 +122,4 @@ module _ (head : Head) (zones : List CountedZone) (workers : List Worker) (sums 
   pub kegs_all : (lines whole : List ZoneHead) (i : ℕ) (censuses : List Census) (tallies : List TallySum) → i ≡ length lines → lines ≡ whole → TakesKegs head zones workers sums (take i lines) censuses tallies → TakesKegs head zones workers sums whole censuses tallies
   kegs_all lines whole i censuses tallies all same so =
       let P : List ZoneHead → Type 0 = λ l. TakesKegs head zones workers sums l censuses tallies in
-      subst P (ap (λ (n : ℕ). take n lines) all ∙ take_whole lines ∙ same) so
+      subst P (ap (λ (n : ℕ). take n lines) all ∙ take_all (length lines) lines (le_refl (length lines)) ∙ same) so

@@ -21,9 +21,10 @@ use Rattle.trace_worker.specs.Together.{all_live}
 use Rattle.trace_worker.specs.Worker.{Fits, HasSeats, IsHeld}
 use Rattle.smr_clock.specs.Belongs.{IsOf}
 use Rattle.trace_setting.specs.Kegs.{keg_place}
+use Rattle.trace_setting.proofs.Lists.{has_too}
 use Rattle.trace_census.specs.Lending.{AllFit, AreFew, KeepsWorker, KeepsWorkers, live_times, lent_times, seen_slot, slot_times}
-use Rattle.trace_totals.specs.Summing.{seat_times, seat_deferred}
-use Rattle.trace_totals.proofs.Heard.{at_too, one_at}
+use Rattle.trace_totals.specs.Closes.{seat_times, seat_deferred}
+use Rattle.trace_totals.proofs.Heard.{one_at}
 use Rattle.trace_totals.proofs.Picks.{sum_same, sum_through, sum_filtered}
 
 -- ---- by what is seen of the slots
@@ -123,13 +124,13 @@ worker_kept zones clock old new kept fits = record {
 }
 
 pub fits_kept : (zones : List CountedZone) (clock : BareClock) (old new : List Worker) → KeepsWorkers old new → AllFit zones clock old → AllFit zones clock new
-fits_kept zones clock old new keeps fits n w at = let was = at_too old new n w keeps.count at in worker_kept zones clock was.0 w (keeps.each n was.0 w was.1 at) (fits n was.0 was.1)
+fits_kept zones clock old new keeps fits n w at = let was = has_too old new n w keeps.count at in worker_kept zones clock was.0 w (keeps.each n was.0 w was.1 at) (fits n was.0 was.1)
 
 pub few_kept : (old new : List Worker) → KeepsWorkers old new → AreFew old → AreFew new
 few_kept old new keeps few = record {
   few = (let P : ℕ → Type 0 = λ n. n ≤ 16 in subst P (sym keeps.count) few.few);
   slots = λ n w at.
-      let was = at_too old new n w keeps.count at in
+      let was = has_too old new n w keeps.count at in
       let as_many : length was.0.slots ≡ length w.slots = sym (length-map was.0.slots seen_slot) ∙ ap length (sym (keeps.each n was.0 w was.1 at).slots) ∙ length-map w.slots seen_slot in
       let P : ℕ → Type 0 = λ m. m ≤ 65536 in
       subst P as_many (few.slots n was.0 was.1);
@@ -148,7 +149,7 @@ pub keeps_more : (old mid new : List Worker) → KeepsWorkers old mid → KeepsW
 keeps_more old mid new first then = record {
   count = then.count ∙ first.count;
   each = λ n a b was is.
-      let m = at_too mid old n a (sym first.count) was in
+      let m = has_too mid old n a (sym first.count) was in
       let p = first.each n a m.0 was m.1 in
       let q = then.each n m.0 b m.1 is in
       record { pass = q.pass ∙ p.pass; seats = q.seats ∙ p.seats; slots = q.slots ∙ p.slots; entered = q.entered ∙ p.entered; late = q.late ∙ p.late };

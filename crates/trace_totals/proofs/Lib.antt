@@ -1,5 +1,4 @@
 pub mod Adding
-pub mod Afterwards
 pub mod Bounds
 pub mod Closing
 pub mod Collected

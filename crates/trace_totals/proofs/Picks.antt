@@ -1,5 +1,5 @@
 -- Sums over what a test picks, on plain lists.
-use Rattle.std.proofs.Common.{◌≡◌, ℕ, zero, suc, ◌+◌, ◌*◌, ◌<◌, ◌≤◌, inl, inr, ◌⊎◌, List, [], ◌∷◌, ◌++◌, map, Bool, true, false, cond, Option, None, Some, refl, sym, ap, ◌∙◌, subst, arith, length, take, drop, get_or, zero-le}
+use Rattle.std.proofs.Common.{◌≡◌, ℕ, zero, suc, ◌+◌, ◌*◌, ◌<◌, ◌≤◌, List, [], ◌∷◌, map, Bool, true, false, cond, Option, None, Some, refl, sym, ap, ◌∙◌, subst, arith, length, drop, get_or, zero-le}
 use Rattle.std.proofs.Math.Nat.{suc-mul}
 use Rattle.std.proofs.Math.Seq.{drop-cons}
 use Rattle.std.proofs.Math.ListN.{drop_of_length-le}
@@ -9,8 +9,9 @@ use Rattle.std.specs.Prelude.{slice_get}
 use Rattle.std.specs.List.{sum_by, filter_map, cons_option}
 use Rattle.std.specs.Option.{option_map_or}
 use Rattle.uma_life.specs.Trail.{ShowsSame}
+use Rattle.uma_bucket.proofs.Tallied.{both_show}
 use Rattle.trace_totals.specs.Picking.{picked}
-use Rattle.trace_totals.proofs.Modulo.{both_show, shows_as}
+use Rattle.trace_totals.proofs.Modulo.{shows_as}
 
 -- ---- plain numbers
 
@@ -40,9 +41,6 @@ plus_none a b c p q = omega arith
 
 none_and : (a b c : ℕ) → a ≡ 0 → b ≡ c → a + b ≡ c
 none_and a b c p q = omega arith
-
-le_plus : (a b c d : ℕ) → a ≤ b → c ≤ d → a + c ≤ b + d
-le_plus a b c d p q = omega arith
 
 le_three : (a b c x y z : ℕ) → a ≤ b + c → x ≤ y + z → a + x ≤ b + y + (c + z)
 le_three a b c x y z p q = omega arith
@@ -165,29 +163,7 @@ unfolding kegged
 kegged_few test term m z [] each = zero-le
 kegged_few test term m z (a ∷ ls) each = one_times (length ls) m (cond (test z a) (term z) 0) (kegged test term (z + 1) ls) (few_if (test z a) (term z) m (each z)) (kegged_few test term m (z + 1) ls each)
 
--- ---- sums up to a place
-
-head_sum : (a b x y : ℕ) → a ≡ 0 → b ≡ x + y → a + x ≤ b
-head_sum a b x y p q = omega arith
-
-tail_sum : (a b w s t x : ℕ) → a ≡ w + s → b ≡ w + t → s + x ≤ t → a + x ≤ b
-tail_sum a b w s t x p q le = omega arith
-
-less_both : (z y : ℕ) → suc z < suc y → z < y
-less_both z y below = omega arith
-
-none_less : (z : ℕ) → z < 0 → ⊥
-none_less z below = omega arith
-
--- the terms before a later place have those before an earlier one, and the one there
-pub sums_to : {X : Type 0} (f : X → ℕ) (xs : List X) (z y : ℕ) (x : X) → z < y → slice_get xs z ≡ Some x → sum_by f (take z xs) + f x ≤ sum_by f (take y xs)
-sums_to f [] z y x below at = absurd (none-some x at)
-sums_to f (w ∷ xs) z zero x below at = absurd (none_less z below)
-sums_to {X} f (w ∷ xs) zero (suc y) x below at =
-    head_sum (sum_by f (take 0 (w ∷ xs))) (sum_by f (w ∷ take y xs)) (f x) (sum_by f (take y xs)) refl (sum_by-cons f w (take y xs) ∙ ap (λ (v : X). f v + sum_by f (take y xs)) (same_Some w x at))
-sums_to f (w ∷ xs) (suc z) (suc y) x below at =
-    tail_sum (sum_by f (w ∷ take z xs)) (sum_by f (w ∷ take y xs)) (f w) (sum_by f (take z xs)) (sum_by f (take y xs)) (f x) (sum_by-cons f w (take z xs)) (sum_by-cons f w (take y xs))
-    (sums_to f xs z y x (less_both z y below) at)
+-- ---- sums of terms
 
 -- two lists whose terms are the same, one by one
 pub sum_same : {X : Type 0} (f : X → ℕ) (xs ys : List X) → length ys ≡ length xs → ((n : ℕ) (x y : X) → slice_get xs n ≡ Some x → slice_get ys n ≡ Some y → f y ≡ f x) → sum_by f ys ≡ sum_by f xs
@@ -230,13 +206,3 @@ sum_few f m [] each = zero-le
 sum_few f m (x ∷ xs) each =
     let P : ℕ → Type 0 = λ n. n ≤ suc (length xs) * m in
     subst P (sym (sum_by-cons f x xs)) (one_times (length xs) m (f x) (sum_by f xs) (each 0 x refl) (sum_few f m xs (λ n y at. each (suc n) y at)))
-
--- what a list with one more at its end has at a place
-pub pushed : {X : Type 0} (xs : List X) (x : X) (n : ℕ) (y : X) → slice_get (xs ++ x ∷ []) n ≡ Some y → ((n ≡ length xs) × (x ≡ y)) ⊎ (slice_get xs n ≡ Some y)
-pushed [] x zero y e = inl (refl, same_Some x y e)
-pushed [] x (suc n) y e = absurd (none-some y e)
-pushed (w ∷ xs) x zero y e = inr e
-pushed (w ∷ xs) x (suc n) y e = elim (pushed xs x n y e) [
-  | inl last ↦ inl (ap suc last.0, last.1)
-  | inr before ↦ inr before
-]

@@ -3,9 +3,8 @@ use Rattle.std.specs.Prelude.{◌≡◌, ◌≤◌, ◌<◌, ◌+◌, ◌%◌, �
 use Rattle.smr_clock.specs.Belongs.{IsOf, holder, setup_of}
 use Rattle.smr_clock.specs.Notes.{IsNoteOf, note_holder}
 use Rattle.trace_worker.specs.declared.worker.Worker.{Worker}
-use Rattle.trace_worker.specs.Items.{BareClock}
+use Rattle.trace_worker.specs.Items.{BareClock, BareNote}
 use Rattle.trace_worker.specs.Worker.{phase_of, seen_of}
-use Rattle.trace_totals.specs.Notes.{BareNote}
 
 -- where the read hand stands at least, as a worker's pass knows
 abbrev pub floor_of : Worker → ℕ

@@ -1,26 +1,30 @@
 -- What all workers, zones and the clock come to when all lines are done (own).
-use Rattle.std.specs.Prelude.{◌≡◌, ◌≤◌, ◌+◌, ◌/◌, ◌==◌, ℕ, List, [], ◌∷◌, All, length, min, Some, cond, slice_get, slice_index_or}
+use Rattle.std.specs.Prelude.{◌≡◌, ◌≤◌, ◌+◌, ◌==◌, ℕ, List, [], ◌∷◌, length, Some, cond, slice_get, slice_index_or}
 use Rattle.std.specs.List.{sum_by}
 use Rattle.std.specs.Option.{option_map_or}
 use Rattle.trace_text.specs.declared.head.Head.{Head}
 use Rattle.trace_text.specs.declared.head.ZoneHead.{ZoneHead}
 use Rattle.uma_keg.specs.declared.census.Census.{Census}
-use Rattle.uma_keg.specs.Census.{census_counts, census_out, census_tally, census_table}
+use Rattle.uma_keg.specs.Census.{census_out, census_tally}
 use Rattle.uma_life.specs.declared.tally_sum.TallySum.{TallySum}
 use Rattle.uma_life.specs.Hook.{Hook, Ctor, Dtor}
 use Rattle.uma_life.specs.Sum.{sum_of}
 use Rattle.uma_life.specs.Trail.{ShowsSame}
 use Rattle.uma_seat.specs.Sums.{times_in_seat, deferred_in_seat}
-use Rattle.uma_zone.specs.Zone.{zone_home, zone_index, zone_size, zone_cap, zone_reserve, zone_rights}
+use Rattle.uma_zone.specs.Zone.{zone_index}
 use Rattle.trace_worker.specs.declared.worker.Worker.{Worker}
 use Rattle.trace_worker.specs.Items.{CountedZone}
 use Rattle.trace_worker.specs.Together.{all_live}
-use Rattle.trace_census.specs.Lending.{slot_times}
+use Rattle.trace_census.specs.Lending.{IsCensusOf, slot_times}
 use Rattle.trace_setting.specs.Kegs.{keg_place, primaries}
 
--- how often the items of the zone at place `z` passed a hook that the worker's slots hold, and that its seat caches or defers
+-- how often the items that the worker's seat of the zone at place `z` caches or defers passed a hook
+abbrev pub seat_times : Hook → ℕ → Worker → ℕ
+seat_times hook z w = option_map_or (times_in_seat hook) (slice_get w.seats.items z) 0
+
+-- the same, of these and of the zone's items that the worker's slots hold
 abbrev pub worker_times : Hook → ℕ → Worker → ℕ
-worker_times hook z w = slot_times hook z w + option_map_or (times_in_seat hook) (slice_get w.seats.items z) 0
+worker_times hook z w = slot_times hook z w + seat_times hook z w
 
 -- the same, of all workers
 abbrev pub zone_times : Hook → ℕ → List Worker → ℕ
@@ -31,17 +35,17 @@ abbrev pub keg_times : Hook → ℕ → ℕ → List ZoneHead → List Worker �
 keg_times hook p z [] workers = 0
 keg_times hook p z (line ∷ lines) workers = cond (keg_place z line == p) (zone_times hook z workers) 0 + keg_times hook p (z + 1) lines workers
 
--- the deferred items of the zone at place `z` in the workers' seats
+-- the deferred items in the worker's seat of the zone at place `z`
+abbrev pub seat_deferred : ℕ → Worker → ℕ
+seat_deferred z w = option_map_or deferred_in_seat (slice_get w.seats.items z) 0
+
+-- the same, of all workers
 abbrev pub seats_deferred : ℕ → List Worker → ℕ
-seats_deferred z workers = sum_by (λ w. option_map_or deferred_in_seat (slice_get w.seats.items z) 0) workers
+seats_deferred z workers = sum_by (seat_deferred z) workers
 
 -- A keg when all lines are done: its census, and how often the items of its zones passed each hook. Its primary zone stands at place `p`; `deferred` has for each zone how many of its items are.
 pub record KegCloses (head : Head) (zones : List CountedZone) (workers : List Worker) (deferred : List ℕ) (p : ℕ) (primary : CountedZone) (census : Census) (tally : TallySum) : Type 0 where
-  pub table : census_table census ≡ (zone_home primary).book
-  pub cap : (census_counts census).cap ≡ zone_cap primary
-  pub reserve : (census_counts census).reserve ≡ zone_reserve primary
-  pub per_slab : (census_counts census).per_slab ≡ min 256 (4096 / zone_size primary)
-  pub absent : All (λ zone. census_out census zone ≡ 0) (zone_rights primary)
+  pub counts : IsCensusOf primary census
   -- all slots lent their live items to the census
   pub lent : (z : ℕ) (line : ZoneHead) (zone : CountedZone) → slice_get head.zones z ≡ Some line → keg_place z line ≡ p → slice_get zones z ≡ Some zone → all_live z workers ≤ census_out census (zone_index zone)
   -- counted are the hooks that the census's items passed, and those in slots and seats, and more, since the domains list items too

@@ -1,6 +1,5 @@
 pub mod Clock
 pub mod Closes
-pub mod Notes
 pub mod Picking
 pub mod Summing
 pub mod Taking

@@ -1,23 +1,14 @@
 -- What the workers' seats of a zone and its memory domains list, summed up (own).
 use Rattle.std.specs.Prelude.{◌≡◌, ◌≤◌, ◌+◌, ◌*◌, ◌^◌, ℕ, List, Some, slice_get, take}
 use Rattle.std.specs.List.{sum_by}
-use Rattle.std.specs.Option.{option_map_or}
 use Rattle.uma_life.specs.Hook.{Hook}
 use Rattle.uma_life.specs.Sum.{sum_of}
 use Rattle.uma_bucket.specs.declared.sums.Sums.{Sums}
 use Rattle.uma_bucket.specs.Sums.{AreOfAtMost, Balance}
-use Rattle.uma_seat.specs.Sums.{times_in_seat, deferred_in_seat}
 use Rattle.uma_zone.specs.Zone.{zone_index, IsSeatOf}
 use Rattle.trace_worker.specs.declared.worker.Worker.{Worker}
 use Rattle.trace_worker.specs.Items.{CountedSeat, CountedZone}
-
--- how often the items that the worker's seat of the zone at place `z` lists passed a hook
-abbrev pub seat_times : Hook → ℕ → Worker → ℕ
-seat_times hook z w = option_map_or (times_in_seat hook) (slice_get w.seats.items z) 0
-
--- how many of them are deferred
-abbrev pub seat_deferred : ℕ → Worker → ℕ
-seat_deferred z w = option_map_or deferred_in_seat (slice_get w.seats.items z) 0
+use Rattle.trace_totals.specs.Closes.{seat_times, seat_deferred, seats_deferred}
 
 -- the worker has a seat of the zone, which stands at place `z`
 pub record HasSeat (zone : CountedZone) (z : ℕ) (w : Worker) : Type 0 where
@@ -44,4 +35,4 @@ pub record SumsUp (zone : CountedZone) (z : ℕ) (workers : List Worker) (sums :
   pub few : AreOfAtMost (2 ^ 35) sums
   pub balance : Balance (zone_index zone) sums
   pub tally : (hook : Hook) → sum_by (seat_times hook z) workers ≤ sum_of sums.tally hook
-  pub deferred : sum_by (seat_deferred z) workers ≤ sums.deferred
+  pub deferred : seats_deferred z workers ≤ sums.deferred

@@ -13,7 +13,7 @@ use Rattle.trace_worker.specs.declared.held.Held.{Held}
 use Rattle.trace_worker.specs.declared.worker.Worker.{Worker}
 use Rattle.trace_worker.specs.Items.{BareClock, CountedSeat, CountedZone, LiveItem}
 use Rattle.trace_worker.specs.Live.{holding}
-use Rattle.trace_worker.specs.Performs.{Allocs, EntersInTime, EntersLate, FreesSlot, KeepsHolds, KeepsSection}
+use Rattle.trace_worker.specs.Performs.{Allocs, EntersInTime, EntersLate, FreesSlot, KeepsHolds, KeepsSection, Reclaims}
 use Rattle.trace_worker.specs.Requests.{Ends, GivesBack, Requests}
 use Rattle.trace_worker.specs.Slots.{slot_at, filled, emptied}
 use Rattle.trace_worker.specs.Worker.{AreOfClock, Fits, HasSeats, IsHeld}
@@ -70,6 +70,22 @@ fits_free zones clock old new place slot zone before after fits below is_zone is
       seats = subst P (sym seats) (HasSeats-set zones old.seats.items place zone before after fits.seats at_zone at_seat is_seat_of);
       pass = pass;
       slots = subst Q (sym slots) (AreHeld-emptied zones old.slots slot fits.slots);
+    }
+
+-- a worker after a call of reclaim
+pub fits_reclaim : (zones : List CountedZone) (clock : BareClock) (old new : Worker) (place : ℕ) (zone : CountedZone) (before after : CountedSeat)
+    → Fits zones clock old → place < length zones → zone ≡ get_or zones place zone → before ≡ get_or old.seats.items place before
+    → IsSeatOf zone after → IsOf clock new.pass
+    → new.seats.items ≡ slice_set old.seats.items place after → new.slots ≡ old.slots → Fits zones clock new
+fits_reclaim zones clock old new place zone before after fits below is_zone is_seat is_seat_of pass seats slots =
+    let at_zone = entry_at zones place zone below is_zone in
+    let at_seat = entry_at old.seats.items place before (below_as below fits.seats.count) is_seat in
+    let P : List CountedSeat → Type 0 = HasSeats zones in
+    let Q : List (Option Held) → Type 0 = AreHeld zones in
+    record {
+      seats = subst P (sym seats) (HasSeats-set zones old.seats.items place zone before after fits.seats at_zone at_seat is_seat_of);
+      pass = pass;
+      slots = subst Q (sym slots) fits.slots;
     }
 
 -- a worker whose seats and slots stay
@@ -139,6 +155,22 @@ frees_at zones clock old new slot it zone before after fits holds is_zone is_sea
         section = section;
       },
     )
+
+pub reclaims_at : (zones : List CountedZone) (clock : BareClock) (Leaves : CountedSeat → CountedSeat → Type 0) (old new : Worker) (place : ℕ) (zone : CountedZone) (before after : CountedSeat)
+    → Fits zones clock old → place < length zones → zone ≡ get_or zones place zone → before ≡ get_or old.seats.items place before
+    → Leaves before after → new.seats.items ≡ slice_set old.seats.items place after → new.slots ≡ old.slots
+    → KeepsSection old new → Reclaims zones Leaves old place new
+reclaims_at zones clock Leaves old new place zone before after fits below is_zone is_seat leaves seats slots section = record {
+  of = zone;
+  is_zone = entry_at zones place zone below is_zone;
+  before = before;
+  at = entry_at old.seats.items place before (below_as below fits.seats.count) is_seat;
+  after = after;
+  leaves = leaves;
+  seats = seats;
+  slots = slots;
+  section = section;
+}
 
 -- an empty slot is emptied
 pub fits_none : (zones : List CountedZone) (clock : BareClock) (old : Worker) (slot : ℕ) (slots : List (Option Held)) → Fits zones clock old → slots ≡ emptied old.slots slot → Fits zones clock (record old { slots = slots })

@@ -17,12 +17,14 @@ use Rattle.trace_worker.specs.declared.held.Held.{Held}
 use Rattle.trace_worker.specs.declared.worker.Worker.{Worker}
 use Rattle.trace_worker.specs.Items.{CountedSeat, CountedZone, LiveItem}
 use Rattle.trace_worker.specs.Live.{holding, is_of, live_count}
-use Rattle.trace_worker.specs.Performs.{Allocs, Frees, KeepsHolds, CanPerform, Performs}
+use Rattle.trace_worker.specs.Performs.{Allocs, Frees, KeepsHolds, Reclaims, CanPerform, Performs}
+use Rattle.trace_worker.specs.Reclaims.{KeepsSeat}
 use Rattle.trace_worker.specs.Requests.{Ends}
 use Rattle.trace_worker.specs.Slots.{slot_at, filled, with_held, emptied}
 use Rattle.trace_worker.specs.Turn.{Balances}
 use Rattle.trace_worker.proofs.Belongs.{some_within}
 use Rattle.trace_worker.proofs.Numbers.{balance_got, balance_still, balance_gave, balance_as, balance_chain, none_more, none_gone, below_as}
+use Rattle.trace_worker.proofs.ReclaimSteps.{flushed_keeps, drained_keeps}
 use Rattle.trace_worker.proofs.SlotLemmas.{count-with, count-emptied}
 
 -- the seat at a place after one was written: the written one, or the one that was there
@@ -118,6 +120,23 @@ balance_free zones old new slot it step z before after here there =
           subst P other.1 (balance_still (slots_are ∙ none_gone gone none) refl refl)
     ]
 
+-- a line of reclaim
+balance_reclaim : (zones : List CountedZone) (old new : Worker) (w : ℕ) → Reclaims zones KeepsSeat old w new → (z : ℕ) → Balances z old new
+balance_reclaim zones old new w step z before after here there =
+    let slots_are : live_count z new.slots ≡ live_count z old.slots = ap (live_count z) step.slots in
+    let ledger_is : ledger_of step.after ≡ ledger_of step.before = ap (λ c. c.ledger) step.leaves.counts in
+    elim (seat_cases old.seats.items new.seats.items z w step.before step.after before after step.at step.seats here there) [
+      | inl same ↦
+          let P : CountedSeat → Type 0 = λ b. live_count z new.slots + (ledger_of after).frees + (ledger_of b).allocs ≡ live_count z old.slots + (ledger_of b).frees + (ledger_of after).allocs in
+          let Q : CountedSeat → Type 0 = λ a. live_count z new.slots + (ledger_of a).frees + (ledger_of step.before).allocs ≡ live_count z old.slots + (ledger_of step.before).frees + (ledger_of a).allocs in
+          let frees : (ledger_of step.after).frees ≡ (ledger_of step.before).frees = ap (λ (l : SeatLedger). l.frees) ledger_is in
+          let allocs : (ledger_of step.after).allocs ≡ (ledger_of step.before).allocs = ap (λ (l : SeatLedger). l.allocs) ledger_is in
+          subst P same.1 (subst Q same.2 (balance_still slots_are frees allocs))
+      | inr other ↦
+          let P : CountedSeat → Type 0 = λ a. live_count z new.slots + (ledger_of a).frees + (ledger_of before).allocs ≡ live_count z old.slots + (ledger_of before).frees + (ledger_of a).allocs in
+          subst P other.1 (balance_still slots_are refl refl)
+    ]
+
 -- seats and slots stay
 balance_holds : (old new : Worker) → KeepsHolds old new → (z : ℕ) → Balances z old new
 balance_holds old new holds z before after here there =
@@ -142,9 +161,9 @@ balance_step zones old new (Prealloc zone items) can step = Balances-self old ne
 balance_step zones old new (Bind key value) can step = absurd can
 balance_step zones old new (Unbind key) can step = absurd can
 balance_step zones old new (Look key) can step = absurd can
-balance_step zones old new (Trim zone) can step = absurd can
-balance_step zones old new (Drain zone) can step = absurd can
-balance_step zones old new (DrainSeat zone) can step = absurd can
+balance_step zones old new (Trim zone) can step = balance_reclaim zones old new zone (flushed_keeps zones old new zone step)
+balance_step zones old new (Drain zone) can step = balance_reclaim zones old new zone (flushed_keeps zones old new zone step)
+balance_step zones old new (DrainSeat zone) can step = balance_reclaim zones old new zone (drained_keeps zones old new zone step)
 
 -- one after another
 pub Balances-chain : (z : ℕ) (first second third : Worker) → length second.seats.items ≡ length third.seats.items → Balances z first second → Balances z second third → Balances z first third

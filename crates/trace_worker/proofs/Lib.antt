@@ -13,6 +13,8 @@ pub mod Moving
 pub mod NewRooms
 pub mod NewSeats
 pub mod Numbers
+pub mod Plays
+pub mod ReclaimSteps
 pub mod SeatCalls
 pub mod SeenSteps
 pub mod SlotLemmas

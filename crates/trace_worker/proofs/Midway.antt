@@ -17,7 +17,7 @@ use Rattle.trace_worker.specs.declared.worker.Worker.{Worker}
 use Rattle.trace_worker.specs.Items.{BareClock, CountedZone}
 use Rattle.trace_text.specs.Built.{IsBuiltOp}
 use Rattle.trace_worker.specs.OwnLines.{worked, lines_before, own_ops}
-use Rattle.trace_worker.specs.Performs.{CanPerform, Performs}
+use Rattle.trace_worker.specs.Performs.{CanPerform, Performs, PerformsAll}
 use Rattle.trace_worker.specs.Slots.{slot_at}
 use Rattle.trace_worker.specs.Stands.{Stands}
 use Rattle.trace_worker.specs.Turn.{Balances, IsReady, most_asks}
@@ -27,6 +27,7 @@ use Rattle.trace_worker.proofs.Balance.{Balances-self, Balances-chain, balance_s
 use Rattle.trace_worker.proofs.Belongs.{some_within}
 use Rattle.trace_worker.proofs.LineCounts.{asked-few, freed-few, enters-few}
 use Rattle.trace_worker.proofs.Numbers.{below_as, room_for, rooms_for, no_more, up_to_none, none_few, few_so_far, one_more_within, some_more, few_more, one_more, asks_left, gave_up_left}
+use Rattle.trace_worker.proofs.Plays.{plays-none, plays-more}
 use Rattle.trace_worker.proofs.SeenSteps.{seen_step}
 use Rattle.trace_worker.proofs.StandSteps.{stand_step}
 use Rattle.trace_worker.proofs.Worked.{worked-none, worked-more, length-worked, next_fits}
@@ -35,6 +36,7 @@ pub record Midway (zones : List CountedZone) (clock : BareClock) (n : ℕ) (befo
   pub within : i ≤ length ops
   pub fits : Fits zones clock now.worker
   pub stands : Stands zones clock n (worked n (take i ops) before) now.worker
+  pub plays : PerformsAll zones old.worker (take i ops) now.worker
   pub balances : (z : ℕ) → Balances z old.worker now.worker
   pub seen : seen_of old.worker ≤ seen_of now.worker
   pub asked_some : old.asked + i ≤ now.asked
@@ -95,9 +97,9 @@ can_of zones clock h n lines (Prealloc zone items) w built fits line count stand
 can_of zones clock h n lines (Bind key value) w built fits line count stands = absurd built
 can_of zones clock h n lines (Unbind key) w built fits line count stands = absurd built
 can_of zones clock h n lines (Look key) w built fits line count stands = absurd built
-can_of zones clock h n lines (Trim zone) w built fits line count stands = absurd built
-can_of zones clock h n lines (Drain zone) w built fits line count stands = absurd built
-can_of zones clock h n lines (DrainSeat zone) w built fits line count stands = absurd built
+can_of zones clock h n lines (Trim zone) w built fits line count stands = below_as fits count
+can_of zones clock h n lines (Drain zone) w built fits line count stands = below_as fits count
+can_of zones clock h n lines (DrainSeat zone) w built fits line count stands = below_as fits count
 
 -- each ledger can count one more, and so can the counts of sections
 rooms_of : (zones : List CountedZone) (clock : BareClock) (n : ℕ) (lines : List Line) (w : Worker) → length lines < 2 ^ 32 → Fits zones clock w → Stands zones clock n lines w → HasRooms w
@@ -120,6 +122,7 @@ Midway-new t zones clock k n ops r ready =
       within = zero-le;
       fits = ready.fits;
       stands = subst P (sym (worked-none n ops (lines_before t.rounds k))) ready.stands;
+      plays = plays-none zones ops r.worker;
       balances = Balances-self r.worker r.worker refl;
       seen = le_refl (seen_of r.worker);
       asked_some = no_more r.asked;
@@ -175,6 +178,7 @@ Midway-more zones clock n i before ops d old now waited next below midway same c
       within = one_more_within below;
       fits = fits;
       stands = subst P (sym (worked-more n i ops d before below)) (stand_step zones clock n (get_or ops i d) (worked n (take i ops) before) now.worker next.worker midway.fits.pass can step midway.stands);
+      plays = plays-more zones i ops d old.worker now.worker next.worker below midway.plays step;
       balances = λ z. Balances-chain z old.worker now.worker next.worker (midway.fits.seats.count ∙ sym fits.seats.count) (midway.balances z) (balance_step zones now.worker next.worker (get_or ops i d) can step z);
       seen = le_trans midway.seen (seen_step zones (get_or ops i d) now.worker next.worker can step);
       asked_some = some_more old.asked i midway.asked_some some;

@@ -24,7 +24,8 @@ use Rattle.trace_worker.specs.Counting.{enters, is_ask, is_ask_with_arg, is_ente
 use Rattle.trace_worker.specs.Items.{BareClock, CountedSeat, CountedZone, LiveItem}
 use Rattle.trace_worker.specs.LedgerStands.{LedgerStands}
 use Rattle.trace_worker.specs.Live.{holding}
-use Rattle.trace_worker.specs.Performs.{Allocs, Frees, FreesSlot, EntersInTime, EntersLate, Leaves, KeepsHolds, IsBetween, CanPerform, Performs, ask_of}
+use Rattle.trace_worker.specs.Performs.{Allocs, Frees, FreesSlot, EntersInTime, EntersLate, Leaves, KeepsHolds, Reclaims, IsBetween, CanPerform, Performs, ask_of}
+use Rattle.trace_worker.specs.Reclaims.{KeepsSeat}
 use Rattle.trace_worker.specs.Requests.{Ends}
 use Rattle.trace_worker.specs.Slots.{slot_at, filled, with_held, emptied}
 use Rattle.trace_worker.specs.Stands.{NamesZone, Stands}
@@ -34,6 +35,7 @@ use Rattle.trace_worker.specs.Worker.{phase_of, seen_of}
 use Rattle.trace_worker.proofs.Numbers.{sum_same, sum_first, sum_second, sum_kept, still_some, far_above, below_as, below_next, few_as}
 use Rattle.trace_worker.proofs.LedgerSteps.{LedgerStands-other, LedgerStands-other_zone, LedgerStands-served, LedgerStands-turned, LedgerStands-dropped, LedgerStands-freed}
 use Rattle.trace_worker.proofs.LineCounts.{enters-more, is_enter-own}
+use Rattle.trace_worker.proofs.ReclaimSteps.{flushed_keeps, drained_keeps}
 use Rattle.trace_worker.proofs.SlotLemmas.{slot_at-with_same, slot_at-with_other, slot_at-emptied_same, slot_at-emptied_other, emptied_none, length-emptied, length-filled}
 use Rattle.trace_worker.proofs.SlotReading.{held-own, in_section-own, held-alloc_same, held-alloc_other, held-free_other}
 
@@ -294,6 +296,42 @@ stands_prealloc zones clock n zone items lines old stands =
     (reads_quiet n (Prealloc zone items) lines old.slots (λ slot o. refl) stands.filled)
     (in_section-own lines n (Prealloc zone items)) refl stands
 
+-- a line of reclaim, which leaves the ledger of its seat
+stands_reclaim : (zones : List CountedZone) (clock : BareClock) (n : ℕ) (op : Op) (z : ℕ) (lines : List Line) (old new : Worker) → ((i : ℕ) → is_ask n i (Does n op) ≡ false) → ((i : ℕ) → is_ask_with_arg n i (Does n op) ≡ false)
+    → ((slot : ℕ) (o : Option ℕ) → held_after op slot o ≡ o) → in_section (Does n op ∷ lines) n ≡ in_section lines n → is_enter n (Does n op) ≡ false
+    → Reclaims zones KeepsSeat old z new → Stands zones clock n lines old → Stands zones clock n (Does n op ∷ lines) new
+stands_reclaim zones clock n op z lines old new no_ask no_arg quiet same_section no_enter step stands =
+    let P : ℕ → CountedZone → CountedSeat → Type 0 = λ i zone seat. LedgerStands (NamesZone zone) n i (Does n op ∷ lines) (ledger_of seat) in
+    let Q : List (Option Held) → Type 0 = ReadsAs n (Does n op ∷ lines) in
+    let R : SeatLedger → Type 0 = LedgerStands (NamesZone step.of) n z lines in
+    let ledger_is : ledger_of step.after ≡ ledger_of step.before = ap (λ c. c.ledger) step.leaves.counts in
+    let was : LedgerStands (NamesZone step.of) n z lines (ledger_of step.after) = subst R (sym ledger_is) (stands.ledgers z step.of step.before step.is_zone step.at) in
+    record {
+      ledgers = zones_go zones old.seats.items new.seats.items z step.of step.before step.after P step.is_zone step.at step.seats
+          (LedgerStands-other (NamesZone step.of) n z lines (Does n op) (ledger_of step.after) (no_ask z) (no_arg z) was)
+          (λ i zone seat apart is_zone at. LedgerStands-other (NamesZone zone) n i lines (Does n op) (ledger_of seat) (no_ask i) (no_arg i) (stands.ledgers i zone seat is_zone at));
+      filled = subst Q (sym step.slots) (reads_quiet n op lines old.slots quiet stands.filled);
+      few = few_as (ap length step.slots) stands.few;
+      outside = λ closed. step.section.phase ∙ stands.outside (sym same_section ∙ closed);
+      between = between_same old new step.section.phase stands.between;
+      enters_add_up = sum_same step.section.entered step.section.late stands.enters_add_up (enters_quiet n op lines no_enter);
+      begun = le_trans stands.begun step.section.seen;
+      overtaken = λ some. le_trans (stands.overtaken (still_some step.section.late some)) step.section.seen;
+    }
+
+pub stands_trim : (zones : List CountedZone) (clock : BareClock) (n z : ℕ) (lines : List Line) (old new : Worker) → Reclaims zones KeepsSeat old z new → Stands zones clock n lines old → Stands zones clock n (Does n (Trim z) ∷ lines) new
+stands_trim zones clock n z lines old new step stands =
+    stands_reclaim zones clock n (Trim z) z lines old new (λ i. refl) (λ i. refl) (λ slot o. refl) (in_section-own lines n (Trim z)) refl step stands
+
+pub stands_drain : (zones : List CountedZone) (clock : BareClock) (n z : ℕ) (lines : List Line) (old new : Worker) → Reclaims zones KeepsSeat old z new → Stands zones clock n lines old → Stands zones clock n (Does n (Drain z) ∷ lines) new
+stands_drain zones clock n z lines old new step stands =
+    stands_reclaim zones clock n (Drain z) z lines old new (λ i. refl) (λ i. refl) (λ slot o. refl) (in_section-own lines n (Drain z)) refl step stands
+
+pub stands_drain_seat : (zones : List CountedZone) (clock : BareClock) (n z : ℕ) (lines : List Line) (old new : Worker) → Reclaims zones KeepsSeat old z new → Stands zones clock n lines old
+    → Stands zones clock n (Does n (DrainSeat z) ∷ lines) new
+stands_drain_seat zones clock n z lines old new step stands =
+    stands_reclaim zones clock n (DrainSeat z) z lines old new (λ i. refl) (λ i. refl) (λ slot o. refl) (in_section-own lines n (DrainSeat z)) refl step stands
+
 -- a line of any kind
 pub stand_step : (zones : List CountedZone) (clock : BareClock) (n : ℕ) (op : Op) (lines : List Line) (old new : Worker) → IsOf clock old.pass → CanPerform zones old op → Performs zones old op new
     → Stands zones clock n lines old → Stands zones clock n (Does n op ∷ lines) new
@@ -307,6 +345,6 @@ stand_step zones clock n (Prealloc zone items) lines old new of can step stands 
 stand_step zones clock n (Bind key value) lines old new of can step stands = absurd can
 stand_step zones clock n (Unbind key) lines old new of can step stands = absurd can
 stand_step zones clock n (Look key) lines old new of can step stands = absurd can
-stand_step zones clock n (Trim zone) lines old new of can step stands = absurd can
-stand_step zones clock n (Drain zone) lines old new of can step stands = absurd can
-stand_step zones clock n (DrainSeat zone) lines old new of can step stands = absurd can
+stand_step zones clock n (Trim zone) lines old new of can step stands = stands_trim zones clock n zone lines old new (flushed_keeps zones old new zone step) stands
+stand_step zones clock n (Drain zone) lines old new of can step stands = stands_drain zones clock n zone lines old new (flushed_keeps zones old new zone step) stands
+stand_step zones clock n (DrainSeat zone) lines old new of can step stands = stands_drain_seat zones clock n zone lines old new (drained_keeps zones old new zone step) stands

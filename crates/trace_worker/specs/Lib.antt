@@ -8,6 +8,7 @@ pub mod Live
 pub mod Making
 pub mod OwnLines
 pub mod Performs
+pub mod Reclaims
 pub mod Requests
 pub mod Slots
 pub mod Stands

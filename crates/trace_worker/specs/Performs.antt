@@ -1,5 +1,5 @@
 -- What each kind of line does to its worker (own).
-use Rattle.std.specs.Prelude.{◌≡◌, ◌<◌, ◌≤◌, ◌+◌, ◌⊎◌, ℕ, Bool, List, length, Option, Some, None, option_map, slice_get, slice_set}
+use Rattle.std.specs.Prelude.{◌≡◌, ◌<◌, ◌≤◌, ◌+◌, ◌⊎◌, ℕ, Bool, List, [], ◌∷◌, length, Option, Some, None, option_map, slice_get, slice_set}
 use Rattle.smr_core.specs.declared.phase.Phase.TheVariants.{Outside, Inside}
 use Rattle.smr_clock.specs.declared.refused.Overtaken.{Overtaken}
 use Rattle.smr_clock.specs.Belongs.{view}
@@ -7,11 +7,12 @@ use Rattle.smr_clock.specs.Sections.{Enters, Misses}
 use Rattle.smr_clock.specs.Steps.{clearing}
 use Rattle.trace_text.specs.declared.op.Op.{Op}
 use Rattle.trace_text.specs.Limits.{last_slot}
-use Rattle.trace_text.specs.declared.op.Op.TheVariants.{Alloc, Free, Enter, Exit, Prealloc}
+use Rattle.trace_text.specs.declared.op.Op.TheVariants.{Alloc, Free, Enter, Exit, Prealloc, Trim, Drain, DrainSeat}
 use Rattle.uma_zone.specs.declared.alloc_ask.AllocAsk.{AllocAsk}
 use Rattle.trace_worker.specs.declared.held.Held.{Held}
 use Rattle.trace_worker.specs.declared.worker.Worker.{Worker}
 use Rattle.trace_worker.specs.Items.{CountedSeat, CountedZone, LiveItem}
+use Rattle.trace_worker.specs.Reclaims.{IsFlushed, IsDrained}
 use Rattle.trace_worker.specs.Requests.{Requests, GivesBack}
 use Rattle.trace_worker.specs.Slots.{slot_at, filled, emptied}
 use Rattle.trace_worker.specs.Live.{holding}
@@ -88,6 +89,18 @@ pub record Leaves (old new : Worker) : Type 0 where
   pub late : new.late ≡ old.late
   pub holds : KeepsHolds old new
 
+-- a line of reclaim: its call left this of the worker's seat of its zone
+pub record Reclaims (zones : List CountedZone) (Leaves : CountedSeat → CountedSeat → Type 0) (old : Worker) (zone : ℕ) (new : Worker) : Type 0 where
+  pub of : CountedZone
+  pub is_zone : slice_get zones zone ≡ Some of
+  pub before : CountedSeat
+  pub at : slice_get old.seats.items zone ≡ Some before
+  pub after : CountedSeat
+  pub leaves : Leaves before after
+  pub seats : new.seats.items ≡ slice_set old.seats.items zone after
+  pub slots : new.slots ≡ old.slots
+  pub section : KeepsSection old new
+
 -- what a request asks
 abbrev pub ask_of : ℕ → Bool → AllocAsk
 ask_of arg reserve = record { arg = arg; reserve = reserve }
@@ -96,13 +109,16 @@ ask_of arg reserve = record { arg = arg; reserve = reserve }
 abbrev pub IsBetween : Worker → Type 0
 IsBetween w = (phase_of w ≡ Outside) ⊎ (phase_of w ≡ Inside)
 
--- What a line needs. Lines of names and of reclaim aren't done yet.
+-- What a line needs. Lines of names aren't done yet.
 abbrev pub CanPerform : List CountedZone → Worker → Op → Type 0
 CanPerform zones w (Alloc zone slot arg reserve) = (zone < length zones) × (arg ≤ 254) × (slot_at w.slots slot ≡ None) × (slot ≤ last_slot)
 CanPerform zones w (Free slot) = Unit {0}
 CanPerform zones w Enter = phase_of w ≡ Outside
 CanPerform zones w Exit = IsBetween w
 CanPerform zones w (Prealloc zone items) = (zone < length zones) × (items ≤ 262144)
+CanPerform zones w (Trim zone) = zone < length zones
+CanPerform zones w (Drain zone) = zone < length zones
+CanPerform zones w (DrainSeat zone) = zone < length zones
 CanPerform zones w op = ⊥
 
 -- what it does
@@ -112,4 +128,12 @@ Performs zones old (Free slot) new = FreesSlot zones old slot new
 Performs zones old Enter new = EntersInTime old new ⊎ EntersLate old new
 Performs zones old Exit new = Leaves old new
 Performs zones old (Prealloc zone items) new = new ≡ old
+Performs zones old (Trim zone) new = Reclaims zones IsFlushed old zone new
+Performs zones old (Drain zone) new = Reclaims zones IsFlushed old zone new
+Performs zones old (DrainSeat zone) new = Reclaims zones IsDrained old zone new
 Performs zones old op new = ⊥
+
+-- what lines do, one after another
+unfoldable pub PerformsAll : List CountedZone → Worker → List Op → Worker → Type 0
+PerformsAll zones old [] new = new ≡ old
+PerformsAll zones old (op ∷ ops) new = (next : Worker) × Performs zones old op next × PerformsAll zones next ops new

@@ -9,6 +9,7 @@ use Rattle.trace_worker.specs.Items.{BareClock, CountedSeat, CountedZone}
 use Rattle.trace_text.specs.Built.{IsBuilt}
 use Rattle.trace_worker.specs.OwnLines.{lines_before, own_ops, worked}
 use Rattle.trace_worker.specs.Live.{live_count}
+use Rattle.trace_worker.specs.Performs.{PerformsAll}
 use Rattle.trace_worker.specs.Stands.{Stands}
 use Rattle.trace_worker.specs.Worker.{AreOfClock, Fits, seen_of}
 use Rattle.std.specs.Prelude.{Some, slice_get}
@@ -36,10 +37,11 @@ pub record IsReady (t : Trace) (zones : List CountedZone) (clock : BareClock) (k
   pub fits : Fits zones clock r.worker
   pub stands : Stands zones clock n (lines_before t.rounds k) r.worker
 
--- What its turn leaves: its own list on top of the lines before, and items and ledgers that go together.
+-- What its turn leaves: its own list on top of the lines before, and items and ledgers that go together. Line after line it did what each says.
 pub record HasWorked (t : Trace) (zones : List CountedZone) (clock : BareClock) (k n : ℕ) (old new : Running) : Type 0 where
   pub fits : Fits zones clock new.worker
   pub stands : Stands zones clock n (worked n (own_ops t.rounds k n) (lines_before t.rounds k)) new.worker
+  pub plays : PerformsAll zones old.worker (own_ops t.rounds k n) new.worker
   pub balances : (z : ℕ) → Balances z old.worker new.worker
   -- its pass forgets nothing
   pub seen : seen_of old.worker ≤ seen_of new.worker

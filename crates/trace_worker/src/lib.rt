@@ -2,7 +2,8 @@
 //!
 //! A [`Worker`] owns a pass of the clock, a seat of each zone and what its slots hold, and shares the zones and the clock
 //! with the other workers by reference. [`Running::turn`] does a worker's own list of lines in one round, for a thread of
-//! its own; [`move_slot`] moves what a slot holds to another worker, between two rounds.
+//! its own; [`move_slot`] moves what a slot holds to another worker, between two rounds. The lines of reclaim are done
+//! through [`ReclaimCalls`], which the replay brings along.
 #![tactic(auto)]
 
 mod count_hooks;
@@ -14,6 +15,8 @@ mod held;
 mod items;
 mod making;
 mod performing;
+mod reclaim_calls;
+mod reclaiming;
 mod requesting;
 mod running;
 mod sections;
@@ -26,6 +29,7 @@ pub use gate::{FreeGate, Gate, Go};
 pub use giving::move_slot;
 pub use held::Held;
 pub use items::{CountedSeat, CountedZone};
+pub use reclaim_calls::ReclaimCalls;
 pub use running::Running;
 pub use slots::Slots;
 pub use worker::Worker;

@@ -5,6 +5,7 @@ ghost use Rattle.uma_zone.specs.Zone.{IsSeatOf};
 
 use crate::Memory;
 use crate::items::{CountedSeat, CountedZone};
+use crate::reclaim_calls::ReclaimCalls;
 use crate::worker::Worker;
 use smr_clock::{Bare, Clock};
 use std::alloc::Global;
@@ -17,12 +18,13 @@ impl Worker {
     /// Does one line of the worker, by its kind. Waits where the zones' calls do.
     ///
     /// After the Err, which is want of memory, the replay is over.
-    pub fn perform<R: Wait>(
+    pub fn perform<R: Wait, C: ReclaimCalls>(
         &mut self,
         rt: &R,
         alloc: Global,
         zones: &[CountedZone],
         clock: &Clock<Bare>,
+        reclaim: &C,
         op: Op,
     ) -> Result<(), Memory>
         requires can { CanPerform zones.now self.old op }
@@ -52,6 +54,9 @@ impl Worker {
                 Ok(())
             }
             Op::Prealloc { zone, items } => self.prealloc(rt, alloc, zones, zone, items),
+            Op::Trim { zone } => self.trim(rt, alloc, zones, clock, reclaim, zone),
+            Op::Drain { zone } => self.drain(rt, alloc, zones, clock, reclaim, zone),
+            Op::DrainSeat { zone } => self.drain_seat(rt, alloc, zones, clock, reclaim, zone),
             _ => unreachable!(),
         }
     }

@@ -5,6 +5,7 @@ ghost use Rattle.trace_worker.specs.Turn.{IsReady, HasWorked, most_asks};
 use crate::Memory;
 use crate::gate::{Gate, Go};
 use crate::items::CountedZone;
+use crate::reclaim_calls::ReclaimCalls;
 use crate::worker::Worker;
 use smr_clock::{Bare, Clock};
 use std::alloc::Global;
@@ -44,7 +45,7 @@ impl Running {
     /// The turn of worker `number` in a round: it does its own list of operations, and asks the gate before each of them.
     /// A gate that holds is asked again, at most 100,000,000 times; then the worker goes on, and counts that it gave up.
     /// Want of memory ends the turn. Waits where the worker's lines do.
-    pub fn turn<R: Wait, G: Gate>(
+    pub fn turn<R: Wait, G: Gate, C: ReclaimCalls>(
         &mut self,
         rt: &R,
         alloc: Global,
@@ -52,6 +53,7 @@ impl Running {
         zones: &[CountedZone],
         clock: &Clock<Bare>,
         gate: &G,
+        reclaim: &C,
         round: usize,
         number: usize,
     )
@@ -59,10 +61,10 @@ impl Running {
         ensures worked { OnOk self.new.ended (HasWorked trace.now zones.now clock.now round number self.old self.new) }
         ensures free { G.is_free gate.now → self.new.gave_up ≡ self.old.gave_up }
     {
-        self.ended = self.work(rt, alloc, trace, zones, clock, gate, round, number);
+        self.ended = self.work(rt, alloc, trace, zones, clock, gate, reclaim, round, number);
     }
 
-    fn work<R: Wait, G: Gate>(
+    fn work<R: Wait, G: Gate, C: ReclaimCalls>(
         &mut self,
         rt: &R,
         alloc: Global,
@@ -70,6 +72,7 @@ impl Running {
         zones: &[CountedZone],
         clock: &Clock<Bare>,
         gate: &G,
+        reclaim: &C,
         round: usize,
         number: usize,
     ) -> Result<(), Memory>
@@ -80,7 +83,8 @@ impl Running {
         let ops = own_list(trace, round, number);
         for place in 0..ops.len() {
             self.await_gate(gate, number as u32, place as u64 + 1);
-            self.worker.perform(rt, alloc, zones, clock, ops[place])?;
+            self.worker
+                .perform(rt, alloc, zones, clock, reclaim, ops[place])?;
             gate.done(number as u32, place as u64 + 1);
         }
         Ok(())

@@ -93,6 +93,11 @@ fn an_item_is_given_and_a_refused_request_is_none(rt: HostRuntime) -> Result<(),
     move_slot(alloc, workers.as_mut_slice(), 0, 3, 1, 5)?;
     assert!(rt; workers[1].worker.slots.len() == 6);
     assert!(rt; workers[0].worker.slots.take(3).is_none());
+    let Some(item) = workers[1].worker.slots.take(5) else {
+        return Err(Fail::new("no item"));
+    };
+    assert!(rt; workers[1].worker.slots.take(5).is_none());
+    workers[1].worker.slots.put(alloc, 5, item)?;
     assert!(rt; workers[1].worker.slots.take(5).is_some());
     Ok(())
 }

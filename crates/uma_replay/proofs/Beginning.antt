@@ -13,8 +13,10 @@ use Rattle.trace_worker.specs.Together.{AddsUp, AllStand, crew}
 use Rattle.trace_setting.specs.declared.setting.Setting.{Setting}
 use Rattle.trace_setting.specs.Setting.{IsSetUp}
 use Rattle.trace_rounds.specs.DoneBy.{done_by, is_by}
+use Rattle.trace_rounds.specs.Plays.{AllPlay}
 use Rattle.trace_rounds.specs.Rounds.{AllAsked, GaveUpAsBefore, IsBegun}
 use Rattle.uma_replay.specs.Hall.{AreDone}
+use Rattle.uma_replay.proofs.Playing.{played_of}
 
 few_enough : (n : ℕ) → n ≤ 16777216 → n < 2 ^ 31
 few_enough n few = omega arith
@@ -36,15 +38,16 @@ begun_of t s valid built few is = record {
 
 -- the workers when all rounds are done
 pub done_of : (t : Trace) (s : Setting) (runnings : List Running) (workers : List _) → IsSetUp t s → length runnings ≡ length s.workers.items
-    → AllStand s.zones.items s.clock (reverse (lines_of t.rounds)) (crew runnings) → ((z : ℕ) → AddsUp z (crew runnings)) → workers ≡ crew runnings
+    → AllStand s.zones.items s.clock (reverse (lines_of t.rounds)) (crew runnings) → ((z : ℕ) → AddsUp z (crew runnings)) → AllPlay s.zones.items t.rounds s.workers.items runnings → workers ≡ crew runnings
     → AreDone t s.zones.items s.clock workers
-done_of t s runnings workers is count stand adds_up same =
+done_of t s runnings workers is count stand adds_up plays same =
     let P : List _ → Type 0 = λ ws. AreDone t s.zones.items s.clock ws in
     subst P (sym same) (record {
       clock_made = is.clock;
       zones_made = is.zones;
       worker_count = length-map runnings (λ r. r.worker) ∙ (count ∙ is.begin.one_each);
       stand = stand;
+      played = played_of t s runnings is count (λ n w at. (stand.fits n w at).pass) plays;
       adds_up = adds_up;
     })
 

@@ -27,6 +27,7 @@ use Rattle.uma_replay.specs.Report.{StandsFor}
 use Rattle.uma_replay.specs.Reporting.{HaveKegs}
 use Rattle.uma_replay.proofs.Entries.{entries_are}
 use Rattle.uma_replay.proofs.KegSums.{shares}
+use Rattle.uma_replay.proofs.Playing.{played_stay}
 use Rattle.uma_replay.proofs.Primaries.{keg_within}
 use Rattle.uma_replay.proofs.ReportStands.{HasPrimary, has_primary, stands_for}
 use Rattle.uma_replay.proofs.Staying.{AllStay, all_stand, adds_stay, learn_stay, kept_stay}
@@ -63,6 +64,7 @@ done_stay t zones clock old new s d = record {
   zones_made = d.zones_made;
   worker_count = s.count ∙ d.worker_count;
   stand = all_stand zones clock (reverse (lines_of t.rounds)) old new s d.stand;
+  played = played_stay t zones clock old new s d.played;
   adds_up = λ z. adds_stay clock old new s z (d.adds_up z);
 }
 

@@ -1,11 +1,13 @@
 pub mod Beginning
 pub mod Entries
 pub mod Filled
+pub mod FirstTurn
 pub mod HallOf
 pub mod KegLines
 pub mod KegSums
 pub mod OwnCounts
 pub mod PlainStands
+pub mod Playing
 pub mod Primaries
 pub mod Pushed
 pub mod ReportStands

@@ -54,9 +54,9 @@ use Rattle.uma_replay.proofs.ZoneFrees.{row_filled, all_filled}
 
 pub names_fit : (t : Trace) (n z : ℕ) (head : ZoneHead) (zone : CountedZone) → IsZoneOf t.head.zones t.head.domains z head zone
     → (r : Refusal) → is_ctor r ≡ false → NamesZone zone r → RefusalFits t n z head r
-names_fit t n z head zone is (AtLimit out limit) other names = (names.1.0 ∙ is.limit, names.1.1, names.1.2)
-names_fit t n z head zone is (Reserved free kept) other names = (names.1.0 ∙ is.reserve, names.1.1, names.1.2)
-names_fit t n z head zone is (Full slabs made) other names = names.1 ∙ is.cap
+names_fit t n z head zone is (AtLimit out limit) other names = (names.1.0 ∙ is.numbers.limit, names.1.1, names.1.2)
+names_fit t n z head zone is (Reserved free kept) other names = (names.1.0 ∙ is.numbers.reserve, names.1.1, names.1.2)
+names_fit t n z head zone is (Full slabs made) other names = names.1 ∙ is.numbers.cap
 -- no init of the replay refuses
 names_fit t n z head zone is (Init code) other names = absurd (none-some code names.1.4)
 names_fit t n z head zone is (Ctor code) other names = absurd (true≢false other)
@@ -330,7 +330,7 @@ module _ (t : Trace) (zones : List CountedZone) (clock : BareClock) (workers : L
       let closes = l.closes.kegs k p head owner.0 census.0 tally.0 at owner.1 census.1 tally.1 in
       let is_zone = l.are.each p head owner.0 at_head owner.1 in
       let counts = census_counts census.0 in
-      let each : counts.per_slab ≡ per_slab head = closes.per_slab ∙ ap (λ size. min 256 (4096 / size)) is_zone.size in
+      let each : counts.per_slab ≡ per_slab head = closes.counts.per_slab ∙ ap (λ size. min 256 (4096 / size)) is_zone.numbers.size in
       let own : keg_place p head ≡ p = ap (λ o. option_map_or (λ parent. parent) o p) primary.own in
       -- a zone of the keg finds this census
       let number : (q : ℕ) → q ≡ p → slice_get censuses (keg_number heads q) ≡ Some census.0 =
@@ -345,7 +345,7 @@ module _ (t : Trace) (zones : List CountedZone) (clock : BareClock) (workers : L
         free = counts.free;
         balanced = ap (λ n. counts.slabs * n) (sym each) ∙ census.0.balanced;
         eight = is_keg.eight census.0 census.1;
-        absent = subst B (l.are.rights p head owner.0 at_head primary.own owner.1) closes.absent;
+        absent = subst B (l.are.rights p head owner.0 at_head primary.own owner.1) closes.counts.absent;
         own = free_is heads censuses p head census.0 at_head (number (keg_place p head) own) ∙ own_free head.parent counts.free primary.own;
         own_out = out_is heads censuses p head census.0 at_head (number (keg_place p head) own) ∙ ap (census_out census.0) first;
         shared = λ z h at_h parent. out_is heads censuses z h census.0 at_h (number (keg_place z h) (ap (λ o. option_map_or (λ parent. parent) o z) parent));

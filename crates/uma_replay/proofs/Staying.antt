@@ -23,16 +23,8 @@ use Rattle.trace_worker.specs.Together.{AllStand, AddsUp, ledger_at, all_live, a
 use Rattle.trace_worker.specs.Worker.{Fits, HasSeats, IsHeld, phase_of, seen_of}
 use Rattle.trace_census.specs.Lending.{seen_slot, KeepsWorker, KeepsWorkers}
 use Rattle.trace_totals.specs.Clock.{AllLearn, Learns, ReadsHands, floor_of}
+use Rattle.uma_replay.specs.Playing.{Stays}
 use Rattle.uma_replay.proofs.PlainStands.{some_at}
-
-pub record Stays (clock : BareClock) (old new : Worker) : Type 0 where
-  pub seats : new.seats ≡ old.seats
-  pub slots : map seen_slot new.slots ≡ map seen_slot old.slots
-  pub entered : new.entered ≡ old.entered
-  pub late : new.late ≡ old.late
-  pub here : IsOf clock new.pass
-  pub phase : phase_of new ≡ phase_of old
-  pub seen : seen_of old ≤ seen_of new
 
 pub record AllStay (clock : BareClock) (old new : List Worker) : Type 0 where
   pub count : length new ≡ length old
@@ -144,7 +136,7 @@ stands_stay zones clock n lines old new s f = record {
 below_old : (n a b : ℕ) → n < a → a ≡ b → n < b
 below_old n a b below same = omega arith
 
-found_before : (old new : List Worker) (n : ℕ) (after : Worker) → length new ≡ length old → slice_get new n ≡ Some after → (before : Worker) × (slice_get old n ≡ Some before)
+pub found_before : (old new : List Worker) (n : ℕ) (after : Worker) → length new ≡ length old → slice_get new n ≡ Some after → (before : Worker) × (slice_get old n ≡ Some before)
 found_before old new n after count at = some_at old n (below_old n (length new) (length old) (slice_get_within new n after at) count)
 
 pub all_stand : (zones : List CountedZone) (clock : BareClock) (lines : List Line) (old new : List Worker) → AllStay clock old new → AllStand zones clock lines old → AllStand zones clock lines new

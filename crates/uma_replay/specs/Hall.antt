@@ -13,6 +13,7 @@ use Rattle.trace_setting.specs.Zones.{AreZones}
 use Rattle.trace_totals.specs.Clock.{ReadsHands}
 use Rattle.trace_totals.specs.Closes.{AllClose}
 use Rattle.uma_replay.specs.declared.hall.Hall.{Hall}
+use Rattle.uma_replay.specs.Playing.{AllPlayed}
 use Rattle.uma_replay.specs.Reporting.{IsReportOf}
 
 -- All lines of the trace are done.
@@ -23,6 +24,8 @@ pub record AreDone (t : Trace) (zones : List CountedZone) (clock : BareClock) (w
   -- each worker's seats, pass and items are of these zones and this clock, and it stands for all lines
   pub worker_count : length workers ≡ t.head.workers
   pub stand : AllStand zones clock (reverse (lines_of t.rounds)) workers
+  -- it began new and did its own lists, line after line, with the `give` lines between them
+  pub played : AllPlayed t zones clock workers
   -- the live items of each zone are its allocs less its frees
   pub adds_up : (z : ℕ) → AddsUp z workers
 

@@ -1,4 +1,5 @@
 pub mod Counting
+pub mod Playing
 pub mod Report
 pub mod Reporting
 pub mod Hall

@@ -13,5 +13,8 @@ mod summing_up;
 pub use collecting::collect;
 pub use hall::{CensusList, Hall, Played, Workers, ZoneList};
 pub use replaying::replay;
-pub use trace_worker::{FreeGate, Gate, Go};
+pub use trace_worker::{CountHooks, Counted, FreeGate, Gate, Go, ReclaimCalls};
 pub use zone_stats::Memory;
+
+#[cfg(test)]
+mod tests;

@@ -14,17 +14,19 @@ use std::thread::Threads;
 use trace_rounds::play;
 use trace_setting::{Setting, set_up};
 use trace_text::Trace;
-use trace_worker::Gate;
+use trace_worker::{Gate, ReclaimCalls};
 
 /// Replays a trace, each worker on a thread of its own, and reports what its ledgers, its kegs and its clock counted.
 ///
-/// The gate is asked before each operation. When all lines are done, a census of each keg is taken, and the clock's hands
-/// are read. Waits where a worker's lines do. `Memory` where memory is wanting; nothing else refuses a valid trace.
-pub fn replay<R: Threads + Wait + Sync, G: Gate + Sync>(
+/// The gate is asked before each operation, and `reclaim` does the lines of reclaim. When all lines are done, a census of
+/// each keg is taken, and the clock's hands are read. Waits where a worker's lines do. `Memory` where memory is wanting;
+/// nothing else refuses a valid trace.
+pub fn replay<R: Threads + Wait + Sync, G: Gate + Sync, C: ReclaimCalls + Sync>(
     rt: &R,
     alloc: Global,
     trace: &Trace,
     gate: &G,
+    reclaim: &C,
 ) -> Result<Played, Memory>
     requires valid { IsValid trace.now }
     requires built { IsBuilt trace.now }
@@ -46,6 +48,7 @@ pub fn replay<R: Threads + Wait + Sync, G: Gate + Sync>(
         zones.as_slice(),
         &clock,
         gate,
+        reclaim,
         workers.as_mut_slice(),
     )?;
     let gave_up = all_gave_up(workers.as_slice());

@@ -11,6 +11,7 @@ mod ended;
 mod fault;
 mod finish;
 mod making;
+mod reclaim;
 mod replaying;
 mod run;
 mod stepping;

@@ -14,6 +14,7 @@ ghost use Rattle.uma_replay.specs.declared.hall.Hall.{Hall as HallValue};
 ghost use Rattle.zone_stats.specs.declared.report.Report.{Report as ReportValue};
 
 use crate::fault::Fault;
+use crate::reclaim::Reclaim;
 use crate::run::MOST_BYTES;
 use std::alloc::Global;
 use std::sync::Wait;
@@ -49,7 +50,7 @@ pub fn replay<R: Threads + Wait + Sync, S: Source, G: Gate + Sync>(
 {
     let bytes = read_all(alloc, source, MOST_BYTES)?;
     let trace = built_trace(alloc, &bytes)?;
-    let played = uma_replay::replay(rt, alloc, &trace, gate)?;
+    let played = uma_replay::replay(rt, alloc, &trace, gate, &Reclaim)?;
     let text = table_text(alloc, &played.report)?;
     Ok((played, text))
 }

@@ -61,8 +61,9 @@ pub fn run<R: Threads + Wait + Sync, S: Source, K: Sink, G: Gate + Sync>(
     ensures unwritten { IsSome result.fault → result.fault ≢ Some Fault.Write → sink.new ≡ sink.old }
 
     // `replay`: a report stands for the trace that the bytes read are the text of, and for the zones, clock, workers and
-    // censuses of its hall; its text is written, and nothing else. Under a free gate no operation gave up waiting. A text is refused only at its first bad line, for the first thing that
-    // is wrong with it, or, with line 0, where its trace isn't one of those that are replayed so far.
+    // censuses of its hall; its text is written, and nothing else. Under a free gate no operation gave up waiting. A text is
+    // refused only at its first bad line, for the first thing that is wrong with it, or, with line 0, where its trace isn't
+    // one of those that are replayed so far.
     ensures replays { IfSome result.report (λ report. IfSome result.hall (λ ended.
         IfSome (S.bytes_left source.old) (Replays report (hall_in ended)))) }
     ensures free { G.is_free gate.now → IfSome result.report (λ report. report.gave_up ≡ 0) }

@@ -3,13 +3,17 @@
 ghost use Rattle.std.specs.Prelude.{◌≤◌};
 
 mod faults;
+mod halls;
 mod making;
+mod realistic;
+mod reclaim;
 mod refusals;
 mod rows;
 mod schedules;
 mod usage;
 mod zones;
 
+use crate::ended::Ended;
 use crate::finish::Finish;
 use crate::run::run;
 use std::alloc::Global;
@@ -17,7 +21,7 @@ use std::sync::Wait;
 use std::test::Fail;
 use std::thread::Threads;
 use uma_io::{MemSink, MemSource};
-use uma_replay::{FreeGate, Gate};
+use uma_replay::{FreeGate, Gate, Hall};
 
 /// The header of most rows.
 const HEADER: &str = "uma 1\nworkers 1\ndomains 1\n";
@@ -102,4 +106,14 @@ fn replayed<R: AllocGlobal + Threads + Wait + Sync>(
     input: &str,
 ) -> Result<(Finish, String), Fail> {
     end_of(rt, &["replay"], input, Outside::fine(rt.alloc()))
+}
+
+/// What the replay of this input leaves behind, where nothing of the outside fails.
+fn hall_of<R: AllocGlobal + Threads + Wait + Sync>(rt: &R, input: &str) -> Result<Hall, Fail> {
+    let (finish, _) = replayed(rt, input)?;
+    let Finish { hall, .. } = finish;
+    match hall {
+        Some(Ended::Plain { hall }) => Ok(hall),
+        None => Err(Fail::new("no hall")),
+    }
 }

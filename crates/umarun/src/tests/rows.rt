@@ -54,24 +54,38 @@ fn the_table_is_that_of_the_worked_rows(rt: HostRuntime) -> Result<(), Fail> {
     Ok(())
 }
 
-/// The lines of a trace behind its zone, the line that is refused, and its kind.
-fn refused_lines() -> [(&'static str, u64, TraceKind); 4] {
+/// The lines of a trace behind its header, the line that is refused, and its kind.
+fn refused_lines() -> [(&'static str, u64, TraceKind); 5] {
     [
-        ("", 5, TraceKind::NoEnd),
+        ("zone box 256 4 4 0 0 plain\n", 5, TraceKind::NoEnd),
         (
-            "alloc 0 box 0\nalloc 0 box 0\nend\n",
+            "zone box 256 4 4 0 0 plain\nalloc 0 box 0\nalloc 0 box 0\nend\n",
             6,
             TraceKind::SlotBusy,
         ),
-        ("free 0 0\nend\n", 5, TraceKind::SlotEmpty),
-        ("trim 0 box\nend\n", 0, TraceKind::Unbuilt),
+        (
+            "zone box 256 4 4 0 0 plain\nfree 0 0\nend\n",
+            5,
+            TraceKind::SlotEmpty,
+        ),
+        // A keg has eight zones, and no ninth one.
+        (
+            "zone box 256 4 4 0 0 plain\nsecond s1 box 4 0 plain\nsecond s2 box 4 0 plain\nsecond s3 box 4 0 plain\nsecond s4 box 4 0 plain\nsecond s5 box 4 0 plain\nsecond s6 box 4 0 plain\nsecond s7 box 4 0 plain\nsecond s8 box 4 0 plain\nend\n",
+            12,
+            TraceKind::Zones,
+        ),
+        (
+            "clock 1 8\nzone box 256 4 4 0 0 plain\nnames dir 8 2 4\ndrain 0 box\nend\n",
+            0,
+            TraceKind::Unbuilt,
+        ),
     ]
 }
 
 #[test]
 fn a_text_that_is_refused_leaves_no_report_and_writes_nothing(rt: HostRuntime) -> Result<(), Fail> {
     for (lines, line, kind) in refused_lines() {
-        let input = format!(in rt.alloc(); "{HEADER}zone box 256 4 4 0 0 plain\n{lines}")?;
+        let input = format!(in rt.alloc(); "{HEADER}{lines}")?;
         let (finish, written) = replayed(&rt, input.as_str())?;
         let refused = TraceRefused { line, kind };
         assert_eq!(rt; finish.fault, Some(Fault::Trace { refused }), "{lines}");

@@ -53,7 +53,7 @@ returns-clause-census g c primary at =
     let back : List LiveItem = c.in-Ok.lives in
     let says = c.in-Ok.ensures in
     let lends : Lends c.args.head.now c.args.clock.now zones c.args.workers.now c.args.place lives = record { head_fits = c.requires.head; are = c.requires.zones; fits = c.requires.fits; lent = c.from_vec.ensures ∙ c.in_ok-marks.ensures.lives } in
-    let own : Says found lives c.in-Ok.census = record { table = says.table; cap = says.cap; reserve = says.reserve; per_slab = says.per_slab; absent = says.absent; lent = says.lent } in
+    let own : Says found lives c.in-Ok.census = record { counts = record { table = says.table; cap = says.cap; reserve = says.reserve; per_slab = says.per_slab; absent = says.absent }; lent = says.lent } in
     let P : CountedZone → Type 0 = λ zone. Says zone lives c.in-Ok.census in
     takes_census c.args.head.now c.args.clock.now zones c.args.workers.now c.args.place primary c.in-Ok.census c.with_lives-tally.result lives back lends (subst P (same_Some found primary (sym here ∙ at)) own) says.items
     (λ hook. c.with_lives-tally.ensures hook ∙ (λ i. sum_of (c.tally.ensures.tally i) hook + live_sum hook (c.as_slice.ensures i)))

@@ -1,12 +1,30 @@
-use Rattle.std.proofs.Common.{◌≤◌, length, refl, rules}
+use Rattle.std.proofs.Common.{◌≡◌, ◌<◌, ◌≤◌, ◌∙◌, length, refl, rules}
 use Rattle.trace_rounds.proofs.Played.{begun, ended}
+use Rattle.trace_rounds.proofs.Plays.{play_all, play_more, play_none}
 use Rattle.trace_rounds.proofs.playing.play.Goals as goal
 
 pub loop-round-init : goal.loop-round-init
 loop-round-init g c = record {
   after = begun c.args.trace.now c.args.zones.now c.args.clock.now c.args.workers.now c.requires.ready;
+  plays = play_none c.args.zones.now c.args.trace.now.rounds c.args.workers.now;
   free = λ free. refl;
 }
+
+pub loop-round-preserved : goal.loop-round-preserved
+loop-round-preserved g c =
+    let below : c.loop-round.round < length c.args.trace.now.rounds = search rules in
+    let size : length c.play_round.new.workers ≡ length c.loop-round.workers = search rules in
+    record {
+      after = c.in_ok-play_round.ensures.after;
+      plays = play_more c.args.zones.now c.args.trace.now.rounds c.loop-round.round c.args.workers.now c.loop-round.workers c.play_round.new.workers below size c.loop-round.invariant.plays
+          c.in_ok-play_round.ensures.plays;
+      free = λ free. c.in_ok-play_round.ensures.free free ∙ c.loop-round.invariant.free free;
+    }
+
+pub returns-clause-plays : goal.returns-clause-plays
+returns-clause-plays g c =
+    let past : length c.args.trace.now.rounds ≤ c.loop-round.round = search rules in
+    play_all c.args.zones.now c.args.trace.now.rounds c.loop-round.round c.args.workers.now c.loop-round.workers past c.loop-round.invariant.plays
 
 pub returns-clause-stands : goal.returns-clause-stands
 returns-clause-stands g c =

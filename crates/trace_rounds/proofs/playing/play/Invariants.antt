@@ -1,3 +1,5 @@
+use Rattle.std.proofs.Common.{take}
+use Rattle.trace_rounds.specs.Plays.{AllPlay}
 use Rattle.trace_rounds.specs.Rounds.{AreAfter, GaveUpAsBefore}
 use Rattle.trace_worker.specs.OwnLines.{lines_before}
 use Rattle.trace_rounds.proofs.playing.play.Given as goal
@@ -5,5 +7,6 @@ use Rattle.trace_rounds.proofs.playing.play.Given as goal
 abbrev pub invariant-loop-round : goal.invariant-loop-round
 invariant-loop-round g l = record {
   after : AreAfter l.zones l.clock (lines_before l.trace.rounds l.round) l.workers;
+  plays : AllPlay l.zones (take l.round l.trace.rounds) l.initial.workers l.workers;
   free : g.G.Gate.is_free l.gate → GaveUpAsBefore l.initial.workers l.workers;
 }

@@ -3,6 +3,7 @@ use Rattle.trace_text.specs.declared.between.Between.{Between}
 use Rattle.trace_rounds.specs.Rounds.{AllMoved}
 use Rattle.trace_rounds.proofs.AfterRound.{all_ready, gave_up_same}
 use Rattle.trace_rounds.proofs.Played.{after_round, both_ok, some_workers, still_free}
+use Rattle.trace_rounds.proofs.Plays.{plays_round}
 use Rattle.trace_rounds.proofs.playing.play_round.Goals as goal
 
 pub work_round-requires-clause-some : goal.work_round-requires-clause-some
@@ -19,6 +20,13 @@ returns-clause-after g c =
     both_ok c.give_all.result _ _ _ c.give_all.ensures.rest c.give_all.ensures.moved (λ keeps moved.
     after_round c.args.trace.now c.args.zones.now c.args.clock.now c.args.round c.args.workers.now c.work_round.new.workers c.give_all.new.workers c.requires.suits c.requires.after
     size c.in_ok-all_ended.ensures c.work_round.ensures.worked keeps (subst P c.gives_of.ensures moved))
+
+pub returns-clause-plays : goal.returns-clause-plays
+returns-clause-plays g c =
+    let size : length c.work_round.new.workers ≡ length c.args.workers.now = search rules in
+    both_ok c.give_all.result _ _ _ c.give_all.ensures.rest c.give_all.ensures.rest (λ keeps again.
+    plays_round c.args.trace.now c.args.zones.now c.args.clock.now c.args.round c.args.workers.now c.work_round.new.workers c.give_all.new.workers
+    size c.in_ok-all_ended.ensures c.work_round.ensures.worked keeps)
 
 pub returns-clause-free : goal.returns-clause-free
 returns-clause-free g c free =

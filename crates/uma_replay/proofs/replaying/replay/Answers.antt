@@ -8,6 +8,7 @@ use Rattle.uma_replay.specs.Hall.{HallStands}
 use Rattle.uma_replay.specs.Report.{StandsFor}
 use Rattle.uma_replay.proofs.Beginning.{done_of, gave_ups, gave_ups_few, none_gave_up, written_back}
 use Rattle.uma_replay.proofs.HallOf.{stands_of_hall}
+use Rattle.uma_replay.proofs.Playing.{play_as}
 use Rattle.uma_replay.proofs.replaying.replay.Goals as goal
 
 pub all_gave_up-gave_up-requires : goal.all_gave_up-gave_up-requires
@@ -26,7 +27,8 @@ close-requires-clause-done g c =
     let same = written_back c.play.new.workers s.workers.items s.workers.len s.workers.ok.0 (c.play.ensures.count ∙ ap length c.as_mut_slice.ensures.value) in
     let P : List CountedZone → Type 0 = λ zones. AllStand zones s.clock (reverse (lines_of t.rounds)) (crew c.play.new.workers) in
     done_of t s c.play.new.workers c.in_ok-workers.workers.items c.in_ok-clock.ensures (c.play.ensures.count ∙ ap length c.as_mut_slice.ensures.value)
-    (subst P c.as_slice.ensures.value c.in_ok-play.ensures.stands) c.in_ok-play.ensures.adds_up (c.in_ok-workers.ensures ∙ ap crew same)
+    (subst P c.as_slice.ensures.value c.in_ok-play.ensures.stands) c.in_ok-play.ensures.adds_up
+    (play_as t.rounds s.zones.items _ s.workers.items _ c.play.new.workers c.as_slice.ensures.value c.as_mut_slice.ensures.value c.in_ok-play.ensures.plays) (c.in_ok-workers.ensures ∙ ap crew same)
 
 pub returns-clause-stands : goal.returns-clause-stands
 returns-clause-stands g c =

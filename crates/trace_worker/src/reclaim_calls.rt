@@ -1,0 +1,80 @@
+ghost use Rattle.std.specs.Prelude.{◌≡◌, ◌≤◌, OnOk};
+ghost use Rattle.smr_clock.specs.Belongs.{IsOf, clock_id, holder};
+ghost use Rattle.uma_zone.specs.Zone.{zone_clock, IsSeatOf};
+ghost use Rattle.trace_worker.specs.Reclaims.{KeepsSeat, IsFlushed, IsDrained};
+
+use crate::Memory;
+use crate::count_hooks::CountHooks;
+use crate::counted::Counted;
+use smr_clock::{Clock, Host, Pass};
+use std::alloc::Global;
+use std::sync::Wait;
+use uma_seat::SeatCache;
+use uma_zone::Zone;
+
+/// The calls behind the lines `trim`, `drain` and `drainseat`, so that a replay doesn't stand on the crate that reclaims.
+///
+/// None of them counts in the seat's ledger, and none changes the phase of the pass. Each waits for the locks of the zone.
+/// After `Memory` the replay is over.
+pub trait ReclaimCalls {
+    /// Flushes the seat, and gives back what the domains of the zone didn't use since their last trim.
+    fn trim<H: Host, R: Wait>(
+        &self,
+        rt: &R,
+        alloc: Global,
+        zone: &Zone<Counted, CountHooks, H>,
+        clock: &Clock<H>,
+        pass: &mut Pass<H>,
+        seat: &mut SeatCache<Counted, H>,
+    ) -> Result<(), Memory>
+        requires seat { IsSeatOf zone.now seat.old }
+        requires clock { clock_id clock.now ≡ zone_clock zone.now }
+        requires pass { IsOf clock.now pass.old }
+        ensures seat { IsSeatOf zone.now seat.new }
+        ensures pass { IsOf clock.now pass.new }
+        ensures phase { (holder pass.new).phase ≡ (holder pass.old).phase }
+        ensures seen { (holder pass.old).seen ≤ (holder pass.new).seen }
+        ensures keeps { KeepsSeat seat.old seat.new }
+        ensures trimmed { OnOk result (IsFlushed seat.old seat.new) };
+
+    /// Flushes the seat, gives back all that may be given back of what the domains list, and has the keg give up its wholly
+    /// free slabs.
+    fn drain<H: Host, R: Wait>(
+        &self,
+        rt: &R,
+        alloc: Global,
+        zone: &Zone<Counted, CountHooks, H>,
+        clock: &Clock<H>,
+        pass: &mut Pass<H>,
+        seat: &mut SeatCache<Counted, H>,
+    ) -> Result<(), Memory>
+        requires seat { IsSeatOf zone.now seat.old }
+        requires clock { clock_id clock.now ≡ zone_clock zone.now }
+        requires pass { IsOf clock.now pass.old }
+        ensures seat { IsSeatOf zone.now seat.new }
+        ensures pass { IsOf clock.now pass.new }
+        ensures phase { (holder pass.new).phase ≡ (holder pass.old).phase }
+        ensures seen { (holder pass.old).seen ≤ (holder pass.new).seen }
+        ensures keeps { KeepsSeat seat.old seat.new }
+        ensures drained { OnOk result (IsFlushed seat.old seat.new) };
+
+    /// Drains, and gives back the usable and the cross items of the seat besides. Its deferred items stay.
+    fn drain_seat<H: Host, R: Wait>(
+        &self,
+        rt: &R,
+        alloc: Global,
+        zone: &Zone<Counted, CountHooks, H>,
+        clock: &Clock<H>,
+        pass: &mut Pass<H>,
+        seat: &mut SeatCache<Counted, H>,
+    ) -> Result<(), Memory>
+        requires seat { IsSeatOf zone.now seat.old }
+        requires clock { clock_id clock.now ≡ zone_clock zone.now }
+        requires pass { IsOf clock.now pass.old }
+        ensures seat { IsSeatOf zone.now seat.new }
+        ensures pass { IsOf clock.now pass.new }
+        ensures phase { (holder pass.new).phase ≡ (holder pass.old).phase }
+        ensures seen { (holder pass.old).seen ≤ (holder pass.new).seen }
+        ensures keeps { KeepsSeat seat.old seat.new }
+        ensures drained { OnOk result (IsDrained seat.old seat.new) };
+}

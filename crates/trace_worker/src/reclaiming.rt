@@ -1,0 +1,84 @@
+ghost use Rattle.std.specs.Prelude.{◌<◌, length, OnOk};
+ghost use Rattle.trace_worker.specs.Performs.{Reclaims};
+ghost use Rattle.trace_worker.specs.Reclaims.{IsFlushed, IsDrained};
+ghost use Rattle.trace_worker.specs.Worker.{AreOfClock, Fits};
+
+use crate::Memory;
+use crate::items::CountedZone;
+use crate::reclaim_calls::ReclaimCalls;
+use crate::worker::Worker;
+use smr_clock::{Bare, Clock};
+use std::alloc::Global;
+use std::sync::Wait;
+
+impl Worker {
+    /// A `trim` line, through the worker's seat of the zone. Waits as the call does.
+    ///
+    /// After `Memory` the replay is over.
+    pub fn trim<R: Wait, C: ReclaimCalls>(
+        &mut self,
+        rt: &R,
+        alloc: Global,
+        zones: &[CountedZone],
+        clock: &Clock<Bare>,
+        reclaim: &C,
+        zone: u32,
+    ) -> Result<(), Memory>
+        requires zone { zone < length zones.now }
+        requires clock { AreOfClock clock.now zones.now }
+        requires fits { Fits zones.now clock.now self.old }
+        ensures fits { OnOk result (Fits zones.now clock.now self.new) }
+        ensures reclaims { OnOk result (Reclaims zones.now IsFlushed self.old zone self.new) }
+    {
+        let place = zone as usize;
+        let seat = &mut self.seats[place];
+        reclaim.trim(rt, alloc, &zones[place], clock, &mut self.pass, seat)
+    }
+
+    /// A `drain` line, through the worker's seat of the zone. Waits as the call does.
+    ///
+    /// After `Memory` the replay is over.
+    pub fn drain<R: Wait, C: ReclaimCalls>(
+        &mut self,
+        rt: &R,
+        alloc: Global,
+        zones: &[CountedZone],
+        clock: &Clock<Bare>,
+        reclaim: &C,
+        zone: u32,
+    ) -> Result<(), Memory>
+        requires zone { zone < length zones.now }
+        requires clock { AreOfClock clock.now zones.now }
+        requires fits { Fits zones.now clock.now self.old }
+        ensures fits { OnOk result (Fits zones.now clock.now self.new) }
+        ensures reclaims { OnOk result (Reclaims zones.now IsFlushed self.old zone self.new) }
+    {
+        let place = zone as usize;
+        let seat = &mut self.seats[place];
+        reclaim.drain(rt, alloc, &zones[place], clock, &mut self.pass, seat)
+    }
+
+    /// A `drainseat` line: the worker's seat of the zone gives its usable and cross items back besides. Waits as the call
+    /// does.
+    ///
+    /// After `Memory` the replay is over.
+    pub fn drain_seat<R: Wait, C: ReclaimCalls>(
+        &mut self,
+        rt: &R,
+        alloc: Global,
+        zones: &[CountedZone],
+        clock: &Clock<Bare>,
+        reclaim: &C,
+        zone: u32,
+    ) -> Result<(), Memory>
+        requires zone { zone < length zones.now }
+        requires clock { AreOfClock clock.now zones.now }
+        requires fits { Fits zones.now clock.now self.old }
+        ensures fits { OnOk result (Fits zones.now clock.now self.new) }
+        ensures reclaims { OnOk result (Reclaims zones.now IsDrained self.old zone self.new) }
+    {
+        let place = zone as usize;
+        let seat = &mut self.seats[place];
+        reclaim.drain_seat(rt, alloc, &zones[place], clock, &mut self.pass, seat)
+    }
+}
