@@ -1,13 +1,14 @@
 -- Own: what contracts see of a book.
 use Rattle.std.specs.Prelude.{◌≡◌, ◌<◌, ◌≤◌, ◌⊎◌, ℕ, List, Option}
-use Rattle.atomic_table.specs.Seated.{TableId}
 use Rattle.deed_book.specs.declared.book.Book.{Book}
 use Rattle.deed_book.specs.declared.refused.BookRefused.{BookRefused}
 use Rattle.deed_book.specs.declared.refused.BookRefused.TheVariants.{Numbers, Memory}
+use Rattle.deed_book.specs.BookId.{BookId}
+use Rattle.deed_book.specs.Register.{register_table}
 
--- which book it is: no two books have one table
-abbrev pub book_table : Book → TableId
-book_table book = book.register.seat.table_id
+-- which book it is
+abbrev pub book_table : Book → BookId
+book_table book = register_table book.register
 
 -- for each number the zone of its deed, or None where the number is at home
 abbrev pub zones_of : Book → List (Option ℕ)

@@ -1,11 +1,12 @@
 -- Own: what contracts see of a deed.
 use Rattle.std.specs.Prelude.{ℕ}
-pub use Rattle.atomic_table.specs.Seated.{TableId}
 use Rattle.deed_book.specs.declared.deed.Deed.{Deed}
+use Rattle.deed_book.specs.Origin.{origin_numbers}
+pub use Rattle.deed_book.specs.BookId.{BookId, TableId}
 
 -- which book it is of
-abbrev pub deed_table : Deed → TableId
-deed_table deed = deed.seat.table_id
+abbrev pub deed_table : Deed → BookId
+deed_table deed = record { table = deed.seat.table_id; origin = origin_numbers deed.origin }
 
 abbrev pub no_of : Deed → ℕ
 no_of deed = deed.no

@@ -1,9 +1,10 @@
 pub mod Views
 pub mod BookLaw
+pub mod Origin
+pub mod BookId
 pub mod Register
 pub mod Book
 pub mod Deed
-pub mod Numbers
 pub mod FailViews
 pub mod FailBookLaw
 pub mod FailBook

@@ -1,6 +1,7 @@
 ghost use Rattle.std.specs.Prelude.{◌≡◌, ◌<◌, ◌↔◌, IsTrue, IfOk, IfErr, Ok, Err, Some, None, length, slice_set, replicate};
 
 use crate::deed::Deed;
+use crate::origin::Origin;
 use crate::refused::BookRefused;
 use crate::register::Register;
 use std::alloc::{AllocError, Global};
@@ -25,15 +26,29 @@ fn all_home(alloc: Global, numbers: u32) -> Result<Vec<Option<u8>>, AllocError>
 }
 
 impl Book {
+    ghost use Rattle.std.specs.Prelude.{[]};
     ghost use Rattle.deed_book.specs.BookLaw.{IsHome, IsOutside};
+    ghost use Rattle.deed_book.specs.Origin.{origin_numbers};
     ghost use Rattle.deed_book.specs.Book.{book_table, zones_of, IsOutOfRange, Refuses};
     ghost use Rattle.deed_book.specs.Deed.{deed_table, no_of, zone_of};
-    ghost use Rattle.deed_book.specs.Numbers.{numbers_of};
+    ghost use Rattle.deed_book.specs.BookId.{numbers_of};
 
-    /// A book of the numbers below `numbers`, which is 1 to 262,144. All of them are at home.
+    /// A book of no origin, of the numbers below `numbers`, which is 1 to 262,144. All of them are at home.
     pub fn new(alloc: Global, numbers: u32) -> Result<Book, BookRefused>
         ensures ok { IfOk result (λ book. zones_of book ≡ replicate numbers None) }
         ensures numbers { IfOk result (λ book. numbers_of (book_table book) ≡ numbers) }
+        ensures origin { IfOk result (λ book. (book_table book).origin ≡ []) }
+        ensures out_of_range { IsOutOfRange numbers → result ≡ Err (BookRefused.Numbers numbers) }
+        ensures err { IfErr result (Refuses numbers) }
+    {
+        Book::made_for(alloc, numbers, Origin::none())
+    }
+
+    /// A book whose deeds all are of one origin, as `new` makes it.
+    pub fn made_for(alloc: Global, numbers: u32, origin: Origin) -> Result<Book, BookRefused>
+        ensures ok { IfOk result (λ book. zones_of book ≡ replicate numbers None) }
+        ensures numbers { IfOk result (λ book. numbers_of (book_table book) ≡ numbers) }
+        ensures origin { IfOk result (λ book. (book_table book).origin ≡ origin_numbers origin) }
         ensures out_of_range { IsOutOfRange numbers → result ≡ Err (BookRefused.Numbers numbers) }
         ensures err { IfErr result (Refuses numbers) }
     {
@@ -41,7 +56,7 @@ impl Book {
             return Err(BookRefused::Numbers { numbers });
         }
         let zones = all_home(alloc, numbers)?;
-        let register = Register::new(alloc, numbers)?;
+        let register = Register::new(alloc, numbers, origin)?;
         Ok(Book { zones, register })
     }
 

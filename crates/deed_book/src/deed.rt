@@ -2,6 +2,7 @@ ghost use Rattle.std.specs.Prelude.{◌≡◌, ◌<◌, []};
 ghost use Rattle.deed_book.specs.Views.{deed_view};
 
 use crate::book_rule::View;
+use crate::origin::Origin;
 use atomic_table::Seat;
 
 /// The one token of a number that is outside. It is a seat of its book's table, which no code can copy or make up; it
@@ -11,6 +12,7 @@ pub struct Deed {
     pub(crate) no: u32,
     pub(crate) zone: u8,
     pub(crate) seat: Seat<(), View>,
+    pub(crate) origin: Origin,
     pub ghost zone_in_range: { zone < 8 },
     pub ghost in_book: { no < seat.table_id.slots },
     ghost knows: { seat.me ≡ (deed_view (no, zone), []) },
@@ -18,7 +20,7 @@ pub struct Deed {
 
 impl Deed {
     ghost use Rattle.deed_book.specs.Deed.{deed_table, no_of, zone_of};
-    ghost use Rattle.deed_book.specs.Numbers.{numbers_of};
+    ghost use Rattle.deed_book.specs.BookId.{numbers_of};
 
     /// The number, which is below its book's count of numbers.
     pub fn no(&self) -> u32

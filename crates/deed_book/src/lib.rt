@@ -14,16 +14,19 @@ mod deed;
 mod fail_book;
 mod fail_rule;
 mod fail_share;
+mod origin;
 mod refused;
 mod register;
 
 pub use book::Book;
 pub use book_rule::no_number_is_out_twice;
+pub use boxcar::tag::Names;
 pub use cause::Cause;
 pub use deed::Deed;
 pub use fail_book::FailBook;
 pub use fail_rule::shares_add_up_to_their_book;
 pub use fail_share::FailShare;
+pub use origin::Origin;
 pub use refused::{BookRefused, Memory};
 
 #[cfg(test)]

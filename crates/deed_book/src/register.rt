@@ -3,6 +3,7 @@ ghost use Rattle.deed_book.specs.Views.{book_view};
 
 use crate::book_rule::{Accepting, BookRule, Naming, PuttingHome, Splitting, View};
 use crate::deed::Deed;
+use crate::origin::Origin;
 use atomic_table::{Refused, Seat, Table};
 use std::alloc::{AllocError, Global};
 
@@ -15,6 +16,7 @@ use std::alloc::{AllocError, Global};
 pub struct Register {
     table: Table<(), View, u32, BookRule, Global>,
     seat: Seat<(), View>,
+    origin: Origin,
     ghost one_word: { table.shared.table_id.words ≡ 1 },
     ghost one_table: { seat.table_id ≡ table.shared.table_id },
     ghost first_seat: { seat.id ≡ 0 },
@@ -40,16 +42,22 @@ fn spelled(no: u32, zone: u8) -> u64
 impl Register {
     ghost use Rattle.std.specs.Prelude.{None, Some, replicate, slice_set};
     ghost use Rattle.deed_book.specs.BookLaw.{IsHome, IsOutside};
+    ghost use Rattle.deed_book.specs.Origin.{origin_numbers};
     ghost use Rattle.deed_book.specs.Register.{register_table, register_zones};
     ghost use Rattle.deed_book.specs.Deed.{deed_table, no_of, zone_of};
 
     // All numbers below `numbers` are at home.
-    pub fn new(alloc: Global, numbers: u32) -> Result<Register, AllocError>
-        ensures { IfOk result (λ register. register_zones register ≡ replicate numbers None) }
+    pub fn new(alloc: Global, numbers: u32, origin: Origin) -> Result<Register, AllocError>
+        ensures zones { IfOk result (λ register. register_zones register ≡ replicate numbers None) }
+        ensures origin { IfOk result (λ register. (register_table register).origin ≡ origin_numbers origin) }
     {
         let slots = slots_of(alloc, numbers)?;
         match Table::new(alloc, &[0], slots, &numbers) {
-            Ok((table, seat)) => Ok(Register { table, seat }),
+            Ok((table, seat)) => Ok(Register {
+                table,
+                seat,
+                origin,
+            }),
             Err(Refused { .. }) => Err(AllocError),
         }
     }
@@ -67,7 +75,13 @@ impl Register {
         let shared = &table.shared;
         shared.store::<Naming>(&mut self.seat, 0, spelled(no, zone));
         let seat = shared.split_seat::<Splitting>(&mut self.seat);
-        Deed { no, zone, seat }
+        let origin = self.origin.again();
+        Deed {
+            no,
+            zone,
+            seat,
+            origin,
+        }
     }
 
     // Joins a deed in. A load then shows that its number was outside, and puts it home.
@@ -78,7 +92,12 @@ impl Register {
         ensures zones { register_zones self.new ≡ slice_set (register_zones self.old) result.0 None }
         ensures table { register_table self.new ≡ register_table self.old }
     {
-        let Deed { no, zone, seat } = deed;
+        let Deed {
+            no,
+            zone,
+            seat,
+            origin: _,
+        } = deed;
         let table = &self.table;
         table.shared.join_seat::<Accepting>(&mut self.seat, seat);
         table.shared.load::<PuttingHome>(&mut self.seat, 0);

@@ -1,6 +1,6 @@
 -- Own: what a keg's key names.
 use Rattle.std.specs.Prelude.{◌≡◌, ℕ, Option}
-use Rattle.deed_book.specs.Deed.{TableId}
+use Rattle.deed_book.specs.Deed.{BookId, TableId}
 use Rattle.deed_book.specs.Book.{book_table}
 use Rattle.uma_keg.specs.declared.keg.Keg.{Keg}
 use Rattle.uma_keg.specs.Keg.{places_in, table_in, rights_in, size_in, reserve_in}
@@ -8,11 +8,11 @@ use Rattle.locked_keg.specs.declared.key.KegKey.{KegKey}
 use Rattle.locked_keg.specs.FailBooks.{table_at}
 
 -- the book of its item numbers
-abbrev pub key_numbers : KegKey → TableId
+abbrev pub key_numbers : KegKey → BookId
 key_numbers key = book_table key.numbers.value
 
 -- the book of its rights to a zone
-abbrev pub key_rights : KegKey → TableId
+abbrev pub key_rights : KegKey → BookId
 key_rights key = book_table key.rights.value
 
 -- the fail book of a zone

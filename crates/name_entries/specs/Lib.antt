@@ -1,3 +1,4 @@
+pub mod Origins
 pub mod Homes
 pub mod Hooked
 pub mod Raised

@@ -54,6 +54,11 @@ impl EntryHooks {
 }
 
 impl Hooks<RaisedEntry> for EntryHooks {
+    ghost use Rattle.name_entries.specs.Hooked.{hooks_home};
+    ghost use Rattle.name_entries.specs.Homes.{home_origin};
+
+    ghost origin = { λ hooks. home_origin (hooks_home hooks) };
+
     ghost refuses_init = { λ hooks body zone. refusal_of zone body.entry.words };
 
     ghost refuses_ctor = { λ hooks body zone arg. None };

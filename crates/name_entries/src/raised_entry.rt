@@ -55,9 +55,11 @@ impl RaisedEntry {
 }
 
 impl Body for RaisedEntry {
-    ghost use Rattle.name_entries.specs.Raised.{raised_life};
+    ghost use Rattle.name_entries.specs.Raised.{raised_life, raised_origin};
 
     ghost life = { raised_life };
+
+    ghost origin = { raised_origin };
 
     fn no(&self) -> u32 {
         self.entry.no()

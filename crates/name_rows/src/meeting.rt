@@ -56,6 +56,7 @@ pub fn meet(clock: &Clock<Names>, row: &mut Row, pass: &mut Pass<Names>)
     ensures known { (view pass.new).host.known ≡ (view pass.old).host.known ++ row_last row.new }
     ensures hold { (view pass.new).host.hold ≡ (view pass.old).host.hold }
     ensures phase { ((holder pass.new).phase ≡ (holder pass.old).phase) × ((holder pass.new).mark ≡ (holder pass.old).mark) }
+    ensures seen { (holder pass.old).seen ≤ (holder pass.new).seen }
 {
     let note = clock.note(pass).into_host();
     clock.seat_join::<Learns>(&mut row.seat, note);

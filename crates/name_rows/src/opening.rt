@@ -4,7 +4,8 @@ ghost use Rattle.smr_clock.specs.Belongs.{setup_of};
 ghost use Rattle.smr_clock.specs.Notes.{IsSeatOf, seat_knows};
 ghost use Rattle.name_rows.specs.Belongs.{IsNamesClock};
 ghost use Rattle.name_rows.specs.Records.{fresh_row, rows_from};
-ghost use Rattle.name_rows.specs.Rows.{IsRowOf};
+ghost use Rattle.name_rows.specs.Linking.{row_record};
+ghost use Rattle.name_rows.specs.Rows.{IsRowOf, row_last};
 
 use crate::names::Names;
 use crate::places::row_place;
@@ -66,6 +67,7 @@ pub(crate) fn open_row(
     requires low { version < 2 ^ 44 }
     ensures here { IfOk result (λ row. IsRowOf clock.now row) }
     ensures row { IfOk result (λ row. (row.number ≡ number) × (row.version ≡ version) × (row.guest ≡ None)) }
+    ensures last { IfOk result (λ row. row_last row ≡ row_record number version None None ∷ []) }
 {
     let mut seat = seat;
     let place = row_place(clock, number);

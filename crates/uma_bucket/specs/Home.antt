@@ -1,13 +1,13 @@
 -- Own: where items are at home.
 use Rattle.std.specs.Prelude.{◌≡◌, ◌<◌, ℕ, List}
 use Rattle.std.specs.List.{All}
-use Rattle.deed_book.specs.Deed.{TableId}
+use Rattle.deed_book.specs.Deed.{BookId}
 use Rattle.uma_life.specs.declared.ticket.Ticket.{Ticket}
 use Rattle.uma_life.specs.Ticket.{ticket_table, ticket_zone, ticket_domain}
 
 -- a book of numbers, a zone of its keg, and how many memory domains the keg's slabs may be of
 pub record Home : Type 0 where
-  pub book : TableId
+  pub book : BookId
   pub zone : ℕ
   pub domains : ℕ
 

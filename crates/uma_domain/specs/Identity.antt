@@ -1,6 +1,6 @@
 -- Own: which domain it is, as contracts see it.
 use Rattle.std.specs.Prelude.{ℕ, Bool}
-use Rattle.deed_book.specs.Deed.{TableId}
+use Rattle.deed_book.specs.Deed.{BookId, TableId}
 use Rattle.deed_book.specs.Book.{book_table}
 use Rattle.deed_book.specs.FailBook.{fail_book_table}
 use Rattle.smr_clock.specs.declared.setup.Setup.{Setup}
@@ -16,7 +16,7 @@ pub record Identity : Type 0 where
   pub smr : Bool
 
 -- where the items of a zone with so many domains are at home
-abbrev pub home_of : TableId → ℕ → ℕ → Home
+abbrev pub home_of : BookId → ℕ → ℕ → Home
 home_of book zone domains = record { book = book; zone = zone; domains = domains }
 
 -- the identity that a key names

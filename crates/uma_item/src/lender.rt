@@ -1,6 +1,6 @@
-ghost use Rattle.std.specs.Prelude.{◌≡◌};
+ghost use Rattle.std.specs.Prelude.{◌≡◌, []};
 ghost use Rattle.uma_life.specs.Trail.{IsAt};
-ghost use Rattle.uma_life.specs.Ticket.{ticket_no, ticket_zone};
+ghost use Rattle.uma_life.specs.Ticket.{ticket_no, ticket_zone, ticket_table};
 ghost use Rattle.uma_life.specs.declared.body_phase.BodyPhase.TheVariants.{Built};
 ghost use Rattle.uma_item.specs.Item.{item_life};
 
@@ -17,6 +17,7 @@ pub struct Lender {
     ticket: Ticket,
     pub ghost numbered: { (item_life trail).no ≡ ticket_no ticket },
     pub ghost at: { IsAt (Built (ticket_zone ticket)) (item_life trail) },
+    pub ghost of_none: { [] ≡ (ticket_table ticket).origin },
 }
 
 impl Lender {

@@ -24,3 +24,4 @@ pub mod BroughtSlabs
 mod FetchedItems
 mod FetchAnswers
 mod HomeSums
+mod Origins

@@ -6,7 +6,7 @@ use Rattle.std.proofs.lemmas.List.Sums.{sum_by-append, sum_by-cons}
 use Rattle.std.proofs.lemmas.List.Elements.{All-cons, All-nil, All-push, All-head, All-tail}
 use Rattle.deed_book.specs.BookLaw.{IsOutside, IsHome}
 use Rattle.uma_keg.specs.Outs.{out_of}
-use Rattle.deed_book.specs.Deed.{TableId}
+use Rattle.deed_book.specs.Deed.{BookId}
 use Rattle.uma_life.specs.declared.live.Live.{Live}
 use Rattle.uma_keg.specs.declared.undeeded.Undeeded.{Undeeded}
 use Rattle.uma_keg.specs.Lent.{Seen, seen_of, all_seen, lent_of, deed_of, seen_without, deed_without, together, TakesIn}
@@ -101,12 +101,12 @@ unmapped P h (x ∷ xs) all = All-cons (λ y. P (h y)) x xs (All-head P (h x) (m
 abbrev pub seen_deed : {T : Type 0} → Seen T → ℕ × ℕ
 seen_deed seen = (seen.no, seen.zone)
 
-deeds_seen : {T : Type 0} {g : _} (table : TableId) (taken : List (Undeeded T g)) → map deed_without taken ≡ map seen_deed (map (seen_without table) taken)
+deeds_seen : {T : Type 0} {g : _} (table : BookId) (taken : List (Undeeded T g)) → map deed_without taken ≡ map seen_deed (map (seen_without table) taken)
 deeds_seen table [] = refl
 deeds_seen table (item ∷ taken) = ap (λ deeds. deed_without item ∷ deeds) (deeds_seen table taken)
 
 -- no zone has fewer numbers outside than items that were lent
-pub lent_counted : {T : Type 0} {g : _} (table : TableId) (zones now : List (Option ℕ)) (items : List (Live T g)) (taken : List (Undeeded T g)) (zone : ℕ) → TakesIn zones (map deed_without taken) now → reverse (map (seen_without table) taken) ≡ all_seen items → lent_of items zone ≤ out_of zones zone
+pub lent_counted : {T : Type 0} {g : _} (table : BookId) (zones now : List (Option ℕ)) (items : List (Live T g)) (taken : List (Undeeded T g)) (zone : ℕ) → TakesIn zones (map deed_without taken) now → reverse (map (seen_without table) taken) ≡ all_seen items → lent_of items zone ≤ out_of zones zone
 lent_counted table zones now items taken zone took is =
     let in_zone : Seen _ → Bool = λ seen. seen.zone == zone in
     let seen = map (seen_without table) taken in
@@ -115,7 +115,7 @@ lent_counted table zones now items taken zone took is =
     omega (arith, taken_counted zones (map deed_without taken) now zone took, lent, deeds)
 
 -- and each was outside
-pub lent_outside : {T : Type 0} {g : _} (table : TableId) (zones now : List (Option ℕ)) (items : List (Live T g)) (taken : List (Undeeded T g)) → TakesIn zones (map deed_without taken) now → reverse (map (seen_without table) taken) ≡ all_seen items → All (λ item. IsOutside zones (deed_of item)) items
+pub lent_outside : {T : Type 0} {g : _} (table : BookId) (zones now : List (Option ℕ)) (items : List (Live T g)) (taken : List (Undeeded T g)) → TakesIn zones (map deed_without taken) now → reverse (map (seen_without table) taken) ≡ all_seen items → All (λ item. IsOutside zones (deed_of item)) items
 lent_outside table zones now items taken took is =
     let Outside : Seen _ → Type 0 = λ seen. IsOutside zones (seen_deed seen) in
     let seen = map (seen_without table) taken in
@@ -124,7 +124,7 @@ lent_outside table zones now items taken took is =
     unmapped Outside seen_of items all
 
 -- an item goes over with its deed, or without
-pub item_moved : {T : Type 0} {g : _} (table : TableId) (items rest : List (Live T g)) (item : Live T g) (taken more : List (Undeeded T g)) (without : Undeeded T g) → items ≡ rest ++ item ∷ [] → more ≡ taken ++ without ∷ [] → seen_without table without ≡ seen_of item → together table rest more ≡ together table items taken
+pub item_moved : {T : Type 0} {g : _} (table : BookId) (items rest : List (Live T g)) (item : Live T g) (taken more : List (Undeeded T g)) (without : Undeeded T g) → items ≡ rest ++ item ∷ [] → more ≡ taken ++ without ∷ [] → seen_without table without ≡ seen_of item → together table rest more ≡ together table items taken
 item_moved table items rest item taken more without is_items is_more same =
     let with_one : map (seen_without table) more ≡ map (seen_without table) taken ++ seen_of item ∷ [] = ap (map (seen_without table)) is_more ∙ map-append (seen_without table) taken (without ∷ []) ∙ ap (λ seen. map (seen_without table) taken ++ seen ∷ []) same in
     let with_all : all_seen items ≡ all_seen rest ++ seen_of item ∷ [] = ap all_seen is_items ∙ map-append seen_of rest (item ∷ []) in

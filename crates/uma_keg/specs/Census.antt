@@ -1,6 +1,6 @@
 -- What contracts see of a census.
 use Rattle.std.specs.Prelude.{ℕ, List, slice_index_or}
-use Rattle.deed_book.specs.Deed.{TableId}
+use Rattle.deed_book.specs.Deed.{BookId}
 use Rattle.deed_book.specs.Book.{book_table}
 use Rattle.uma_life.specs.declared.tally_sum.TallySum.{TallySum}
 use Rattle.uma_places.specs.declared.counts.KegCounts.{KegCounts}
@@ -23,7 +23,7 @@ abbrev pub census_tally : Census → TallySum
 census_tally census = census.tally
 
 -- which book of numbers the keg has that made it
-abbrev pub census_table : Census → TableId
+abbrev pub census_table : Census → BookId
 census_table census = book_table census.book.value
 
 -- how a keg stands

@@ -3,7 +3,7 @@ use Rattle.std.specs.Prelude.{◌≡◌, ◌≤◌, ◌<◌, ◌+◌, ◌*◌, �
 use Rattle.std.specs.List.{filter_map}
 use Rattle.zone_stats.specs.declared.refusal.Refusal.{Refusal}
 use Rattle.deed_book.specs.declared.book.Book.{Book}
-use Rattle.deed_book.specs.Deed.{TableId}
+use Rattle.deed_book.specs.Deed.{BookId}
 use Rattle.deed_book.specs.Book.{book_table, zones_of}
 use Rattle.deed_book.specs.BookLaw.{IsHome}
 use Rattle.uma_life.specs.declared.stored.Stored.{Stored}
@@ -26,7 +26,7 @@ places_in keg = keg.places
 abbrev pub book_in : {T K : Type 0} {g : _} {h : _} → Keg T K g h → Book
 book_in keg = keg.outside.book
 
-abbrev pub table_in : {T K : Type 0} {g : _} {h : _} → Keg T K g h → TableId
+abbrev pub table_in : {T K : Type 0} {g : _} {h : _} → Keg T K g h → BookId
 table_in keg = book_table keg.outside.book
 
 abbrev pub zones_in : {T K : Type 0} {g : _} {h : _} → Keg T K g h → List (Option ℕ)

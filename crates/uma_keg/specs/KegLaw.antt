@@ -2,7 +2,7 @@
 use Rattle.std.specs.Prelude.{◌≡◌, ◌≤◌, ◌<◌, ◌*◌, ◌/◌, ℕ, Bool, true, false, List, Option, Some, None, is_some, length, slice_index_or}
 use Rattle.deed_book.specs.BookLaw.{IsHome}
 use Rattle.uma_life.specs.declared.stored.Stored.{Stored}
-use Rattle.uma_life.specs.Stored.{stored_no, stored_domain}
+use Rattle.uma_life.specs.Stored.{stored_no, stored_domain, stored_origin}
 use Rattle.uma_keg.specs.declared.home_items.HomeItems.{HomeItems}
 use Rattle.uma_places.specs.Places.{KegPlaces, place_at, domain_at}
 use Rattle.uma_keg.specs.HomeItems.{item_at, has_slab, slab_room, places_each}
@@ -35,6 +35,10 @@ pub record PlacesLaw {T : Type 0} {g : _} (places : KegPlaces) (zones : List (Op
   pub home : (n : ℕ) → is_some (item_at home_items n) ≡ is_free_place (place_at places n)
   pub numbered : (n : ℕ) (item : Stored T g) → item_at home_items n ≡ Some item → stored_no item ≡ n
   pub domains : (n domain : ℕ) (item : Stored T g) → item_at home_items n ≡ Some item → domain_at places (n / places.per_slab) ≡ Some domain → stored_domain item ≡ domain
+
+-- each item at home is of this origin
+abbrev pub AreOfOrigin : {T : Type 0} {g : _} → List ℕ → HomeItems T g → Type 0
+AreOfOrigin {T} {g} origin home_items = (n : ℕ) (item : Stored T g) → item_at home_items n ≡ Some item → stored_origin item ≡ origin
 
 -- 1. There are eight rights and as many limits.
 -- 2. No item is outside in a zone that doesn't exist, and it has no limit. A zone exists exactly where its right is at home.

@@ -1,6 +1,6 @@
 -- Own: the live items that are lent to a census, and what stays of one when its deed is taken in and issued again.
 use Rattle.std.specs.Prelude.{◌≡◌, ℕ, ◌==◌, List, [], ◌∷◌, ◌++◌, Option, None, map, count_by, reverse, slice_set}
-use Rattle.deed_book.specs.Deed.{TableId}
+use Rattle.deed_book.specs.Deed.{BookId}
 use Rattle.deed_book.specs.BookLaw.{IsOutside}
 use Rattle.uma_life.specs.declared.live.Live.{Live}
 use Rattle.uma_life.specs.Live.{live_body, live_no, live_zone, live_domain, live_table}
@@ -12,7 +12,7 @@ pub record Seen (T : Type 0) : Type 0 where
   pub no : ℕ
   pub zone : ℕ
   pub domain : ℕ
-  pub table : TableId
+  pub table : BookId
 
 abbrev pub seen_of : {T : Type 0} {g : _} → Live T g → Seen T
 seen_of item = record { body = live_body item; no = live_no item; zone = live_zone item; domain = live_domain item; table = live_table item }
@@ -30,8 +30,12 @@ abbrev pub deed_of : {T : Type 0} {g : _} → Live T g → ℕ × ℕ
 deed_of item = (live_no item, live_zone item)
 
 -- an item without its deed, of a book
-abbrev pub seen_without : {T : Type 0} {g : _} → TableId → Undeeded T g → Seen T
+abbrev pub seen_without : {T : Type 0} {g : _} → BookId → Undeeded T g → Seen T
 seen_without table item = record { body = item.body; no = item.no; zone = item.zone; domain = item.domain; table = table }
+
+-- an item without its deed may have one of this book: it is of the book's origin
+abbrev pub IsWithoutOf : {T : Type 0} {g : _} → BookId → Undeeded T g → Type 0
+IsWithoutOf {g = g} table item = g.origin item.body ≡ table.origin
 
 -- the number and the zone of the deed that it had
 abbrev pub deed_without : {T : Type 0} {g : _} → Undeeded T g → ℕ × ℕ
@@ -43,5 +47,5 @@ TakesIn zones [] now = now ≡ zones
 TakesIn zones (deed ∷ deeds) now = IsOutside zones deed × TakesIn (slice_set zones deed.0 None) deeds now
 
 -- the items that have their deeds, and then those that haven't, the last taken first
-abbrev pub together : {T : Type 0} {g : _} → TableId → List (Live T g) → List (Undeeded T g) → List (Seen T)
+abbrev pub together : {T : Type 0} {g : _} → BookId → List (Live T g) → List (Undeeded T g) → List (Seen T)
 together table items taken = all_seen items ++ reverse (map (seen_without table) taken)

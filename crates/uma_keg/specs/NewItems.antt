@@ -1,11 +1,11 @@
 -- The items of a slab that is brought in. That keg_init runs on each, and that a refusal ends those made before it, is the rule of FreeBSD's uma(9).
-use Rattle.std.specs.Prelude.{◌≡◌, ◌<◌, ◌+◌, ℕ, List, Option, None, length, slice_index_or}
+use Rattle.std.specs.Prelude.{◌≡◌, ◌<◌, ◌+◌, ℕ, List, Option, None, IfSome, length, slice_index_or}
 use Rattle.std.specs.Option.{IsSomeAnd}
 use Rattle.uma_life.specs.declared.stored.Stored.{Stored}
 use Rattle.uma_life.specs.declared.tally_sum.TallySum.{TallySum}
 use Rattle.uma_life.specs.declared.refused.BringRefused.{BringRefused}
 use Rattle.uma_life.specs.declared.refused.BringRefused.TheVariants.{Init, Memory}
-use Rattle.uma_life.specs.Stored.{stored_body, stored_domain}
+use Rattle.uma_life.specs.Stored.{stored_body, stored_domain, stored_origin}
 use Rattle.uma_life.specs.Life.{raw_life}
 use Rattle.uma_life.specs.Hook.{KegInit, IsCode, after}
 use Rattle.uma_keg.specs.Tallies.{AddsVain}
@@ -18,6 +18,10 @@ pub record IsNewItem {T : Type 0} {g : _} (number domain : ℕ) (item : Stored T
 -- each place has a new item of its number: the first one's, and so on
 pub record AreNewItems {T : Type 0} {g : _} (first domain : ℕ) (items : List (Option (Stored T g))) : Type 0 where
   pub each : (place : ℕ) → place < length items → IsSomeAnd (slice_index_or items place None) (IsNewItem (first + place) domain)
+
+-- the item of a place, where there is one, is of this origin
+abbrev pub IsOfOrigin : {T : Type 0} {g : _} → List ℕ → Option (Stored T g) → Type 0
+IsOfOrigin origin place = IfSome place (λ item. stored_origin item ≡ origin)
 
 -- The items of the places below one were made and ended, as keg_init accepts them.
 pub record StopsAt (per_slab place : ℕ) (Accepts : ℕ → Type 0) (old new : TallySum) : Type 0 where

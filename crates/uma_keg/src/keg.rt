@@ -4,7 +4,7 @@ ghost use Rattle.deed_book.specs.Deed.{deed_table, no_of};
 ghost use Rattle.uma_life.specs.Sum.{no_sums};
 ghost use Rattle.uma_places.specs.Places.{IsNew, IsSound, slab_count, free_count};
 ghost use Rattle.uma_places.specs.Refused.{IsItemSize, IsSlabCount, IsRefusedFor};
-ghost use Rattle.uma_keg.specs.KegLaw.{PlacesLaw, ZonesLaw};
+ghost use Rattle.uma_keg.specs.KegLaw.{PlacesLaw, ZonesLaw, AreOfOrigin};
 ghost use Rattle.uma_keg.specs.Tallies.{TallyLaw};
 ghost use Rattle.uma_keg.specs.Paired.{ArePaired};
 
@@ -12,9 +12,10 @@ use crate::fetch_refused::FetchRefused;
 use crate::home_items::HomeItems;
 use crate::outside::Outside;
 use crate::rights::new_rights;
-use deed_book::{Book, Deed};
+use deed_book::{Book, Deed, Names, Origin};
 use ghost_log::Log;
 use std::alloc::Global;
+use std::marker::PhantomData;
 use std::snapshot::Snapshot;
 use uma_life::{Body, Hooks, TallySum};
 use uma_places::{KegCounts, KegRefused, Places};
@@ -28,6 +29,7 @@ use uma_places::{KegCounts, KegRefused, Places};
 /// 2. A zone exists exactly where its right is at home in the book of the keg's rights. One that doesn't exist has no
 ///    item outside and no limit, and no zone has more than its limit, where that is above 0.
 /// 3. In the sums of the buried hooks come in pairs.
+/// 4. The items at home, and the book of the keg's numbers, are of the origin of the keg's hooks.
 ///
 /// Contracts alone see, for each zone, the list of how its fetches ended, each with its answer.
 #[derive(Drop)]
@@ -50,6 +52,17 @@ pub struct Keg<T: Body, K: Hooks<T>> {
     pub ghost zones_law: { ZonesLaw (zones_of outside.book) (zones_of rights) limits },
     pub ghost tally_law: { TallyLaw buried places },
     pub ghost paired: { ArePaired buried },
+    pub ghost book_of_hooks: { (book_table outside.book).origin ≡ K.origin hooks },
+    pub ghost items_of_hooks: { AreOfOrigin (K.origin hooks) home_items },
+}
+
+/// Reads the origin off hooks.
+struct HooksOrigin<T> {
+    bodies: PhantomData<T>,
+}
+
+impl<T: Body, K: Hooks<T>> Names<K> for HooksOrigin<T> {
+    ghost numbers = { λ hooks. K.origin hooks };
 }
 
 fn no_fetches() -> [Log<Result<u32, FetchRefused>>; 8]
@@ -68,7 +81,7 @@ fn no_fetches() -> [Log<Result<u32, FetchRefused>>; 8]
 }
 
 impl<T: Body, K: Hooks<T>> Keg<T, K> {
-    ghost use Rattle.uma_keg.specs.Keg.{places_in, zones_in, out_in, book_in, rights_in, HasZone, stored_in, limit_in, fetches_in, reserve_in, size_in, hooks_in, buried_in, IsSameKeg, IsWithinLimits};
+    ghost use Rattle.uma_keg.specs.Keg.{places_in, zones_in, out_in, table_in, book_in, rights_in, HasZone, stored_in, limit_in, fetches_in, reserve_in, size_in, hooks_in, buried_in, IsSameKeg, IsWithinLimits};
 
     /// A keg of items of `size` bytes, 8 to 4,096, with room for `slabs` slabs, 1 to 1,024, of which none is in, and of
     /// no zone. With it come its eight rights to a zone, whose numbers are 7 down to 0.
@@ -90,6 +103,7 @@ impl<T: Body, K: Hooks<T>> Keg<T, K> {
         ensures reserve { IfOk result (λ (keg, rights). reserve_in keg ≡ reserve) }
         ensures size { IfOk result (λ (keg, rights). size_in keg ≡ size) }
         ensures hooks { IfOk result (λ (keg, rights). hooks_in keg ≡ hooks) }
+        ensures origin { IfOk result (λ (keg, rights). (table_in keg).origin ≡ K.origin hooks) }
         ensures buried { IfOk result (λ (keg, rights). buried_in keg ≡ no_sums) }
         ensures rights { IfOk result (λ (keg, rights). map no_of rights.items ≡ 7 ∷ 6 ∷ 5 ∷ 4 ∷ 3 ∷ 2 ∷ 1 ∷ 0 ∷ []) }
         ensures rights_of_keg { IfOk result (λ (keg, rights). All (λ right. deed_table right ≡ book_table (rights_in keg)) rights.items) }
@@ -98,7 +112,8 @@ impl<T: Body, K: Hooks<T>> Keg<T, K> {
     {
         let places = Places::new(alloc, size, slabs)?;
         let KegCounts { cap, per_slab, .. } = places.counts();
-        let outside = Outside::new(alloc, cap * per_slab)?;
+        let origin = Origin::of::<K, HooksOrigin<T>>(&hooks);
+        let outside = Outside::new(alloc, cap * per_slab, origin)?;
         let (rights, deeds) = new_rights(alloc)?;
         let home_items = HomeItems::new(alloc, cap, per_slab)?;
         let keg = Keg {

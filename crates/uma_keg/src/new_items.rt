@@ -6,7 +6,7 @@ ghost use Rattle.uma_life.specs.Bring.{RefusesToBring};
 ghost use Rattle.uma_keg.specs.SlabItems.{places_of_slab};
 ghost use Rattle.uma_keg.specs.Tallies.{ended_times};
 ghost use Rattle.uma_keg.specs.Ended.{IsEndedAt};
-ghost use Rattle.uma_keg.specs.NewItems.{AreNewItems, RefusesItems};
+ghost use Rattle.uma_keg.specs.NewItems.{AreNewItems, IsOfOrigin, RefusesItems};
 
 use crate::slab_items::SlabItems;
 use std::alloc::Global;
@@ -30,6 +30,7 @@ impl<T: Body> SlabItems<T> {
         requires room { AreBelow (2 ^ 126) buried.old }
         ensures whole { IfOk result (λ slab_items. length (places_of_slab slab_items) ≡ per_slab) }
         ensures items { IfOk result (λ slab_items. AreNewItems first domain (places_of_slab slab_items)) }
+        ensures origins { IfOk result (λ slab_items. All (IsOfOrigin (K.origin hooks.now)) (places_of_slab slab_items)) }
         ensures accepted { OnOk result ((place : ℕ) → place < per_slab → (raw : T) × (T.life raw ≡ raw_life (first + place)) × (K.refuses_init hooks.now raw 0 ≡ None)) }
         ensures buried { OnOk result (buried.new ≡ buried.old) }
         ensures refused { IfErr result (RefusesItems per_slab (λ place code. (raw : T) × (T.life raw ≡ raw_life (first + place)) × (K.refuses_init hooks.now raw 0 ≡ Some code)) (λ place. (raw : T) × (T.life raw ≡ raw_life (first + place)) × (K.refuses_init hooks.now raw 0 ≡ None)) buried.old buried.new) }
@@ -69,6 +70,7 @@ fn make_items<T: Body, K: Hooks<T>, R: Wait>(
     requires some { 1 ≤ per_slab }
     ensures whole { IfOk result (λ places. vec_len places ≡ per_slab) }
     ensures items { IfOk result (λ places. AreNewItems first domain places.items) }
+    ensures origins { IfOk result (λ places. All (IsOfOrigin (K.origin hooks.now)) places.items) }
     ensures accepted { IfOk result (λ _. (place : ℕ) → place < per_slab → (raw : T) × (T.life raw ≡ raw_life (first + place)) × (K.refuses_init hooks.now raw 0 ≡ None)) }
     ensures fewer { IfErr result (λ (places, refused). vec_len places < per_slab) }
     ensures earlier { IfErr result (λ (places, refused). AreNewItems first domain places.items) }

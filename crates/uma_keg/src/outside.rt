@@ -2,7 +2,7 @@ ghost use Rattle.std.specs.Prelude.{◌≡◌, ◌≤◌, ◌<◌, ℕ, None, So
 ghost use Rattle.deed_book.specs.Book.{book_table, zones_of};
 ghost use Rattle.uma_keg.specs.Outs.{CountsOuts, out_of};
 
-use deed_book::{Book, Deed, Memory};
+use deed_book::{Book, Deed, Memory, Origin};
 use std::alloc::Global;
 
 /// Which numbers of a keg are outside it, and how many are in each of its eight zones.
@@ -17,14 +17,16 @@ pub(crate) struct Outside {
 impl Outside {
     ghost use Rattle.uma_keg.specs.Outside.{outside_zones, outside_table};
     ghost use Rattle.deed_book.specs.BookLaw.{IsHome, IsOutside};
+    ghost use Rattle.deed_book.specs.Origin.{origin_numbers};
     ghost use Rattle.deed_book.specs.Deed.{deed_table, no_of, zone_of};
 
-    /// All numbers below `numbers`, which is 1 to 262,144, are at home.
-    pub fn new(alloc: Global, numbers: u32) -> Result<Outside, Memory>
+    /// All numbers below `numbers`, which is 1 to 262,144, are at home. Their deeds are of this origin.
+    pub fn new(alloc: Global, numbers: u32, origin: Origin) -> Result<Outside, Memory>
         requires { (1 ≤ numbers) × (numbers ≤ 262144) }
-        ensures { IfOk result (λ outside. outside_zones outside ≡ replicate numbers None) }
+        ensures zones { IfOk result (λ outside. outside_zones outside ≡ replicate numbers None) }
+        ensures origin { IfOk result (λ outside. (outside_table outside).origin ≡ origin_numbers origin) }
     {
-        let Ok(book) = Book::new(alloc, numbers) else {
+        let Ok(book) = Book::made_for(alloc, numbers, origin) else {
             return Err(Memory);
         };
         Ok(Outside { book, outs: [0; 8] })

@@ -4,7 +4,7 @@ ghost use Rattle.deed_book.specs.BookLaw.{IsOutside};
 ghost use Rattle.uma_life.specs.Live.{live_table};
 ghost use Rattle.uma_keg.specs.Outs.{out_of};
 ghost use Rattle.uma_keg.specs.Outside.{outside_zones, outside_table};
-ghost use Rattle.uma_keg.specs.Lent.{all_seen, lent_of, deed_of, deed_without, seen_without, together, TakesIn};
+ghost use Rattle.uma_keg.specs.Lent.{all_seen, lent_of, deed_of, deed_without, seen_without, together, TakesIn, IsWithoutOf};
 
 use crate::outside::Outside;
 use crate::undeeded::Undeeded;
@@ -45,6 +45,7 @@ fn take_in<T: Body>(outside: &mut Outside, items: &mut Vec<Live<T>>, taken: &mut
     ensures none_left { items.new.items ≡ [] }
     ensures room { vec_len taken.new ≤ vec_capacity items.new }
     ensures items { together (outside_table outside.old) items.new.items taken.new.items ≡ all_seen items.old.items }
+    ensures origins { All (IsWithoutOf (outside_table outside.old)) taken.new.items }
     ensures taken { TakesIn (outside_zones outside.old) (map deed_without taken.new.items) (outside_zones outside.new) }
     ensures table { outside_table outside.new ≡ outside_table outside.old }
 {
@@ -64,6 +65,7 @@ fn issue_again<T: Body>(
     items: &mut Vec<Live<T>>,
 )
     requires taken { TakesIn (outside_zones before.value) (map deed_without taken.items) (outside_zones outside.old) }
+    requires origins { All (IsWithoutOf (outside_table outside.old)) taken.items }
     requires none { items.old.items ≡ [] }
     requires room { vec_len taken ≤ vec_capacity items.old }
     ensures items { all_seen items.new.items ≡ reverse (map (seen_without (outside_table outside.old)) taken.items) }

@@ -21,12 +21,13 @@ pub(crate) struct Undeeded<T: Body> {
 }
 
 impl<T: Body> Undeeded<T> {
-    ghost use Rattle.uma_keg.specs.Lent.{seen_of, seen_without, deed_without};
+    ghost use Rattle.uma_keg.specs.Lent.{seen_of, seen_without, deed_without, IsWithoutOf};
 
     /// The item and its deed.
     pub fn of(item: Live<T>) -> (Undeeded<T>, Deed)
         ensures seen { seen_without (live_table item) result.0 ≡ seen_of item }
         ensures deed { result.1 ≡ ticket_deed (live_ticket item) }
+        ensures origin { IsWithoutOf (live_table item) result.0 }
     {
         let (body, ticket) = item.into_parts();
         let (deed, domain) = ticket.into_deed();
@@ -48,7 +49,8 @@ impl<T: Body> Undeeded<T> {
 
     /// The item with a deed of its number and zone.
     pub fn with(self, deed: Deed) -> Live<T>
-        requires { (no_of deed, zone_of deed) ≡ deed_without self }
+        requires numbers { (no_of deed, zone_of deed) ≡ deed_without self }
+        requires origin { IsWithoutOf (deed_table deed) self }
         ensures { seen_of result ≡ seen_without (deed_table deed) self }
     {
         let Undeeded { body, domain, .. } = self;

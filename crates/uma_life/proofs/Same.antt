@@ -7,7 +7,7 @@ use Rattle.uma_life.specs.declared.stored.Stored.{Stored}
 use Rattle.uma_life.specs.declared.cached.Cached.{Cached}
 use Rattle.uma_life.specs.Trail.{IsAt}
 use Rattle.uma_life.specs.Hook.{base_phase}
-use Rattle.deed_book.specs.Deed.{no_of, zone_of}
+use Rattle.deed_book.specs.Deed.{no_of, zone_of, deed_table}
 
 pub stored_same : {T : Type 0} {g : _} (a b : Stored T g) → a.body ≡ b.body → a.domain ≡ b.domain → a ≡ b
 stored_same {g = g} a b body domain = λ i. record {
@@ -22,4 +22,5 @@ cached_same {g = g} a b body ticket = λ i. record {
   ticket = ticket i;
   numbered = prop→path_p (λ j. (g.life (body j)).no ≡ no_of (ticket j).deed) (Prim.hlevel props) a.numbered b.numbered i;
   at = prop→path_p (λ j. IsAt (base_phase (zone_of (ticket j).deed)) (g.life (body j))) (Prim.hlevel props) a.at b.at i;
+  of_origin = prop→path_p (λ j. g.origin (body j) ≡ (deed_table (ticket j).deed).origin) (Prim.hlevel props) a.of_origin b.of_origin i;
 }

@@ -1,6 +1,6 @@
 -- Own: what contracts see of a cached item.
 use Rattle.std.specs.Prelude.{ℕ}
-use Rattle.deed_book.specs.Deed.{TableId}
+use Rattle.deed_book.specs.Deed.{BookId}
 use Rattle.uma_life.specs.declared.cached.Cached.{Cached}
 use Rattle.uma_life.specs.declared.ticket.Ticket.{Ticket}
 use Rattle.uma_life.specs.Ticket.{ticket_no, ticket_zone, ticket_domain, ticket_table}
@@ -22,5 +22,5 @@ abbrev pub cached_domain : {T : Type 0} {g : _} → Cached T g → ℕ
 cached_domain item = ticket_domain item.ticket
 
 -- which book its deed is of
-abbrev pub cached_table : {T : Type 0} {g : _} → Cached T g → TableId
+abbrev pub cached_table : {T : Type 0} {g : _} → Cached T g → BookId
 cached_table item = ticket_table item.ticket

@@ -1,6 +1,6 @@
 -- Own: what contracts see of a live item.
 use Rattle.std.specs.Prelude.{ℕ}
-use Rattle.deed_book.specs.Deed.{TableId}
+use Rattle.deed_book.specs.Deed.{BookId}
 use Rattle.uma_life.specs.declared.live.Live.{Live}
 use Rattle.uma_life.specs.declared.ticket.Ticket.{Ticket}
 use Rattle.uma_life.specs.Ticket.{ticket_no, ticket_zone, ticket_domain, ticket_table}
@@ -22,5 +22,5 @@ abbrev pub live_domain : {T : Type 0} {g : _} → Live T g → ℕ
 live_domain item = ticket_domain item.ticket
 
 -- which book its deed is of
-abbrev pub live_table : {T : Type 0} {g : _} → Live T g → TableId
+abbrev pub live_table : {T : Type 0} {g : _} → Live T g → BookId
 live_table item = ticket_table item.ticket

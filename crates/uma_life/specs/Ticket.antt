@@ -1,7 +1,7 @@
 -- Own: what contracts see of a ticket.
 use Rattle.std.specs.Prelude.{ℕ}
 use Rattle.deed_book.specs.declared.deed.Deed.{Deed}
-use Rattle.deed_book.specs.Deed.{no_of, zone_of, deed_table, TableId}
+use Rattle.deed_book.specs.Deed.{no_of, zone_of, deed_table, BookId}
 use Rattle.uma_life.specs.declared.ticket.Ticket.{Ticket}
 
 abbrev pub ticket_deed : Ticket → Deed
@@ -17,5 +17,5 @@ abbrev pub ticket_domain : Ticket → ℕ
 ticket_domain ticket = ticket.domain
 
 -- which book its deed is of
-abbrev pub ticket_table : Ticket → TableId
+abbrev pub ticket_table : Ticket → BookId
 ticket_table ticket = deed_table ticket.deed

@@ -1,4 +1,4 @@
-ghost use Rattle.std.specs.Prelude.{◌≡◌};
+ghost use Rattle.std.specs.Prelude.{◌≡◌, ℕ, List, []};
 ghost use Rattle.uma_life.specs.Life.{Life};
 
 use crate::body_phase::BodyPhase;
@@ -8,6 +8,9 @@ use crate::tally::Tally;
 /// tally.
 pub trait Body {
     ghost life: { Self → Life };
+
+    /// What the body is of, as numbers. Hooks keep it; where it isn't written it tells nothing.
+    ghost origin: { Self → List ℕ } = { λ body. [] };
 
     /// The number of the item.
     fn no(&self) -> u32

@@ -1,5 +1,5 @@
 ghost use Rattle.std.specs.Prelude.{◌≡◌, ◌≢◌, ◌<◌, Some, None, IfOk, IfErr};
-ghost use Rattle.deed_book.specs.Deed.{no_of, zone_of};
+ghost use Rattle.deed_book.specs.Deed.{no_of, zone_of, deed_table};
 ghost use Rattle.uma_life.specs.Hook.{base_phase, Ctor, ZoneFini, after, IsCode};
 ghost use Rattle.uma_life.specs.Trail.{IsAt};
 
@@ -17,10 +17,11 @@ pub struct Cached<T: Body> {
     pub(crate) ticket: Ticket,
     pub ghost numbered: { (T.life body).no ≡ no_of ticket.deed },
     pub ghost at: { IsAt (base_phase (zone_of ticket.deed)) (T.life body) },
+    pub ghost of_origin: { T.origin body ≡ (deed_table ticket.deed).origin },
 }
 
 impl<T: Body> Cached<T> {
-    ghost use Rattle.uma_life.specs.Cached.{cached_body, cached_no, cached_zone, cached_domain};
+    ghost use Rattle.uma_life.specs.Cached.{cached_body, cached_no, cached_zone, cached_domain, cached_table};
 
     /// The item's number in its keg.
     pub fn no(&self) -> u32
@@ -49,15 +50,16 @@ impl<T: Body> Cached<T> {
         ensures body { result.now ≡ cached_body self.now }
         ensures number { (T.life result.now).no ≡ cached_no self.now }
         ensures at { IsAt (base_phase (cached_zone self.now)) (T.life result.now) }
+        ensures origin { T.origin result.now ≡ (cached_table self.now).origin }
     {
         &self.body
     }
 }
 
 impl<T: Body> Cached<T> {
-    ghost use Rattle.uma_life.specs.Cached.{cached_body, cached_zone, cached_domain, cached_ticket};
+    ghost use Rattle.uma_life.specs.Cached.{cached_body, cached_zone, cached_domain, cached_ticket, cached_table};
     ghost use Rattle.uma_life.specs.Live.{live_body, live_ticket};
-    ghost use Rattle.uma_life.specs.Stored.{stored_body, stored_no, stored_domain};
+    ghost use Rattle.uma_life.specs.Stored.{stored_body, stored_no, stored_domain, stored_origin};
     ghost use Rattle.uma_life.specs.Ticket.{ticket_deed};
 
     /// Builds the item: it passes `ctor`. Where that refuses the item is back, with the code.
@@ -81,6 +83,7 @@ impl<T: Body> Cached<T> {
         ensures number { stored_no result.0 ≡ no_of result.1 }
         ensures domain { stored_domain result.0 ≡ cached_domain self }
         ensures deed { result.1 ≡ ticket_deed (cached_ticket self) }
+        ensures origin { stored_origin result.0 ≡ (cached_table self).origin }
         ensures primary { cached_zone self ≡ 0 → stored_body result.0 ≡ cached_body self }
         ensures passed { cached_zone self ≢ 0 → T.life (stored_body result.0) ≡ after (ZoneFini (cached_zone self)) (T.life (cached_body self)) }
         ensures left { cached_zone self ≢ 0 → K.leaves_fini hooks.now (cached_body self) (cached_zone self) (stored_body result.0) }

@@ -1,5 +1,5 @@
 ghost use Rattle.std.specs.Prelude.{◌≡◌, ◌<◌};
-ghost use Rattle.deed_book.specs.Deed.{no_of, zone_of};
+ghost use Rattle.deed_book.specs.Deed.{no_of, zone_of, deed_table};
 ghost use Rattle.uma_life.specs.Hook.{Dtor, after};
 ghost use Rattle.uma_life.specs.Trail.{IsAt};
 ghost use Rattle.uma_life.specs.declared.body_phase.BodyPhase.TheVariants.{Built};
@@ -16,10 +16,11 @@ pub struct Live<T: Body> {
     pub(crate) ticket: Ticket,
     pub ghost numbered: { (T.life body).no ≡ no_of ticket.deed },
     pub ghost at: { IsAt (Built (zone_of ticket.deed)) (T.life body) },
+    pub ghost of_origin: { T.origin body ≡ (deed_table ticket.deed).origin },
 }
 
 impl<T: Body> Live<T> {
-    ghost use Rattle.uma_life.specs.Live.{live_body, live_no, live_zone, live_domain};
+    ghost use Rattle.uma_life.specs.Live.{live_body, live_no, live_zone, live_domain, live_table};
 
     /// The item's number in its keg.
     pub fn no(&self) -> u32
@@ -48,6 +49,7 @@ impl<T: Body> Live<T> {
         ensures body { result.now ≡ live_body self.now }
         ensures number { (T.life result.now).no ≡ live_no self.now }
         ensures at { IsAt (Built (live_zone self.now)) (T.life result.now) }
+        ensures origin { T.origin result.now ≡ (live_table self.now).origin }
     {
         &self.body
     }
@@ -56,7 +58,7 @@ impl<T: Body> Live<T> {
 impl<T: Body> Live<T> {
     ghost use Rattle.uma_life.specs.Live.{live_body, live_no, live_zone, live_ticket};
     ghost use Rattle.uma_life.specs.Cached.{cached_body, cached_ticket};
-    ghost use Rattle.uma_life.specs.Ticket.{ticket_no, ticket_zone};
+    ghost use Rattle.uma_life.specs.Ticket.{ticket_no, ticket_zone, ticket_table};
 
     /// Ends the item's use: it passes `dtor`.
     pub fn finish<K: Hooks<T>>(self, hooks: &K) -> Cached<T>
@@ -75,6 +77,7 @@ impl<T: Body> Live<T> {
         ensures ticket { result.1 ≡ live_ticket self }
         ensures number { (T.life result.0).no ≡ ticket_no result.1 }
         ensures at { IsAt (Built (ticket_zone result.1)) (T.life result.0) }
+        ensures origin { T.origin result.0 ≡ (ticket_table result.1).origin }
     {
         (self.body, self.ticket)
     }
@@ -83,6 +86,7 @@ impl<T: Body> Live<T> {
     pub fn from_parts(body: T, ticket: Ticket) -> Live<T>
         requires number { (T.life body).no ≡ ticket_no ticket }
         requires at { IsAt (Built (ticket_zone ticket)) (T.life body) }
+        requires origin { T.origin body ≡ (ticket_table ticket).origin }
         ensures { (live_body result ≡ body) × (live_ticket result ≡ ticket) }
     {
         Live { body, ticket }

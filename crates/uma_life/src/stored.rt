@@ -1,5 +1,5 @@
 ghost use Rattle.std.specs.Prelude.{◌≡◌, ◌≢◌, ◌⊎◌, Some, None, IfOk, IfErr, IsOkAnd};
-ghost use Rattle.deed_book.specs.Deed.{no_of, zone_of};
+ghost use Rattle.deed_book.specs.Deed.{no_of, zone_of, deed_table};
 ghost use Rattle.uma_life.specs.Life.{raw_life};
 ghost use Rattle.uma_life.specs.Hook.{KegInit, ZoneInit, KegFini, after, IsCode};
 ghost use Rattle.uma_life.specs.Trail.{IsAt, OnTrail};
@@ -63,7 +63,7 @@ impl<T: Body> Stored<T> {
 }
 
 impl<T: Body> Stored<T> {
-    ghost use Rattle.uma_life.specs.Stored.{stored_body, stored_no, stored_domain};
+    ghost use Rattle.uma_life.specs.Stored.{stored_body, stored_no, stored_domain, stored_origin};
     ghost use Rattle.uma_life.specs.Bring.{RefusesToBring};
     ghost use Rattle.uma_life.specs.Ticket.{ticket_deed, ticket_domain};
     ghost use Rattle.uma_life.specs.Cached.{cached_body, cached_ticket};
@@ -78,6 +78,7 @@ impl<T: Body> Stored<T> {
     ) -> Result<Stored<T>, BringRefused>
         ensures number { IfOk result (λ item. stored_no item ≡ no) }
         ensures domain { IfOk result (λ item. stored_domain item ≡ domain) }
+        ensures origin { IfOk result (λ item. stored_origin item ≡ K.origin hooks.now) }
         ensures brought { IfOk result (λ item. T.life (stored_body item) ≡ after KegInit (raw_life no)) }
         ensures accepted { IfOk result (λ _. (raw : T) × (T.life raw ≡ raw_life no) × (K.refuses_init hooks.now raw 0 ≡ None)) }
         ensures left { IfOk result (λ item. (raw : T) × (T.life raw ≡ raw_life no) × K.makes hooks.now no raw × (K.refuses_init hooks.now raw 0 ≡ None) × K.leaves_init hooks.now raw 0 (stored_body item)) }
@@ -91,14 +92,15 @@ impl<T: Body> Stored<T> {
         Ok(Stored { body, domain })
     }
 
-    /// Lends the item to the zone of a deed of its number. It passes `zone_init`, but for zone 0. Where that refuses
+    /// Lends the item to the zone of a deed of its number, whose book is of the item's origin. It passes `zone_init`, but for zone 0. Where that refuses
     /// the item and the deed are back, with the code.
     pub fn lend<K: Hooks<T>>(
         self,
         hooks: &K,
         deed: Deed,
     ) -> Result<Cached<T>, (Stored<T>, Deed, u8)>
-        requires { no_of deed ≡ stored_no self }
+        requires number { no_of deed ≡ stored_no self }
+        requires origin { stored_origin self ≡ (deed_table deed).origin }
         ensures deed { IfOk result (λ item. ticket_deed (cached_ticket item) ≡ deed) }
         ensures domain { IfOk result (λ item. ticket_domain (cached_ticket item) ≡ stored_domain self) }
         ensures primary { zone_of deed ≡ 0 → IsOkAnd result (λ item. cached_body item ≡ stored_body self) }

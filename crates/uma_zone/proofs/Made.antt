@@ -1,6 +1,6 @@
 -- A new keg, and the key of its lock.
 use Rattle.std.proofs.Common.{◌≡◌, ◌<◌, ℕ, Option, Some, None, sym, ap, ◌∙◌}
-use Rattle.deed_book.specs.Deed.{TableId}
+use Rattle.deed_book.specs.Deed.{BookId}
 use Rattle.deed_book.specs.Book.{book_table}
 use Rattle.uma_bucket.specs.Home.{Home}
 use Rattle.uma_domain.specs.Identity.{home_of}
@@ -31,5 +31,5 @@ key_of keg old new domains key lock same of kept is = record {
   domains_kept = ap (λ (k : KegKey). k.domains) same ∙ of.domains_kept;
 }
 
-pub same_home : (t u : TableId) (m n d e : ℕ) → t ≡ u → m ≡ n → d ≡ e → home_of t m d ≡ home_of u n e
+pub same_home : (t u : BookId) (m n d e : ℕ) → t ≡ u → m ≡ n → d ≡ e → home_of t m d ≡ home_of u n e
 same_home t u m n d e p q r = cc

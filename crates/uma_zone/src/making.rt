@@ -5,7 +5,7 @@ ghost use Rattle.deed_book.specs.FailShare.{share_table};
 ghost use Rattle.smr_clock.specs.Belongs.{clock_id};
 ghost use Rattle.uma_bucket.specs.Bucket.{IsOutOfRange};
 ghost use Rattle.uma_domain.specs.Identity.{home_of};
-ghost use Rattle.uma_keg.specs.Keg.{places_in, rights_in, size_in, reserve_in, fetches_in};
+ghost use Rattle.uma_keg.specs.Keg.{places_in, rights_in, table_in, size_in, reserve_in, fetches_in};
 ghost use Rattle.uma_places.specs.Places.{IsNew};
 ghost use Rattle.locked_keg.specs.Key.{key_rights, key_fails};
 ghost use Rattle.zone_domains.specs.Domains.{domains_home, domains_clock, domains_smr, domain_count};
@@ -42,8 +42,9 @@ impl<T: Body + Drop, K: Hooks<T>, H: Host> Zone<T, K, H> {
     ghost use Rattle.uma_zone.specs.Making.{IsPrimary, IsSecondaryOf, IsSameZone, RefusesPrimary, RefusesSecondary, AcceptsSet};
 
     /// A zone over a keg of its own, whose items have `size` bytes. The keg runs the hooks of items that come and go with
-    /// their slabs, by `keg_hooks`; the zone runs `ctor` and `dtor`, by `hooks`. The clock is that of the zone's readers,
-    /// and gets a handle more. Nothing is brought in yet. What was handed in is dropped where the making is refused.
+    /// their slabs, by `keg_hooks`, of whose origin they are; the zone runs `ctor` and `dtor`, by `hooks`. The clock is that
+    /// of the zone's readers, and gets a handle more. Nothing is brought in yet. What was handed in is dropped where the
+    /// making is refused.
     ///
     /// # Errors
     ///
@@ -58,6 +59,7 @@ impl<T: Body + Drop, K: Hooks<T>, H: Host> Zone<T, K, H> {
         keg_hooks: K,
     ) -> Result<Zone<T, K, H>, ZoneRefused>
         ensures made { IfOk result (IsPrimary (clock_id clock.now) size set hooks) }
+        ensures origin { IfOk result (λ zone. (zone_home zone).book.origin ≡ K.origin keg_hooks) }
         ensures accepted { OnOk result (AcceptsSet size set) }
         ensures refused { IfErr result (RefusesPrimary size set) }
     {
@@ -94,7 +96,8 @@ impl<T: Body + Drop, K: Hooks<T>, H: Host> Zone<T, K, H> {
         requires new { IsNew (min 256 (4096 / size_in keg)) set.slabs (places_in keg) }
         requires fetches { (zone : ℕ) → fetches_in keg zone ≡ [] }
         requires reserve { reserve_in keg ≡ set.reserve }
-        ensures { IfOk result (IsPrimary (clock_id clock.now) (size_in keg) set hooks) }
+        ensures made { IfOk result (IsPrimary (clock_id clock.now) (size_in keg) set hooks) }
+        ensures book { IfOk result (λ zone. (zone_home zone).book ≡ table_in keg) }
     {
         let Some(right) = rights.pop() else {
             unreachable!()

@@ -3,11 +3,9 @@ ghost use Rattle.smr_clock.specs.Belongs.{IsOf};
 ghost use Rattle.uma_bucket.specs.Bucket.{place_of};
 ghost use Rattle.uma_bucket.specs.Loose.{loose_place};
 
-use super::body::{Plain, idle_hooks};
+use super::body::{Plain, PlainBook, idle_hooks};
 use super::clock::two_seats;
-use super::stacks::cached;
 use crate::{Bucket, Freed, Loose, Sums};
-use deed_book::Book;
 use smr_clock::{AdvanceRefused, Bare, Clock, Pass};
 use std::alloc::Global;
 use std::process::Abort;
@@ -22,7 +20,7 @@ const BELOW_WRAP: u64 = 4_294_967_295;
 fn filled<R: Wait>(
     rt: &R,
     alloc: Global,
-    book: &mut Book,
+    book: &mut PlainBook,
     bucket: Bucket<Plain>,
     numbers: [u32; 4],
 ) -> Result<Loose<Plain>, Fail> {
@@ -31,7 +29,7 @@ fn filled<R: Wait>(
     }
     let mut loose = Loose::reuse(bucket);
     for no in numbers {
-        let Ok(item) = cached(rt, alloc, book, no)?.build(&idle_hooks(), 0) else {
+        let Ok(item) = book.cached(rt, alloc, no)?.build(&idle_hooks(), 0) else {
             return Err(Fail::new("refused"));
         };
         if loose.len() < loose.size() {
@@ -43,7 +41,7 @@ fn filled<R: Wait>(
 
 #[test]
 fn a_bucket_waits_for_the_section_that_may_see_it(rt: HostRuntime) -> Result<(), Fail> {
-    let mut book = Book::new(rt.alloc(), 8)?;
+    let mut book = PlainBook::new(rt.alloc(), 8)?;
     let bucket = Bucket::make(rt.alloc(), 4)?;
     let loose = filled(&rt, rt.alloc(), &mut book, bucket, [0, 1, 2, 3])?;
     let (clock, mut reader, mut writer) = two_seats(rt.alloc(), BELOW_WRAP)?;
@@ -69,7 +67,7 @@ fn a_bucket_waits_for_the_section_that_may_see_it(rt: HostRuntime) -> Result<(),
 
 #[test]
 fn a_bucket_stays_loose_while_the_window_is_used_up(rt: HostRuntime) -> Result<(), Fail> {
-    let mut book = Book::new(rt.alloc(), 8)?;
+    let mut book = PlainBook::new(rt.alloc(), 8)?;
     let (bucket, other) = (Bucket::make(rt.alloc(), 4)?, Bucket::make(rt.alloc(), 4)?);
     let older = filled(&rt, rt.alloc(), &mut book, bucket, [0, 1, 2, 3])?;
     let loose = filled(&rt, rt.alloc(), &mut book, other, [4, 5, 6, 7])?;
@@ -159,7 +157,7 @@ fn goes_round<R: Abort + Wait>(
 
 #[test]
 fn a_room_goes_round_and_each_item_passes_dtor_once(rt: HostRuntime) -> Result<(), Fail> {
-    let mut book = Book::new(rt.alloc(), 8)?;
+    let mut book = PlainBook::new(rt.alloc(), 8)?;
     let (clock, _, mut pass) = two_seats(rt.alloc(), BELOW_WRAP)?;
     let bucket = Bucket::make(rt.alloc(), 4)?;
     let loose = filled(&rt, rt.alloc(), &mut book, bucket, [0, 1, 2, 3])?;

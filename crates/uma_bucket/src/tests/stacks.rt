@@ -1,13 +1,9 @@
 ghost use Rattle.std.specs.Prelude.{◌≡◌};
 ghost use Rattle.uma_bucket.specs.Bucket.{items_of, size_of};
 
-use crate::tests::body::{Plain, idle_hooks};
+use crate::tests::body::{Plain, PlainBook};
 use crate::{Bucket, BucketRefused};
-use deed_book::Book;
-use std::alloc::Global;
-use std::sync::Wait;
 use std::test::Fail;
-use uma_life::{Cached, Stored};
 
 #[test]
 fn a_bucket_has_4_to_64_places(rt: HostRuntime) -> Result<(), Fail> {
@@ -34,29 +30,12 @@ fn pops_and_pushes(bucket: &mut Bucket<Plain>)
     }
 }
 
-/// A cached item of zone 0.
-pub(super) fn cached<R: Wait>(
-    rt: &R,
-    alloc: Global,
-    book: &mut Book,
-    no: u32,
-) -> Result<Cached<Plain>, Fail> {
-    let stored = Stored::bring(rt, alloc, &idle_hooks(), no, 0)?;
-    if !book.is_home(no) {
-        return Err(Fail::new("out"));
-    }
-    let Ok(item) = stored.lend(&idle_hooks(), book.issue(no, 0)) else {
-        return Err(Fail::new("refused"));
-    };
-    Ok(item)
-}
-
 #[test]
 fn the_last_put_is_the_first_taken(rt: HostRuntime) -> Result<(), Fail> {
-    let mut book = Book::new(rt.alloc(), 8)?;
+    let mut book = PlainBook::new(rt.alloc(), 8)?;
     let mut bucket = Bucket::make(rt.alloc(), 4)?;
     for no in 0..4 {
-        let item = cached(&rt, rt.alloc(), &mut book, no)?;
+        let item = book.cached(&rt, rt.alloc(), no)?;
         if bucket.len() < bucket.size() {
             bucket.push(item);
         }

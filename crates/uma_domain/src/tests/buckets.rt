@@ -1,4 +1,4 @@
-ghost use Rattle.std.specs.Prelude.{◌≡◌, IfOk};
+ghost use Rattle.std.specs.Prelude.{◌≡◌, [], IfOk};
 ghost use Rattle.deed_book.specs.Book.{book_table};
 ghost use Rattle.smr_clock.specs.Belongs.{IsOf, clock_id, holder};
 ghost use Rattle.smr_core.specs.declared.phase.Phase.{Phase};
@@ -35,8 +35,9 @@ pub(super) fn two_seats(
     Ok((clock, first, second))
 }
 
-/// A cached item of zone 0, in domain 0.
+/// A cached item of zone 0, in domain 0. Such items are of no origin.
 fn cached<R: Wait>(rt: &R, alloc: Global, book: &mut Book, no: u32) -> Result<Cached<Plain>, Fail>
+    requires no_origin { (book_table book.old).origin ≡ [] }
     ensures table { book_table book.new ≡ book_table book.old }
     ensures at_home { IfOk result (λ item. IsHome (home_of (book_table book.old) 0 1) (cached_ticket item)) }
 {
@@ -58,6 +59,7 @@ pub(super) fn plain<R: Wait>(
     book: &mut Book,
     no: u32,
 ) -> Result<Bucket<Plain>, Fail>
+    requires no_origin { (book_table book.old).origin ≡ [] }
     ensures table { book_table book.new ≡ book_table book.old }
     ensures at_home { IfOk result (IsPlainOf (home_of (book_table book.old) 0 1)) }
 {
@@ -77,6 +79,7 @@ fn sealed<R: Wait>(
     pass: &mut Pass<Bare>,
 ) -> Result<Sealed<Plain, Bare>, Fail>
     requires here { IsOf clock.now pass.old }
+    requires no_origin { (book_table book.old).origin ≡ [] }
     ensures here { IsOf clock.now pass.new }
     ensures table { book_table book.new ≡ book_table book.old }
     ensures at_home { IfOk result (λ sealed. IsLooseOf (home_of (book_table book.old) 0 1) (sealed_bucket sealed)) }
@@ -101,7 +104,8 @@ pub(super) fn put<R: Wait>(
     book: &mut Book,
     no: u32,
 ) -> Result<(), Fail>
-    requires { (domain_identity domain.now).home ≡ home_of (book_table book.old) 0 1 }
+    requires home { (domain_identity domain.now).home ≡ home_of (book_table book.old) 0 1 }
+    requires no_origin { (book_table book.old).origin ≡ [] }
     ensures { book_table book.new ≡ book_table book.old }
 {
     let bucket = plain(rt, alloc, book, no)?;
@@ -124,6 +128,7 @@ pub(super) fn put_sealed<R: Wait>(
     requires home { (domain_identity domain.now).home ≡ home_of (book_table book.old) 0 1 }
     requires clock { (domain_identity domain.now).clock ≡ clock_id clock.now }
     requires here { IsOf clock.now pass.old }
+    requires no_origin { (book_table book.old).origin ≡ [] }
     ensures here { IsOf clock.now pass.new }
     ensures table { book_table book.new ≡ book_table book.old }
 {

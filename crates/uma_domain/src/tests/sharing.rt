@@ -1,4 +1,4 @@
-ghost use Rattle.std.specs.Prelude.{◌≡◌, false, All, IfOk};
+ghost use Rattle.std.specs.Prelude.{◌≡◌, false, All, [], IfOk};
 ghost use Rattle.deed_book.specs.Book.{book_table};
 ghost use Rattle.deed_book.specs.FailShare.{share_table};
 ghost use Rattle.uma_domain.specs.Domain.{domain_identity};
@@ -29,6 +29,7 @@ fn buckets<R: Wait>(
     book: &mut Book,
     numbers: Range<u32>,
 ) -> Result<Vec<Bucket<Plain>>, Fail>
+    requires no_origin { (book_table book.old).origin ≡ [] }
     ensures table { book_table book.new ≡ book_table book.old }
     ensures at_home { IfOk result (λ buckets. All (IsPlainOf (home_of (book_table book.old) 0 1)) buckets.items) }
 {

@@ -1,4 +1,4 @@
-ghost use Rattle.std.specs.Prelude.{◌≡◌, ◌≤◌, false, IfOk};
+ghost use Rattle.std.specs.Prelude.{◌≡◌, ◌≤◌, false, [], IfOk};
 ghost use Rattle.deed_book.specs.Book.{book_table};
 ghost use Rattle.uma_bucket.specs.Home.{IsHome};
 ghost use Rattle.uma_life.specs.Cached.{cached_table, cached_zone, cached_domain};
@@ -23,9 +23,10 @@ pub(super) struct PlainSeat {
     domains: u8,
     pub ghost home: { seat_home seat ≡ record { book = book_table book; zone = 0; domains = domains } },
     pub ghost plain: { seat_smr seat ≡ false },
+    pub ghost no_origin: { (book_table book).origin ≡ [] },
 }
 
-/// A cached item of zone 0, of this domain.
+/// A cached item of zone 0, of this domain. Such items are of no origin.
 pub(super) fn cached<R: Wait>(
     rt: &R,
     alloc: Global,
@@ -33,6 +34,7 @@ pub(super) fn cached<R: Wait>(
     no: u32,
     domain: u8,
 ) -> Result<Cached<Plain>, Fail>
+    requires no_origin { (book_table book.old).origin ≡ [] }
     ensures table { book_table book.new ≡ book_table book.old }
     ensures item_table { IfOk result (λ item. cached_table item ≡ book_table book.old) }
     ensures zone { IfOk result (λ item. cached_zone item ≡ 0) }

@@ -1,4 +1,4 @@
-ghost use Rattle.std.specs.Prelude.{◌≡◌, ◌≤◌, ◌<◌, ◌^◌, IfOk};
+ghost use Rattle.std.specs.Prelude.{◌≡◌, ◌≤◌, ◌<◌, ◌^◌, [], IfOk};
 ghost use Rattle.deed_book.specs.Book.{book_table};
 ghost use Rattle.smr_clock.specs.Belongs.{IsOf, clock_id};
 ghost use Rattle.uma_life.specs.Ticket.{ticket_table, ticket_zone, ticket_domain};
@@ -35,9 +35,10 @@ pub(super) struct SeatedZone {
     pub ghost of_kind: { seat.seating.smr ≡ smr },
     pub ghost pass_here: { IsOf clock pass },
     pub ghost reader_here: { IsOf clock reader },
+    pub ghost no_origin: { (book_table book).origin ≡ [] },
 }
 
-/// A cached item of zone 0, of this domain.
+/// A cached item of zone 0, of this domain. Such items are of no origin.
 fn cached<R: Wait>(
     rt: &R,
     alloc: Global,
@@ -45,6 +46,7 @@ fn cached<R: Wait>(
     no: u32,
     domain: u8,
 ) -> Result<Cached<Plain>, Fail>
+    requires no_origin { (book_table book.old).origin ≡ [] }
     ensures table { book_table book.new ≡ book_table book.old }
     ensures ticket { IfOk result (λ item. (ticket_table (cached_ticket item) ≡ book_table book.old) × (ticket_zone (cached_ticket item) ≡ 0) × (ticket_domain (cached_ticket item) ≡ domain)) }
 {

@@ -1,10 +1,12 @@
-use Rattle.std.proofs.Common.{List, ap, sym, ◌∙◌}
+use Rattle.std.proofs.Common.{List, ap, sym, subst, ◌∙◌}
 use Rattle.smr_clock.specs.declared.setup.Setup.{Setup}
 use Rattle.smr_clock.specs.declared.view.View.{View}
 use Rattle.smr_clock.specs.Making.{setup}
 use Rattle.name_rows.specs.declared.owned.Owned.{Owned}
 use Rattle.name_rows.specs.declared.part.Part.{Part}
+use Rattle.name_rows.specs.declared.row.Row.{Row}
 use Rattle.name_rows.specs.Moving.{found, entry_no}
+use Rattle.name_rows.specs.Opening.{AreOpenRows}
 use Rattle.name_rows.proofs.OpeningLemmas.{names_opens, table_owns, table_loose}
 use Rattle.name_rows.proofs.making.make.Goals as goal
 
@@ -25,3 +27,6 @@ invariant_of-root c =
       loose = table_loose c.args.entries c.in-Ok-fresh_entries.kept.items long fresh;
       all = long ∙ sym (ap (λ (s : Setup). s.plan.1) (c.in-Ok-split_rows.ensures.here.1 ∙ c.in-Ok-hosted.ensures.clock));
     }
+
+pub returns-clause-rows : goal.returns-clause-rows
+returns-clause-rows c = subst (λ (l : List Row). AreOpenRows c.in-Ok-hosted.clock c.args.version l) (sym c.from_vec-2.ensures) c.in-Ok-split_rows.ensures.rows

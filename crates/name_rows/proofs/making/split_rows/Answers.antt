@@ -12,7 +12,7 @@ loop-number-preserved c =
       owned = c.split_row-seat.ensures.owned ∙ c.loop-number.invariant.owned;
       long = one_longer c.loop-number.rows.items c.push_row.new.rows.items c.in_ok-row.row c.loop-number.number c.in_ok-push_row.ensures c.loop-number.invariant.long;
       rows = one_row_more c.args.clock.now c.args.version c.loop-number.number c.loop-number.rows.items c.push_row.new.rows.items c.in_ok-row.row c.loop-number.invariant.rows c.in_ok-push_row.ensures c.loop-number.invariant.long
-          c.in_ok-row.ensures.here c.in_ok-row.ensures.row.0 c.in_ok-row.ensures.row.1 c.in_ok-row.ensures.row.2;
+          c.in_ok-row.ensures.here c.in_ok-row.ensures.row.0 c.in_ok-row.ensures.row.1 c.in_ok-row.ensures.row.2 c.in_ok-row.ensures.last;
     }
 
 pub returns-clause-rest : goal.returns-clause-rest

@@ -1,12 +1,20 @@
-use Rattle.std.proofs.Common.{◌≡◌, sym, ap, arith, ◌∙◌}
+use Rattle.std.proofs.Common.{◌≡◌, Some, sym, ap, arith, ◌∙◌}
+use Rattle.std.proofs.lemmas.List.Elements.{All-pop}
+use Rattle.deed_book.specs.Deed.{BookId}
 use Rattle.uma_keg.specs.Outside.{outside_table, outside_zones}
-use Rattle.uma_keg.specs.Lent.{seen_of, seen_without}
+use Rattle.uma_keg.specs.Lent.{seen_of, seen_without, IsWithoutOf}
 use Rattle.uma_keg.proofs.TakenIn.{item_moved, last_taken, last_home, last_issued}
 use Rattle.uma_keg.proofs.recount.issue_again.Goals as goal
 
 pub issue-requires-clause-home : goal.issue-requires-clause-home
 issue-requires-clause-home g c =
     last_home _ _ _ c.deed-no.result _ (last_taken (outside_zones c.args.before.value) (outside_zones c.loop-item.outside) _ _ c.in-Some.item c.in-Some.ensures.items c.loop-item.invariant.taken) c.deed-no.ensures
+
+pub with-requires-clause-origin : goal.with-requires-clause-origin
+with-requires-clause-origin g c =
+    let kept = c.loop-item.invariant in
+    let of_book = All-pop (IsWithoutOf (outside_table c.args.outside.now)) _ _ (Some c.in-Some.item) c.in-Some.ensures.items kept.origins in
+    of_book.1 ∙ sym (ap (λ (book : BookId). book.origin) (c.issue.ensures.deed_table ∙ kept.table))
 
 pub loop-item-preserved : goal.loop-item-preserved
 loop-item-preserved g c =
@@ -20,5 +28,6 @@ loop-item-preserved g c =
       counted = omega (arith, kept.counted, c.in-Some.ensures.cases, c.push_reserved.ensures.len);
       room = rw c.push_reserved.ensures.capacity kept.room;
       items = sym (item_moved table _ _ c.with.result _ _ item c.push_reserved.ensures.items c.in-Some.ensures.items same) ∙ kept.items;
+      origins = (All-pop (IsWithoutOf table) _ _ (Some item) c.in-Some.ensures.items kept.origins).0;
       taken = last_issued _ _ _ c.deed-no.result _ _ last c.deed-no.ensures c.issue.ensures.zones;
     }

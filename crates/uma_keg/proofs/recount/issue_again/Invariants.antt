@@ -1,7 +1,8 @@
 use Rattle.std.proofs.Common.{◌≡◌, ◌≤◌, ◌+◌, map, reverse, vec_len}
+use Rattle.std.specs.List.{All}
 use Rattle.std.specs.Vec.{vec_capacity}
 use Rattle.uma_keg.specs.Outside.{outside_zones, outside_table}
-use Rattle.uma_keg.specs.Lent.{seen_without, deed_without, together, TakesIn}
+use Rattle.uma_keg.specs.Lent.{seen_without, deed_without, together, TakesIn, IsWithoutOf}
 use Rattle.uma_keg.proofs.recount.issue_again.Given as goal
 
 abbrev pub decreases-loop-item : goal.decreases-loop-item
@@ -13,5 +14,6 @@ invariant-loop-item g l = record {
   counted : vec_len l.items + vec_len l.taken ≡ vec_len l.initial.taken;
   room : vec_len l.initial.taken ≤ vec_capacity l.items;
   items : together (outside_table l.initial.outside) l.items.items l.taken.items ≡ reverse (map (seen_without (outside_table l.initial.outside)) l.initial.taken.items);
+  origins : All (IsWithoutOf (outside_table l.initial.outside)) l.taken.items;
   taken : TakesIn (outside_zones l.before.value) (map deed_without l.taken.items) (outside_zones l.outside);
 }

@@ -1,9 +1,9 @@
 use Rattle.std.proofs.Common.{◌≡◌, sym, ap, arith, ◌∙◌, Some}
-use Rattle.std.proofs.lemmas.List.Elements.{All-pop}
-use Rattle.deed_book.specs.Deed.{no_of, zone_of}
+use Rattle.std.proofs.lemmas.List.Elements.{All-pop, All-push, All-same}
+use Rattle.deed_book.specs.Deed.{no_of, zone_of, BookId}
 use Rattle.uma_life.specs.Live.{live_table}
 use Rattle.uma_keg.specs.Outside.{outside_table, outside_zones}
-use Rattle.uma_keg.specs.Lent.{seen_of, seen_without}
+use Rattle.uma_keg.specs.Lent.{seen_of, seen_without, IsWithoutOf}
 use Rattle.uma_keg.proofs.TakenIn.{item_moved, item_taken, seen_deed}
 use Rattle.uma_keg.proofs.recount.take_in.Goals as goal
 
@@ -23,5 +23,6 @@ loop-item-preserved g c =
       room = rw c.push_reserved.ensures.capacity kept.room;
       kept = rw c.pop.ensures.capacity kept.kept;
       items = item_moved table _ _ item _ _ taken c.in-Some.ensures.items c.push_reserved.ensures.items same ∙ kept.items;
+      origins = All-same (IsWithoutOf table) _ _ c.push_reserved.ensures.items (All-push (IsWithoutOf table) _ taken kept.origins (c.of-item.ensures.origin ∙ ap (λ (book : BookId). book.origin) of_book.1));
       taken = item_taken (outside_zones c.args.outside.now) _ _ _ _ taken _ c.push_reserved.ensures.items deed c.accept.ensures.was_outside c.accept.ensures.zones kept.taken;
     }

@@ -3,7 +3,7 @@ use Rattle.std.specs.List.{All}
 use Rattle.std.specs.Vec.{vec_capacity}
 use Rattle.uma_life.specs.Live.{live_table}
 use Rattle.uma_keg.specs.Outside.{outside_zones, outside_table}
-use Rattle.uma_keg.specs.Lent.{all_seen, deed_without, together, TakesIn}
+use Rattle.uma_keg.specs.Lent.{all_seen, deed_without, together, TakesIn, IsWithoutOf}
 use Rattle.uma_keg.proofs.recount.take_in.Given as goal
 
 abbrev pub decreases-loop-item : goal.decreases-loop-item
@@ -17,5 +17,6 @@ invariant-loop-item g l = record {
   room : vec_len l.initial.items ≤ vec_capacity l.taken;
   kept : vec_len l.initial.items ≤ vec_capacity l.items;
   items : together (outside_table l.initial.outside) l.items.items l.taken.items ≡ all_seen l.initial.items.items;
+  origins : All (IsWithoutOf (outside_table l.initial.outside)) l.taken.items;
   taken : TakesIn (outside_zones l.initial.outside) (map deed_without l.taken.items) (outside_zones l.outside);
 }

@@ -3,6 +3,7 @@ use Rattle.std.proofs.lemmas.List.{length-set}
 use Rattle.atomic_table.specs.Seated.{TableId}
 use Rattle.atomic_table.specs.Table.{Me}
 use Rattle.deed_book.specs.declared.book_rule.View.{View}
+use Rattle.deed_book.specs.BookId.{BookId}
 use Rattle.deed_book.specs.Views.{book_view}
 use Rattle.deed_book.proofs.BookSteps.{accepting_allowed, putting_home_allowed, accepted}
 use Rattle.deed_book.proofs.register.Register.accept.Goals as goal
@@ -11,7 +12,7 @@ pub join_seat-requires : goal.join_seat-requires
 join_seat-requires c =
     let register = c.args.self.now in (
       register.one_table,
-      c.requires ∙ register.one_table,
+      ap (λ (book : BookId). book.table) c.requires ∙ register.one_table,
       ap (λ (m : Me (Unit {0}) View). m.1) c.args.deed.knows,
       omega (arith, register.one_word),
       accepting_allowed _ _ _ _ register.first_seat,

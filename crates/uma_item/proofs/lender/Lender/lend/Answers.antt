@@ -13,4 +13,5 @@ invariant_of-result g c =
     record {
       numbered = ap (λ (life : Life). life.no) same ∙ c.into_parts-item.ensures.number;
       at = subst at_zone (sym same) c.into_parts-item.ensures.at;
+      of_none = c.into_parts-item.ensures.origin;
     }

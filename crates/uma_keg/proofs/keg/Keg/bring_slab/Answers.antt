@@ -1,6 +1,8 @@
-use Rattle.std.proofs.Common.{◌≡◌, ◌<◌, ◌+◌, ◌*◌, ℕ, length, subst, sym, arith, rules, ◌∙◌}
+use Rattle.std.proofs.Common.{◌≡◌, ◌<◌, ◌+◌, ◌*◌, ◌/◌, ◌%◌, ℕ, None, length, subst, sym, arith, rules, ◌∙◌}
+use Rattle.std.proofs.Math.Nat.{mod-lt}
 use Rattle.uma_life.specs.declared.tally_sum.TallySum.{TallySum}
 use Rattle.uma_keg.specs.SlabItems.{places_of_slab}
+use Rattle.uma_keg.specs.HomeItems.{places_each}
 use Rattle.uma_places.specs.Places.{slab_count}
 use Rattle.uma_keg.specs.Tallies.{TallyLaw}
 use Rattle.uma_keg.specs.Paired.{ArePaired}
@@ -8,6 +10,7 @@ use Rattle.uma_keg.specs.NewItems.{AreNewItems, RefusesItems}
 use Rattle.uma_keg.specs.BringSlab.{AcceptsNumber, RefusesNumber}
 use Rattle.uma_keg.proofs.BroughtSlab.{PlacesLaw-brought}
 use Rattle.uma_keg.proofs.NextSlab.{some_gap, next_index, brings_next, brought_items, new_at_home, of_numbers}
+use Rattle.uma_keg.proofs.Origins.{origins_kept, of_place}
 use Rattle.uma_keg.proofs.TallyLaws.{TallyLaw-brought}
 use Rattle.uma_keg.proofs.RefusedSlab.{refuses_slab, TallyLaw-refused}
 use Rattle.uma_keg.proofs.PairedSums.{paired_refused}
@@ -39,6 +42,8 @@ invariant_of-self g c =
           let Law : TallySum → Type 0 = λ buried. TallyLaw buried c.bring-in-Ok.new.self in
           subst Law (sym c.in-Ok.ensures.buried) (TallyLaw-brought keg.buried keg.places c.bring-in-Ok.new.self c.requires counts.sound (omega (arith, counts.sound.slabs, counts.slabs, counts.cap, c.if-slabs-cap.false)) c.in-Ok-bring.ensures.counts.slabs brings.per_slab);
       paired = subst ArePaired (sym c.in-Ok.ensures.buried) keg.paired;
+      book_of_hooks = keg.book_of_hooks;
+      items_of_hooks = origins_kept _ keg.home_items c.add.new.self (λ n. n / places_each keg.home_items) index keg.items_of_hooks (λ n item at is. of_place _ _ item (c.in-Ok.ensures.origins (n % places_each keg.home_items) None (omega (arith, c.in-Ok.ensures.whole, counts.per_slab, keg.places_law.per_slab, keg.home_items.some_place, mod-lt n keg.home_items.some_place))) (sym (added.items n at) ∙ is)) added.others;
     }
 
 pub returns-in-Ok-bring-clause-brings : goal.returns-in-Ok-bring-clause-brings
@@ -87,4 +92,6 @@ invariant_of-self-in-Err-bring g c =
       zones_law = keg.zones_law;
       tally_law = TallyLaw-refused keg.buried c.bring.new.buried keg.places _ _ c.in-Err.refused c.requires counts.sound room refused;
       paired = paired_refused keg.buried c.bring.new.buried _ _ _ c.in-Err.refused keg.paired refused;
+      book_of_hooks = keg.book_of_hooks;
+      items_of_hooks = keg.items_of_hooks;
     }

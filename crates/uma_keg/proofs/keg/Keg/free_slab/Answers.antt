@@ -6,10 +6,11 @@ use Rattle.uma_keg.specs.HomeLists.{item_on}
 use Rattle.uma_places.specs.Places.{KegPlaces}
 use Rattle.uma_keg.specs.KegLaw.{PlacesLaw}
 use Rattle.uma_keg.specs.Keg.{zones_in}
-use Rattle.uma_keg.specs.HomeItems.{item_at}
+use Rattle.uma_keg.specs.HomeItems.{item_at, places_each}
 use Rattle.uma_keg.specs.Tallies.{ended_times, TallyLaw}
 use Rattle.uma_keg.proofs.FreedSlab.{PlacesLaw-dropped, TallyLaw-dropped}
 use Rattle.uma_keg.specs.FreeSlabs.{FiniLeaves}
+use Rattle.uma_keg.proofs.Origins.{origins_kept, none_there}
 use Rattle.uma_keg.proofs.EndedItems.{ended_at}
 use Rattle.uma_keg.proofs.GoneSums.{slab_gone}
 use Rattle.uma_keg.proofs.PairedSums.{paired_gone}
@@ -40,6 +41,8 @@ invariant_of-self g c =
       zones_law = keg.zones_law;
       tally_law = subst (TallyLaw keg.buried) (sym c.in_err-index.ensures.unchanged) keg.tally_law;
       paired = keg.paired;
+      book_of_hooks = keg.book_of_hooks;
+      items_of_hooks = keg.items_of_hooks;
     }
 
 pub invariant_of-self-2 : goal.invariant_of-self-2
@@ -53,6 +56,8 @@ invariant_of-self-2 g c =
       zones_law = keg.zones_law;
       tally_law = TallyLaw-dropped keg.buried c.end.new.buried keg.places c.drop_slab.new.self (λ hook. sum_by (ended_times hook) (places_of_slab c.remove-slab_items.result)) keg.tally_law c.in_ok-index.ensures.counts.slabs drops.per_slab c.end.ensures.sums (λ hook. omega (arith, c.end.ensures.counts hook, len));
       paired = paired_gone keg.buried c.end.new.buried (places_of_slab c.remove-slab_items.result) keg.paired c.end.ensures.sums;
+      book_of_hooks = keg.book_of_hooks;
+      items_of_hooks = origins_kept _ keg.home_items c.remove-slab_items.new.self (λ n. n / places_each keg.home_items) c.in_ok-index.index keg.items_of_hooks (λ n item at is. none_there _ _ item (removed.gone n at) is) removed.others;
     }
 
 pub returns-clause-freed : goal.returns-clause-freed

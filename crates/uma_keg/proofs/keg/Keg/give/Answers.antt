@@ -1,11 +1,13 @@
-use Rattle.std.proofs.Common.{◌≡◌, Some, refl, sym, ap, ◌∙◌}
+use Rattle.std.proofs.Common.{◌≡◌, ℕ, Some, refl, sym, ap, ◌∙◌}
 use Rattle.std.specs.List.{slice_get}
-use Rattle.deed_book.specs.Deed.{zone_of}
-use Rattle.uma_life.specs.Stored.{stored_no}
+use Rattle.deed_book.specs.Deed.{zone_of, BookId}
+use Rattle.uma_life.specs.Stored.{stored_no, stored_origin}
 use Rattle.uma_life.specs.Cached.{cached_zone}
+use Rattle.uma_keg.specs.HomeItems.{item_at}
 use Rattle.uma_keg.specs.Keg.{zones_in}
 use Rattle.uma_places.specs.Places.{IsOut}
 use Rattle.uma_keg.proofs.GivenItem.{out_place, PlacesLaw-given, ZonesLaw-given, out_given, outs_given}
+use Rattle.uma_keg.proofs.Origins.{origins_kept, one_there}
 use Rattle.uma_keg.proofs.TallyLaws.{TallyLaw-kept}
 use Rattle.uma_keg.proofs.keg.Keg.give.Goals as goal
 
@@ -21,12 +23,16 @@ pub invariant_of-self : goal.invariant_of-self
 invariant_of-self g c =
     let keg = c.args.self.now in
     let accepted = c.accept-no.ensures in
+    let origin : stored_origin c.in_domain-stored.result ≡ g.K.Hooks.origin keg.hooks =
+    ap (λ b. g.T.Body.origin b) c.in_domain-stored.ensures.body ∙ c.give_back-stored.ensures.origin ∙ ap (λ (book : BookId). book.origin) c.requires ∙ keg.book_of_hooks in
     let number : stored_no c.in_domain-stored.result ≡ c.accept-no.result = ap (λ b. (g.T.Body.life b).no) c.in_domain-stored.ensures.body ∙ c.give_back-stored.ensures.number ∙ sym accepted.number in
     record {
       places_law = PlacesLaw-given _ _ _ _ _ _ c.accept-no.result _ keg.places_law c.give.ensures.gives (rw accepted.number accepted.zones) c.put.ensures.item c.put.ensures.others c.put.ensures.home_items c.put.ensures.count c.put.ensures.places number (c.domain.ensures ∙ ap Some (sym c.in_domain-stored.ensures.domain));
       zones_law = ZonesLaw-given _ _ _ _ _ _ keg.zones_law accepted.zones accepted.was_outside;
       tally_law = TallyLaw-kept _ _ _ keg.tally_law (sym c.give.ensures.counts.slabs) c.give.ensures.gives.slabs.per_slab;
       paired = keg.paired;
+      book_of_hooks = ap (λ (book : BookId). book.origin) accepted.table ∙ keg.book_of_hooks;
+      items_of_hooks = origins_kept _ keg.home_items c.put.new.self (λ (n : ℕ). n) c.accept-no.result keg.items_of_hooks (λ n item at is. one_there _ _ item _ origin (ap (item_at c.put.new.self) at ∙ c.put.ensures.item) is) c.put.ensures.others;
     }
 
 pub returns-clause-out : goal.returns-clause-out

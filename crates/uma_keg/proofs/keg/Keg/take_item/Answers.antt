@@ -1,13 +1,14 @@
 use Rattle.std.proofs.Common.{◌≡◌, ◌<◌, ◌*◌, ◌/◌, ℕ, Some, None, set, sym, ap, subst, ◌∙◌}
-use Rattle.deed_book.specs.Deed.{no_of, zone_of, deed_table}
+use Rattle.deed_book.specs.Deed.{no_of, zone_of, deed_table, BookId}
 use Rattle.deed_book.specs.Book.{zones_of}
-use Rattle.uma_life.specs.Stored.{stored_no, stored_domain}
+use Rattle.uma_life.specs.Stored.{stored_no, stored_domain, stored_origin}
 use Rattle.uma_places.specs.Places.{domain_at, CountsOneOut, Gives}
 use Rattle.uma_keg.specs.HomeItems.{item_at}
 use Rattle.uma_places.specs.Taking.{Takes}
 use Rattle.uma_keg.specs.KegLaw.{PlacesLaw}
 use Rattle.uma_keg.proofs.GivenItem.{out_slab, PlacesLaw-given, ZonesLaw-given}
 use Rattle.uma_keg.proofs.TakenItem.{free_home, free_domain, PlacesLaw-taken, ZonesLaw-taken, same_again, zones_again, items_again, if_some, on_some, takes_item}
+use Rattle.uma_keg.proofs.Origins.{origins_kept, none_there, one_there}
 use Rattle.uma_keg.proofs.TallyLaws.{TallyLaw-kept}
 use Rattle.uma_keg.proofs.keg.Keg.take_item.Goals as goal
 
@@ -25,6 +26,8 @@ invariant_of-self g c =
       zones_law = ZonesLaw-taken _ _ _ _ no c.args.zone keg.zones_law c.issue-deed.ensures.zones (free_home keg.places_law no below takes.free) c.requires.exists c.requires.below;
       tally_law = TallyLaw-kept _ _ _ keg.tally_law counts.slabs takes.slabs.per_slab;
       paired = keg.paired;
+      book_of_hooks = ap (λ (book : BookId). book.origin) c.issue-deed.ensures.table ∙ keg.book_of_hooks;
+      items_of_hooks = origins_kept _ keg.home_items c.take-2.new.self (λ (n : ℕ). n) no keg.items_of_hooks (λ n item at is. none_there _ _ item (ap (item_at c.take-2.new.self) at ∙ taken.gone) is) taken.others;
     }
 
 pub put-requires-clause-slab_items : goal.put-requires-clause-slab_items
@@ -39,6 +42,12 @@ put-requires-clause-slab_items g c =
     let same_deed : c.in-Err.deed ≡ c.issue-deed.result = c.in-Err.ensures.unchanged.1 in
     let number : c.accept-no.result ≡ no = c.accept-no.ensures.number ∙ ap no_of same_deed ∙ c.issue-deed.ensures.deed.0 in
     rw number (out_slab law no takes.out)
+
+pub lend-requires-clause-origin : goal.lend-requires-clause-origin
+lend-requires-clause-origin g c =
+    let keg = c.args.self.now in
+    let stands : item_at keg.home_items c.unwrap-no.result ≡ Some c.unwrap-item.result = sym c.take-2.ensures.item ∙ c.unwrap-item.ensures in
+    keg.items_of_hooks c.unwrap-no.result c.unwrap-item.result stands ∙ sym (ap (λ (book : BookId). book.origin) c.issue-deed.ensures.deed_table ∙ keg.book_of_hooks)
 
 pub invariant_of-self-in-Err : goal.invariant_of-self-in-Err
 invariant_of-self-in-Err g c =
@@ -56,6 +65,8 @@ invariant_of-self-in-Err g c =
     let number : c.accept-no.result ≡ no = c.accept-no.ensures.number ∙ ap no_of same_deed ∙ c.issue-deed.ensures.deed.0 in
     let stands : item_at keg.home_items no ≡ Some c.unwrap-item.result = sym taken.item ∙ c.unwrap-item.ensures in
     let own_number : stored_no c.in-Err.item ≡ c.accept-no.result = ap stored_no same_item ∙ keg.places_law.numbered no c.unwrap-item.result stands ∙ sym number in
+    let own_origin : stored_origin c.in-Err.item ≡ g.K.Hooks.origin keg.hooks = ap stored_origin same_item ∙ keg.items_of_hooks no c.unwrap-item.result stands in
+    let left = origins_kept (g.K.Hooks.origin keg.hooks) keg.home_items c.take-2.new.self (λ (n : ℕ). n) no keg.items_of_hooks (λ n item at is. none_there _ _ item (ap (item_at c.take-2.new.self) at ∙ taken.gone) is) taken.others in
     let domain : domain_at c.take.new.self (c.accept-no.result / c.take.new.self.per_slab) ≡ Some (stored_domain c.in-Err.item) =
     ap (λ (m : ℕ). domain_at c.take.new.self (m / c.take.new.self.per_slab)) number
     ∙ ap (λ (p : ℕ). domain_at c.take.new.self (no / p)) takes.slabs.per_slab
@@ -67,6 +78,8 @@ invariant_of-self-in-Err g c =
       zones_law = ZonesLaw-given _ _ _ _ _ _ zones c.accept-no.ensures.zones c.accept-no.ensures.was_outside;
       tally_law = TallyLaw-kept _ _ _ (TallyLaw-kept _ _ c.take.new.self keg.tally_law counts.slabs takes.slabs.per_slab) (sym c.give.ensures.counts.slabs) c.give.ensures.gives.slabs.per_slab;
       paired = keg.paired;
+      book_of_hooks = ap (λ (book : BookId). book.origin) (c.accept-no.ensures.table ∙ c.issue-deed.ensures.table) ∙ keg.book_of_hooks;
+      items_of_hooks = origins_kept _ c.take-2.new.self c.put.new.self (λ (n : ℕ). n) c.accept-no.result left (λ n item at is. one_there _ _ item _ own_origin (ap (item_at c.put.new.self) at ∙ c.put.ensures.item) is) c.put.ensures.others;
     }
 
 pub returns-in-Ok-clause-takes : goal.returns-in-Ok-clause-takes

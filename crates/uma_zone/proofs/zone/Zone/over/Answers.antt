@@ -11,6 +11,7 @@ use Rattle.std.proofs.Common.{◌≡◌, ◌<◌, ℕ, List, [], ◌∷◌, ◌+
 use Rattle.std.proofs.lemmas.List.Elements.{All-pop, All-weaker}
 use Rattle.std.specs.Arc.{arc_value}
 use Rattle.std.specs.List.{All}
+use Rattle.uma_bucket.specs.Home.{Home}
 use Rattle.uma_keg.specs.Keg.{places_in, rights_in}
 use Rattle.uma_zone.proofs.Made.{no_slabs, key_of, same_home}
 use Rattle.uma_zone.proofs.Rights.{split_last, below_eight}
@@ -73,8 +74,11 @@ invariant_of-result-clause-rights_of_keg g c =
     let key = key_is g c in
     All-weaker (λ (right : KeptRight). right_table right ≡ book_table (rights_in c.args.keg)) (λ (right : KeptRight). right_table right ≡ key_rights (lock_key (arc_value c.in-Ok.keg))) (λ right of. of ∙ sym key.rights) c.in_ok-rights.rights.items c.in_ok-rights.ensures.of_keg
 
-pub returns : goal.returns
-returns g c =
+pub returns-clause-book : goal.returns-clause-book
+returns-clause-book g c = ap (λ (home : Home). home.book) c.in_ok-domains.ensures.home ∙ ap book_table c.numbers.ensures
+
+pub returns-clause-made : goal.returns-clause-made
+returns-clause-made g c =
     let of : IsKeyOf c.args.keg c.args.set.domains (lock_key (arc_value c.in-Ok.keg)) =
     key_of c.args.keg (keg_in c.in_ok-keg.keg) (keg_in c.add_zone-index.new.self) c.args.set.domains (lock_key c.in_ok-lock_up.field-0) (lock_key (arc_value c.in-Ok.keg)) (ap lock_key c.in-Ok.ensures.ok)
     c.in_ok-lock_up.ensures.key c.add_zone-index.ensures.same c.in_ok-keg.ensures.keg in
