@@ -1,0 +1,14 @@
+pub mod Telling
+pub mod RowFacts
+pub mod Clocks
+pub mod Items
+pub mod Linked
+pub mod Outs
+pub mod Opening
+pub mod Locking
+pub mod Taking
+pub mod Freeing
+pub mod Rebinding
+pub mod Ends
+pub mod Summing
+pub mod Shared

@@ -1,0 +1,36 @@
+use Rattle.std.proofs.Common.{◌≡◌, ◌%◌, sym, ap, subst, ◌∙◌}
+use Rattle.smr_clock.specs.declared.setup.Setup.{Setup}
+use Rattle.smr_clock.specs.Belongs.{TableId, view}
+use Rattle.name_cache.specs.Cache.{row_count}
+use Rattle.name_cache.specs.LockedRow.{IsItemOf, HasItemOf}
+use Rattle.name_cache.specs.RowKey.{Identity}
+use Rattle.name_cache.proofs.Telling.{still_then}
+use Rattle.name_cache.proofs.cache.NameCache.rebind.Goals as goal
+
+pub bind-requires-clause-item : goal.bind-requires-clause-item
+bind-requires-clause-item g c = subst (λ (id : Identity). IsItemOf id.clock id.home c.in_ok-entry.entry) (sym c.lock_row-guard.ensures.row) c.in_ok-entry.ensures.item
+
+pub bind-requires-clause-of_row : goal.bind-requires-clause-of_row
+bind-requires-clause-of_row g c =
+    let row = c.lock_row-guard.result.value in
+    let numbered : row.row.number ≡ c.args.key % row_count c.args.self.now = row.number ∙ ap (λ (id : Identity). id.number) c.lock_row-guard.ensures.row in
+    ap (λ (id : TableId × Setup). c.args.key % id.1.plan.0) c.requires.clock ∙ sym numbered
+
+pub returns-clause-rebound : goal.returns-clause-rebound
+returns-clause-rebound g c =
+    let row = c.lock_row-guard.result.value in
+    record {
+      row = row;
+      numbered = row.number ∙ ap (λ (id : Identity). id.number) c.lock_row-guard.ensures.row;
+      parts = c.in_ok-entry.entry;
+      hands_out = c.in_ok-entry.ensures.handed;
+      between = view c.take_entry.new.pass;
+      knew = c.take_entry.ensures.still;
+      ends = c.bind.ensures.ends;
+    }
+
+pub returns-clause-items : goal.returns-clause-items
+returns-clause-items g c = subst (λ (id : Identity). HasItemOf id.clock id.home c.bind.result) c.lock_row-guard.ensures.row c.bind.ensures.out
+
+pub returns-clause-still : goal.returns-clause-still
+returns-clause-still g c = still_then (view c.args.pass.now) (view c.take_entry.new.pass) (view c.bind.new.pass) c.take_entry.ensures.still c.bind.ensures.still

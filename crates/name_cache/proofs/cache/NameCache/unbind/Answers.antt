@@ -1,0 +1,56 @@
+use Rattle.std.proofs.Common.{ap}
+use Rattle.smr_clock.specs.Belongs.{view}
+use Rattle.uma_seat.specs.Counts.{ledger_in}
+use Rattle.name_cache.specs.Cache.{cache_zone, row_count}
+use Rattle.name_cache.specs.Unbind.{Unbinds}
+use Rattle.name_cache.proofs.Ends.{unbinds, finds_unbound}
+use Rattle.name_cache.proofs.Telling.{still_then, still_host, above_next}
+use Rattle.name_cache.proofs.cache.NameCache.unbind.Goals as goal
+
+unbinds_so : (g : _) (c : goal.After-free g) → Unbinds (row_count c.args.self.now) c.args.key c.in-Some.value (view c.args.pass.now) c.args.seat.now c.in-Some.receipt (view c.free.new.pass) c.free.new.seat
+unbinds_so g c =
+    let cache = c.args.self.now in
+    let one = c.make_room.new.seat in
+    let made = c.make_room.ensures in
+    let v = view c.args.pass.now in
+    let v1 = view c.make_room.new.pass in
+    let u = c.in-Some.ensures.unbound in
+    unbinds (cache_zone cache) (row_count cache) c.args.key c.in-Some.value v v1 (view c.take_out.new.pass) (view c.free.new.pass) c.args.seat.now one one c.free.new.seat (ap ledger_in made.counts) made.freed (still_host v v1 made.host)
+    c.in-Some.receipt c.in-Some.entry u.0 u.1 u.2 c.free.ensures.frees c.free.ensures.host
+
+pub returns-in-Some-clause-unbound : goal.returns-in-Some-clause-unbound
+returns-in-Some-clause-unbound g c = unbinds_so g c
+
+pub returns-in-Some-clause-above : goal.returns-in-Some-clause-above
+returns-in-Some-clause-above g c =
+    let b = unbinds_so g c in
+    above_next (view c.args.pass.now) (view c.free.new.pass) c.in-Some.receipt b.before b.met b.next
+
+pub returns-in-None-clause-none : goal.returns-in-None-clause-none
+returns-in-None-clause-none g c =
+    let cache = c.args.self.now in
+    let one = c.make_room.new.seat in
+    let made = c.make_room.ensures in
+    let v = view c.args.pass.now in
+    let v1 = view c.make_room.new.pass in
+    let v2 = view c.take_out.new.pass in
+    finds_unbound (cache_zone cache) (row_count cache) c.args.key 0 v v1 v2 v2 c.args.seat.now one one one (ap ledger_in made.counts) made.freed (still_host v v1 made.host) c.in-None.ensures.none
+
+-- ---- what the pass still knows
+
+pub returns-in_err-make_room-clause-still : goal.returns-in_err-make_room-clause-still
+returns-in_err-make_room-clause-still g c = still_host (view c.args.pass.now) (view c.make_room.new.pass) c.make_room.ensures.host
+
+pub returns-in-Some-clause-still : goal.returns-in-Some-clause-still
+returns-in-Some-clause-still g c =
+    let v = view c.args.pass.now in
+    let v1 = view c.make_room.new.pass in
+    let v2 = view c.take_out.new.pass in
+    let v3 = view c.free.new.pass in
+    still_then v v2 v3 (still_then v v1 v2 (still_host v v1 c.make_room.ensures.host) c.take_out.ensures.still) (still_host v2 v3 c.free.ensures.host)
+
+pub returns-in-None-clause-still : goal.returns-in-None-clause-still
+returns-in-None-clause-still g c =
+    let v = view c.args.pass.now in
+    let v1 = view c.make_room.new.pass in
+    still_then v v1 (view c.take_out.new.pass) (still_host v v1 c.make_room.ensures.host) c.take_out.ensures.still

@@ -1,0 +1,35 @@
+use Rattle.std.proofs.Common.{◌≡◌, Some, sym, subst, rules, ◌∙◌}
+use Rattle.smr_clock.specs.Belongs.{view}
+use Rattle.name_rows.specs.Rows.{key_in}
+use Rattle.name_cache.specs.declared.receipt.Receipt.{Receipt}
+use Rattle.name_cache.specs.LockedRow.{row_identity, IsItemOf}
+use Rattle.name_cache.specs.RowKey.{Identity}
+use Rattle.name_cache.proofs.Linked.{out_of, item_still}
+use Rattle.name_cache.proofs.Rebinding.{same_number, unbinds_in_row}
+use Rattle.name_cache.proofs.Telling.{still_then}
+use Rattle.name_cache.proofs.locked_row.LockedRow.unbind.Goals as goal
+
+pub returns-clause-unbound : goal.returns-clause-unbound
+returns-clause-unbound c =
+    let v = view c.args.pass.now in
+    let v1 = view c.meet.new.pass in
+    let v2 = view c.meet-2.new.pass in
+    let one = c.meet.new.self in
+    let met = c.meet.ensures in
+    let unlink = c.in_ok-out.ensures in
+    let again = c.meet-2.ensures in
+    let receipt : Receipt = record { row = c.number-row.result; version = c.version-version.result } in
+    let key_is : key_in one.row.guest ≡ Some c.args.key = search rules in
+    unbinds_in_row v v1 c.args.self.now one met.meets met.same met.identity v2 c.unlink.new.self c.meet-2.new.self unlink.identity unlink.version again.meets again.same receipt (c.number-row.ensures ∙ same_number c.unlink.new.self c.meet-2.new.self again.identity ∙ same_number one c.unlink.new.self unlink.identity) c.version-version.ensures.version
+    c.args.key c.in_ok-value.value c.in_ok-out.out c.stamp.new.self key_is (sym c.value.ensures ∙ c.in_ok-value.was) unlink.guest unlink.last unlink.out c.stamp.ensures.stamped
+
+pub returns-clause-out : goal.returns-clause-out
+returns-clause-out c =
+    let old = row_identity c.args.self.now in
+    let one = row_identity c.meet.new.self in
+    let raw = c.in_ok-out.out in
+    let of = out_of one.clock one.home c.meet.new.self.row.guest raw c.in_ok-out.ensures.out in
+    item_still old.clock old.home raw c.stamp.new.self c.stamp.ensures.same (subst (λ (id : Identity). IsItemOf id.clock id.home raw) c.meet.ensures.identity of)
+
+pub returns-clause-still : goal.returns-clause-still
+returns-clause-still c = still_then (view c.args.pass.now) (view c.meet.new.pass) (view c.meet-2.new.pass) c.meet.ensures.meets.still c.meet-2.ensures.meets.still

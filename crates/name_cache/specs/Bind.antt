@@ -1,0 +1,92 @@
+-- Own: how a bind ends.
+use Rattle.std.specs.Prelude.{◌≡◌, ◌≤◌, ◌+◌, ◌<◌, ◌^◌, ◌%◌, ℕ, Some, false}
+use Rattle.smr_clock.specs.declared.view.View.{View}
+use Rattle.zone_stats.specs.declared.ledger.SeatLedger.{SeatLedger}
+use Rattle.zone_stats.specs.LedgerSteps.{HasRoom, CountsAlloc}
+use Rattle.uma_life.specs.Live.{live_no, live_ticket}
+use Rattle.uma_seat.specs.Seat.{ledger_of, usable_of, KeepsFreed}
+use Rattle.uma_zone.specs.declared.alloc_ask.AllocRefused.{AllocRefused}
+use Rattle.uma_zone.specs.declared.alloc_ask.AllocRefused.TheVariants.{Refused, Memory as NoMemory}
+use Rattle.uma_zone.specs.Alloc.{Serves, TurnsAway}
+use Rattle.name_rows.specs.declared.entry_state.EntryState.TheVariants.{Clean}
+use Rattle.name_rows.specs.declared.part.Part.{Part}
+use Rattle.name_rows.specs.declared.records.Record.{Record}
+use Rattle.name_rows.specs.Entries.{OnWords}
+use Rattle.name_rows.specs.Reading.{IsNewest}
+use Rattle.name_rows.specs.Ripening.{IsUnripe}
+use Rattle.name_cache.specs.declared.bind_refused.BindRefused.{BindRefused}
+use Rattle.name_cache.specs.declared.bind_refused.BindRefused.TheVariants.{Zone, Worn, Unripe, Memory}
+use Rattle.name_cache.specs.declared.receipt.Receipt.{Receipt}
+use Rattle.name_cache.specs.Types.{ZoneOfEntries, EntrySeat, LiveEntry}
+use Rattle.name_cache.specs.Known.{known_in, Meets, KnowsBound}
+use Rattle.name_cache.specs.Parts.{words_of, state_of}
+use Rattle.name_cache.specs.Deferred.{Frees, FreesBound}
+
+-- why a key isn't bound, where the zone gives no entry
+abbrev pub as_bind : AllocRefused → BindRefused
+as_bind (Refused refusal) = Zone refusal
+as_bind NoMemory = Memory
+
+-- a bind counts a request and a free
+pub record HasRoomToBind (ledger : SeatLedger) : Type 0 where
+  pub now : HasRoom ledger
+  pub later : ledger.requests + 1 < 2 ^ 63
+
+-- The key is bound: the zone handed out an entry, and one request and one alloc are counted. The pass knows the row's record before, and no record of the row that it knew is newer. The receipt names the next record, which the pass knows too, and which binds the key to the value by that entry. What the row bound before is freed with a stamp, if there was anything.
+pub record Binds (zone : ZoneOfEntries) (rows key value : ℕ) (v : View Part) (old : EntrySeat) (receipt : Receipt) (v' : View Part) (new : EntrySeat) : Type 0 where
+  pub row : receipt.row ≡ key % rows
+  pub before : Record
+  pub met : Meets v receipt.row before v'
+  pub next : receipt.version ≡ before.version + 1
+  pub low : before.version + 2 < 2 ^ 44
+  pub room : EntrySeat
+  pub after : EntrySeat
+  pub handed : LiveEntry
+  pub served : Serves zone 0 room handed after
+  pub knows : KnowsBound (record { entry = live_no handed; key = key; value = value }) receipt (known_in v')
+  pub counted : SeatLedger
+  pub alloc : CountsAlloc (ledger_of old) counted
+  pub evicts : FreesBound counted old before.content new
+
+-- The zone handed out an entry for a request that is counted, and it was freed again: the same item, though perhaps in another state.
+pub record HandsBack (zone : ZoneOfEntries) (old : EntrySeat) (handed freed : LiveEntry) (new : EntrySeat) : Type 0 where
+  pub before : EntrySeat
+  pub after : EntrySeat
+  pub served : Serves zone 0 before handed after
+  pub ticket : live_ticket freed ≡ live_ticket handed
+  pub counted : SeatLedger
+  pub alloc : CountsAlloc (ledger_of old) counted
+  pub frees : Frees counted freed new
+
+-- The entry that the zone handed out isn't ripe: the read hand that was loaded is below its stamp, which it had, or, where it was unlinked without one, was given. It is deferred, with that stamp, and its floor is that hand.
+pub record FindsUnripe (zone : ZoneOfEntries) (old : EntrySeat) (read stamp : ℕ) (new : EntrySeat) : Type 0 where
+  pub handed : LiveEntry
+  pub freed : LiveEntry
+  pub back : HandsBack zone old handed freed new
+  pub unripe : OnWords (IsUnripe (record { read = read; stamp = stamp })) (words_of handed) (words_of freed)
+
+-- The row can't take a further name: the pass knows a record of it with this version. The entry that the zone handed out is ripe, and deferred.
+pub record FindsWorn (zone : ZoneOfEntries) (rows key : ℕ) (v : View Part) (old : EntrySeat) (row version : ℕ) (v' : View Part) (new : EntrySeat) : Type 0 where
+  pub of_key : row ≡ key % rows
+  pub worn : 2 ^ 44 ≤ version + 2
+  pub last : Record
+  pub met : Meets v row last v'
+  pub newest : IsNewest (known_in v') last
+  pub same : last.version ≡ version
+  pub handed : LiveEntry
+  pub freed : LiveEntry
+  pub back : HandsBack zone old handed freed new
+  pub clean : state_of freed ≡ Some Clean
+
+-- Nothing is counted, and no item is freed or becomes usable or live.
+pub record WantsMemory (old new : EntrySeat) : Type 0 where
+  pub ledger : ledger_of new ≡ ledger_of old
+  pub usable : usable_of new ≡ usable_of old
+  pub freed : KeepsFreed old new
+
+-- Why the key isn't bound, in this order of tests: memory was wanting, or the zone's one fetch was refused, as the zone says; the entry isn't ripe; the row is worn.
+abbrev pub RefusesToBind : ZoneOfEntries → ℕ → ℕ → View Part → EntrySeat → View Part → EntrySeat → BindRefused → Type 0
+RefusesToBind zone rows key v old v' new (Zone refusal) = TurnsAway zone false refusal old new
+RefusesToBind zone rows key v old v' new (Worn row version) = FindsWorn zone rows key v old row version v' new
+RefusesToBind zone rows key v old v' new (Unripe read stamp) = FindsUnripe zone old read stamp new
+RefusesToBind zone rows key v old v' new Memory = WantsMemory old new

@@ -1,0 +1,15 @@
+pub mod Types
+pub mod Known
+pub mod RowKey
+pub mod Parts
+pub mod LinkedItem
+pub mod LockedRow
+pub mod Locks
+pub mod Cache
+pub mod Deferred
+pub mod Rebound
+pub mod Bind
+pub mod Unbind
+pub mod Look
+pub mod Sums
+pub mod Making

@@ -1,0 +1,37 @@
+-- Own: what a row keeps of its linked entry, and how that agrees with the row of names.
+use Rattle.std.specs.Prelude.{◌≡◌, Some}
+use Rattle.std.specs.Arc.{arc_value}
+use Rattle.smr_clock.specs.declared.setup.Setup.{Setup}
+use Rattle.smr_clock.specs.Belongs.{TableId, clock_id}
+use Rattle.smr_clock.specs.Notes.{IsSeatOf}
+use Rattle.uma_life.specs.Life.{Life}
+use Rattle.uma_life.specs.Ticket.{ticket_no, ticket_zone, ticket_table}
+use Rattle.uma_life.specs.Trail.{IsAt}
+use Rattle.uma_life.specs.declared.body_phase.BodyPhase.TheVariants.{Built}
+use Rattle.uma_bucket.specs.Home.{Home, IsHome}
+use Rattle.name_rows.specs.declared.entry.Entry.{Entry}
+use Rattle.name_rows.specs.declared.guest.Guest.{Guest}
+use Rattle.name_rows.specs.declared.words.Words.{Words}
+use Rattle.name_rows.specs.Entries.{entry_life}
+use Rattle.name_entries.specs.Homes.{home_clock, home_origin}
+use Rattle.name_cache.specs.declared.linked_item.LinkedItem.{LinkedItem}
+
+-- the life of the linked entry
+abbrev pub guest_life : Guest → Life
+guest_life guest = record { no = guest.no; phase = guest.phase; tally = guest.tally }
+
+-- The linked entry is built and stands on its trail, and its ticket has its number and is at home here. Its words are of this clock.
+pub record IsLinkedAs (clock : TableId × Setup) (home : Home) (guest : Guest) (item : LinkedItem) : Type 0 where
+  pub numbered : guest.no ≡ ticket_no item.ticket
+  pub built : IsAt (Built (ticket_zone item.ticket)) (guest_life guest)
+  pub tally : item.tally ≡ guest.tally
+  pub at_home : IsHome home item.ticket
+  pub of_clock : clock_id (home_clock (arc_value item.home)) ≡ clock
+  pub of_origin : home_origin (arc_value item.home) ≡ (ticket_table item.ticket).origin
+
+-- An entry that is out of its row, and what the row kept of it, agree: they are the parts of an item.
+pub record FitsItem (entry : Entry) (item : LinkedItem) : Type 0 where
+  pub ours : (words : Words) → entry.words ≡ Some words → IsSeatOf (home_clock (arc_value item.home)) words.seat
+  pub numbered : (entry_life entry).no ≡ ticket_no item.ticket
+  pub built : IsAt (Built (ticket_zone item.ticket)) (entry_life entry)
+  pub of_origin : home_origin (arc_value item.home) ≡ (ticket_table item.ticket).origin

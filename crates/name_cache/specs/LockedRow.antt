@@ -1,0 +1,134 @@
+-- Own: what contracts see of a row under its lock, and what becomes of it there.
+use Rattle.std.specs.Prelude.{◌≡◌, ◌≤◌, ◌<◌, ◌+◌, ◌^◌, ℕ, [], ◌∷◌, Option, Some, None}
+use Rattle.smr_clock.specs.declared.setup.Setup.{Setup}
+use Rattle.smr_clock.specs.declared.view.View.{View}
+use Rattle.smr_clock.specs.Belongs.{TableId}
+use Rattle.uma_life.specs.Ticket.{ticket_no}
+use Rattle.uma_bucket.specs.Home.{Home, IsHome}
+use Rattle.name_rows.specs.declared.records.Bound.{Bound}
+use Rattle.name_rows.specs.declared.records.Record.{Record}
+use Rattle.name_rows.specs.declared.entry_state.EntryState.TheVariants.{Clean, Unlinked, Stamped}
+use Rattle.name_rows.specs.declared.guest.Guest.{Guest}
+use Rattle.name_rows.specs.declared.part.Part.{Part}
+use Rattle.name_rows.specs.declared.row.Row.{Row}
+use Rattle.name_rows.specs.Entries.{OnWords, entry_state, guest_of}
+use Rattle.name_rows.specs.Guests.{content_of}
+use Rattle.name_rows.specs.Reading.{IsNewest, bound_to}
+use Rattle.name_rows.specs.Records.{owned_as}
+use Rattle.name_rows.specs.Ripening.{StampsAt, IsUnripe}
+use Rattle.name_rows.specs.Roots.{kept_in}
+use Rattle.name_rows.specs.Rows.{row_last}
+use Rattle.name_cache.specs.declared.bind_refused.BindRefused.{BindRefused}
+use Rattle.name_cache.specs.declared.bind_refused.BindRefused.TheVariants.{Zone, Worn, Unripe as Unripe', Memory}
+use Rattle.name_cache.specs.declared.locked_row.LockedRow.{LockedRow}
+use Rattle.name_cache.specs.declared.parts.EntryParts.{EntryParts}
+use Rattle.name_cache.specs.declared.rebound.Rebound.{Rebound}
+use Rattle.name_cache.specs.declared.rebound.Rebound.TheVariants.{Done, Refused}
+use Rattle.name_cache.specs.declared.receipt.Receipt.{Receipt}
+use Rattle.name_cache.specs.Known.{known_in, Meets, KnowsBound, KnowsTaken, StillKnows}
+use Rattle.name_cache.specs.Parts.{parts_clock, IsSameItem}
+use Rattle.name_cache.specs.RowKey.{Identity, key_identity}
+
+abbrev pub row_identity : LockedRow → Identity
+row_identity locked = key_identity locked.key.value
+
+-- the row of names
+abbrev pub names_row : LockedRow → Row
+names_row locked = locked.row
+
+-- the row, its record and its entry are as they were
+pub record IsSameRow (was is : LockedRow) : Type 0 where
+  pub last : row_last is.row ≡ row_last was.row
+  pub version : is.row.version ≡ was.row.version
+  pub guest : is.row.guest ≡ was.row.guest
+  pub linked : is.linked ≡ was.linked
+
+-- The pass has met the row: it knows its last record, and knew none of the row that is newer.
+pub record MeetsRow (v : View Part) (locked : LockedRow) (v' : View Part) : Type 0 where
+  pub last : Record
+  pub is_last : row_last locked.row ≡ last ∷ []
+  pub version : last.version ≡ locked.row.version
+  pub content : last.content ≡ content_of locked.row.guest
+  pub meets : Meets v locked.row.number last v'
+  pub newest : IsNewest (known_in v') last
+  pub still : StillKnows v v'
+
+-- The entry's words are of this clock, and the item is at home here.
+abbrev pub IsItemOf : TableId × Setup → Home → EntryParts → Type 0
+IsItemOf clock home parts = (parts_clock parts ≡ clock) × IsHome home parts.ticket
+
+-- The entry that the row named is out, as it was, and is unlinked. There is none exactly where the row was empty.
+abbrev pub IsOut : TableId × Setup → Home → Option Guest → Option EntryParts → Type 0
+IsOut clock home None None = Unit {0}
+IsOut clock home None (Some parts) = ⊥
+IsOut clock home (Some g) None = ⊥
+IsOut clock home (Some g) (Some parts) = (guest_of parts.entry ≡ Some g) × (entry_state parts.entry ≡ Some Unlinked) × IsItemOf clock home parts
+
+-- The entry with this number, key and value, if there is one, is out with a stamp.
+abbrev pub IsOutStamped : Option Bound → Option EntryParts → Type 0
+IsOutStamped None None = Unit {0}
+IsOutStamped None (Some parts) = ⊥
+IsOutStamped (Some b) None = ⊥
+IsOutStamped (Some b) (Some parts) = (goal : ℕ) × (kept_in parts.entry.words ≡ Some (owned_as b (Stamped goal)))
+
+-- The row's next record, which the pass knows, binds this. What the row bound before is out with a stamp.
+pub record BindsInRow (bound : Bound) (v : View Part) (old : LockedRow) (receipt : Receipt) (out : Option EntryParts) (v' : View Part) : Type 0 where
+  pub before : Record
+  pub met : Meets v receipt.row before v'
+  pub row : receipt.row ≡ old.row.number
+  pub next : receipt.version ≡ before.version + 1
+  pub low : before.version + 2 < 2 ^ 44
+  pub knows : KnowsBound bound receipt (known_in v')
+  pub out_before : IsOutStamped before.content out
+
+-- Why the row takes no entry: the entry isn't ripe, which the row doesn't matter for; or it is, and the row is worn. The row's record is as it was.
+abbrev pub RefusesInRow : View Part → LockedRow → EntryParts → View Part → EntryParts → BindRefused → Type 0
+RefusesInRow v old parts v' back (Unripe' read stamp) = OnWords (IsUnripe (record { read = read; stamp = stamp })) parts.entry.words back.entry.words
+RefusesInRow v old parts v' back (Worn row version) =
+    (entry_state back.entry ≡ Some Clean) × (row ≡ old.row.number) × (2 ^ 44 ≤ version + 2) × ((last : Record) × (last.version ≡ version) × IsNewest (known_in v') last × Meets v row last v')
+RefusesInRow v old parts v' back (Zone refusal) = ⊥
+RefusesInRow v old parts v' back Memory = ⊥
+
+-- The row bound the key to this value, and its next record, which the pass knows, is empty. Its entry is out with a stamp.
+pub record UnbindsInRow (key value : ℕ) (v : View Part) (old : LockedRow) (receipt : Receipt) (out : EntryParts) (v' : View Part) : Type 0 where
+  pub before : Record
+  pub met : Meets v receipt.row before v'
+  pub row : receipt.row ≡ old.row.number
+  pub next : receipt.version ≡ before.version + 1
+  pub bound : Bound
+  pub content : before.content ≡ Some bound
+  pub key_bound : bound.key ≡ key
+  pub value_bound : bound.value ≡ value
+  pub knows : KnowsTaken key value receipt (known_in v')
+  pub goal : ℕ
+  pub stamped : kept_in out.entry.words ≡ Some (owned_as bound (Stamped goal))
+
+-- The row's record, which the pass knows, doesn't bind the key.
+pub record HasNotKey (key : ℕ) (v : View Part) (row : ℕ) (v' : View Part) : Type 0 where
+  pub last : Record
+  pub met : Meets v row last v'
+  pub newest : IsNewest (known_in v') last
+  pub unbound : bound_to key last.content ≡ None
+
+-- The entry that was out without a stamp, if there was one, has one now.
+abbrev pub IsStamped : Option EntryParts → Option EntryParts → Type 0
+IsStamped None None = Unit {0}
+IsStamped None (Some is) = ⊥
+IsStamped (Some was) None = ⊥
+IsStamped (Some was) (Some is) = OnWords StampsAt was.entry.words is.entry.words × IsSameItem was is
+
+-- How a bind leaves its row: it binds the key to the value by the entry of these parts, or not.
+abbrev pub RebindsRow : ℕ → ℕ → View Part → LockedRow → EntryParts → Rebound → View Part → Type 0
+RebindsRow key value v old parts (Done receipt evicted) v' = BindsInRow (record { entry = ticket_no parts.ticket; key = key; value = value }) v old receipt evicted v'
+RebindsRow key value v old parts (Refused entry refused) v' = RefusesInRow v old parts v' entry refused × IsSameItem parts entry
+
+-- where the row took no entry, it is as it was
+abbrev pub KeepsRefused : LockedRow → Rebound → LockedRow → Type 0
+KeepsRefused was (Done receipt evicted) is = Unit {0}
+KeepsRefused was (Refused entry refused) is = IsSameRow was is
+
+-- The entry that a bind leaves out of the row, if there is one, is of this clock, and at home here.
+abbrev pub HasItemOf : TableId × Setup → Home → Rebound → Type 0
+HasItemOf clock home (Done receipt None) = Unit {0}
+HasItemOf clock home (Done receipt (Some parts)) = IsItemOf clock home parts
+HasItemOf clock home (Refused entry refused) = IsItemOf clock home entry

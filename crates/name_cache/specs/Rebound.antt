@@ -1,0 +1,54 @@
+-- Own: what the steps of a bind and of an unbind come to.
+use Rattle.std.specs.Prelude.{◌≡◌, ◌%◌, ℕ, false, Option, Some, None}
+use Rattle.smr_clock.specs.declared.view.View.{View}
+use Rattle.zone_stats.specs.declared.ledger.SeatLedger.{SeatLedger}
+use Rattle.uma_life.specs.Live.{live_body, live_ticket}
+use Rattle.uma_zone.specs.Alloc.{Serves, TurnsAway, WantsMemory}
+use Rattle.name_rows.specs.declared.part.Part.{Part}
+use Rattle.name_entries.specs.Raised.{raised_entry}
+use Rattle.name_cache.specs.declared.bind_refused.BindRefused.{BindRefused}
+use Rattle.name_cache.specs.declared.bind_refused.BindRefused.TheVariants.{Zone, Worn, Unripe, Memory}
+use Rattle.name_cache.specs.declared.locked_row.LockedRow.{LockedRow}
+use Rattle.name_cache.specs.declared.parts.EntryParts.{EntryParts}
+use Rattle.name_cache.specs.declared.rebound.Rebound.{Rebound}
+use Rattle.name_cache.specs.Types.{ZoneOfEntries, EntrySeat, LiveEntry}
+use Rattle.name_cache.specs.Known.{StillKnows}
+use Rattle.name_cache.specs.LockedRow.{RebindsRow}
+use Rattle.name_cache.specs.Parts.{words_of}
+use Rattle.name_cache.specs.Deferred.{Frees}
+
+-- The zone handed out an item for a request that is counted, and these are its parts.
+pub record HandsOut (zone : ZoneOfEntries) (old : EntrySeat) (parts : EntryParts) (new : EntrySeat) : Type 0 where
+  pub handed : LiveEntry
+  pub served : Serves zone 0 old handed new
+  pub words : parts.entry.words ≡ words_of handed
+  pub ticket : parts.ticket ≡ live_ticket handed
+
+-- Why the zone handed out none.
+abbrev pub HandsOutNone : ZoneOfEntries → EntrySeat → EntrySeat → BindRefused → Type 0
+HandsOutNone zone old new (Zone refusal) = TurnsAway zone false refusal old new
+HandsOutNone zone old new Memory = WantsMemory old new
+HandsOutNone zone old new (Worn row version) = ⊥
+HandsOutNone zone old new (Unripe read stamp) = ⊥
+
+-- Under the lock of the key's row an entry was handed out, and the row took it or not.
+pub record HasRebound (zone : ZoneOfEntries) (rows key value : ℕ) (v : View Part) (old : EntrySeat) (rebound : Rebound) (v' : View Part) (new : EntrySeat) : Type 0 where
+  pub row : LockedRow
+  pub numbered : row.row.number ≡ key % rows
+  pub parts : EntryParts
+  pub hands_out : HandsOut zone old parts new
+  pub between : View Part
+  pub knew : StillKnows v between
+  pub ends : RebindsRow key value between row parts rebound v'
+
+-- The item of these parts was freed, and the free is counted behind these counts.
+pub record FreesParts (counted : SeatLedger) (parts : EntryParts) (seat : EntrySeat) : Type 0 where
+  pub live : LiveEntry
+  pub entry : raised_entry (live_body live) ≡ parts.entry
+  pub ticket : live_ticket live ≡ parts.ticket
+  pub frees : Frees counted live seat
+
+-- The item of these parts was freed, if there are any; else the seat is as it was.
+abbrev pub FreesEvicted : SeatLedger → EntrySeat → Option EntryParts → EntrySeat → Type 0
+FreesEvicted counted old None new = new ≡ old
+FreesEvicted counted old (Some parts) new = FreesParts counted parts new

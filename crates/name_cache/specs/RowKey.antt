@@ -1,0 +1,20 @@
+-- Own: which row of which cache it is, as contracts see it.
+use Rattle.std.specs.Prelude.{ℕ}
+use Rattle.smr_clock.specs.declared.setup.Setup.{Setup}
+use Rattle.smr_clock.specs.Belongs.{TableId, clock_id}
+use Rattle.uma_bucket.specs.Home.{Home}
+use Rattle.uma_zone.specs.Zone.{zone_home}
+use Rattle.name_cache.specs.declared.key.RowKey.{RowKey}
+
+-- What never changes of a row: its clock, where its entries are at home, and its number.
+pub record Identity : Type 0 where
+  pub clock : TableId × Setup
+  pub home : Home
+  pub number : ℕ
+
+-- the identity that a key names
+abbrev pub key_identity : RowKey → Identity
+key_identity key = record { clock = clock_id key.clock.value; home = zone_home key.zone.value; number = key.number }
+
+abbrev pub identity : TableId × Setup → Home → ℕ → Identity
+identity clock home number = record { clock = clock; home = home; number = number }

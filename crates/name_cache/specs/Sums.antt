@@ -1,0 +1,17 @@
+-- Own: the sums of a cache's items, the linked entries included.
+use Rattle.std.specs.Prelude.{◌≡◌, ◌<◌, ◌+◌, ◌==◌, ℕ, cond, Option, Some, None}
+use Rattle.uma_life.specs.Hook.{Hook, Ctor, Dtor}
+use Rattle.uma_life.specs.Sum.{sum_of, times_of}
+use Rattle.uma_life.specs.Trail.{ShowsSame}
+use Rattle.uma_bucket.specs.declared.sums.Sums.{Sums}
+use Rattle.name_rows.specs.declared.guest.Guest.{Guest}
+
+-- The sums have the tally of a row's entry too, if there is one.
+abbrev pub AddsLinked : Option Guest → Sums → Sums → Type 0
+AddsLinked None was is = is ≡ was
+AddsLinked (Some guest) was is = (is.deferred ≡ was.deferred) × ((hook : Hook) → sum_of is.tally hook ≡ sum_of was.tally hook + times_of guest.tally hook)
+
+-- In the entries' zone, the primary one, ctors exceed dtors by the deferred items and so many linked ones; in every other they are equal. The counts of items wrap, so this is modulo 2^64.
+abbrev pub HasLinked : ℕ → Sums → Type 0
+HasLinked linked sums =
+    (zone : ℕ) → zone < 8 → ShowsSame (sum_of sums.tally (Ctor zone)) (sum_of sums.tally (Dtor zone) + cond (0 == zone) (sums.deferred + linked) 0)

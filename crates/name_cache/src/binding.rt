@@ -1,0 +1,229 @@
+ghost use Rattle.std.specs.Prelude.{◌≡◌, ◌≤◌, ◌<◌, ◌%◌, length, IfOk, IfErr, OnOk, IfSome};
+ghost use Rattle.keyed_lock.specs.KeyedGuard.{guard_key};
+ghost use Rattle.smr_clock.specs.Belongs.{IsOf, clock_id, view, holder};
+ghost use Rattle.zone_stats.specs.LedgerSteps.{HasRoom, CountsAlloc};
+ghost use Rattle.uma_life.specs.Live.{live_ticket};
+ghost use Rattle.uma_bucket.specs.Home.{IsHome};
+ghost use Rattle.uma_seat.specs.Seat.{ledger_of, spares_of, IsSameSeat, KeepsFreed};
+ghost use Rattle.name_cache.specs.Bind.{HasRoomToBind, Binds, RefusesToBind};
+ghost use Rattle.name_cache.specs.Cache.{cache_zone, cache_clock, cache_home, row_count, IsCacheSeat};
+ghost use Rattle.name_cache.specs.Known.{IsAbove, StillKnows};
+ghost use Rattle.name_cache.specs.LockedRow.{row_identity, IsItemOf, HasItemOf};
+ghost use Rattle.name_cache.specs.Parts.{words_of};
+ghost use Rattle.name_cache.specs.Rebound.{HandsOut, HandsOutNone, HasRebound, FreesParts, FreesEvicted};
+ghost use Rattle.name_cache.specs.RowKey.{identity, key_identity};
+
+use crate::bind_refused::BindRefused;
+use crate::cache::NameCache;
+use crate::key::RowKey;
+use crate::locked_row::LockedRow;
+use crate::parts::EntryParts;
+use crate::rebound::Rebound;
+use crate::receipt::Receipt;
+use crate::rule::RowOfKey;
+use keyed_lock::KeyedGuard;
+use name_entries::RaisedEntry;
+use name_rows::Names;
+use smr_clock::{Clock, Pass};
+use std::alloc::Global;
+use std::sync::Wait;
+use uma_life::Live;
+use uma_seat::SeatCache;
+use uma_zone::AllocAsk;
+
+/// What a bind asks of the zone: `ctor` of an entry doesn't look at its argument, and no entry is kept in reserve for it.
+const ASK: AllocAsk = AllocAsk {
+    arg: 0,
+    reserve: false,
+};
+
+impl NameCache {
+    /// Binds a key to a value. A name that the key's row bound before is evicted.
+    ///
+    /// The seat gets room first. Under the row's lock an entry is allocated, its words are written, and one store of the
+    /// row's word links it. The evicted entry is stamped, and freed once no section may see it. Waits until it has the locks
+    /// of the row, of the zone's domain and of its keg.
+    ///
+    /// # Errors
+    ///
+    /// In this order: `Memory` where memory is wanting; `Zone` where the zone turned the request for an entry away;
+    /// `Unripe` where the read hand loaded is below the entry's stamp; `Worn` where the row's version is 2^44 - 2 or above.
+    /// The row is as it was. After `Unripe` and `Worn` the entry is freed again.
+    pub fn bind<R: Wait>(
+        &self,
+        rt: &R,
+        alloc: Global,
+        clock: &Clock<Names>,
+        pass: &mut Pass<Names>,
+        seat: &mut SeatCache<RaisedEntry, Names>,
+        key: u64,
+        value: u64,
+    ) -> Result<Receipt, BindRefused>
+        requires clock { clock_id clock.now ≡ cache_clock self.now }
+        requires pass { IsOf clock.now pass.old }
+        requires seat { IsCacheSeat self.now seat.old }
+        requires room { HasRoomToBind (ledger_of seat.old) }
+        ensures bound { IfOk result (λ receipt. Binds (cache_zone self.now) (row_count self.now) key value (view pass.old) seat.old receipt (view pass.new) seat.new) }
+        ensures above { IfOk result (λ receipt. IsAbove receipt.row receipt.version (view pass.old)) }
+        ensures refused { IfErr result (RefusesToBind (cache_zone self.now) (row_count self.now) key (view pass.old) seat.old (view pass.new) seat.new) }
+        ensures still { StillKnows (view pass.old) (view pass.new) }
+        ensures pass { IsOf clock.now pass.new }
+        ensures phase { (holder pass.new).phase ≡ (holder pass.old).phase }
+        ensures seen { (holder pass.old).seen ≤ (holder pass.new).seen }
+        ensures seat { IsCacheSeat self.now seat.new }
+        ensures same { IsSameSeat seat.old seat.new }
+    {
+        if self.zone.make_room(rt, alloc, clock, pass, seat).is_err() {
+            return Err(BindRefused::Memory);
+        }
+        match self.rebind(rt, alloc, clock, pass, seat, key, value)? {
+            Rebound::Done { receipt, evicted } => {
+                self.free_evicted(clock, pass, seat, evicted);
+                Ok(receipt)
+            }
+            Rebound::Refused { entry, refused } => {
+                self.free(clock, pass, seat, entry);
+                Err(refused)
+            }
+        }
+    }
+
+    // Allocates an entry and binds the key by it, under the lock of the key's row. The lock is held until the entry is linked,
+    // or the bind is refused.
+    fn rebind<R: Wait>(
+        &self,
+        rt: &R,
+        alloc: Global,
+        clock: &Clock<Names>,
+        pass: &mut Pass<Names>,
+        seat: &mut SeatCache<RaisedEntry, Names>,
+        key: u64,
+        value: u64,
+    ) -> Result<Rebound, BindRefused>
+        requires clock { clock_id clock.now ≡ cache_clock self.now }
+        requires pass { IsOf clock.now pass.old }
+        requires seat { IsCacheSeat self.now seat.old }
+        requires room { HasRoom (ledger_of seat.old) }
+        ensures rebound { IfOk result (λ rebound. HasRebound (cache_zone self.now) (row_count self.now) key value (view pass.old) seat.old rebound (view pass.new) seat.new) }
+        ensures items { IfOk result (HasItemOf (cache_clock self.now) (cache_home self.now)) }
+        ensures counted { OnOk result (CountsAlloc (ledger_of seat.old) (ledger_of seat.new)) }
+        ensures refused { IfErr result (HandsOutNone (cache_zone self.now) seat.old seat.new) }
+        ensures still { StillKnows (view pass.old) (view pass.new) }
+        ensures pass { IsOf clock.now pass.new }
+        ensures phase { (holder pass.new).phase ≡ (holder pass.old).phase }
+        ensures seen { (holder pass.old).seen ≤ (holder pass.new).seen }
+        ensures seat { IsCacheSeat self.now seat.new }
+        ensures spare { length (spares_of seat.old) ≤ length (spares_of seat.new) }
+        ensures freed { KeepsFreed seat.old seat.new }
+        ensures same { IsSameSeat seat.old seat.new }
+    {
+        let mut guard = self.lock_row(rt, key);
+        let entry = self.take_entry(rt, alloc, clock, pass, seat)?;
+        Ok(guard.value.bind(clock, pass, entry, key, value))
+    }
+
+    // The lock of the key's row.
+    pub(crate) fn lock_row<'a, R: Wait>(
+        &'a self,
+        rt: &R,
+        key: u64,
+    ) -> KeyedGuard<'a, LockedRow, RowKey, RowOfKey>
+        ensures row { row_identity result.value ≡ identity (cache_clock self.now) (cache_home self.now) (key % row_count self.now) }
+        ensures mine { row_identity result.value ≡ key_identity (guard_key result) }
+    {
+        let row = (key % self.rows.len() as u64) as usize;
+        self.rows[row].lock(rt)
+    }
+
+    // Allocates an entry.
+    fn take_entry<R: Wait>(
+        &self,
+        rt: &R,
+        alloc: Global,
+        clock: &Clock<Names>,
+        pass: &mut Pass<Names>,
+        seat: &mut SeatCache<RaisedEntry, Names>,
+    ) -> Result<EntryParts, BindRefused>
+        requires clock { clock_id clock.now ≡ cache_clock self.now }
+        requires pass { IsOf clock.now pass.old }
+        requires seat { IsCacheSeat self.now seat.old }
+        requires room { HasRoom (ledger_of seat.old) }
+        ensures handed { IfOk result (λ parts. HandsOut (cache_zone self.now) seat.old parts seat.new) }
+        ensures item { IfOk result (IsItemOf (cache_clock self.now) (cache_home self.now)) }
+        ensures counted { OnOk result (CountsAlloc (ledger_of seat.old) (ledger_of seat.new)) }
+        ensures refused { IfErr result (HandsOutNone (cache_zone self.now) seat.old seat.new) }
+        ensures still { StillKnows (view pass.old) (view pass.new) }
+        ensures pass { IsOf clock.now pass.new }
+        ensures phase { (holder pass.new).phase ≡ (holder pass.old).phase }
+        ensures seen { (holder pass.old).seen ≤ (holder pass.new).seen }
+        ensures seat { IsCacheSeat self.now seat.new }
+        ensures spare { length (spares_of seat.old) ≤ length (spares_of seat.new) }
+        ensures freed { KeepsFreed seat.old seat.new }
+        ensures same { IsSameSeat seat.old seat.new }
+    {
+        let live = self.zone.alloc(rt, alloc, clock, pass, seat, ASK)?;
+        Ok(self.parts_of(live))
+    }
+
+    // The parts of an item that the zone handed out. Its words are of the cache's clock.
+    fn parts_of(&self, live: Live<RaisedEntry>) -> EntryParts
+        requires home { IsHome (cache_home self.now) (live_ticket live) }
+        ensures words { result.entry.words ≡ words_of live }
+        ensures ticket { result.ticket ≡ live_ticket live }
+        ensures item { IsItemOf (cache_clock self.now) (cache_home self.now) result }
+    {
+        EntryParts::of(live)
+    }
+
+    // Frees an entry that a row gave out, if there is one.
+    fn free_evicted(
+        &self,
+        clock: &Clock<Names>,
+        pass: &mut Pass<Names>,
+        seat: &mut SeatCache<RaisedEntry, Names>,
+        evicted: Option<EntryParts>,
+    )
+        requires clock { clock_id clock.now ≡ cache_clock self.now }
+        requires pass { IsOf clock.now pass.old }
+        requires seat { IsCacheSeat self.now seat.old }
+        requires spare { 0 < length (spares_of seat.old) }
+        requires room { HasRoom (ledger_of seat.old) }
+        requires item { IfSome evicted (IsItemOf (cache_clock self.now) (cache_home self.now)) }
+        ensures frees { FreesEvicted (ledger_of seat.old) seat.old evicted seat.new }
+        ensures host { (view pass.new).host ≡ (view pass.old).host }
+        ensures pass { IsOf clock.now pass.new }
+        ensures phase { (holder pass.new).phase ≡ (holder pass.old).phase }
+        ensures seen { (holder pass.old).seen ≤ (holder pass.new).seen }
+        ensures seat { IsCacheSeat self.now seat.new }
+        ensures same { IsSameSeat seat.old seat.new }
+    {
+        if let Some(evicted) = evicted {
+            self.free(clock, pass, seat, evicted);
+        }
+    }
+
+    // Frees an entry that is in no row.
+    pub(crate) fn free(
+        &self,
+        clock: &Clock<Names>,
+        pass: &mut Pass<Names>,
+        seat: &mut SeatCache<RaisedEntry, Names>,
+        entry: EntryParts,
+    )
+        requires clock { clock_id clock.now ≡ cache_clock self.now }
+        requires pass { IsOf clock.now pass.old }
+        requires seat { IsCacheSeat self.now seat.old }
+        requires spare { 0 < length (spares_of seat.old) }
+        requires room { HasRoom (ledger_of seat.old) }
+        requires item { IsItemOf (cache_clock self.now) (cache_home self.now) entry }
+        ensures frees { FreesParts (ledger_of seat.old) entry seat.new }
+        ensures host { (view pass.new).host ≡ (view pass.old).host }
+        ensures pass { IsOf clock.now pass.new }
+        ensures phase { (holder pass.new).phase ≡ (holder pass.old).phase }
+        ensures seen { (holder pass.old).seen ≤ (holder pass.new).seen }
+        ensures seat { IsCacheSeat self.now seat.new }
+        ensures same { IsSameSeat seat.old seat.new }
+    {
+        self.zone.free_smr(clock, pass, seat, entry.into_live());
+    }
+}

@@ -1,0 +1,157 @@
+ghost use Rattle.std.specs.Prelude.{◌≡◌, ◌≤◌, ◌<◌, ◌+◌, ◌^◌, [], ◌∷◌, map, is_some, Some, None, IfSome};
+ghost use Rattle.name_rows.specs.declared.entry.Entry.{Entry};
+ghost use Rattle.name_rows.specs.Rows.{IsRowOf, row_last};
+ghost use Rattle.name_rows.specs.declared.guest.Guest.{Guest};
+ghost use Rattle.name_cache.specs.LinkedItem.{IsLinkedAs, FitsItem};
+ghost use Rattle.name_cache.specs.RowKey.{key_identity};
+ghost use Rattle.name_cache.specs.declared.linked_item.LinkedItem.{LinkedItem};
+
+use crate::key::RowKey;
+use crate::linked_item::LinkedItem;
+use crate::parts::EntryParts;
+use name_rows::{Entry, Names, Row, link, meet, unlink};
+use smr_clock::{Clock, Pass};
+use std::snapshot::Snapshot;
+use uma_bucket::Sums;
+use uma_life::Body;
+
+/// What a row's lock keeps: the row of names, and what its linked entry is as an item of the zone.
+///
+/// What always holds: the row is of the key's clock, and has the key's number, as its last record has. There is a ticket
+/// exactly where there is a linked entry. That entry is built and stands on its trail, with the number of its ticket, which
+/// is at home in the key's zone; its words are of the key's clock. A row that names an entry can go on by one version.
+#[derive(Drop)]
+pub(crate) struct LockedRow {
+    pub row: Row,
+    pub linked: Option<LinkedItem>,
+    pub key: Snapshot<RowKey>,
+    ghost here: { IsRowOf key.value.clock.value row },
+    ghost number: { row.number ≡ key.value.number },
+    ghost of_row: { map (λ last. last.row) (row_last row) ≡ row.number ∷ [] },
+    ghost paired: { is_some linked ≡ is_some row.guest },
+    ghost fits: { (guest : Guest) (item : LinkedItem) → row.guest ≡ Some guest → linked ≡ Some item → IsLinkedAs (key_identity key.value).clock (key_identity key.value).home guest item },
+    ghost low: { (guest : Guest) → row.guest ≡ Some guest → row.version + 1 < 2 ^ 44 },
+}
+
+impl LockedRow {
+    ghost use Rattle.smr_clock.specs.Belongs.{IsOf, view, holder, setup_of, clock_id};
+    ghost use Rattle.uma_life.specs.Hook.{Hook};
+    ghost use Rattle.uma_life.specs.Sum.{sum_of, AreBelow};
+    ghost use Rattle.name_rows.specs.Belongs.{IsNamesClock};
+    ghost use Rattle.name_rows.specs.Entries.{entry_state, guest_of};
+    ghost use Rattle.name_rows.specs.Guests.{content_of};
+    ghost use Rattle.name_rows.specs.Linking.{row_record};
+    ghost use Rattle.name_rows.specs.Rows.{IsKeyOf, pair_in};
+    ghost use Rattle.name_rows.specs.declared.entry_state.EntryState.{EntryState};
+    ghost use Rattle.name_cache.specs.LockedRow.{row_identity, names_row, IsSameRow, MeetsRow, IsItemOf, IsOut};
+    ghost use Rattle.name_cache.specs.Parts.{parts_clock};
+    ghost use Rattle.name_cache.specs.Sums.{AddsLinked};
+
+    /// An empty row, which the key names.
+    pub fn new(row: Row, key: &RowKey) -> LockedRow
+        requires here { IsRowOf key.now.clock.value row }
+        requires number { row.number ≡ key.now.number }
+        requires empty { row.guest ≡ None }
+        requires last { row_last row ≡ row_record row.number row.version None None ∷ [] }
+        ensures identity { row_identity result ≡ key_identity key.now }
+        ensures row { names_row result ≡ row }
+    {
+        LockedRow {
+            row,
+            linked: None,
+            key: Snapshot::of(key),
+        }
+    }
+
+    /// The pass knows the row's last record then, and knew none of the row that is newer.
+    pub fn meet(&mut self, clock: &Clock<Names>, pass: &mut Pass<Names>)
+        requires clock { clock_id clock.now ≡ (row_identity self.old).clock }
+        requires names { IsNamesClock clock.now }
+        requires pass { IsOf clock.now pass.old }
+        ensures identity { row_identity self.new ≡ row_identity self.old }
+        ensures same { IsSameRow self.old self.new }
+        ensures meets { MeetsRow (view pass.old) self.old (view pass.new) }
+        ensures pass { IsOf clock.now pass.new }
+        ensures phase { (holder pass.new).phase ≡ (holder pass.old).phase }
+        ensures seen { (holder pass.old).seen ≤ (holder pass.new).seen }
+    {
+        meet(clock, &mut self.row, pass);
+    }
+
+    /// Links a written entry, with the next version. The entry that was there is out, unlinked and without a stamp.
+    pub fn link(&mut self, clock: &Clock<Names>, parts: EntryParts) -> Option<EntryParts>
+        requires clock { clock_id clock.now ≡ (row_identity self.old).clock }
+        requires names { IsNamesClock clock.now }
+        requires item { IsItemOf (row_identity self.old).clock (row_identity self.old).home parts }
+        requires written { entry_state parts.entry ≡ Some EntryState.Written }
+        requires of_row { IsKeyOf (setup_of clock.now).plan.0 self.old.row.number (guest_of parts.entry) }
+        requires low { self.old.row.version + 2 < 2 ^ 44 }
+        ensures identity { row_identity self.new ≡ row_identity self.old }
+        ensures version { self.new.row.version ≡ self.old.row.version + 1 }
+        ensures guest { self.new.row.guest ≡ guest_of parts.entry }
+        ensures last { row_last self.new.row ≡ row_record self.old.row.number self.new.row.version (content_of (guest_of parts.entry)) None ∷ [] }
+        ensures out { IsOut (row_identity self.old).clock (row_identity self.old).home self.old.row.guest result }
+    {
+        let EntryParts {
+            entry,
+            home,
+            ticket,
+        } = parts;
+        let tally = entry.tally();
+        let (_version, out) = link(clock, &mut self.row, entry);
+        let item = self.linked.replace(LinkedItem {
+            ticket,
+            home,
+            tally,
+        });
+        rejoined(out, item)
+    }
+
+    /// Unlinks the row's entry, with the next version. It is out, unlinked and without a stamp. An empty row stays as it is.
+    pub fn unlink(&mut self, clock: &Clock<Names>) -> Option<EntryParts>
+        requires clock { clock_id clock.now ≡ (row_identity self.old).clock }
+        requires names { IsNamesClock clock.now }
+        ensures identity { row_identity self.new ≡ row_identity self.old }
+        ensures guest { self.new.row.guest ≡ None }
+        ensures last { IfSome result (λ _. row_last self.new.row ≡ row_record self.old.row.number (self.old.row.version + 1) None (pair_in self.old.row.guest) ∷ []) }
+        ensures version { IfSome result (λ _. self.new.row.version ≡ self.old.row.version + 1) }
+        ensures out { IsOut (row_identity self.old).clock (row_identity self.old).home self.old.row.guest result }
+    {
+        if self.linked.is_none() {
+            return None;
+        }
+        let out = unlink(clock, &mut self.row);
+        rejoined(out, self.linked.take())
+    }
+
+    /// Adds the tally of the linked entry, if there is one.
+    pub fn add_to(&self, sums: &mut Sums)
+        requires { AreBelow (2 ^ 127) sums.old.tally }
+        ensures { AddsLinked (names_row self.now).guest sums.old sums.new }
+    {
+        if let Some(item) = &self.linked {
+            sums.tally.add(item.tally);
+        }
+    }
+}
+
+// The parts of the entry that a row gave out.
+fn rejoined(entry: Option<Entry>, item: Option<LinkedItem>) -> Option<EntryParts>
+    requires both { is_some item ≡ is_some entry }
+    requires fits { (one : Entry) (other : LinkedItem) → entry ≡ Some one → item ≡ Some other → FitsItem one other }
+    ensures both { is_some result ≡ is_some entry }
+    ensures some { IfSome result (λ parts. (entry ≡ Some parts.entry) × ((other : LinkedItem) → item ≡ Some other → (parts.home ≡ other.home) × (parts.ticket ≡ other.ticket))) }
+{
+    let entry = entry?;
+    let Some(item) = item else { unreachable!() };
+    let LinkedItem {
+        ticket,
+        home,
+        tally: _,
+    } = item;
+    Some(EntryParts {
+        entry,
+        home,
+        ticket,
+    })
+}

@@ -1,0 +1,93 @@
+ghost use Rattle.std.specs.Prelude.{◌≡◌, ◌≤◌, ◌+◌, ◌^◌, ℕ, IfOk, IfErr};
+ghost use Rattle.uma_bucket.specs.Sums.{AreOfAtMost};
+ghost use Rattle.keyed_lock.specs.KeyedLock.{lock_key};
+ghost use Rattle.smr_core.specs.declared.phase.Phase.{Phase};
+ghost use Rattle.smr_clock.specs.Belongs.{IsOf, clock_id, view, holder};
+ghost use Rattle.smr_clock.specs.Sections.{Misses};
+ghost use Rattle.uma_keg.specs.Census.{census_counts, census_table};
+ghost use Rattle.uma_zone.specs.Zone.{zone_cap, zone_reserve};
+ghost use Rattle.name_cache.specs.Cache.{cache_zone, cache_clock, cache_home, row_count};
+ghost use Rattle.name_cache.specs.Look.{Looks};
+ghost use Rattle.name_cache.specs.RowKey.{key_identity};
+ghost use Rattle.name_cache.specs.Sums.{HasLinked};
+
+use crate::cache::NameCache;
+use crate::rule::RowLock;
+use name_rows::{Names, find};
+use smr_clock::{Clock, Overtaken, Pass};
+use std::alloc::Global;
+use std::sync::Wait;
+use uma_bucket::Sums;
+use uma_keg::Census;
+use uma_life::{Lives, Memory};
+
+impl NameCache {
+    /// The value that the key's row binds to the key, looked up in a section of its own. It takes no memory and waits for
+    /// nobody.
+    ///
+    /// # Errors
+    ///
+    /// `Overtaken` where the clock went on by its window while the pass entered: nothing was looked up.
+    pub fn look(
+        &self,
+        clock: &Clock<Names>,
+        pass: &mut Pass<Names>,
+        key: u64,
+    ) -> Result<Option<u64>, Overtaken>
+        requires clock { clock_id clock.now ≡ cache_clock self.now }
+        requires pass { IsOf clock.now pass.old }
+        requires outside { (holder pass.old).phase ≡ Phase.Outside }
+        ensures looked { IfOk result (λ found. Looks key (view pass.old) found (view pass.new)) }
+        ensures late { IfErr result (λ late. Misses (view pass.old) late (view pass.new)) }
+        ensures pass { IsOf clock.now pass.new }
+        ensures outside { (holder pass.new).phase ≡ Phase.Outside }
+        ensures seen { (holder pass.old).seen ≤ (holder pass.new).seen }
+    {
+        clock.enter(pass)?;
+        let found = find(clock, pass, key);
+        clock.exit(pass);
+        Ok(found)
+    }
+
+    /// How often the items that the zone's domains list passed each hook, and the linked entries, and how many items are
+    /// freed. In the zone the ctors exceed the dtors by those that are freed and those that are linked, at most one a row.
+    /// Waits until it has the lock of each domain and of each row.
+    pub fn sums<R: Wait>(&self, rt: &R) -> Sums
+        ensures few { AreOfAtMost (2 ^ 35) result }
+        ensures linked { (linked : ℕ) × (linked ≤ row_count self.now) × HasLinked linked result }
+    {
+        let mut sums = self.zone.sums(rt);
+        for row in &self.rows {
+            add_row(rt, row, &mut sums);
+        }
+        sums
+    }
+
+    /// The census of the zone's keg, lent no item. Waits until it has the keg's lock.
+    ///
+    /// `Memory` where memory is wanting.
+    pub fn census<R: Wait>(&self, rt: &R, alloc: Global) -> Result<Census, Memory>
+        ensures table { IfOk result (λ census. census_table census ≡ (cache_home self.now).book) }
+        ensures cap { IfOk result (λ census. (census_counts census).cap ≡ zone_cap (cache_zone self.now)) }
+        ensures reserve { IfOk result (λ census. (census_counts census).reserve ≡ zone_reserve (cache_zone self.now)) }
+    {
+        match self
+            .zone
+            .census(rt, alloc, Lives::from_vec(Vec::new(alloc)))
+        {
+            Ok((census, _lives)) => Ok(census),
+            Err(_lives) => Err(Memory),
+        }
+    }
+}
+
+// Adds the tally of a row's entry, if it has one.
+fn add_row<R: Wait>(rt: &R, row: &RowLock, sums: &mut Sums)
+    requires primary { (key_identity (lock_key row.now)).home.zone ≡ 0 }
+    requires few { AreOfAtMost (2 ^ 35) sums.old }
+    ensures few { (count : ℕ) → AreOfAtMost count sums.old → AreOfAtMost (count + 1) sums.new }
+    ensures linked { (linked : ℕ) → HasLinked linked sums.old → (more : ℕ) × (more ≤ 1) × HasLinked (linked + more) sums.new }
+{
+    let guard = row.lock(rt);
+    guard.value.add_to(sums);
+}

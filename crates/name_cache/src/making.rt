@@ -1,0 +1,132 @@
+ghost use Rattle.std.specs.Prelude.{◌≡◌, ◌<◌, ◌++◌, ◌∷◌, [], length, IfOk, IfErr, OnOk};
+ghost use Rattle.keyed_lock.specs.KeyedLock.{lock_key};
+ghost use Rattle.smr_clock.specs.Belongs.{clock_id};
+ghost use Rattle.uma_zone.specs.Making.{AcceptsSet};
+ghost use Rattle.uma_zone.specs.Seat.{IsFresh};
+ghost use Rattle.uma_zone.specs.Zone.{zone_home, zone_bucket, zone_limit, zone_cap, zone_reserve};
+ghost use Rattle.name_cache.specs.Cache.{cache_zone, cache_clock, cache_domains, IsCacheSeat};
+ghost use Rattle.name_cache.specs.Locks.{AreNamed};
+ghost use Rattle.name_cache.specs.Making.{IsOpened, FitsOpened, RefusesCache, AreFreshRows, IsFreshRow};
+ghost use Rattle.name_cache.specs.RowKey.{key_identity, identity};
+
+use crate::cache::{EntryZone, NameCache};
+use crate::key::RowKey;
+use crate::locked_row::LockedRow;
+use crate::rule::RowLock;
+use name_entries::{EntryHooks, RaisedEntry};
+use name_rows::{Names, Opened, Row};
+use smr_clock::{Clock, Pass};
+use std::alloc::Global;
+use std::snapshot::Snapshot;
+use std::sync::Wait;
+use uma_life::Memory;
+use uma_seat::SeatCache;
+use uma_zone::{Zone, ZoneRefused, ZoneSet};
+
+/// How many bytes an entry is said to have: 64 fit a slab.
+const ENTRY_SIZE: u32 = 64;
+
+impl NameCache {
+    /// A cache with an SMR zone of entries of 64 bytes, over a clock of names and its rows, which are empty. The zone's frees
+    /// are deferred, and the clock has a number for each of the 64 entries of each slab. The clock, and its passes, come back
+    /// beside the cache, which has a handle of it.
+    ///
+    /// # Errors
+    ///
+    /// `Slabs`, `Bucket` and `Domains`, in this order, exactly where that number is out of its range. `Memory` where memory is
+    /// wanting, or there are too many handles. Then what was handed in is dropped.
+    pub fn new(
+        alloc: Global,
+        opened: Opened,
+        set: ZoneSet,
+    ) -> Result<(NameCache, Clock<Names>, Vec<Pass<Names>>), ZoneRefused>
+        requires opened { IsOpened opened }
+        requires fits { FitsOpened opened set }
+        ensures clock { IfOk result (λ (cache, clock, passes). clock ≡ opened.clock) }
+        ensures passes { IfOk result (λ (cache, clock, passes). passes.items ≡ opened.passes) }
+        ensures of_clock { IfOk result (λ (cache, clock, passes). cache_clock cache ≡ clock_id opened.clock) }
+        ensures domains { IfOk result (λ (cache, clock, passes). cache_domains cache ≡ set.domains) }
+        ensures bucket { IfOk result (λ (cache, clock, passes). zone_bucket (cache_zone cache) ≡ set.bucket) }
+        ensures cap { IfOk result (λ (cache, clock, passes). zone_cap (cache_zone cache) ≡ set.slabs) }
+        ensures limit { IfOk result (λ (cache, clock, passes). zone_limit (cache_zone cache) ≡ set.limit) }
+        ensures reserve { IfOk result (λ (cache, clock, passes). zone_reserve (cache_zone cache) ≡ set.reserve) }
+        ensures accepted { OnOk result (AcceptsSet 64 set) }
+        ensures refused { IfErr result (RefusesCache set) }
+    {
+        let Opened {
+            clock,
+            passes,
+            rows,
+            root,
+        } = opened;
+        let (hooks, keg_hooks) = EntryHooks::pair(alloc, &clock, root)?;
+        let zone = Zone::primary(alloc, &clock, ENTRY_SIZE, set, hooks, keg_hooks)?;
+        let rows = lock_rows(alloc, &clock, &zone, rows.into_vec())?;
+        Ok((NameCache { zone, rows }, clock, passes.into_vec()))
+    }
+
+    /// A new seat of the cache's zone in a memory domain, for one worker at a time. Waits until it has the locks of the keg
+    /// and of that domain.
+    pub fn seat<R: Wait>(
+        &self,
+        rt: &R,
+        alloc: Global,
+        domain: u8,
+    ) -> Result<SeatCache<RaisedEntry, Names>, Memory>
+        requires { domain < cache_domains self.now }
+        ensures seat { IfOk result (IsCacheSeat self.now) }
+        ensures fresh { IfOk result (IsFresh (zone_bucket (cache_zone self.now)) domain) }
+    {
+        self.zone.seat(rt, alloc, domain)
+    }
+}
+
+// A lock for each row, in order.
+fn lock_rows(
+    alloc: Global,
+    clock: &Clock<Names>,
+    zone: &EntryZone,
+    rows: Vec<Row>,
+) -> Result<Vec<RowLock>, Memory>
+    requires rows { AreFreshRows clock.now rows.items }
+    ensures long { IfOk result (λ locks. length locks.items ≡ length rows.items) }
+    ensures named { IfOk result (λ locks. AreNamed (clock_id clock.now) (zone_home zone.now) locks.items) }
+{
+    let mut locks = Vec::new(alloc);
+    for row in rows {
+        let lock = lock_row(alloc, clock, zone, row)?;
+        push_lock(&mut locks, lock)?;
+    }
+    Ok(locks)
+}
+
+fn push_lock(locks: &mut Vec<RowLock>, lock: RowLock) -> Result<(), Memory>
+    ensures { IfOk result (λ _. locks.new.items ≡ locks.old.items ++ lock ∷ []) }
+{
+    match locks.push(lock) {
+        Ok(()) => Ok(()),
+        Err(_) => Err(Memory),
+    }
+}
+
+// A lock for an empty row.
+fn lock_row(
+    alloc: Global,
+    clock: &Clock<Names>,
+    zone: &EntryZone,
+    row: Row,
+) -> Result<RowLock, Memory>
+    requires { IsFreshRow clock.now row.number row }
+    ensures { IfOk result (λ lock. key_identity (lock_key lock) ≡ identity (clock_id clock.now) (zone_home zone.now) row.number) }
+{
+    let key = RowKey {
+        clock: Snapshot::of(clock),
+        zone: Snapshot::of(zone),
+        number: row.number(),
+    };
+    let row = LockedRow::new(row, &key);
+    match RowLock::new(alloc, row, &key) {
+        Ok(lock) => Ok(lock),
+        Err(_row) => Err(Memory),
+    }
+}

@@ -1,0 +1,100 @@
+ghost use Rattle.std.specs.Prelude.{◌≡◌, Some, IfErr, OnOk};
+ghost use Rattle.std.specs.Arc.{arc_value};
+ghost use Rattle.smr_clock.specs.Belongs.{clock_id};
+ghost use Rattle.smr_clock.specs.Notes.{IsSeatOf};
+ghost use Rattle.uma_life.specs.Ticket.{ticket_no, ticket_zone, ticket_table};
+ghost use Rattle.uma_life.specs.Trail.{IsAt};
+ghost use Rattle.uma_life.specs.declared.body_phase.BodyPhase.TheVariants.{Built};
+ghost use Rattle.name_rows.specs.Entries.{entry_life};
+ghost use Rattle.name_rows.specs.declared.words.Words.{Words};
+ghost use Rattle.name_entries.specs.Homes.{home_clock, home_origin};
+
+use name_entries::{Home, RaisedEntry};
+use name_rows::{Entry, Names, Unripe, ripe, stamp, write};
+use smr_clock::Clock;
+use std::sync::Arc;
+use uma_life::{Live, Ticket};
+
+/// A live item of the zone of entries in its parts: so its words may be written, and it may go into a row.
+#[derive(Drop)]
+pub(crate) struct EntryParts {
+    pub entry: Entry,
+    pub home: Arc<Home>,
+    pub ticket: Ticket,
+    ghost ours: { (words : Words) → entry.words ≡ Some words → IsSeatOf (home_clock (arc_value home)) words.seat },
+    ghost numbered: { (entry_life entry).no ≡ ticket_no ticket },
+    ghost built: { IsAt (Built (ticket_zone ticket)) (entry_life entry) },
+    ghost of_origin: { home_origin (arc_value home) ≡ (ticket_table ticket).origin },
+}
+
+impl EntryParts {
+    ghost use Rattle.uma_life.specs.Live.{live_body, live_ticket};
+    ghost use Rattle.name_rows.specs.Belongs.{IsNamesClock};
+    ghost use Rattle.name_rows.specs.Entries.{OnWords, entry_state};
+    ghost use Rattle.name_rows.specs.Ripening.{StampsAt, IsRipe, IsUnripe};
+    ghost use Rattle.name_rows.specs.Writing.{Writes};
+    ghost use Rattle.name_rows.specs.declared.entry_state.EntryState.{EntryState};
+    ghost use Rattle.name_entries.specs.Raised.{raised_entry, raised_home};
+    ghost use Rattle.name_cache.specs.Parts.{parts_clock, IsSameItem};
+
+    /// The parts of an item.
+    pub fn of(live: Live<RaisedEntry>) -> EntryParts
+        ensures entry { result.entry ≡ raised_entry (live_body live) }
+        ensures home { arc_value result.home ≡ raised_home (live_body live) }
+        ensures ticket { result.ticket ≡ live_ticket live }
+    {
+        let (raised, ticket) = live.into_parts();
+        let (entry, home) = raised.into_parts();
+        EntryParts {
+            entry,
+            home,
+            ticket,
+        }
+    }
+
+    /// The item of these parts.
+    pub fn into_live(self) -> Live<RaisedEntry>
+        ensures entry { raised_entry (live_body result) ≡ self.entry }
+        ensures home { raised_home (live_body result) ≡ arc_value self.home }
+        ensures ticket { live_ticket result ≡ self.ticket }
+    {
+        let EntryParts {
+            entry,
+            home,
+            ticket,
+        } = self;
+        Live::from_parts(RaisedEntry::from_parts(entry, home), ticket)
+    }
+
+    /// Cleans the entry, where no section may still read it.
+    pub fn ripe(&mut self, clock: &Clock<Names>) -> Result<(), Unripe>
+        requires here { parts_clock self.old ≡ clock_id clock.now }
+        ensures ripe { OnOk result (OnWords IsRipe self.old.entry.words self.new.entry.words) }
+        ensures clean { OnOk result (entry_state self.new.entry ≡ Some EntryState.Clean) }
+        ensures unripe { IfErr result (λ unripe. OnWords (IsUnripe unripe) self.old.entry.words self.new.entry.words) }
+        ensures same { IsSameItem self.old self.new }
+    {
+        ripe(clock, &mut self.entry)
+    }
+
+    /// Writes the words of a clean entry.
+    pub fn write(&mut self, clock: &Clock<Names>, key: u64, value: u64)
+        requires here { parts_clock self.old ≡ clock_id clock.now }
+        requires names { IsNamesClock clock.now }
+        requires clean { entry_state self.old.entry ≡ Some EntryState.Clean }
+        ensures written { OnWords (Writes key value) self.old.entry.words self.new.entry.words }
+        ensures same { IsSameItem self.old self.new }
+    {
+        write(clock, &mut self.entry, key, value);
+    }
+
+    /// Stamps an unlinked entry.
+    pub fn stamp(&mut self, clock: &Clock<Names>)
+        requires here { parts_clock self.old ≡ clock_id clock.now }
+        requires unlinked { entry_state self.old.entry ≡ Some EntryState.Unlinked }
+        ensures stamped { OnWords StampsAt self.old.entry.words self.new.entry.words }
+        ensures same { IsSameItem self.old self.new }
+    {
+        stamp(clock, &mut self.entry);
+    }
+}

@@ -1,0 +1,84 @@
+ghost use Rattle.std.specs.Prelude.{◌≡◌, ◌≤◌, ◌%◌, OnErr, IfOk, IfSome, IfNone};
+ghost use Rattle.smr_clock.specs.Belongs.{IsOf, clock_id, view, holder};
+ghost use Rattle.zone_stats.specs.LedgerSteps.{HasRoom};
+ghost use Rattle.uma_seat.specs.Seat.{ledger_of, IsSameSeat};
+ghost use Rattle.name_cache.specs.Bind.{WantsMemory};
+ghost use Rattle.name_cache.specs.Cache.{cache_clock, cache_home, row_count, IsCacheSeat};
+ghost use Rattle.name_cache.specs.Known.{IsAbove, StillKnows};
+ghost use Rattle.name_cache.specs.LockedRow.{IsItemOf, UnbindsInRow, HasNotKey};
+ghost use Rattle.name_cache.specs.Unbind.{Unbinds, FindsUnbound};
+ghost use Rattle.name_cache.specs.declared.locked_row.LockedRow.{LockedRow};
+
+use crate::cache::NameCache;
+use crate::parts::EntryParts;
+use crate::receipt::Receipt;
+use name_entries::RaisedEntry;
+use name_rows::Names;
+use smr_clock::{Clock, Pass};
+use std::alloc::Global;
+use std::sync::Wait;
+use uma_life::Memory;
+use uma_seat::SeatCache;
+
+impl NameCache {
+    /// Takes a key out. Answers the value that its row bound to it, and the receipt of the empty record behind that; None
+    /// where the row, under its lock, doesn't bind the key. The entry is stamped, and freed once no section may see it. Waits
+    /// until it has the locks of the row and of the zone's domains.
+    ///
+    /// `Memory` where memory is wanting for the seat's room, before the row is looked at.
+    pub fn unbind<R: Wait>(
+        &self,
+        rt: &R,
+        alloc: Global,
+        clock: &Clock<Names>,
+        pass: &mut Pass<Names>,
+        seat: &mut SeatCache<RaisedEntry, Names>,
+        key: u64,
+    ) -> Result<Option<(u64, Receipt)>, Memory>
+        requires clock { clock_id clock.now ≡ cache_clock self.now }
+        requires pass { IsOf clock.now pass.old }
+        requires seat { IsCacheSeat self.now seat.old }
+        requires room { HasRoom (ledger_of seat.old) }
+        ensures unbound { IfOk result (λ found. IfSome found (λ (value, receipt). Unbinds (row_count self.now) key value (view pass.old) seat.old receipt (view pass.new) seat.new)) }
+        ensures above { IfOk result (λ found. IfSome found (λ (value, receipt). IsAbove receipt.row receipt.version (view pass.old))) }
+        ensures none { IfOk result (λ found. IfNone found (FindsUnbound (row_count self.now) key (view pass.old) seat.old (view pass.new) seat.new)) }
+        ensures memory { OnErr result (WantsMemory seat.old seat.new) }
+        ensures still { StillKnows (view pass.old) (view pass.new) }
+        ensures pass { IsOf clock.now pass.new }
+        ensures phase { (holder pass.new).phase ≡ (holder pass.old).phase }
+        ensures seen { (holder pass.old).seen ≤ (holder pass.new).seen }
+        ensures seat { IsCacheSeat self.now seat.new }
+        ensures same { IsSameSeat seat.old seat.new }
+    {
+        self.zone.make_room(rt, alloc, clock, pass, seat)?;
+        match self.take_out(rt, clock, pass, key) {
+            Some((value, receipt, entry)) => {
+                self.free(clock, pass, seat, entry);
+                Ok(Some((value, receipt)))
+            }
+            None => Ok(None),
+        }
+    }
+
+    // Takes the key out of its row, under the row's lock.
+    fn take_out<R: Wait>(
+        &self,
+        rt: &R,
+        clock: &Clock<Names>,
+        pass: &mut Pass<Names>,
+        key: u64,
+    ) -> Option<(u64, Receipt, EntryParts)>
+        requires clock { clock_id clock.now ≡ cache_clock self.now }
+        requires pass { IsOf clock.now pass.old }
+        ensures unbound { IfSome result (λ (value, receipt, entry). (row : LockedRow) × (row.row.number ≡ key % row_count self.now) × UnbindsInRow key value (view pass.old) row receipt entry (view pass.new)) }
+        ensures item { IfSome result (λ (value, receipt, entry). IsItemOf (cache_clock self.now) (cache_home self.now) entry) }
+        ensures none { IfNone result (HasNotKey key (view pass.old) (key % row_count self.now) (view pass.new)) }
+        ensures still { StillKnows (view pass.old) (view pass.new) }
+        ensures pass { IsOf clock.now pass.new }
+        ensures phase { (holder pass.new).phase ≡ (holder pass.old).phase }
+        ensures seen { (holder pass.old).seen ≤ (holder pass.new).seen }
+    {
+        let mut guard = self.lock_row(rt, key);
+        guard.value.unbind(clock, pass, key)
+    }
+}
