@@ -3,6 +3,7 @@ use Rattle.std.proofs.Common.{◌≡◌, ◌≤◌, ◌<◌, ℕ, zero, suc, Boo
 use Rattle.std.specs.Prelude.{option_to_list, slice_get}
 use Rattle.std.proofs.lemmas.List.{get_or-map, map-append, length-map}
 use Rattle.std.proofs.lemmas.Option.{none-some, same_Some, slice_get-get_or}
+use Rattle.smr_clock.specs.declared.host.Host.{Ghosts}
 use Rattle.uma_keg.specs.Lent.{Seen, seen_of, all_seen}
 use Rattle.trace_worker.specs.declared.held.Held.{Held}
 use Rattle.trace_worker.specs.declared.worker.Worker.{Worker}
@@ -57,64 +58,66 @@ gives_back of (Some it ∷ old) back more seen =
     let is : all_seen back ≡ all_seen (option_to_list (cond (of it.zone) (Some it.item) None) ++ lent_items of old) ++ more = seen in
     held_same of old it (of it.zone) refl back more is (λ rest same. gives_back of old rest more same)
 
--- ---- all workers
+module _ {H Part : Type 0} {h : Ghosts H Part} where
+  -- ---- all workers
 
-keeps_worker : (of : ℕ → Bool) (w : Worker) (back : List LiveItem) → map seen_slot (refilled (marks_of of w.slots) back (left_in of w.slots)) ≡ map seen_slot w.slots → KeepsWorker w (refilled_worker (marks_of of w.slots) back (lender of w))
-keeps_worker of w back slots = record { pass = refl; seats = refl; slots = slots; entered = refl; late = refl }
+  keeps_worker : (of : ℕ → Bool) (w : Worker H Part h) (back : List LiveItem) → map seen_slot (refilled (marks_of of w.slots) back (left_in of w.slots)) ≡ map seen_slot w.slots → KeepsWorker w (refilled_worker (marks_of of w.slots) back (lender of w))
+  keeps_worker of w back slots = record { pass = refl; seats = refl; slots = slots; entered = refl; late = refl }
 
-each_same : (of : ℕ → Bool) (workers : List Worker) (back : List LiveItem) → all_seen back ≡ all_seen (all_lent of workers)
-    → (n : ℕ) (before after : Worker) → slice_get workers n ≡ Some before → slice_get (all_refilled (all_marks of workers) back (map (lender of) workers)) n ≡ Some after → KeepsWorker before after
-each_same of [] back seen n before after at then = absurd (none-some before at)
-each_same of (w ∷ workers) back seen zero before after at then =
-    let split : all_seen back ≡ all_seen (lent_items of w.slots) ++ all_seen (all_lent of workers) = seen ∙ map-append seen_of (lent_items of w.slots) (all_lent of workers) in
-    let kept = keeps_worker of w back (gives_back of w.slots back (all_seen (all_lent of workers)) split).slots in
-    let P : Worker → Type 0 = λ x. KeepsWorker x after in
-    let Q : Worker → Type 0 = λ x. KeepsWorker w x in
-    subst P (same_Some w before at) (subst Q (same_Some (refilled_worker (marks_of of w.slots) back (lender of w)) after then) kept)
-each_same of (w ∷ workers) back seen (suc n) before after at then =
-    let split : all_seen back ≡ all_seen (lent_items of w.slots) ++ all_seen (all_lent of workers) = seen ∙ map-append seen_of (lent_items of w.slots) (all_lent of workers) in
-    each_same of workers (over (marks_of of w.slots) back) (gives_back of w.slots back (all_seen (all_lent of workers)) split).lives n before after at then
+  each_same : (of : ℕ → Bool) (workers : List (Worker H Part h)) (back : List LiveItem) → all_seen back ≡ all_seen (all_lent of workers)
+      → (n : ℕ) (before after : Worker H Part h) → slice_get workers n ≡ Some before → slice_get (all_refilled (all_marks of workers) back (map (lender of) workers)) n ≡ Some after → KeepsWorker before after
+  each_same of [] back seen n before after at then = absurd (none-some before at)
+  each_same of (w ∷ workers) back seen zero before after at then =
+      let split : all_seen back ≡ all_seen (lent_items of w.slots) ++ all_seen (all_lent of workers) = seen ∙ map-append seen_of (lent_items of w.slots) (all_lent of workers) in
+      let kept = keeps_worker of w back (gives_back of w.slots back (all_seen (all_lent of workers)) split).slots in
+      let P : Worker H Part h → Type 0 = λ x. KeepsWorker x after in
+      let Q : Worker H Part h → Type 0 = λ x. KeepsWorker w x in
+      subst P (same_Some w before at) (subst Q (same_Some (refilled_worker (marks_of of w.slots) back (lender of w)) after then) kept)
+  each_same of (w ∷ workers) back seen (suc n) before after at then =
+      let split : all_seen back ≡ all_seen (lent_items of w.slots) ++ all_seen (all_lent of workers) = seen ∙ map-append seen_of (lent_items of w.slots) (all_lent of workers) in
+      each_same of workers (over (marks_of of w.slots) back) (gives_back of w.slots back (all_seen (all_lent of workers)) split).lives n before after at then
 
--- what the census gave back, in reverse and then the last first
-pub all_same : (of : ℕ → Bool) (workers now : List Worker) (back : List LiveItem) → all_seen back ≡ all_seen (all_lent of workers) → now ≡ all_refilled (all_marks of workers) back (map (lender of) workers) → KeepsWorkers workers now
-all_same of workers now back seen is =
-    let P : List Worker → Type 0 = λ list. KeepsWorkers workers list in
-    subst P (sym is)
-    (record {
-      count = threaded-length refilled_worker over (all_marks of workers) back (map (lender of) workers) ∙ length-map workers (lender of);
-      each = each_same of workers back seen;
-    })
+  -- what the census gave back, in reverse and then the last first
+  pub all_same : (of : ℕ → Bool) (workers now : List (Worker H Part h)) (back : List LiveItem) → all_seen back ≡ all_seen (all_lent of workers) → now ≡ all_refilled (all_marks of workers) back (map (lender of) workers) → KeepsWorkers workers now
+  all_same of workers now back seen is =
+      let P : List (Worker H Part h) → Type 0 = λ list. KeepsWorkers workers list in
+      subst P (sym is)
+      (record {
+        count = threaded-length refilled_worker over (all_marks of workers) back (map (lender of) workers) ∙ length-map workers (lender of);
+        each = each_same of workers back seen;
+      })
 
 -- ---- the marks are as many as the slots
 
 one_fits : (of : ℕ → Bool) (slots : List (Option Held)) → length (marks_of of slots) ≡ length (left_in of slots)
 one_fits of slots = length-map slots (mark_of of) ∙ sym (length-map slots (left_of of))
 
-all_fit : (of : ℕ → Bool) (workers : List Worker) → map length (all_marks of workers) ≡ map (λ (w : Worker). length w.slots) (map (lender of) workers)
-all_fit of [] = refl
-all_fit of (w ∷ workers) = λ i. one_fits of w.slots i ∷ all_fit of workers i
+module _ {H Part : Type 0} {h : Ghosts H Part} where
+  all_fit : (of : ℕ → Bool) (workers : List (Worker H Part h)) → map length (all_marks of workers) ≡ map (λ (w : Worker H Part h). length w.slots) (map (lender of) workers)
+  all_fit of [] = refl
+  all_fit of (w ∷ workers) = λ i. one_fits of w.slots i ∷ all_fit of workers i
 
-few_marks : (of : ℕ → Bool) (workers : List Worker) → ((n : ℕ) (w : Worker) → slice_get workers n ≡ Some w → length w.slots ≤ 65536) → (n : ℕ) (m : List (Option ℕ)) → slice_get (all_marks of workers) n ≡ Some m → length m ≤ 65536
-few_marks of [] few n m at = absurd (none-some m at)
-few_marks of (w ∷ workers) few zero m at =
-    let P : ℕ → Type 0 = λ k. k ≤ 65536 in
-    let same : length w.slots ≡ length m = sym (length-map w.slots (mark_of of)) ∙ ap length (same_Some (marks_of of w.slots) m at) in
-    subst P same (few zero w refl)
-few_marks of (w ∷ workers) few (suc n) m at = few_marks of workers (λ k v there. few (suc k) v there) n m at
+  few_marks : (of : ℕ → Bool) (workers : List (Worker H Part h)) → ((n : ℕ) (w : Worker H Part h) → slice_get workers n ≡ Some w → length w.slots ≤ 65536) → (n : ℕ) (m : List (Option ℕ)) → slice_get (all_marks of workers) n ≡ Some m → length m ≤ 65536
+  few_marks of [] few n m at = absurd (none-some m at)
+  few_marks of (w ∷ workers) few zero m at =
+      let P : ℕ → Type 0 = λ k. k ≤ 65536 in
+      let same : length w.slots ≡ length m = sym (length-map w.slots (mark_of of)) ∙ ap length (same_Some (marks_of of w.slots) m at) in
+      subst P same (few zero w refl)
+  few_marks of (w ∷ workers) few (suc n) m at = few_marks of workers (λ k v there. few (suc k) v there) n m at
 
-pub marks_fit : (of : ℕ → Bool) (workers : List Worker) → ((n : ℕ) (w : Worker) → slice_get workers n ≡ Some w → length w.slots ≤ 65536) → MarksFit (all_marks of workers) (map (lender of) workers)
-marks_fit of workers few = record { same = all_fit of workers; few = few_marks of workers few }
+  pub marks_fit : (of : ℕ → Bool) (workers : List (Worker H Part h)) → ((n : ℕ) (w : Worker H Part h) → slice_get workers n ≡ Some w → length w.slots ≤ 65536) → MarksFit (all_marks of workers) (map (lender of) workers)
+  marks_fit of workers few = record { same = all_fit of workers; few = few_marks of workers few }
 
-same_length : (marks : List (List (Option ℕ))) (workers : List Worker) → MarksFit marks workers → length marks ≡ length workers
-same_length marks workers fit = sym (length-map marks length) ∙ ap length fit.same ∙ length-map workers (λ (w : Worker). length w.slots)
+  same_length : (marks : List (List (Option ℕ))) (workers : List (Worker H Part h)) → MarksFit marks workers → length marks ≡ length workers
+  same_length marks workers fit = sym (length-map marks length) ∙ ap length fit.same ∙ length-map workers (λ (w : Worker H Part h). length w.slots)
 
-pub worker_within : (marks : List (List (Option ℕ))) (workers : List Worker) (i : ℕ) → MarksFit marks workers → i < length marks → i < length workers
-worker_within marks workers i fit below = below_as i (length marks) (length workers) below (same_length marks workers fit)
+  pub worker_within : (marks : List (List (Option ℕ))) (workers : List (Worker H Part h)) (i : ℕ) → MarksFit marks workers → i < length marks → i < length workers
+  worker_within marks workers i fit below = below_as i (length marks) (length workers) below (same_length marks workers fit)
 
--- a worker's marks are as many as its slots
-pub marks_at : (marks : List (List (Option ℕ))) (workers : List Worker) (i : ℕ) (m : List (Option ℕ)) (w : Worker) → MarksFit marks workers → i < length marks → length (get_or marks i m) ≡ length (get_or workers i w).slots
-marks_at marks workers i m w fit below =
-    sym (get_or-map length marks i m 0 below) ∙ ap (λ l. get_or l i 0) fit.same ∙ get_or-map (λ (w : Worker). length w.slots) workers i w 0 (worker_within marks workers i fit below)
+  -- a worker's marks are as many as its slots
+  pub marks_at : (marks : List (List (Option ℕ))) (workers : List (Worker H Part h)) (i : ℕ) (m : List (Option ℕ)) (w : Worker H Part h) → MarksFit marks workers → i < length marks → length (get_or marks i m) ≡ length (get_or workers i w).slots
+  marks_at marks workers i m w fit below =
+      sym (get_or-map length marks i m 0 below) ∙ ap (λ l. get_or l i 0) fit.same ∙ get_or-map (λ (w : Worker H Part h). length w.slots) workers i w 0 (worker_within marks workers i fit below)
 
-pub few_at : (marks : List (List (Option ℕ))) (workers : List Worker) (i : ℕ) (m : List (Option ℕ)) → MarksFit marks workers → i < length marks → length (get_or marks i m) ≤ 65536
-few_at marks workers i m fit below = fit.few i (get_or marks i m) (slice_get-get_or marks i m below)
+  pub few_at : (marks : List (List (Option ℕ))) (workers : List (Worker H Part h)) (i : ℕ) (m : List (Option ℕ)) → MarksFit marks workers → i < length marks → length (get_or marks i m) ≤ 65536
+  few_at marks workers i m fit below = fit.few i (get_or marks i m) (slice_get-get_or marks i m below)

@@ -5,6 +5,7 @@ use Rattle.std.specs.List.{All, cons_option, sum_by}
 use Rattle.std.proofs.lemmas.List.{length-append, length-map}
 use Rattle.std.proofs.lemmas.List.Elements.{All-nil, All-cons, All-append}
 use Rattle.std.proofs.lemmas.List.Sums.{sum_by-cons, sum_by-append}
+use Rattle.smr_clock.specs.declared.host.Host.{Ghosts}
 use Rattle.uma_life.specs.Hook.{Hook, Ctor, Dtor}
 use Rattle.uma_life.specs.Live.{live_zone}
 use Rattle.uma_life.specs.Sum.{times_of}
@@ -28,9 +29,10 @@ use Rattle.trace_census.proofs.Zones.{over_zones, zones_add, zones_same, zones_n
 abbrev pub EachHeld : (Held → Type 0) → List (Option Held) → Type 0
 EachHeld P slots = (slot : ℕ) (it : Held) → slot_at slots slot ≡ Some it → P it
 
--- each item in the workers' slots is so
-abbrev pub EachOf : (Held → Type 0) → List Worker → Type 0
-EachOf P workers = (n : ℕ) (w : Worker) → slice_get workers n ≡ Some w → EachHeld P w.slots
+module _ {H Part : Type 0} {h : Ghosts H Part} where
+  -- each item in the workers' slots is so
+  abbrev pub EachOf : (Held → Type 0) → List (Worker H Part h) → Type 0
+  EachOf P workers = (n : ℕ) (w : Worker H Part h) → slice_get workers n ≡ Some w → EachHeld P w.slots
 
 -- ---- the sum over one slot more
 
@@ -58,21 +60,22 @@ slots_times hook p heads (Some it ∷ slots) =
     ∙ sym (zones_add p 0 heads (λ z. cond (it.zone == z) t 0) (λ z. live_sum hook (lives_of z slots)))
     ∙ zones_same p 0 heads (λ z. cond (it.zone == z) t 0 + live_sum hook (lives_of z slots)) (λ z. live_sum hook (lives_of z (Some it ∷ slots))) (λ z. sym (cons_sum f (it.zone == z) it.item (lives_of z slots)))
 
-lent_over : (hook : Hook) (p z : ℕ) (lines : List ZoneHead) (workers : List Worker) → lent_times hook p z lines workers ≡ over_zones p z lines (λ z. sum_by (slot_times hook z) workers)
-lent_over hook p z [] workers = refl
-lent_over hook p z (line ∷ lines) workers = ap (λ n. cond (keg_place z line == p) (sum_by (slot_times hook z) workers) 0 + n) (lent_over hook p (z + 1) lines workers)
+module _ {H Part : Type 0} {h : Ghosts H Part} where
+  lent_over : (hook : Hook) (p z : ℕ) (lines : List ZoneHead) (workers : List (Worker H Part h)) → lent_times hook p z lines workers ≡ over_zones p z lines (λ z. sum_by (slot_times hook z) workers)
+  lent_over hook p z [] workers = refl
+  lent_over hook p z (line ∷ lines) workers = ap (λ n. cond (keg_place z line == p) (sum_by (slot_times hook z) workers) 0 + n) (lent_over hook p (z + 1) lines workers)
 
-all_times : (hook : Hook) (p : ℕ) (heads : List ZoneHead) (workers : List Worker) → live_sum hook (all_lent (in_keg heads p) workers) ≡ over_zones p 0 heads (λ z. sum_by (slot_times hook z) workers)
-all_times hook p heads [] = sym (zones_none p 0 heads)
-all_times hook p heads (w ∷ workers) =
-    sum_by-append (live_times hook) (lent_items (in_keg heads p) w.slots) (all_lent (in_keg heads p) workers)
-    ∙ (λ i. slots_times hook p heads w.slots i + all_times hook p heads workers i)
-    ∙ sym (zones_add p 0 heads (λ z. slot_times hook z w) (λ z. sum_by (slot_times hook z) workers))
-    ∙ zones_same p 0 heads (λ z. slot_times hook z w + sum_by (slot_times hook z) workers) (λ z. sum_by (slot_times hook z) (w ∷ workers)) (λ z. sym (sum_by-cons (slot_times hook z) w workers))
+  all_times : (hook : Hook) (p : ℕ) (heads : List ZoneHead) (workers : List (Worker H Part h)) → live_sum hook (all_lent (in_keg heads p) workers) ≡ over_zones p 0 heads (λ z. sum_by (slot_times hook z) workers)
+  all_times hook p heads [] = sym (zones_none p 0 heads)
+  all_times hook p heads (w ∷ workers) =
+      sum_by-append (live_times hook) (lent_items (in_keg heads p) w.slots) (all_lent (in_keg heads p) workers)
+      ∙ (λ i. slots_times hook p heads w.slots i + all_times hook p heads workers i)
+      ∙ sym (zones_add p 0 heads (λ z. slot_times hook z w) (λ z. sum_by (slot_times hook z) workers))
+      ∙ zones_same p 0 heads (λ z. slot_times hook z w + sum_by (slot_times hook z) workers) (λ z. sum_by (slot_times hook z) (w ∷ workers)) (λ z. sym (sum_by-cons (slot_times hook z) w workers))
 
--- what the lent items passed is what is said zone by zone
-pub lent_is : (hook : Hook) (p : ℕ) (heads : List ZoneHead) (workers : List Worker) → live_sum hook (all_lent (in_keg heads p) workers) ≡ lent_times hook p 0 heads workers
-lent_is hook p heads workers = all_times hook p heads workers ∙ sym (lent_over hook p 0 heads workers)
+  -- what the lent items passed is what is said zone by zone
+  pub lent_is : (hook : Hook) (p : ℕ) (heads : List ZoneHead) (workers : List (Worker H Part h)) → live_sum hook (all_lent (in_keg heads p) workers) ≡ lent_times hook p 0 heads workers
+  lent_is hook p heads workers = all_times hook p heads workers ∙ sym (lent_over hook p 0 heads workers)
 
 -- ---- the items of one zone
 
@@ -93,13 +96,14 @@ slots_count of z index (Some it ∷ slots) each =
     ∙ (λ i. (twice (of it.zone) (live_zone it.item == index) ∙ ap (λ b. cond b 1 0) (each zero it refl)) i + slots_count of z index slots (λ slot it at. each (suc slot) it at) i)
     ∙ sym (sum_by-cons (λ (s : Option Held). cond (is_of z s) 1 0) (Some it) slots)
 
--- of the zone at place `z` so many items are lent as the slots hold
-pub all_count : (of : ℕ → Bool) (z index : ℕ) (workers : List Worker) → EachOf (CountsAs of z index) workers → lent_of (all_lent of workers) index ≡ all_live z workers
-all_count of z index [] each = refl
-all_count of z index (w ∷ workers) each =
-    sum_by-append (λ (item : LiveItem). cond (live_zone item == index) 1 0) (lent_items of w.slots) (all_lent of workers)
-    ∙ (λ i. slots_count of z index w.slots (each zero w refl) i + all_count of z index workers (λ n v at. each (suc n) v at) i)
-    ∙ sym (sum_by-cons (λ (v : Worker). live_count z v.slots) w workers)
+module _ {H Part : Type 0} {h : Ghosts H Part} where
+  -- of the zone at place `z` so many items are lent as the slots hold
+  pub all_count : (of : ℕ → Bool) (z index : ℕ) (workers : List (Worker H Part h)) → EachOf (CountsAs of z index) workers → lent_of (all_lent of workers) index ≡ all_live z workers
+  all_count of z index [] each = refl
+  all_count of z index (w ∷ workers) each =
+      sum_by-append (λ (item : LiveItem). cond (live_zone item == index) 1 0) (lent_items of w.slots) (all_lent of workers)
+      ∙ (λ i. slots_count of z index w.slots (each zero w refl) i + all_count of z index workers (λ n v at. each (suc n) v at) i)
+      ∙ sym (sum_by-cons (λ (v : Worker H Part h). live_count z v.slots) w workers)
 
 -- ---- all lent items are so
 
@@ -116,9 +120,10 @@ slots_all P of [] each = All-nil P
 slots_all P of (None ∷ slots) each = slots_all P of slots (λ slot it at. each (suc slot) it at)
 slots_all P of (Some it ∷ slots) each = one_all P (of it.zone) it.item (lent_items of slots) (each zero it refl) (slots_all P of slots (λ slot it at. each (suc slot) it at))
 
-pub all_are : (P : LiveItem → Type 0) (of : ℕ → Bool) (workers : List Worker) → EachOf (LentIs P of) workers → All P (all_lent of workers)
-all_are P of [] each = All-nil P
-all_are P of (w ∷ workers) each = All-append P (lent_items of w.slots) (all_lent of workers) (slots_all P of w.slots (each zero w refl)) (all_are P of workers (λ n v at. each (suc n) v at))
+module _ {H Part : Type 0} {h : Ghosts H Part} where
+  pub all_are : (P : LiveItem → Type 0) (of : ℕ → Bool) (workers : List (Worker H Part h)) → EachOf (LentIs P of) workers → All P (all_lent of workers)
+  all_are P of [] each = All-nil P
+  all_are P of (w ∷ workers) each = All-append P (lent_items of w.slots) (all_lent of workers) (slots_all P of w.slots (each zero w refl)) (all_are P of workers (λ n v at. each (suc n) v at))
 
 -- ---- the lent items are few
 
@@ -137,11 +142,12 @@ slots_few of (Some it ∷ slots) = one_more (of it.zone) it.item (lent_items of 
 both_few : (m a b n s : ℕ) → m ≡ a + b → a ≤ s → s ≤ 65536 → b ≤ n * 65536 → m ≤ suc n * 65536
 both_few m a b n s is first few rest = omega arith
 
-pub all_few : (of : ℕ → Bool) (workers : List Worker) → ((n : ℕ) (w : Worker) → slice_get workers n ≡ Some w → length w.slots ≤ 65536) → length (all_lent of workers) ≤ length workers * 65536
-all_few of [] few = omega arith
-all_few of (w ∷ workers) few =
-    both_few (length (all_lent of (w ∷ workers))) (length (lent_items of w.slots)) (length (all_lent of workers)) (length workers) (length w.slots)
-    (length-append (lent_items of w.slots) (all_lent of workers)) (slots_few of w.slots) (few zero w refl) (all_few of workers (λ n v at. few (suc n) v at))
+module _ {H Part : Type 0} {h : Ghosts H Part} where
+  pub all_few : (of : ℕ → Bool) (workers : List (Worker H Part h)) → ((n : ℕ) (w : Worker H Part h) → slice_get workers n ≡ Some w → length w.slots ≤ 65536) → length (all_lent of workers) ≤ length workers * 65536
+  all_few of [] few = omega arith
+  all_few of (w ∷ workers) few =
+      both_few (length (all_lent of (w ∷ workers))) (length (lent_items of w.slots)) (length (all_lent of workers)) (length workers) (length w.slots)
+      (length-append (lent_items of w.slots) (all_lent of workers)) (slots_few of w.slots) (few zero w refl) (all_few of workers (λ n v at. few (suc n) v at))
 
 pub sixteen : (m n : ℕ) → m ≤ n * 65536 → n ≤ 16 → m ≤ 2 ^ 20
 sixteen m n few workers = omega arith

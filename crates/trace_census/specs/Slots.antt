@@ -2,6 +2,7 @@
 use Rattle.std.specs.Prelude.{◌≡◌, ◌≤◌, ◌==◌, ℕ, Bool, false, List, [], ◌∷◌, Option, Some, None, cond, length, map, option_to_list, slice_get}
 use Rattle.std.specs.List.{flat_map, fold, sum_by}
 use Rattle.std.specs.Option.{option_map_or}
+use Rattle.smr_clock.specs.declared.host.Host.{Ghosts}
 use Rattle.trace_text.specs.declared.head.ZoneHead.{ZoneHead}
 use Rattle.uma_life.specs.Hook.{Hook}
 use Rattle.trace_worker.specs.declared.held.Held.{Held}
@@ -42,16 +43,17 @@ marks_of of slots = map (mark_of of) slots
 abbrev pub left_in : (ℕ → Bool) → List (Option Held) → List (Option Held)
 left_in of slots = map (left_of of) slots
 
--- the worker whose slots lent their items
-abbrev pub lender : (ℕ → Bool) → Worker → Worker
-lender of w = record w { slots = left_in of w.slots }
+module _ {H P : Type 0} {h : Ghosts H P} where
+  -- the worker whose slots lent their items
+  abbrev pub lender : (ℕ → Bool) → Worker H P h → Worker H P h
+  lender of w = record w { slots = left_in of w.slots }
 
--- the items that all workers lend, one worker after another
-abbrev pub all_lent : (ℕ → Bool) → List Worker → List LiveItem
-all_lent of workers = flat_map (λ w. lent_items of w.slots) workers
+  -- the items that all workers lend, one worker after another
+  abbrev pub all_lent : (ℕ → Bool) → List (Worker H P h) → List LiveItem
+  all_lent of workers = flat_map (λ w. lent_items of w.slots) workers
 
-abbrev pub all_marks : (ℕ → Bool) → List Worker → List (List (Option ℕ))
-all_marks of workers = map (λ w. marks_of of w.slots) workers
+  abbrev pub all_marks : (ℕ → Bool) → List (Worker H P h) → List (List (Option ℕ))
+  all_marks of workers = map (λ w. marks_of of w.slots) workers
 
 -- how often live items passed a hook
 abbrev pub live_sum : Hook → List LiveItem → ℕ
@@ -85,13 +87,14 @@ refilled marks lives slots = threaded next_held next_lives marks lives slots
 abbrev pub over : List (Option ℕ) → List LiveItem → List LiveItem
 over marks lives = fold (λ lives mark. next_lives mark lives) lives marks
 
-abbrev pub refilled_worker : List (Option ℕ) → List LiveItem → Worker → Worker
-refilled_worker marks lives w = record w { slots = refilled marks lives w.slots }
+module _ {H P : Type 0} {h : Ghosts H P} where
+  abbrev pub refilled_worker : List (Option ℕ) → List LiveItem → Worker H P h → Worker H P h
+  refilled_worker marks lives w = record w { slots = refilled marks lives w.slots }
 
-abbrev pub all_refilled : List (List (Option ℕ)) → List LiveItem → List Worker → List Worker
-all_refilled marks lives workers = threaded refilled_worker over marks lives workers
+  abbrev pub all_refilled : List (List (Option ℕ)) → List LiveItem → List (Worker H P h) → List (Worker H P h)
+  all_refilled marks lives workers = threaded refilled_worker over marks lives workers
 
--- the marks of a worker are as many as its slots, of which there are at most 65,536
-pub record MarksFit (marks : List (List (Option ℕ))) (workers : List Worker) : Type 0 where
-  pub same : map length marks ≡ map (λ w. length w.slots) workers
-  pub few : (n : ℕ) (m : List (Option ℕ)) → slice_get marks n ≡ Some m → length m ≤ 65536
+  -- the marks of a worker are as many as its slots, of which there are at most 65,536
+  pub record MarksFit (marks : List (List (Option ℕ))) (workers : List (Worker H P h)) : Type 0 where
+    pub same : map length marks ≡ map (λ w. length w.slots) workers
+    pub few : (n : ℕ) (m : List (Option ℕ)) → slice_get marks n ≡ Some m → length m ≤ 65536

@@ -7,7 +7,7 @@ ghost use Rattle.trace_census.specs.Lending.{AllFit, AreFew, KeepsWorkers, Takes
 use crate::lending::lend_all;
 use crate::putting_back::put_all_back;
 use crate::summing::with_lives;
-use smr_clock::{Bare, Clock};
+use smr_clock::{Clock, Host};
 use std::alloc::Global;
 use std::sync::Wait;
 use trace_text::Head;
@@ -18,14 +18,14 @@ use uma_life::{Lives, TallySum};
 /// The census of the keg whose primary zone stands at `place`, to which all workers' slots lend the items of all the keg's
 /// zones, and how often each hook was passed by its items and by those in the slots, summed up. The zones are those of the
 /// head's lines, over this clock. Waits until it has the keg's lock. After the Err slots may have lost items.
-pub fn take_census<R: Wait>(
+pub fn take_census<H: Host, R: Wait>(
     rt: &R,
     alloc: Global,
     head: &Head,
-    clock: &Clock<Bare>,
-    zones: &[CountedZone],
+    clock: &Clock<H>,
+    zones: &[CountedZone<H>],
     place: usize,
-    workers: &mut [Worker],
+    workers: &mut [Worker<H>],
 ) -> Result<(Census, TallySum), Memory>
     requires head { HeadFits head.now }
     requires zones { AreZones head.now clock.now zones.now }

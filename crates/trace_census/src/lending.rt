@@ -16,6 +16,7 @@ ghost use Rattle.trace_census.specs.Slots.{
 ghost use Rattle.trace_census.specs.Lending.{AreFew};
 
 use listed::Listed;
+use smr_clock::Host;
 use std::alloc::Global;
 use trace_text::Head;
 use trace_worker::{Counted, Held, Memory, Slots, Worker};
@@ -26,11 +27,11 @@ pub(crate) type Marks = Listed<Option<u32>>;
 
 /// Takes the items of the keg whose primary zone stands at `place` out of all slots, one worker after another, and marks
 /// the slots that held them.
-pub(crate) fn lend_all(
+pub(crate) fn lend_all<H: Host>(
     alloc: Global,
     head: &Head,
     place: usize,
-    workers: &mut [Worker],
+    workers: &mut [Worker<H>],
 ) -> Result<(Vec<Marks>, Vec<Live<Counted>>), Memory>
     requires few { AreFew workers.old }
     ensures marks { IfOk result (λ (marks, lives). marks.items ≡ all_marks (in_keg head.now.zones place) workers.old) }
@@ -47,11 +48,11 @@ pub(crate) fn lend_all(
 }
 
 /// Takes the keg's items out of the worker's slots, behind the others, and marks the slots that held them.
-fn lend_by(
+fn lend_by<H: Host>(
     alloc: Global,
     head: &Head,
     place: usize,
-    worker: &mut Worker,
+    worker: &mut Worker<H>,
     lives: &mut Vec<Live<Counted>>,
 ) -> Result<Marks, Memory>
     requires few { length worker.old.slots ≤ 65536 }

@@ -12,16 +12,17 @@ ghost use Rattle.trace_census.specs.Slots.{
 };
 
 use crate::lending::Marks;
+use smr_clock::Host;
 use std::alloc::Global;
 use trace_worker::{Counted, Held, Memory, Slots, Worker};
 use uma_life::Live;
 
 /// Puts the items back into the marked slots, one worker after another, in order. The last item of the list goes first.
-pub(crate) fn put_all_back(
+pub(crate) fn put_all_back<H: Host>(
     alloc: Global,
     marks: &[Marks],
     lives: &mut Vec<Live<Counted>>,
-    workers: &mut [Worker],
+    workers: &mut [Worker<H>],
 ) -> Result<(), Memory>
     requires { MarksFit marks.now workers.old }
     ensures { OnOk result (workers.new ≡ all_refilled marks.now (reverse lives.old.items) workers.old) }
@@ -33,11 +34,11 @@ pub(crate) fn put_all_back(
 }
 
 /// Puts the next items back into the worker's marked slots.
-fn put_back_by(
+fn put_back_by<H: Host>(
     alloc: Global,
     marks: &[Option<u32>],
     lives: &mut Vec<Live<Counted>>,
-    worker: &mut Worker,
+    worker: &mut Worker<H>,
 ) -> Result<(), Memory>
     requires same { length marks.now ≡ length worker.old.slots }
     requires few { length marks.now ≤ 65536 }

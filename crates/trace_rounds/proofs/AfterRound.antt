@@ -2,6 +2,8 @@
 use Rattle.std.proofs.Common.{◌≡◌, ℕ, zero, suc, ◌+◌, ◌<◌, ◌≤◌, List, [], ◌∷◌, Some, refl, sym, ap, ◌∙◌, subst, length, get_or}
 use Rattle.std.proofs.lemmas.Option.{none-some, same_Some, slice_get-get_or, slice_get-map, slice_get_within, get_or_from_slice_get}
 use Rattle.std.specs.Prelude.{All, OnOk, slice_get, option_map}
+use Rattle.smr_clock.specs.declared.clock.Clock.{Clock}
+use Rattle.smr_clock.specs.declared.host.Host.{Ghosts}
 use Rattle.trace_text.specs.declared.trace.Trace.{Trace}
 use Rattle.trace_text.specs.Lines.{Line, lines_of}
 use Rattle.uma_seat.specs.Seat.{ledger_of}
@@ -10,7 +12,7 @@ use Rattle.zone_stats.specs.declared.refusal.Refusal.TheVariants.{Ctor}
 use Rattle.zone_stats.specs.declared.ledger.SeatLedger.{SeatLedger}
 use Rattle.trace_worker.specs.declared.running.Running.{Running}
 use Rattle.trace_worker.specs.declared.worker.Worker.{Worker}
-use Rattle.trace_worker.specs.Items.{BareClock, CountedZone}
+use Rattle.trace_worker.specs.Items.{CountedZone}
 use Rattle.trace_worker.specs.LedgerStands.{KeptFits, LedgerStands}
 use Rattle.trace_worker.specs.OwnLines.{lines_before, own_ops, worked}
 use Rattle.trace_worker.specs.Stands.{Stands}
@@ -25,61 +27,62 @@ use Rattle.trace_rounds.proofs.Lists.{map-same, at_other}
 use Rattle.trace_rounds.proofs.RoundLines.{own_of_round, before-few, own-few}
 use Rattle.trace_rounds.proofs.SameFor.{SameFor, done_by-few, done_by-worked}
 
--- ---- ready for the round
+module _ {H Part : Type 0} {h : Ghosts H Part} where
+  -- ---- ready for the round
 
-pub in_crew : (n : ℕ) (workers : List Running) (r : Running) → slice_get workers n ≡ Some r → slice_get (crew workers) n ≡ Some r.worker
-in_crew n workers r at = slice_get-map (λ (x : Running). x.worker) workers n ∙ ap (option_map (λ (x : Running). x.worker)) at
+  pub in_crew : (n : ℕ) (workers : List (Running H Part h)) (r : Running H Part h) → slice_get workers n ≡ Some r → slice_get (crew workers) n ≡ Some r.worker
+  in_crew n workers r at = slice_get-map (λ (x : Running H Part h). x.worker) workers n ∙ ap (option_map (λ (x : Running H Part h). x.worker)) at
 
-ready_at : (t : Trace) (zones : List CountedZone) (clock : BareClock) (k n : ℕ) (workers : List Running) (r : Running) → Suits t zones clock workers → AreAfter zones clock (lines_before t.rounds k) workers
-    → k < length t.rounds → slice_get workers n ≡ Some r → IsReady t zones clock k n r
-ready_at t zones clock k n workers r suits after round at =
-    let before = lines_before t.rounds k in
-    let asked = after.asked n r at in
-    let own = own-few t.rounds k n in
-    let done : done_by n before ≤ length (lines_of t.rounds) = up_by_two (done_by-few n before) (before-few t.rounds k) in
-    record {
-      valid = suits.valid;
-      built = suits.built;
-      round = round;
-      worker = below_as (slice_get_within workers n r at) suits.worker_count;
-      zone_count = suits.zone_count;
-      of_clock = suits.of_clock;
-      few = few_lines (before-few t.rounds k) own suits.few;
-      asks = few_asks (done_by n before) (length (own_ops t.rounds k n)) asked.asked_few done own suits.few;
-      gave_up = few_given_up asked.gave_up_few done own suits.few;
-      fits = after.stand.fits n r.worker (in_crew n workers r at);
-      stands = after.stand.stands n r.worker (in_crew n workers r at);
-    }
+  ready_at : (t : Trace) (zones : List (CountedZone H Part h)) (clock : Clock H Part) (k n : ℕ) (workers : List (Running H Part h)) (r : Running H Part h) → Suits t zones clock workers → AreAfter zones clock (lines_before t.rounds k) workers
+      → k < length t.rounds → slice_get workers n ≡ Some r → IsReady t zones clock k n r
+  ready_at t zones clock k n workers r suits after round at =
+      let before = lines_before t.rounds k in
+      let asked = after.asked n r at in
+      let own = own-few t.rounds k n in
+      let done : done_by n before ≤ length (lines_of t.rounds) = up_by_two (done_by-few n before) (before-few t.rounds k) in
+      record {
+        valid = suits.valid;
+        built = suits.built;
+        round = round;
+        worker = below_as (slice_get_within workers n r at) suits.worker_count;
+        zone_count = suits.zone_count;
+        of_clock = suits.of_clock;
+        few = few_lines (before-few t.rounds k) own suits.few;
+        asks = few_asks (done_by n before) (length (own_ops t.rounds k n)) asked.asked_few done own suits.few;
+        gave_up = few_given_up asked.gave_up_few done own suits.few;
+        fits = after.stand.fits n r.worker (in_crew n workers r at);
+        stands = after.stand.stands n r.worker (in_crew n workers r at);
+      }
 
-pub all_ready : (t : Trace) (zones : List CountedZone) (clock : BareClock) (k : ℕ) (workers : List Running) → Suits t zones clock workers → AreAfter zones clock (lines_before t.rounds k) workers
-    → k < length t.rounds → AllReady t zones clock k workers
-all_ready t zones clock k workers suits after round n d below =
-    ready_at t zones clock k n workers (get_or workers n d) suits after round (slice_get-get_or workers n d below)
+  pub all_ready : (t : Trace) (zones : List (CountedZone H Part h)) (clock : Clock H Part) (k : ℕ) (workers : List (Running H Part h)) → Suits t zones clock workers → AreAfter zones clock (lines_before t.rounds k) workers
+      → k < length t.rounds → AllReady t zones clock k workers
+  all_ready t zones clock k workers suits after round n d below =
+      ready_at t zones clock k n workers (get_or workers n d) suits after round (slice_get-get_or workers n d below)
 
--- ---- what each did
+  -- ---- what each did
 
--- each worker's turn in the round, by its place in both lists
-pub record Turns (t : Trace) (zones : List CountedZone) (clock : BareClock) (k : ℕ) (old new : List Running) : Type 0 where
-  pub size : length new ≡ length old
-  pub each : (n : ℕ) (was is : Running) → slice_get old n ≡ Some was → slice_get new n ≡ Some is → HasWorked t zones clock k n was is
+  -- each worker's turn in the round, by its place in both lists
+  pub record Turns (t : Trace) (zones : List (CountedZone H Part h)) (clock : Clock H Part) (k : ℕ) (old new : List (Running H Part h)) : Type 0 where
+    pub size : length new ≡ length old
+    pub each : (n : ℕ) (was is : Running H Part h) → slice_get old n ≡ Some was → slice_get new n ≡ Some is → HasWorked t zones clock k n was is
 
-has_worked : (t : Trace) (zones : List CountedZone) (clock : BareClock) (k n : ℕ) (was is : Running) → HasEnded is → OnOk is.ended (HasWorked t zones clock k n was is) → HasWorked t zones clock k n was is
-has_worked t zones clock k n was is ended worked =
-    let W : Type 0 = HasWorked t zones clock k n was is in
-    subst (λ e. OnOk e W) ended worked
+  has_worked : (t : Trace) (zones : List (CountedZone H Part h)) (clock : Clock H Part) (k n : ℕ) (was is : Running H Part h) → HasEnded is → OnOk is.ended (HasWorked t zones clock k n was is) → HasWorked t zones clock k n was is
+  has_worked t zones clock k n was is ended worked =
+      let W : Type 0 = HasWorked t zones clock k n was is in
+      subst (λ e. OnOk e W) ended worked
 
-pub turns : (t : Trace) (zones : List CountedZone) (clock : BareClock) (k : ℕ) (old new : List Running) → length new ≡ length old → All HasEnded new → AllWorked t zones clock k old new → Turns t zones clock k old new
-turns t zones clock k old new size ended worked = record {
-  size = size;
-  each = λ n was is at now.
-      let below : n < length old = slice_get_within old n was at in
-      let P : Running → Type 0 = λ r. HasEnded r in
-      let Q : Running → Type 0 = λ r. OnOk r.ended (HasWorked t zones clock k n (get_or old n is) r) in
-      let R : Running → Type 0 = λ r. OnOk is.ended (HasWorked t zones clock k n r is) in
-      let found : get_or new n is ≡ is = get_or_from_slice_get new n is is now in
-      has_worked t zones clock k n was is (subst P found (ended n is (slice_get_within new n is now)))
-      (subst R (get_or_from_slice_get old n was is at) (subst Q found (worked n is below)));
-}
+  pub turns : (t : Trace) (zones : List (CountedZone H Part h)) (clock : Clock H Part) (k : ℕ) (old new : List (Running H Part h)) → length new ≡ length old → All HasEnded new → AllWorked t zones clock k old new → Turns t zones clock k old new
+  turns t zones clock k old new size ended worked = record {
+    size = size;
+    each = λ n was is at now.
+        let below : n < length old = slice_get_within old n was at in
+        let P : Running H Part h → Type 0 = λ r. HasEnded r in
+        let Q : Running H Part h → Type 0 = λ r. OnOk r.ended (HasWorked t zones clock k n (get_or old n is) r) in
+        let R : Running H Part h → Type 0 = λ r. OnOk is.ended (HasWorked t zones clock k n r is) in
+        let found : get_or new n is ≡ is = get_or_from_slice_get new n is is now in
+        has_worked t zones clock k n was is (subst P found (ended n is (slice_get_within new n is now)))
+        (subst R (get_or_from_slice_get old n was is at) (subst Q found (worked n is below)));
+  }
 
 -- ---- all stand for the round's lines
 
@@ -96,31 +99,32 @@ ledger_as Names n z a b ledger same stands = record {
   kept = λ refusal is. kept_as Names n z a b refusal same (stands.kept refusal is);
 }
 
-stands_as : (zones : List CountedZone) (clock : BareClock) (n : ℕ) (a b : List Line) (w : Worker) → SameFor n a b → Stands zones clock n b w → Stands zones clock n a w
-stands_as zones clock n a b w same stands = record {
-  ledgers = λ z zone seat is_zone is_seat. ledger_as _ n z a b (ledger_of seat) same (stands.ledgers z zone seat is_zone is_seat);
-  filled = λ slot it holds. same.alike.same_held slot ∙ stands.filled slot it holds;
-  few = stands.few;
-  outside = λ out. stands.outside (sym same.alike.same_section ∙ out);
-  between = stands.between;
-  enters_add_up = stands.enters_add_up ∙ sym same.sections;
-  begun = stands.begun;
-  overtaken = stands.overtaken;
-}
+module _ {H Part : Type 0} {h : Ghosts H Part} where
+  stands_as : (zones : List (CountedZone H Part h)) (clock : Clock H Part) (n : ℕ) (a b : List Line) (w : Worker H Part h) → SameFor n a b → Stands zones clock n b w → Stands zones clock n a w
+  stands_as zones clock n a b w same stands = record {
+    ledgers = λ z zone seat is_zone is_seat. ledger_as _ n z a b (ledger_of seat) same (stands.ledgers z zone seat is_zone is_seat);
+    filled = λ slot it holds. same.alike.same_held slot ∙ stands.filled slot it holds;
+    few = stands.few;
+    outside = λ out. stands.outside (sym same.alike.same_section ∙ out);
+    between = stands.between;
+    enters_add_up = stands.enters_add_up ∙ sym same.sections;
+    begun = stands.begun;
+    overtaken = stands.overtaken;
+  }
 
--- who stands in the crew
-pub record Member (workers : List Running) (n : ℕ) (w : Worker) : Type 0 where
-  pub running : Running
-  pub at : slice_get workers n ≡ Some running
-  pub is : running.worker ≡ w
+  -- who stands in the crew
+  pub record Member (workers : List (Running H Part h)) (n : ℕ) (w : Worker H Part h) : Type 0 where
+    pub running : Running H Part h
+    pub at : slice_get workers n ≡ Some running
+    pub is : running.worker ≡ w
 
-pub member : (workers : List Running) (n : ℕ) (w : Worker) → slice_get (crew workers) n ≡ Some w → Member workers n w
-member [] n w at = absurd (none-some w at)
-member (r ∷ workers) zero w at = record { running = r; at = refl; is = same_Some r.worker w at }
-member (r ∷ workers) (suc n) w at = let rest = member workers n w at in record { running = rest.running; at = rest.at; is = rest.is }
+  pub member : (workers : List (Running H Part h)) (n : ℕ) (w : Worker H Part h) → slice_get (crew workers) n ≡ Some w → Member workers n w
+  member [] n w at = absurd (none-some w at)
+  member (r ∷ workers) zero w at = record { running = r; at = refl; is = same_Some r.worker w at }
+  member (r ∷ workers) (suc n) w at = let rest = member workers n w at in record { running = rest.running; at = rest.at; is = rest.is }
 
-module _ (t : Trace) (zones : List CountedZone) (clock : BareClock) (k : ℕ) (old new : List Running) (done : Turns t zones clock k old new) where
-  turn_of : (n : ℕ) (is : Running) → slice_get new n ≡ Some is → HasWorked t zones clock k n (get_or old n is) is
+module _ {H Part : Type 0} {h : Ghosts H Part} (t : Trace) (zones : List (CountedZone H Part h)) (clock : Clock H Part) (k : ℕ) (old new : List (Running H Part h)) (done : Turns t zones clock k old new) where
+  turn_of : (n : ℕ) (is : Running H Part h) → slice_get new n ≡ Some is → HasWorked t zones clock k n (get_or old n is) is
   turn_of n is now = done.each n (get_or old n is) is (at_other old new n is done.size now) now
 
   pub stand_after : AllStand zones clock (after_workers t.rounds k) (crew new)
@@ -147,8 +151,9 @@ module _ (t : Trace) (zones : List CountedZone) (clock : BareClock) (k : ℕ) (o
         gave_up_few = one_more (length own) more was.gave_up_few worked_now.gave_up_few;
       }
 
--- ---- a gate that holds nobody
+module _ {H Part : Type 0} {h : Ghosts H Part} where
+  -- ---- a gate that holds nobody
 
-pub gave_up_same : (old new : List Running) → length new ≡ length old → EachGaveUpAsBefore old new → GaveUpAsBefore old new
-gave_up_same old new size each = map-same (λ (r : Running). r.gave_up) old new size (λ n was is at now.
-    ap (λ (r : Running). r.gave_up) (sym (get_or_from_slice_get new n is is now)) ∙ (each n is (slice_get_within old n was at) ∙ ap (λ (r : Running). r.gave_up) (get_or_from_slice_get old n was is at)))
+  pub gave_up_same : (old new : List (Running H Part h)) → length new ≡ length old → EachGaveUpAsBefore old new → GaveUpAsBefore old new
+  gave_up_same old new size each = map-same (λ (r : Running H Part h). r.gave_up) old new size (λ n was is at now.
+      ap (λ (r : Running H Part h). r.gave_up) (sym (get_or_from_slice_get new n is is now)) ∙ (each n is (slice_get_within old n was at) ∙ ap (λ (r : Running H Part h). r.gave_up) (get_or_from_slice_get old n was is at)))

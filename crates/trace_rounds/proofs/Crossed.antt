@@ -2,8 +2,7 @@
 use Rattle.std.proofs.Crossing.{Vec-send, crosses, sync as heap_sync}
 use Rattle.std.specs.contracts.alloc.Global as heap
 use denote.RattleType.{RattleType}
-use denote.Builtin.{unit, u64}
-use denote.Param.{param}
+use denote.Builtin.{u64}
 use denote.Ref.{ShrRef}
 use denote.Slice.{ShrSlice}
 use base.Fml.{Lft}
@@ -14,9 +13,8 @@ use denote.Struct.Struct.{Struct}
 use mir.Syntax.{Lifetime, Sym}
 use Rattle.std.proofs.Common.{List, [], ◌∷◌}
 use denote.Struct.Declared.{shape}
-use Rattle.smr_clock.specs.contracts.bare.Bare as Bare
-use Rattle.smr_clock.proofs.bare.Bare.TheSendSync as bare
-use Rattle.smr_clock.specs.contracts.bare.BareHost.TheImpl as bare_host
+use Rattle.crossbeam_utils.proofs.cache_padded.CachePadded.TheSendSync as padded
+use Rattle.smr_clock.specs.declared.host.Host as host
 use Rattle.smr_clock.specs.contracts.clock.Clock as Clock
 use Rattle.smr_clock.proofs.clock.Clock.TheSendSync as clock
 use Rattle.smr_clock.proofs.pass.Pass.TheSendSync as pass
@@ -34,26 +32,33 @@ use Rattle.trace_worker.specs.contracts.running.Running as Running
 use Rattle.trace_worker.proofs.slots.Slots.TheSendSync as slots
 use Rattle.trace_worker.specs.contracts.worker.Worker as Worker
 
-worker_field_send : IsSend Worker.the_field.row
-worker_field_send = struct_send (shape Worker.the_type) (
-  search (pass.the_field_send),
-  (
-    Vec-send _ (seat_send Counted.the_row Bare.the_row unit _ _ counted.the_send bare.the_send bare.the_sync),
-    (search (slots.the_send), (search sendable, (search sendable, tt))),
-  ),
-)
+module _ (H P : RattleType) (h : host.Ghosts H.Denot P.Denot) (s : IsSend H) (y : IsSync H) where
+  worker_field_send : IsSend (Worker.the_field H P h).row
+  worker_field_send = struct_send (shape (Worker.the_type H P h)) (
+    search (pass.the_field_send),
+    (
+      Vec-send _ (seat_send Counted.the_row H P _ h counted.the_send s y),
+      (search (slots.the_send), (search sendable, (search sendable, tt))),
+    ),
+  )
 
-running_field_send : IsSend Running.the_field.row
-running_field_send = struct_send (shape Running.the_type) (worker_field_send, (search sendable, (search sendable, (search (crosses, sendable) depth 20, tt))))
+  running_field_send : IsSend (Running.the_field H P h).row
+  running_field_send = struct_send (shape (Running.the_type H P h)) (
+    worker_field_send,
+    (search sendable, (search sendable, (search (crosses, sendable) depth 20, (search (padded.the_field_send, sendable), tt)))),
+  )
 
-pub running_send : IsSend Running.the_row
-running_send = recorded_send Running.the_field.row _ _ Running.the_type.to_one running_field_send
+  pub running_send : IsSend (Running.the_row H P h)
+  running_send = recorded_send (Running.the_field H P h).row _ _ (Running.the_type H P h).to_one running_field_send
 
-pub counted_zone_sync : IsSync (Zone.the_row Counted.the_row CountHooks.the_row Bare.the_row unit counted_body.ghosts count_hooks.ghosts bare_host.ghosts)
-counted_zone_sync = zone_sync Counted.the_row CountHooks.the_row Bare.the_row unit _ _ _ counted.the_send counts.the_send counts.the_sync bare.the_send bare.the_sync
+  abbrev pub ZoneRow : RattleType
+  ZoneRow = Zone.the_row Counted.the_row CountHooks.the_row H P counted_body.ghosts count_hooks.ghosts h
 
-pub clock_sync : IsSync (Clock.the_row Bare.the_row unit bare_host.ghosts)
-clock_sync = search (clock.the_sync, sendable) depth 20
+  pub counted_zone_sync : IsSync ZoneRow
+  counted_zone_sync = zone_sync Counted.the_row CountHooks.the_row H P _ _ h counted.the_send counts.the_send counts.the_sync s y
+
+  pub clock_sync : IsSync (Clock.the_row H P h)
+  clock_sync = search (clock.the_sync, sendable) depth 20
 
 pub trace_sync : IsSync Trace.the_row
 trace_sync = search (trace.the_sync, sendable)
@@ -66,29 +71,26 @@ parts_sync (T ∷ Ts) all = (all.0, parts_sync Ts all.1)
 pub tuple_sync : (ν : Sym) (Ts : List RattleType) → AllSync Ts → IsSync (TupleAt ν Ts)
 tuple_sync ν Ts all = recorded_sync (Struct (shape (type_at ν Ts))) _ _ (type_at ν Ts).to_one (struct_sync (shape (type_at ν Ts)) (parts_sync Ts all))
 
-abbrev pub ZoneRow : RattleType
-ZoneRow = Zone.the_row Counted.the_row CountHooks.the_row Bare.the_row unit counted_body.ghosts count_hooks.ghosts bare_host.ghosts
-
 -- what a round's threads share: the handle, the allocator, the trace, the zones, the clock, the gate, the calls of reclaim and the round
-module _ (R G C : RattleType) (ℓ1 ℓ2 ℓ3 ℓ4 ℓ5 ℓ6 ℓ7 ℓ8 : Lifetime) (κ1 κ2 κ3 κ4 κ5 κ6 κ7 κ8 : Lft) where
+module _ (H P : RattleType) (h : host.Ghosts H.Denot P.Denot) (s : IsSend H) (y : IsSync H) (R G C : RattleType) (ℓ1 ℓ2 ℓ3 ℓ4 ℓ5 ℓ6 ℓ7 ℓ8 : Lifetime) (κ1 κ2 κ3 κ4 κ5 κ6 κ7 κ8 : Lft) where
   abbrev pub shared : List RattleType
-  shared = ShrRef ℓ1 κ1 (param 0 R) ∷ ShrRef ℓ2 κ2 heap.the_row ∷ ShrRef ℓ3 κ3 Trace.the_row ∷ ShrSlice ℓ4 κ4 ZoneRow
-      ∷ ShrRef ℓ5 κ5 (Clock.the_row Bare.the_row unit bare_host.ghosts) ∷ ShrRef ℓ6 κ6 (param 1 G) ∷ ShrRef ℓ7 κ7 (param 2 C) ∷ ShrRef ℓ8 κ8 u64 ∷ []
+  shared = ShrRef ℓ1 κ1 R ∷ ShrRef ℓ2 κ2 heap.the_row ∷ ShrRef ℓ3 κ3 Trace.the_row ∷ ShrSlice ℓ4 κ4 (ZoneRow H P h s y)
+      ∷ ShrRef ℓ5 κ5 (Clock.the_row H P h) ∷ ShrRef ℓ6 κ6 G ∷ ShrRef ℓ7 κ7 C ∷ ShrRef ℓ8 κ8 u64 ∷ []
 
-  shared_each : IsSync (param 0 R) → IsSync (param 1 G) → IsSync (param 2 C) → AllSync shared
-  shared_each r h k = (
+  shared_each : IsSync R → IsSync G → IsSync C → AllSync shared
+  shared_each r g c = (
     shr_sync _ _ _ r,
     (
       shr_sync _ _ _ heap_sync,
       (
         shr_sync _ _ _ trace_sync,
         (
-          shr_slice_sync _ _ _ counted_zone_sync,
-          (shr_sync _ _ _ clock_sync, (shr_sync _ _ _ h, (shr_sync _ _ _ k, (shr_sync _ _ u64 (search sendable), tt)))),
+          shr_slice_sync _ _ _ (counted_zone_sync H P h s y),
+          (shr_sync _ _ _ (clock_sync H P h s y), (shr_sync _ _ _ g, (shr_sync _ _ _ c, (shr_sync _ _ u64 (search sendable), tt)))),
         ),
       ),
     ),
   )
 
-  pub shared_sync : (ν : Sym) → IsSync (param 0 R) → IsSync (param 1 G) → IsSync (param 2 C) → IsSync (TupleAt ν shared)
-  shared_sync ν r h k = tuple_sync ν shared (shared_each r h k)
+  pub shared_sync : (ν : Sym) → IsSync R → IsSync G → IsSync C → IsSync (TupleAt ν shared)
+  shared_sync ν r g c = tuple_sync ν shared (shared_each r g c)

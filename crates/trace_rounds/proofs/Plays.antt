@@ -3,63 +3,67 @@ use Rattle.std.proofs.Common.{◌≡◌, ℕ, zero, suc, ◌+◌, ◌<◌, ◌�
 use Rattle.std.proofs.lemmas.List.{take_all}
 use Rattle.std.proofs.lemmas.Option.{same_Some}
 use Rattle.std.specs.Prelude.{All}
+use Rattle.smr_clock.specs.declared.clock.Clock.{Clock}
+use Rattle.smr_clock.specs.declared.host.Host.{Ghosts}
 use Rattle.trace_text.specs.declared.round.Round.{Round}
 use Rattle.trace_text.specs.declared.trace.Trace.{Trace}
 use Rattle.trace_worker.specs.declared.running.Running.{Running}
 use Rattle.trace_worker.specs.declared.worker.Worker.{Worker}
 use Rattle.trace_worker.specs.Giving.{KeepsRest, with_slots}
-use Rattle.trace_worker.specs.Items.{BareClock, CountedZone}
+use Rattle.trace_worker.specs.Items.{CountedZone}
 use Rattle.trace_worker.specs.OwnLines.{own_ops}
 use Rattle.trace_rounds.specs.Plays.{AllPlay, AllPlayRound, PlaysRound, PlaysRounds, ops_in}
 use Rattle.trace_rounds.specs.Rounds.{AllWorked, HasEnded}
 use Rattle.trace_rounds.proofs.AfterRound.{turns}
 use Rattle.trace_rounds.proofs.Lists.{at_other, before}
 
--- a whole round
-pub plays_round : (t : Trace) (zones : List CountedZone) (clock : BareClock) (k : ℕ) (old mid new : List Running) → length mid ≡ length old → All HasEnded mid → AllWorked t zones clock k old mid → KeepsRest mid new
-    → AllPlayRound zones t.rounds k old new
-plays_round t zones clock k old mid new size ended worked keeps n was is at now =
-    let done = turns t zones clock k old mid size ended worked in
-    let b = before (λ (x : Running). with_slots x []) mid new n is keeps now in
-    record {
-      worked = b.was.worker;
-      performs = (done.each n was b.was at b.at).plays;
-      given = ap (λ (x : Running). x.worker) b.same;
-    }
+module _ {H Part : Type 0} {h : Ghosts H Part} where
+  -- a whole round
+  pub plays_round : (t : Trace) (zones : List (CountedZone H Part h)) (clock : Clock H Part) (k : ℕ) (old mid new : List (Running H Part h)) → length mid ≡ length old → All HasEnded mid → AllWorked t zones clock k old mid → KeepsRest mid new
+      → AllPlayRound zones t.rounds k old new
+  plays_round t zones clock k old mid new size ended worked keeps n was is at now =
+      let done = turns t zones clock k old mid size ended worked in
+      let b = before (λ (x : Running H Part h). with_slots x []) mid new n is keeps now in
+      record {
+        worked = b.was.worker;
+        performs = (done.each n was b.was at b.at).plays;
+        given = ap (λ (x : Running H Part h). x.worker) b.same;
+      }
 
-module _ (zones : List CountedZone) (n : ℕ) where
-  rounds_none : (rounds : List Round) (w : Worker) → PlaysRounds zones n w (take 0 rounds) w
+module _ {H Part : Type 0} {h : Ghosts H Part} (zones : List (CountedZone H Part h)) (n : ℕ) where
+  rounds_none : (rounds : List Round) (w : Worker H Part h) → PlaysRounds zones n w (take 0 rounds) w
   unfolding PlaysRounds
   rounds_none [] w = refl
   rounds_none (r ∷ rounds) w = refl
 
-  rounds_suc : (k : ℕ) (rounds : List Round) (old now new : Worker) → k < length rounds → PlaysRounds zones n old (take k rounds) now → PlaysRound zones (own_ops rounds k n) now new
+  rounds_suc : (k : ℕ) (rounds : List Round) (old now new : Worker H Part h) → k < length rounds → PlaysRounds zones n old (take k rounds) now → PlaysRound zones (own_ops rounds k n) now new
       → PlaysRounds zones n old (take (suc k) rounds) new
   unfolding PlaysRounds
   rounds_suc k [] old now new below plays next = absurd (omega arith)
   rounds_suc zero (r ∷ rounds) old now new below same next =
-      let P : Worker → Type 0 = λ w. PlaysRound zones (ops_in r n) w new in
+      let P : Worker H Part h → Type 0 = λ w. PlaysRound zones (ops_in r n) w new in
       (new, subst P same next, rounds_none rounds new)
   rounds_suc (suc k) (r ∷ rounds) old now new below plays next = (plays.0, plays.1, rounds_suc k rounds plays.0 now new (omega arith) plays.2 next)
 
--- before the first round
-pub play_none : (zones : List CountedZone) (rounds : List Round) (workers : List Running) → AllPlay zones (take 0 rounds) workers workers
-play_none zones rounds workers n was is at now =
-    let P : Running → Type 0 = λ r. PlaysRounds zones n was.worker (take 0 rounds) r.worker in
-    subst P (same_Some was is (sym at ∙ now)) (rounds_none zones n rounds was.worker)
+module _ {H Part : Type 0} {h : Ghosts H Part} where
+  -- before the first round
+  pub play_none : (zones : List (CountedZone H Part h)) (rounds : List Round) (workers : List (Running H Part h)) → AllPlay zones (take 0 rounds) workers workers
+  play_none zones rounds workers n was is at now =
+      let P : Running H Part h → Type 0 = λ r. PlaysRounds zones n was.worker (take 0 rounds) r.worker in
+      subst P (same_Some was is (sym at ∙ now)) (rounds_none zones n rounds was.worker)
 
--- with the next round
-pub play_more : (zones : List CountedZone) (rounds : List Round) (k : ℕ) (old mid new : List Running) → k < length rounds → length new ≡ length mid → AllPlay zones (take k rounds) old mid
-    → AllPlayRound zones rounds k mid new → AllPlay zones (take (k + 1) rounds) old new
-play_more zones rounds k old mid new below size plays next n was is at now =
-    let on : k + 1 ≡ suc k = omega arith in
-    let there = at_other mid new n is size now in
-    let r = get_or mid n is in
-    let P : ℕ → Type 0 = λ i. PlaysRounds zones n was.worker (take i rounds) is.worker in
-    subst P (sym on) (rounds_suc zones n k rounds was.worker r.worker is.worker below (plays n was r at there) (next n r is there now))
+  -- with the next round
+  pub play_more : (zones : List (CountedZone H Part h)) (rounds : List Round) (k : ℕ) (old mid new : List (Running H Part h)) → k < length rounds → length new ≡ length mid → AllPlay zones (take k rounds) old mid
+      → AllPlayRound zones rounds k mid new → AllPlay zones (take (k + 1) rounds) old new
+  play_more zones rounds k old mid new below size plays next n was is at now =
+      let on : k + 1 ≡ suc k = omega arith in
+      let there = at_other mid new n is size now in
+      let r = get_or mid n is in
+      let P : ℕ → Type 0 = λ i. PlaysRounds zones n was.worker (take i rounds) is.worker in
+      subst P (sym on) (rounds_suc zones n k rounds was.worker r.worker is.worker below (plays n was r at there) (next n r is there now))
 
--- after the last
-pub play_all : (zones : List CountedZone) (rounds : List Round) (k : ℕ) (old new : List Running) → length rounds ≤ k → AllPlay zones (take k rounds) old new → AllPlay zones rounds old new
-play_all zones rounds k old new past plays =
-    let P : List Round → Type 0 = λ list. AllPlay zones list old new in
-    subst P (take_all k rounds past) plays
+  -- after the last
+  pub play_all : (zones : List (CountedZone H Part h)) (rounds : List Round) (k : ℕ) (old new : List (Running H Part h)) → length rounds ≤ k → AllPlay zones (take k rounds) old new → AllPlay zones rounds old new
+  play_all zones rounds k old new past plays =
+      let P : List Round → Type 0 = λ list. AllPlay zones list old new in
+      subst P (take_all k rounds past) plays

@@ -4,15 +4,16 @@ ghost use Rattle.trace_rounds.specs.Rounds.{AllMoved, IsMoved};
 ghost use Rattle.trace_text.specs.declared.between.Between.TheVariants.{Give};
 ghost use Rattle.trace_worker.specs.Giving.{KeepsRest};
 
+use smr_clock::Host;
 use std::alloc::Global;
 use trace_text::Between;
 use trace_worker::{Memory, Running, move_slot};
 
 /// The `give` lines between two rounds, in order. After `Memory` the replay is over.
-pub(crate) fn give_all(
+pub(crate) fn give_all<H: Host>(
     alloc: Global,
     betweens: &[Between],
-    workers: &mut [Running],
+    workers: &mut [Running<H>],
 ) -> Result<(), Memory>
     requires { All (IsAmong (length workers.old)) betweens.now }
     ensures rest { OnOk result (KeepsRest workers.old workers.new) }
@@ -25,7 +26,7 @@ pub(crate) fn give_all(
 }
 
 /// One `give` line.
-fn give(alloc: Global, between: Between, workers: &mut [Running]) -> Result<(), Memory>
+fn give<H: Host>(alloc: Global, between: Between, workers: &mut [Running<H>]) -> Result<(), Memory>
     requires { IsAmong (length workers.old) between }
     ensures rest { OnOk result (KeepsRest workers.old workers.new) }
     ensures moved { OnOk result (IsMoved between workers.old workers.new) }

@@ -8,7 +8,7 @@ ghost use Rattle.trace_worker.specs.Together.{AddsUp, AllStand, crew};
 
 use crate::giving::give_all;
 use crate::round::{all_ended, work_round};
-use smr_clock::{Bare, Clock};
+use smr_clock::{Clock, Host};
 use std::alloc::Global;
 use std::sync::Wait;
 use std::thread::Threads;
@@ -17,15 +17,20 @@ use trace_worker::{CountedZone, Gate, Memory, ReclaimCalls, Running};
 
 /// All rounds of a trace: in each round every worker does its own list on a thread of its own, and behind it the round's
 /// `give` lines are done in order. Waits where a worker's lines do. After `Memory` the replay is over.
-pub fn play<R: Threads + Wait + Sync, G: Gate + Sync, C: ReclaimCalls + Sync>(
+pub fn play<
+    H: Host + Send + Sync,
+    R: Threads + Wait + Sync,
+    G: Gate + Sync,
+    C: ReclaimCalls + Sync,
+>(
     rt: &R,
     alloc: Global,
     trace: &Trace,
-    zones: &[CountedZone],
-    clock: &Clock<Bare>,
+    zones: &[CountedZone<H>],
+    clock: &Clock<H>,
     gate: &G,
     reclaim: &C,
-    workers: &mut [Running],
+    workers: &mut [Running<H>],
 ) -> Result<(), Memory>
     requires ready { IsBegun trace.now zones.now clock.now workers.old }
     ensures stands { OnOk result (AllStand zones.now clock.now (reverse (lines_of trace.now.rounds)) (crew workers.new)) }
@@ -44,16 +49,21 @@ pub fn play<R: Threads + Wait + Sync, G: Gate + Sync, C: ReclaimCalls + Sync>(
 }
 
 /// One round, and the `give` lines behind it.
-fn play_round<R: Threads + Wait + Sync, G: Gate + Sync, C: ReclaimCalls + Sync>(
+fn play_round<
+    H: Host + Send + Sync,
+    R: Threads + Wait + Sync,
+    G: Gate + Sync,
+    C: ReclaimCalls + Sync,
+>(
     rt: &R,
     alloc: Global,
     trace: &Trace,
-    zones: &[CountedZone],
-    clock: &Clock<Bare>,
+    zones: &[CountedZone<H>],
+    clock: &Clock<H>,
     gate: &G,
     reclaim: &C,
     round: usize,
-    workers: &mut [Running],
+    workers: &mut [Running<H>],
 ) -> Result<(), Memory>
     requires suits { Suits trace.now zones.now clock.now workers.old }
     requires round { round < length trace.now.rounds }

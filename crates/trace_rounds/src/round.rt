@@ -2,7 +2,7 @@ ghost use Rattle.std.specs.Prelude.{◌≡◌, ◌<◌, All, OnOk, length};
 ghost use Rattle.trace_rounds.specs.Rounds.{AllReady, AllWorked, EachGaveUpAsBefore, HasEnded};
 ghost use Rattle.trace_worker.specs.Turn.{HasWorked, IsReady};
 
-use smr_clock::{Bare, Clock};
+use smr_clock::{Clock, Host};
 use std::alloc::Global;
 use std::sync::Wait;
 use std::thread::{self, Threads};
@@ -10,16 +10,21 @@ use trace_text::Trace;
 use trace_worker::{CountedZone, Gate, Memory, ReclaimCalls, Running};
 
 /// A round: each worker does its own list of it, on a thread of its own, and all threads are joined.
-pub(crate) fn work_round<R: Threads + Wait + Sync, G: Gate + Sync, C: ReclaimCalls + Sync>(
+pub(crate) fn work_round<
+    H: Host + Send + Sync,
+    R: Threads + Wait + Sync,
+    G: Gate + Sync,
+    C: ReclaimCalls + Sync,
+>(
     rt: &R,
     alloc: Global,
     trace: &Trace,
-    zones: &[CountedZone],
-    clock: &Clock<Bare>,
+    zones: &[CountedZone<H>],
+    clock: &Clock<H>,
     gate: &G,
     reclaim: &C,
     round: usize,
-    workers: &mut [Running],
+    workers: &mut [Running<H>],
 )
     requires some { 0 < length workers.old }
     requires ready { AllReady trace.now zones.now clock.now round workers.old }
@@ -31,7 +36,7 @@ pub(crate) fn work_round<R: Threads + Wait + Sync, G: Gate + Sync, C: ReclaimCal
         rt,
         workers,
         threads,
-        &|number, running: &mut Running|
+        &|number, running: &mut Running<H>|
             requires { IsReady trace.now zones.now clock.now round number running.old }
             ensures free { G.is_free gate.entry.now → running.new.gave_up ≡ running.old.gave_up }
             ensures worked { OnOk running.new.ended (HasWorked trace.entry.now zones.entry.now clock.entry.now round number running.old running.new) }
@@ -40,7 +45,7 @@ pub(crate) fn work_round<R: Threads + Wait + Sync, G: Gate + Sync, C: ReclaimCal
 }
 
 /// Whether each worker's last turn ended without want of memory.
-pub(crate) fn all_ended(workers: &[Running]) -> Result<(), Memory>
+pub(crate) fn all_ended<H: Host>(workers: &[Running<H>]) -> Result<(), Memory>
     ensures { OnOk result (All HasEnded workers.now) }
 {
     for running in workers {

@@ -3,6 +3,9 @@ use Rattle.std.proofs.Common.{◌≡◌, ℕ, ◌≤◌, ◌%◌, List, [], ◌�
 use Rattle.std.proofs.lemmas.List.{get_or_past}
 use Rattle.std.proofs.lemmas.Option.{none-some}
 use Rattle.std.specs.Prelude.{slice_get}
+use Rattle.smr_clock.specs.declared.clock.Clock.{Clock}
+use Rattle.smr_clock.specs.declared.pass.Pass.{Pass}
+use Rattle.smr_clock.specs.declared.host.Host.{Ghosts}
 use Rattle.smr_clock.specs.Belongs.{holder}
 use Rattle.smr_core.specs.declared.phase.Phase.TheVariants.{Outside}
 use Rattle.uma_seat.specs.Seat.{ledger_of}
@@ -13,7 +16,7 @@ use Rattle.trace_worker.specs.declared.held.Held.{Held}
 use Rattle.trace_worker.specs.declared.running.Running.{Running}
 use Rattle.trace_worker.specs.declared.worker.Worker.{Worker}
 use Rattle.trace_worker.specs.Counting.{asked, argued, enters}
-use Rattle.trace_worker.specs.Items.{BareClock, BarePass, CountedSeat, CountedZone}
+use Rattle.trace_worker.specs.Items.{CountedSeat, CountedZone}
 use Rattle.trace_worker.specs.LedgerStands.{LedgerStands}
 use Rattle.trace_worker.specs.Making.{AreSeats, IsNewWorker}
 use Rattle.trace_worker.specs.Slots.{slot_at}
@@ -55,56 +58,57 @@ nothing_in slots slot it empty found =
 no_slots : (slots : List (Option Held)) → slots ≡ [] → length slots ≤ 65536
 no_slots slots is = let none : length slots ≡ 0 = ap length is in omega arith
 
-stands_new : (zones : List CountedZone) (clock : BareClock) (n domain : ℕ) (pass : BarePass) (w : Worker) → IsNewWorker zones pass domain w → IsNewPass clock pass → Stands zones clock n [] w
-stands_new zones clock n domain pass w new new_pass =
-    let outside : (holder w.pass).phase ≡ Outside = ap (λ (p : BarePass). (holder p).phase) new.pass_kept ∙ new_pass.outside in
-    record {
-      ledgers = λ z zone seat at_zone at_seat. ledger_stands (NamesZone zone) n z (ledger_of seat) (new.seats.each z zone seat at_zone at_seat).fresh.ledger;
-      few = no_slots w.slots new.slots;
-      filled = λ slot it found. absurd (nothing_in w.slots slot it new.slots found);
-      outside = λ _. outside;
-      between = inl outside;
-      enters_add_up = both_none new.entered new.late (enters_none n);
-      begun = subst (λ (p : BarePass). clock.setup.about.start ≤ (holder p).seen) (sym new.pass_kept) new_pass.begun;
-      overtaken = λ some. absurd (none_above new.late some);
-    }
+module _ {H Part : Type 0} {h : Ghosts H Part} where
+  stands_new : (zones : List (CountedZone H Part h)) (clock : Clock H Part) (n domain : ℕ) (pass : Pass H Part h) (w : Worker H Part h) → IsNewWorker zones pass domain w → IsNewPass clock pass → Stands zones clock n [] w
+  stands_new zones clock n domain pass w new new_pass =
+      let outside : (holder w.pass).phase ≡ Outside = ap (λ (p : Pass H Part h). (holder p).phase) new.pass_kept ∙ new_pass.outside in
+      record {
+        ledgers = λ z zone seat at_zone at_seat. ledger_stands (NamesZone zone) n z (ledger_of seat) (new.seats.each z zone seat at_zone at_seat).fresh.ledger;
+        few = no_slots w.slots new.slots;
+        filled = λ slot it found. absurd (nothing_in w.slots slot it new.slots found);
+        outside = λ _. outside;
+        between = inl outside;
+        enters_add_up = both_none new.entered new.late (enters_none n);
+        begun = subst (λ (p : Pass H Part h). clock.setup.about.start ≤ (holder p).seen) (sym new.pass_kept) new_pass.begun;
+        overtaken = λ some. absurd (none_above new.late some);
+      }
 
-unused_at : (zones : List CountedZone) (domain : ℕ) (seats : List CountedSeat) → AreSeats zones domain seats → (z : ℕ) (seat : CountedSeat) → slice_get seats z ≡ Some seat → IsUnused domain seat
-unused_at zones domain seats are z seat at_seat =
-    let zone = has_too zones seats z seat are.count at_seat in
-    let new = are.each z zone.0 seat zone.1 at_seat in
-    record { own = new.fresh.own; ledger = new.fresh.ledger }
+  unused_at : (zones : List (CountedZone H Part h)) (domain : ℕ) (seats : List (CountedSeat H Part h)) → AreSeats zones domain seats → (z : ℕ) (seat : CountedSeat H Part h) → slice_get seats z ≡ Some seat → IsUnused domain seat
+  unused_at zones domain seats are z seat at_seat =
+      let zone = has_too zones seats z seat are.count at_seat in
+      let new = are.each z zone.0 seat zone.1 at_seat in
+      record { own = new.fresh.own; ledger = new.fresh.ledger }
 
-beginner : (zones : List CountedZone) (clock : BareClock) (domain : ℕ) (pass : BarePass) (w : Worker) (r : Running) → Fits zones clock w → IsNewWorker zones pass domain w → IsNewPass clock pass
-    → w ≡ r.worker → r.asked ≡ 0 → r.gave_up ≡ 0 → IsBeginner zones clock domain r
-beginner zones clock domain pass w r fits new new_pass is asked gave_up =
-    let S : Worker → Type 0 = λ x. (n : ℕ) → Stands zones clock n [] x in
-    let U : Worker → Type 0 = λ x. (z : ℕ) (seat : CountedSeat) → slice_get x.seats.items z ≡ Some seat → IsUnused domain seat in
-    record {
-      fits = subst (Fits zones clock) is fits;
-      stands = subst S is (λ n. stands_new zones clock n domain pass w new new_pass);
-      empty = ap (λ (x : Worker). x.slots) (sym is) ∙ new.slots;
-      seats = subst U is (unused_at zones domain w.seats.items new.seats);
-      asked = asked;
-      gave_up = gave_up;
-    }
+  beginner : (zones : List (CountedZone H Part h)) (clock : Clock H Part) (domain : ℕ) (pass : Pass H Part h) (w : Worker H Part h) (r : Running H Part h) → Fits zones clock w → IsNewWorker zones pass domain w → IsNewPass clock pass
+      → w ≡ r.worker → r.asked ≡ 0 → r.gave_up ≡ 0 → IsBeginner zones clock domain r
+  beginner zones clock domain pass w r fits new new_pass is asked gave_up =
+      let S : Worker H Part h → Type 0 = λ x. (n : ℕ) → Stands zones clock n [] x in
+      let U : Worker H Part h → Type 0 = λ x. (z : ℕ) (seat : CountedSeat H Part h) → slice_get x.seats.items z ≡ Some seat → IsUnused domain seat in
+      record {
+        fits = subst (Fits zones clock) is fits;
+        stands = subst S is (λ n. stands_new zones clock n domain pass w new new_pass);
+        empty = ap (λ (x : Worker H Part h). x.slots) (sym is) ∙ new.slots;
+        seats = subst U is (unused_at zones domain w.seats.items new.seats);
+        asked = asked;
+        gave_up = gave_up;
+      }
 
-pub beginner_is : (zones : List CountedZone) (clock : BareClock) (domain : ℕ) (pass : BarePass) (w : Worker) (r : Running) → Fits zones clock w → IsNewWorker zones pass domain w → IsNewPass clock pass
-    → r.worker ≡ w → r.asked ≡ 0 → r.gave_up ≡ 0 → IsBeginner zones clock domain r
-beginner_is zones clock domain pass w r fits new new_pass is asked gave_up = beginner zones clock domain pass w r fits new new_pass (sym is) asked gave_up
+  pub beginner_is : (zones : List (CountedZone H Part h)) (clock : Clock H Part) (domain : ℕ) (pass : Pass H Part h) (w : Worker H Part h) (r : Running H Part h) → Fits zones clock w → IsNewWorker zones pass domain w → IsNewPass clock pass
+      → r.worker ≡ w → r.asked ≡ 0 → r.gave_up ≡ 0 → IsBeginner zones clock domain r
+  beginner_is zones clock domain pass w r fits new new_pass is asked gave_up = beginner zones clock domain pass w r fits new new_pass (sym is) asked gave_up
 
-abbrev pub Begin : List CountedZone → BareClock → ℕ → List Running → Type 0
-Begin zones clock domains workers = (n : ℕ) (r : Running) → slice_get workers n ≡ Some r → IsBeginner zones clock (n % domains) r
+  abbrev pub Begin : List (CountedZone H Part h) → Clock H Part → ℕ → List (Running H Part h) → Type 0
+  Begin zones clock domains workers = (n : ℕ) (r : Running H Part h) → slice_get workers n ≡ Some r → IsBeginner zones clock (n % domains) r
 
-pub Begin-none : (zones : List CountedZone) (clock : BareClock) (domains : ℕ) → Begin zones clock domains []
-Begin-none zones clock domains n r at = absurd (none-some r at)
+  pub Begin-none : (zones : List (CountedZone H Part h)) (clock : Clock H Part) (domains : ℕ) → Begin zones clock domains []
+  Begin-none zones clock domains n r at = absurd (none-some r at)
 
-pub Begin-more : (zones : List CountedZone) (clock : BareClock) (domains : ℕ) (workers : List Running) (new : Running) → IsBeginner zones clock (length workers % domains) new → Begin zones clock domains workers
-    → Begin zones clock domains (workers ++ new ∷ [])
-Begin-more zones clock domains workers new is are n r at = elim (pushed workers new n r at) [
-  | inl last ↦
-      let P : ℕ → Type 0 = λ i. IsBeginner zones clock (i % domains) new in
-      let Q : Running → Type 0 = λ x. IsBeginner zones clock (n % domains) x in
-      subst Q last.1 (subst P (sym last.0) is)
-  | inr before ↦ are n r before
-]
+  pub Begin-more : (zones : List (CountedZone H Part h)) (clock : Clock H Part) (domains : ℕ) (workers : List (Running H Part h)) (new : Running H Part h) → IsBeginner zones clock (length workers % domains) new → Begin zones clock domains workers
+      → Begin zones clock domains (workers ++ new ∷ [])
+  Begin-more zones clock domains workers new is are n r at = elim (pushed workers new n r at) [
+    | inl last ↦
+        let P : ℕ → Type 0 = λ i. IsBeginner zones clock (i % domains) new in
+        let Q : Running H Part h → Type 0 = λ x. IsBeginner zones clock (n % domains) x in
+        subst Q last.1 (subst P (sym last.0) is)
+    | inr before ↦ are n r before
+  ]

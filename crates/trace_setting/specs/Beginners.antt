@@ -1,27 +1,30 @@
 -- Workers before the first line (own).
 use Rattle.std.specs.Prelude.{◌≡◌, ◌%◌, ℕ, List, [], length, Some, slice_get}
+use Rattle.smr_clock.specs.declared.clock.Clock.{Clock}
+use Rattle.smr_clock.specs.declared.host.Host.{Ghosts}
 use Rattle.uma_seat.specs.Seat.{seat_domain, ledger_of}
 use Rattle.zone_stats.specs.LedgerSteps.{IsNew}
 use Rattle.trace_worker.specs.declared.running.Running.{Running}
-use Rattle.trace_worker.specs.Items.{BareClock, CountedSeat, CountedZone}
+use Rattle.trace_worker.specs.Items.{CountedSeat, CountedZone}
 use Rattle.trace_worker.specs.Stands.{Stands}
 use Rattle.trace_worker.specs.Worker.{Fits}
 
--- a seat in this memory domain that counted nothing
-pub record IsUnused (domain : ℕ) (seat : CountedSeat) : Type 0 where
-  pub own : seat_domain seat ≡ domain
-  pub ledger : IsNew (ledger_of seat)
+module _ {H P : Type 0} {h : Ghosts H P} where
+  -- a seat in this memory domain that counted nothing
+  pub record IsUnused (domain : ℕ) (seat : CountedSeat H P h) : Type 0 where
+    pub own : seat_domain seat ≡ domain
+    pub ledger : IsNew (ledger_of seat)
 
--- A worker of the zones and the clock with its seats in this domain. It stands for no line, and took no turn.
-pub record IsBeginner (zones : List CountedZone) (clock : BareClock) (domain : ℕ) (r : Running) : Type 0 where
-  pub fits : Fits zones clock r.worker
-  pub stands : (n : ℕ) → Stands zones clock n [] r.worker
-  pub empty : r.worker.slots ≡ []
-  pub seats : (z : ℕ) (seat : CountedSeat) → slice_get r.worker.seats.items z ≡ Some seat → IsUnused domain seat
-  pub asked : r.asked ≡ 0
-  pub gave_up : r.gave_up ≡ 0
+  -- A worker of the zones and the clock with its seats in this domain. It stands for no line, and took no turn.
+  pub record IsBeginner (zones : List (CountedZone H P h)) (clock : Clock H P) (domain : ℕ) (r : Running H P h) : Type 0 where
+    pub fits : Fits zones clock r.worker
+    pub stands : (n : ℕ) → Stands zones clock n [] r.worker
+    pub empty : r.worker.slots ≡ []
+    pub seats : (z : ℕ) (seat : CountedSeat H P h) → slice_get r.worker.seats.items z ≡ Some seat → IsUnused domain seat
+    pub asked : r.asked ≡ 0
+    pub gave_up : r.gave_up ≡ 0
 
--- So many of them. Worker w is in domain w mod `domains`.
-pub record AreBeginners (zones : List CountedZone) (clock : BareClock) (domains count : ℕ) (workers : List Running) : Type 0 where
-  pub one_each : length workers ≡ count
-  pub each : (n : ℕ) (r : Running) → slice_get workers n ≡ Some r → IsBeginner zones clock (n % domains) r
+  -- So many of them. Worker w is in domain w mod `domains`.
+  pub record AreBeginners (zones : List (CountedZone H P h)) (clock : Clock H P) (domains count : ℕ) (workers : List (Running H P h)) : Type 0 where
+    pub one_each : length workers ≡ count
+    pub each : (n : ℕ) (r : Running H P h) → slice_get workers n ≡ Some r → IsBeginner zones clock (n % domains) r

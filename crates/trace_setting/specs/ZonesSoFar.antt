@@ -1,5 +1,6 @@
 -- The zones of the first lines, while they are made one after another (own).
 use Rattle.std.specs.Prelude.{◌≡◌, ◌++◌, ℕ, List, [], ◌∷◌, take}
+use Rattle.smr_clock.specs.declared.host.Host.{Ghosts}
 use Rattle.smr_clock.specs.declared.setup.Setup.{Setup}
 use Rattle.smr_clock.specs.Belongs.{TableId}
 use Rattle.trace_text.specs.declared.head.Head.{Head}
@@ -18,20 +19,21 @@ with_lines lines head = record head { zones = lines }
 abbrev pub cut : ℕ → Head → Head
 cut count head = with_lines (take count head.zones) head
 
--- the zone of a `zone` line: the first of its keg, of readers by this clock
-pub record IsFirst (clock : TableId × Setup) (domains : ℕ) (line : ZoneHead) (zone : CountedZone) : Type 0 where
-  pub same_clock : zone_clock zone ≡ clock
-  pub index : zone_index zone ≡ 0
-  pub numbers : HasNumbers domains line zone
-  pub rights : zone_rights zone ≡ rights_after 0
+module _ {H P : Type 0} {h : Ghosts H P} where
+  -- the zone of a `zone` line: the first of its keg, of readers by this clock
+  pub record IsFirst (clock : TableId × Setup) (domains : ℕ) (line : ZoneHead) (zone : CountedZone H P h) : Type 0 where
+    pub same_clock : zone_clock zone ≡ clock
+    pub index : zone_index zone ≡ 0
+    pub numbers : HasNumbers domains line zone
+    pub rights : zone_rights zone ≡ rights_after 0
 
--- the zone of a `second` line over a primary one, which gave the next of its rights for it
-pub record IsFurther (line : ZoneHead) (old new zone : CountedZone) : Type 0 where
-  pub same_key : zone_key zone ≡ zone_key old
-  pub same_clock : zone_clock zone ≡ zone_clock old
-  pub bucket : zone_bucket zone ≡ line.bucket
-  pub limit : zone_limit zone ≡ line.limit
-  pub smr : zone_smr zone ≡ is_smr line.kind
-  pub domain_count : zone_domains zone ≡ zone_domains old
-  pub right : zone_rights old ≡ zone_rights new ++ zone_index zone ∷ []
-  pub same : IsSameZone old new
+  -- the zone of a `second` line over a primary one, which gave the next of its rights for it
+  pub record IsFurther (line : ZoneHead) (old new zone : CountedZone H P h) : Type 0 where
+    pub same_key : zone_key zone ≡ zone_key old
+    pub same_clock : zone_clock zone ≡ zone_clock old
+    pub bucket : zone_bucket zone ≡ line.bucket
+    pub limit : zone_limit zone ≡ line.limit
+    pub smr : zone_smr zone ≡ is_smr line.kind
+    pub domain_count : zone_domains zone ≡ zone_domains old
+    pub right : zone_rights old ≡ zone_rights new ++ zone_index zone ∷ []
+    pub same : IsSameZone old new

@@ -5,7 +5,7 @@ ghost use Rattle.trace_text.specs.Limits.{IsWithin};
 ghost use Rattle.trace_setting.specs.Clock.{start_of, window_of, setup_for, ArePasses, IsNewPass, KnowsBeginning};
 
 use crate::Memory;
-use smr_clock::{Bare, Clock, ClockRefused, Note, Pass};
+use smr_clock::{Bare, Clock, ClockRefused, Host, Note, Pass};
 use std::alloc::Global;
 use trace_text::{ClockHead, Head};
 
@@ -15,11 +15,11 @@ const START: u64 = 1;
 /// How far its write hand may then be above its read hand.
 const WINDOW: u64 = 1024;
 
-/// The clock of a trace, and a pass for each worker, in order of number.
+/// The clock of a trace without names, and a pass for each worker, in order of number.
 pub fn make_clock(alloc: Global, head: &Head) -> Result<(Clock<Bare>, Vec<Pass<Bare>>), Memory>
     requires workers { IsWithin 1 16 head.now.workers }
     requires clock { IfSome head.now.clock ClockFits }
-    ensures clock { IfOk result (λ made. setup_of made.0 ≡ setup_for head.now) }
+    ensures clock { IfOk result (λ made. setup_of made.0 ≡ setup_for (0, 0) head.now) }
     ensures passes { IfOk result (λ made. ArePasses head.now.workers made.0 made.1.items) }
 {
     let ClockHead { start, window } = clock_head(&head.clock);
@@ -31,7 +31,7 @@ pub fn make_clock(alloc: Global, head: &Head) -> Result<(Clock<Bare>, Vec<Pass<B
 }
 
 /// A note that knows where the hands of the clock began, by worker 0's pass.
-pub fn note_beginning(clock: &Clock<Bare>, passes: &mut Vec<Pass<Bare>>) -> Note<Bare>
+pub fn note_beginning<H: Host>(clock: &Clock<H>, passes: &mut Vec<Pass<H>>) -> Note<H>
     requires some { 0 < length passes.old.items }
     requires passes { ArePasses (length passes.old.items) clock.now passes.old.items }
     ensures passes { ArePasses (length passes.old.items) clock.now passes.new.items }
@@ -40,7 +40,7 @@ pub fn note_beginning(clock: &Clock<Bare>, passes: &mut Vec<Pass<Bare>>) -> Note
     note_of(clock, &mut passes[0])
 }
 
-fn note_of(clock: &Clock<Bare>, pass: &mut Pass<Bare>) -> Note<Bare>
+fn note_of<H: Host>(clock: &Clock<H>, pass: &mut Pass<H>) -> Note<H>
     requires { IsNewPass clock.now pass.old }
     ensures pass { IsNewPass clock.now pass.new }
     ensures note { KnowsBeginning clock.now result }

@@ -7,7 +7,7 @@ mod workers;
 mod zones;
 
 pub use clock::make_clock;
-pub use setting::{Setting, set_up};
+pub use setting::{Setting, set_up, set_up_with};
 pub use workers::make_workers;
 pub use zone_stats::Memory;
 pub use zones::make_zones;

@@ -22,7 +22,7 @@ fn number_of<R: Wait>(
     alloc: Global,
     clock: &Clock<Bare>,
     pass: &mut Pass<Bare>,
-    zone: &CountedZone,
+    zone: &CountedZone<Bare>,
 ) -> Result<u8, Fail>
     requires clock { clock_id clock.now ≡ zone_clock zone.now }
     requires pass { IsOf clock.now pass.old }
@@ -48,7 +48,7 @@ fn numbers_of<R: Wait>(
     alloc: Global,
     clock: &Clock<Bare>,
     mut pass: Pass<Bare>,
-    zones: &[CountedZone],
+    zones: &[CountedZone<Bare>],
 ) -> Result<Vec<u8>, Fail>
     requires clock { AreOfClock clock.now zones.now }
     requires pass { IsOf clock.now pass }

@@ -6,21 +6,21 @@ ghost use Rattle.trace_setting.specs.Beginners.{IsBeginner, AreBeginners};
 ghost use Rattle.trace_setting.specs.Clock.{IsNewPass, ArePasses};
 
 use crate::Memory;
-use smr_clock::{Bare, Clock, Pass};
+use smr_clock::{Clock, Host, Pass};
 use std::alloc::Global;
 use std::sync::Wait;
 use trace_worker::{CountedZone, Running, Worker};
 
 /// A worker for each pass, in order, with a seat of each zone. Waits until it has the locks of the zones' kegs and of their
 /// domains.
-pub fn make_workers<R: Wait>(
+pub fn make_workers<H: Host, R: Wait>(
     rt: &R,
     alloc: Global,
     domains: u8,
-    zones: &[CountedZone],
-    clock: &Clock<Bare>,
-    passes: Vec<Pass<Bare>>,
-) -> Result<Vec<Running>, Memory>
+    zones: &[CountedZone<H>],
+    clock: &Clock<H>,
+    passes: Vec<Pass<H>>,
+) -> Result<Vec<Running<H>>, Memory>
     requires domains { IsWithin 1 4 domains }
     requires few { length passes.items ≤ 16 }
     requires zones { All (λ zone. zone_domains zone ≡ domains) zones.now }
@@ -36,14 +36,14 @@ pub fn make_workers<R: Wait>(
 }
 
 // A worker whose seats are in this domain, before its first turn.
-fn new_worker<R: Wait>(
+fn new_worker<H: Host, R: Wait>(
     rt: &R,
     alloc: Global,
-    zones: &[CountedZone],
-    clock: &Clock<Bare>,
-    pass: Pass<Bare>,
+    zones: &[CountedZone<H>],
+    clock: &Clock<H>,
+    pass: Pass<H>,
     domain: u8,
-) -> Result<Running, Memory>
+) -> Result<Running<H>, Memory>
     requires domain { All (λ zone. domain < zone_domains zone) zones.now }
     requires pass { IsNewPass clock.now pass }
     ensures { IfOk result (IsBeginner zones.now clock.now domain) }

@@ -8,7 +8,7 @@ ghost use Rattle.trace_setting.specs.Zones.{AreZones, is_smr as is_smr_kind};
 ghost use Rattle.trace_setting.specs.ZonesSoFar.{cut, IsFirst, IsFurther};
 
 use crate::Memory;
-use smr_clock::{Bare, Clock};
+use smr_clock::{Clock, Host};
 use std::alloc::Global;
 use std::sync::Wait;
 use trace_text::{Head, ZoneHead, ZoneKind};
@@ -17,12 +17,12 @@ use uma_zone::{SecondSet, Zone, ZoneRefused, ZoneSet};
 
 /// The zones of a trace's zone lines, in order, of readers by its clock. A `zone` line makes a keg with its primary zone,
 /// a `second` line a zone over its parent's keg. Waits until it has the locks of the kegs.
-pub fn make_zones<R: Wait>(
+pub fn make_zones<H: Host, R: Wait>(
     rt: &R,
     alloc: Global,
-    clock: &Clock<Bare>,
+    clock: &Clock<H>,
     head: &Head,
-) -> Result<Vec<CountedZone>, Memory>
+) -> Result<Vec<CountedZone<H>>, Memory>
     requires { HeadFits head.now }
     ensures { IfOk result (λ zones. AreZones head.now clock.now zones.items) }
 {
@@ -35,13 +35,13 @@ pub fn make_zones<R: Wait>(
 }
 
 // Adds the zone of the line at this place to those of the lines before it.
-fn add_zone<R: Wait>(
+fn add_zone<H: Host, R: Wait>(
     rt: &R,
     alloc: Global,
-    clock: &Clock<Bare>,
+    clock: &Clock<H>,
     head: &Head,
     place: usize,
-    zones: &mut Vec<CountedZone>,
+    zones: &mut Vec<CountedZone<H>>,
 ) -> Result<(), Memory>
     requires fits { HeadFits head.now }
     requires place { place < length head.now.zones }
@@ -56,13 +56,13 @@ fn add_zone<R: Wait>(
 }
 
 // Adds the zone of a `zone` line.
-fn add_first(
+fn add_first<H: Host>(
     alloc: Global,
-    clock: &Clock<Bare>,
+    clock: &Clock<H>,
     head: &Head,
     place: usize,
     line: &ZoneHead,
-    zones: &mut Vec<CountedZone>,
+    zones: &mut Vec<CountedZone<H>>,
 ) -> Result<(), Memory>
     requires fits { HeadFits head.now }
     requires line { slice_get head.now.zones place ≡ Some line.now }
@@ -76,15 +76,15 @@ fn add_first(
 }
 
 // Adds the zone of a `second` line.
-fn add_further<R: Wait>(
+fn add_further<H: Host, R: Wait>(
     rt: &R,
     alloc: Global,
-    clock: &Clock<Bare>,
+    clock: &Clock<H>,
     head: &Head,
     place: usize,
     line: &ZoneHead,
     parent: u32,
-    zones: &mut Vec<CountedZone>,
+    zones: &mut Vec<CountedZone<H>>,
 ) -> Result<(), Memory>
     requires fits { HeadFits head.now }
     requires line { slice_get head.now.zones place ≡ Some line.now }
@@ -98,12 +98,12 @@ fn add_further<R: Wait>(
 }
 
 // The zone of a `zone` line, and its keg.
-fn make_first(
+fn make_first<H: Host>(
     alloc: Global,
-    clock: &Clock<Bare>,
+    clock: &Clock<H>,
     domains: u8,
     line: &ZoneHead,
-) -> Result<CountedZone, Memory>
+) -> Result<CountedZone<H>, Memory>
     requires domains { IsWithin 1 4 domains }
     requires keg { PrimaryFits line.now }
     requires bucket { IsWithin 4 64 line.now.bucket }
@@ -125,12 +125,12 @@ fn make_first(
 }
 
 // The zone of a `second` line, over the keg of its parent.
-fn make_further<R: Wait>(
+fn make_further<H: Host, R: Wait>(
     rt: &R,
     alloc: Global,
-    primary: &mut CountedZone,
+    primary: &mut CountedZone<H>,
     line: &ZoneHead,
-) -> Result<CountedZone, Memory>
+) -> Result<CountedZone<H>, Memory>
     requires index { zone_index primary.old ≡ 0 }
     requires right { zone_rights primary.old ≢ [] }
     requires bucket { IsWithin 4 64 line.now.bucket }

@@ -5,6 +5,8 @@ use Rattle.std.proofs.lemmas.List.{length-map}
 use Rattle.std.proofs.lemmas.Option.{get_or_from_slice_get, same_Some, slice_get-map}
 use Rattle.std.specs.Prelude.{◌==◌, slice_get, slice_index_or}
 use Rattle.std.specs.List.{sum_by}
+use Rattle.smr_clock.specs.declared.clock.Clock.{Clock}
+use Rattle.smr_clock.specs.declared.host.Host.{Ghosts}
 use Rattle.trace_text.specs.declared.head.Head.{Head}
 use Rattle.trace_text.specs.declared.head.ZoneHead.{ZoneHead}
 use Rattle.trace_text.specs.Valid.{HeadFits}
@@ -18,7 +20,7 @@ use Rattle.uma_bucket.specs.declared.sums.Sums.{Sums}
 use Rattle.uma_bucket.proofs.Tallied.{both_show}
 use Rattle.uma_zone.specs.Zone.{zone_index}
 use Rattle.trace_worker.specs.declared.worker.Worker.{Worker}
-use Rattle.trace_worker.specs.Items.{BareClock, CountedZone}
+use Rattle.trace_worker.specs.Items.{CountedZone}
 use Rattle.trace_worker.specs.Together.{all_live}
 use Rattle.trace_setting.specs.Kegs.{index_of, keg_place}
 use Rattle.trace_setting.specs.Zones.{AreZones}
@@ -48,8 +50,8 @@ regroup a l d e = omega arith
 
 -- ---- for the workers as they are in the end
 
-module _ (old new : List Worker) (keeps : KeepsWorkers old new) where
-  sums_kept : (zone : CountedZone) (z : ℕ) (s : Sums) → SumsUp zone z old s → SumsUp zone z new s
+module _ {H Part : Type 0} {h : Ghosts H Part} (old new : List (Worker H Part h)) (keeps : KeepsWorkers old new) where
+  sums_kept : (zone : CountedZone H Part h) (z : ℕ) (s : Sums) → SumsUp zone z old s → SumsUp zone z new s
   sums_kept zone z s up = record {
     few = up.few;
     balance = up.balance;
@@ -57,10 +59,10 @@ module _ (old new : List Worker) (keeps : KeepsWorkers old new) where
     deferred = (let P : ℕ → Type 0 = λ n. n ≤ s.deferred in subst P (sym (seat_deferred_kept old new keeps z)) up.deferred);
   }
 
-  all_sums_kept : (zones : List CountedZone) (sums : List Sums) → AllSumUp zones old sums → AllSumUp zones new sums
+  all_sums_kept : (zones : List (CountedZone H Part h)) (sums : List Sums) → AllSumUp zones old sums → AllSumUp zones new sums
   all_sums_kept zones sums all = record { count = all.count; each = λ z zone s at there. sums_kept zone z s (all.each z zone s at there) }
 
-  census_kept : (head : Head) (zones : List CountedZone) (p : ℕ) (primary : CountedZone) (census : Census) (lent : TallySum) → TakesCensus head zones old p primary census lent → TakesCensus head zones new p primary census lent
+  census_kept : (head : Head) (zones : List (CountedZone H Part h)) (p : ℕ) (primary : CountedZone H Part h) (census : Census) (lent : TallySum) → TakesCensus head zones old p primary census lent → TakesCensus head zones new p primary census lent
   census_kept head zones p primary census lent takes = record {
     counts = takes.counts;
     lent = λ z line zone at of there. (let P : ℕ → Type 0 = λ n. n ≤ census_out census (zone_index zone) in subst P (sym (live_kept old new keeps z)) (takes.lent z line zone at of there));
@@ -70,20 +72,21 @@ module _ (old new : List Worker) (keeps : KeepsWorkers old new) where
         subst P (sym (live_kept old new keeps z)) (takes.pairs z line zone at of there);
   }
 
--- the keg that was taken, for the workers as they were before
-pub keg_kept : (head : Head) (zones : List CountedZone) (old new : List Worker) (sums : List Sums) (p : ℕ) (census : Census) (tally : TallySum) → KeepsWorkers old new → TakesKeg head zones new sums p census tally → TakesKeg head zones old sums p census tally
-keg_kept head zones old new sums p census tally keeps takes = record {
-  lent = takes.lent;
-  counts = λ primary is. census_kept new old (keeps_back old new keeps) head zones p primary census takes.lent (takes.counts primary is);
-  adds = takes.adds;
-}
+module _ {H Part : Type 0} {h : Ghosts H Part} where
+  -- the keg that was taken, for the workers as they were before
+  pub keg_kept : (head : Head) (zones : List (CountedZone H Part h)) (old new : List (Worker H Part h)) (sums : List Sums) (p : ℕ) (census : Census) (tally : TallySum) → KeepsWorkers old new → TakesKeg head zones new sums p census tally → TakesKeg head zones old sums p census tally
+  keg_kept head zones old new sums p census tally keeps takes = record {
+    lent = takes.lent;
+    counts = λ primary is. census_kept new old (keeps_back old new keeps) head zones p primary census takes.lent (takes.counts primary is);
+    adds = takes.adds;
+  }
 
--- ---- one keg
+  -- ---- one keg
 
-times_are : (hook : Hook) (p z : ℕ) (lines : List ZoneHead) (workers : List Worker) → keg_times hook p z lines workers ≡ kegged (is_of_keg p) (λ n. zone_times hook n workers) z lines
-unfolding kegged
-times_are hook p z [] workers = refl
-times_are hook p z (line ∷ lines) workers = ap (λ (n : ℕ). cond (is_of_keg p z line) (zone_times hook z workers) 0 + n) (times_are hook p (z + 1) lines workers)
+  times_are : (hook : Hook) (p z : ℕ) (lines : List ZoneHead) (workers : List (Worker H Part h)) → keg_times hook p z lines workers ≡ kegged (is_of_keg p) (λ n. zone_times hook n workers) z lines
+  unfolding kegged
+  times_are hook p z [] workers = refl
+  times_are hook p z (line ∷ lines) workers = ap (λ (n : ℕ). cond (is_of_keg p z line) (zone_times hook z workers) 0 + n) (times_are hook p (z + 1) lines workers)
 
 cond_true : (t u : Bool) → cond t u false ≡ true → (t ≡ true) × (u ≡ true)
 cond_true true u is = (refl, is)
@@ -92,12 +95,12 @@ cond_true false u is = absurd (cc)
 both_true : (t u : Bool) → t ≡ true → u ≡ true → cond t u false ≡ true
 both_true t u p q = ap (λ (b : Bool). cond b u false) p ∙ q
 
-module _ (head : Head) (clock : BareClock) (zones : List CountedZone) (workers : List Worker) (sums : List Sums) (fits : HeadFits head) (are : AreZones head clock zones) (all : AllSumUp zones workers sums) where
+module _ {H Part : Type 0} {h : Ghosts H Part} (head : Head) (clock : Clock H Part) (zones : List (CountedZone H Part h)) (workers : List (Worker H Part h)) (sums : List Sums) (fits : HeadFits head) (are : AreZones head clock zones) (all : AllSumUp zones workers sums) where
   as_many : length sums ≡ length head.zones
   as_many = all.count ∙ are.count
 
   -- the zone at a place where there are sums
-  up_at : (n : ℕ) (s : Sums) → slice_get sums n ≡ Some s → (zone : CountedZone) × (slice_get zones n ≡ Some zone) × SumsUp zone n workers s
+  up_at : (n : ℕ) (s : Sums) → slice_get sums n ≡ Some s → (zone : CountedZone H Part h) × (slice_get zones n ≡ Some zone) × SumsUp zone n workers s
   up_at n s at = let zone = has_too zones sums n s all.count at in (zone.0, zone.1, all.each n zone.0 s zone.1 at)
 
   keg_hooks : (hook : Hook) (p : ℕ) → keg_times hook p 0 head.zones workers ≤ lent_times hook p 0 head.zones workers + keg_sums hook p head.zones sums
@@ -147,7 +150,7 @@ module _ (head : Head) (clock : BareClock) (zones : List CountedZone) (workers :
   deferred_at : (deferred : List ℕ) (z : ℕ) (s : Sums) → deferred ≡ map (λ s. s.deferred) sums → slice_get sums z ≡ Some s → slice_get deferred z ≡ Some s.deferred
   deferred_at deferred z s is at = ap (λ (l : List ℕ). slice_get l z) is ∙ slice_get-map (λ s. s.deferred) sums z ∙ ap (λ (o : Option Sums). option_map (λ s. s.deferred) o) at
 
-  keg_closes : (deferred : List ℕ) → deferred ≡ map (λ s. s.deferred) sums → (p : ℕ) (primary : CountedZone) (census : Census) (lent tally : TallySum) → TakesCensus head zones workers p primary census lent
+  keg_closes : (deferred : List ℕ) → deferred ≡ map (λ s. s.deferred) sums → (p : ℕ) (primary : CountedZone H Part h) (census : Census) (lent tally : TallySum) → TakesCensus head zones workers p primary census lent
       → ((hook : Hook) → sum_of tally hook ≡ sum_of lent hook + keg_sums hook p head.zones sums) → KegCloses head zones workers deferred p primary census tally
   keg_closes deferred is_deferred p primary census lent tally takes adds = record {
     counts = takes.counts;
@@ -181,17 +184,18 @@ module _ (head : Head) (clock : BareClock) (zones : List CountedZone) (workers :
       let P : ℕ → Type 0 = λ n. sum_by (seat_deferred z) workers ≤ n in
       subst P same (up_at z s.0 s.1).2.deferred
 
--- all of them, for the workers as they are in the end
-pub all_close : (head : Head) (clock : BareClock) (zones : List CountedZone) (old new : List Worker) (sums : List Sums) (deferred : List ℕ) (censuses : List Census) (tallies : List TallySum) → HeadFits head → AreZones head clock zones
-    → KeepsWorkers old new → AllSumUp zones old sums → deferred ≡ map (λ s. s.deferred) sums → TakesKegs head zones old sums head.zones censuses tallies → AllClose head zones new censuses tallies deferred
-all_close head clock zones old new sums deferred censuses tallies fits are keeps up is takes =
-    let all = all_sums_kept old new keeps zones sums up in
-    record {
-      censuses_count = takes.censuses_count;
-      tallies_count = takes.tallies_count;
-      deferred_count = ap length is ∙ length-map sums (λ s. s.deferred) ∙ all.count ∙ are.count;
-      kegs = λ k p line primary census tally at is_primary is_census is_tally.
-          let one = takes.each k p line census tally at is_census is_tally in
-          keg_closes head clock zones new sums fits are all deferred is p primary census one.lent tally (census_kept old new keeps head zones p primary census one.lent (one.counts primary is_primary)) one.adds;
-      defers = λ z count at. zone_defers head clock zones new sums fits are all deferred is z count at;
-    }
+module _ {H Part : Type 0} {h : Ghosts H Part} where
+  -- all of them, for the workers as they are in the end
+  pub all_close : (head : Head) (clock : Clock H Part) (zones : List (CountedZone H Part h)) (old new : List (Worker H Part h)) (sums : List Sums) (deferred : List ℕ) (censuses : List Census) (tallies : List TallySum) → HeadFits head → AreZones head clock zones
+      → KeepsWorkers old new → AllSumUp zones old sums → deferred ≡ map (λ s. s.deferred) sums → TakesKegs head zones old sums head.zones censuses tallies → AllClose head zones new censuses tallies deferred
+  all_close head clock zones old new sums deferred censuses tallies fits are keeps up is takes =
+      let all = all_sums_kept old new keeps zones sums up in
+      record {
+        censuses_count = takes.censuses_count;
+        tallies_count = takes.tallies_count;
+        deferred_count = ap length is ∙ length-map sums (λ s. s.deferred) ∙ all.count ∙ are.count;
+        kegs = λ k p line primary census tally at is_primary is_census is_tally.
+            let one = takes.each k p line census tally at is_census is_tally in
+            keg_closes head clock zones new sums fits are all deferred is p primary census one.lent tally (census_kept old new keeps head zones p primary census one.lent (one.counts primary is_primary)) one.adds;
+        defers = λ z count at. zone_defers head clock zones new sums fits are all deferred is z count at;
+      }

@@ -3,35 +3,38 @@ use Rattle.std.proofs.Common.{◌≡◌, ℕ, ◌+◌, ◌^◌, inl, inr, List, 
 use Rattle.std.proofs.lemmas.List.{length-append}
 use Rattle.std.proofs.lemmas.Option.{none-some, same_Some}
 use Rattle.std.specs.Prelude.{slice_get}
+use Rattle.smr_clock.specs.declared.clock.Clock.{Clock}
+use Rattle.smr_clock.specs.declared.host.Host.{Ghosts}
 use Rattle.uma_bucket.specs.declared.sums.Sums.{Sums}
 use Rattle.uma_bucket.specs.Sums.{AreOfAtMost}
 use Rattle.trace_worker.specs.declared.worker.Worker.{Worker}
-use Rattle.trace_worker.specs.Items.{BareClock, CountedZone}
+use Rattle.trace_worker.specs.Items.{CountedZone}
 use Rattle.trace_setting.proofs.Lists.{has_too, pushed}
 use Rattle.trace_census.specs.Lending.{AllFit}
 use Rattle.trace_totals.specs.Summing.{HasSeat, SumsUp}
 use Rattle.trace_totals.specs.Taking.{AllSumUp}
 
--- a worker that fits has a seat of each zone
-pub has_seats : (zones : List CountedZone) (clock : BareClock) (workers : List Worker) → AllFit zones clock workers → (z n : ℕ) (zone : CountedZone) (w : Worker) → slice_get zones z ≡ Some zone → slice_get workers n ≡ Some w → HasSeat zone z w
-has_seats zones clock workers fits z n zone w is_zone at =
-    let seats = (fits n w at).seats in
-    let seat = has_too w.seats.items zones z zone (sym seats.count) is_zone in
-    record { seat = seat.0; at = seat.1; of_zone = seats.each z zone seat.0 is_zone seat.1 }
+module _ {H Part : Type 0} {h : Ghosts H Part} where
+  -- a worker that fits has a seat of each zone
+  pub has_seats : (zones : List (CountedZone H Part h)) (clock : Clock H Part) (workers : List (Worker H Part h)) → AllFit zones clock workers → (z n : ℕ) (zone : CountedZone H Part h) (w : Worker H Part h) → slice_get zones z ≡ Some zone → slice_get workers n ≡ Some w → HasSeat zone z w
+  has_seats zones clock workers fits z n zone w is_zone at =
+      let seats = (fits n w at).seats in
+      let seat = has_too w.seats.items zones z zone (sym seats.count) is_zone in
+      record { seat = seat.0; at = seat.1; of_zone = seats.each z zone seat.0 is_zone seat.1 }
 
--- the first so many zones were summed up
-pub record SumsSoFar (zones : List CountedZone) (workers : List Worker) (count : ℕ) (sums : List Sums) : Type 0 where
-  pub as_many : length sums ≡ count
-  pub each : (z : ℕ) (zone : CountedZone) (s : Sums) → slice_get zones z ≡ Some zone → slice_get sums z ≡ Some s → SumsUp zone z workers s
+  -- the first so many zones were summed up
+  pub record SumsSoFar (zones : List (CountedZone H Part h)) (workers : List (Worker H Part h)) (count : ℕ) (sums : List Sums) : Type 0 where
+    pub as_many : length sums ≡ count
+    pub each : (z : ℕ) (zone : CountedZone H Part h) (s : Sums) → slice_get zones z ≡ Some zone → slice_get sums z ≡ Some s → SumsUp zone z workers s
 
-module _ (zones : List CountedZone) (workers : List Worker) where
+module _ {H Part : Type 0} {h : Ghosts H Part} (zones : List (CountedZone H Part h)) (workers : List (Worker H Part h)) where
   pub sums_none : (sums : List Sums) → sums ≡ [] → SumsSoFar zones workers 0 sums
   sums_none sums is = record {
     as_many = ap length is;
     each = λ z zone s is_zone at. (let P : List Sums → Type 0 = λ l. slice_get l z ≡ Some s in absurd (none-some s (subst P is at)));
   }
 
-  pub sums_more : (count : ℕ) (old new : List Sums) (of : CountedZone) (s : Sums) → SumsSoFar zones workers count old → slice_get zones count ≡ Some of → SumsUp of count workers s → new ≡ old ++ s ∷ [] → SumsSoFar zones workers (count + 1) new
+  pub sums_more : (count : ℕ) (old new : List Sums) (of : CountedZone H Part h) (s : Sums) → SumsSoFar zones workers count old → slice_get zones count ≡ Some of → SumsUp of count workers s → new ≡ old ++ s ∷ [] → SumsSoFar zones workers (count + 1) new
   sums_more count old new of s so is_of up is = record {
     as_many = ap length is ∙ length-append old (s ∷ []) ∙ ap (λ (n : ℕ). n + 1) so.as_many;
     each = λ z zone t is_zone at.
@@ -41,7 +44,7 @@ module _ (zones : List CountedZone) (workers : List Worker) where
               let place : count ≡ z = sym so.as_many ∙ sym last.0 in
               let Z : ℕ → Type 0 = λ n. slice_get zones n ≡ Some of in
               let of_is : of ≡ zone = same_Some of zone (sym (subst Z place is_of) ∙ is_zone) in
-              let A : CountedZone → Type 0 = λ x. SumsUp x z workers t in
+              let A : CountedZone H Part h → Type 0 = λ x. SumsUp x z workers t in
               let B : ℕ → Type 0 = λ n. SumsUp of n workers t in
               let C : Sums → Type 0 = λ x. SumsUp of count workers x in
               subst A of_is (subst B place (subst C last.1 up))

@@ -3,6 +3,7 @@ use Rattle.std.proofs.Common.{◌≡◌, ℕ, suc, ◌+◌, ◌<◌, ◌≤◌, 
 use Rattle.std.proofs.lemmas.List.{length-append, length-take-le, take_more}
 use Rattle.std.proofs.lemmas.Option.{none-some, slice_get_within}
 use Rattle.std.specs.Prelude.{slice_get, if◌then◌else◌}
+use Rattle.smr_clock.specs.declared.host.Host.{Ghosts}
 use Rattle.trace_text.specs.declared.head.Head.{Head}
 use Rattle.trace_text.specs.declared.head.ZoneHead.{ZoneHead}
 use Rattle.uma_keg.specs.declared.census.Census.{Census}
@@ -52,7 +53,7 @@ second_last : (lines : List ZoneHead) (line : ZoneHead) (z : ℕ) → is_some li
 second_last [] line z is = ap (λ (b : Bool). if b then primaries [] (z + 1) else ((z, line) ∷ primaries [] (z + 1))) is
 second_last (head ∷ lines) line z is = if_same (is_some head.parent) (z, head) (primaries lines (z + 1)) (primaries (lines ++ line ∷ []) (z + 1)) (second_last lines line (z + 1) is)
 
-module _ (head : Head) (zones : List CountedZone) (workers : List Worker) (sums : List Sums) where
+module _ {H Part : Type 0} {h : Ghosts H Part} (head : Head) (zones : List (CountedZone H Part h)) (workers : List (Worker H Part h)) (sums : List Sums) where
   -- the same by other names
   pub kegs_same : (lines : List ZoneHead) (a b : List Census) (s t : List TallySum) → b ≡ a → t ≡ s → TakesKegs head zones workers sums lines a s → TakesKegs head zones workers sums lines b t
   kegs_same lines a b s t censuses tallies so =

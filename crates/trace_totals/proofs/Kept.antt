@@ -5,6 +5,9 @@ use Rattle.std.proofs.lemmas.Option.{same_Some, none-some}
 use Rattle.std.specs.Prelude.{◌==◌, slice_get}
 use Rattle.std.specs.List.{sum_by}
 use Rattle.std.specs.Option.{option_map_or}
+use Rattle.smr_clock.specs.declared.clock.Clock.{Clock}
+use Rattle.smr_clock.specs.declared.pass.Pass.{Pass}
+use Rattle.smr_clock.specs.declared.host.Host.{Ghosts}
 use Rattle.trace_text.specs.declared.head.ZoneHead.{ZoneHead}
 use Rattle.uma_keg.specs.Lent.{Seen, seen_of as seen_item}
 use Rattle.uma_life.specs.Hook.{Hook}
@@ -14,7 +17,7 @@ use Rattle.uma_zone.specs.Zone.{zone_home}
 use Rattle.trace_worker.specs.declared.held.Held.{Held}
 use Rattle.trace_worker.specs.declared.worker.Worker.{Worker}
 use Rattle.trace_worker.specs.declared.counted.Counted.{Counted}
-use Rattle.trace_worker.specs.Items.{BareClock, BarePass, counted_life, CountedZone, LiveItem}
+use Rattle.trace_worker.specs.Items.{counted_life, CountedZone, LiveItem}
 use Rattle.trace_worker.specs.Live.{is_of, item_of, live_count, lives_of}
 use Rattle.trace_worker.specs.Slots.{slot_at}
 use Rattle.trace_worker.specs.Together.{all_live}
@@ -71,9 +74,9 @@ same_times hook z xs ys same = times_seen hook z ys ∙ ap (sum_by (seen_times h
 
 -- ---- by all workers
 
-module _ (old new : List Worker) (keeps : KeepsWorkers old new) where
+module _ {H Part : Type 0} {h : Ghosts H Part} (old new : List (Worker H Part h)) (keeps : KeepsWorkers old new) where
   pub live_kept : (z : ℕ) → all_live z new ≡ all_live z old
-  live_kept z = sum_same (λ (w : Worker). live_count z w.slots) old new keeps.count (λ n a b was is. same_live z a.slots b.slots (keeps.each n a b was is).slots)
+  live_kept z = sum_same (λ (w : Worker H Part h). live_count z w.slots) old new keeps.count (λ n a b was is. same_live z a.slots b.slots (keeps.each n a b was is).slots)
 
   pub times_kept : (hook : Hook) (z : ℕ) → sum_by (slot_times hook z) new ≡ sum_by (slot_times hook z) old
   times_kept hook z = sum_same (slot_times hook z) old new keeps.count (λ n a b was is. same_times hook z a.slots b.slots (keeps.each n a b was is).slots)
@@ -107,58 +110,59 @@ seen_there : (o : Option Held) (it : Held) → Some (seen_held it) ≡ seen_slot
 seen_there None it same = absurd (none-some (seen_held it) (sym same))
 seen_there (Some was) it same = (was, refl, sym (same_Some (seen_held it) (seen_held was) same))
 
-held_kept : (zones : List CountedZone) (was it : Held) → seen_held was ≡ seen_held it → IsHeld zones was → IsHeld zones it
-held_kept zones was it same held =
-    let P : ℕ → Type 0 = λ z. slice_get zones z ≡ Some held.zone in
-    let Q : ℕ × Seen Counted → Type 0 = λ s. (s.1.table ≡ (zone_home held.zone).book) × (s.1.zone ≡ (zone_home held.zone).zone) × (s.1.domain < (zone_home held.zone).domains) in
-    record { zone = held.zone; at = subst P (λ i. (same i).0) held.at; home = subst Q same held.home }
+module _ {H Part : Type 0} {h : Ghosts H Part} where
+  held_kept : (zones : List (CountedZone H Part h)) (was it : Held) → seen_held was ≡ seen_held it → IsHeld zones was → IsHeld zones it
+  held_kept zones was it same held =
+      let P : ℕ → Type 0 = λ z. slice_get zones z ≡ Some held.zone in
+      let Q : ℕ × Seen Counted → Type 0 = λ s. (s.1.table ≡ (zone_home held.zone).book) × (s.1.zone ≡ (zone_home held.zone).zone) × (s.1.domain < (zone_home held.zone).domains) in
+      record { zone = held.zone; at = subst P (λ i. (same i).0) held.at; home = subst Q same held.home }
 
-worker_kept : (zones : List CountedZone) (clock : BareClock) (old new : Worker) → KeepsWorker old new → Fits zones clock old → Fits zones clock new
-worker_kept zones clock old new kept fits = record {
-  seats = (let P : _ → Type 0 = λ seats. HasSeats zones seats.items in subst P (sym kept.seats) fits.seats);
-  pass = (let P : BarePass → Type 0 = λ pass. IsOf clock pass in subst P (sym kept.pass) fits.pass);
-  slots = λ slot it found.
-      let same : Some (seen_held it) ≡ seen_slot (slot_at old.slots slot) = ap seen_slot (sym found) ∙ seen_at new.slots slot ∙ ap (λ (l : List (Option (ℕ × Seen Counted))). slot_at l slot) kept.slots ∙ sym (seen_at old.slots slot) in
-      let was = seen_there (slot_at old.slots slot) it same in
-      held_kept zones was.0 it was.2 (fits.slots slot was.0 was.1);
-}
+  worker_kept : (zones : List (CountedZone H Part h)) (clock : Clock H Part) (old new : Worker H Part h) → KeepsWorker old new → Fits zones clock old → Fits zones clock new
+  worker_kept zones clock old new kept fits = record {
+    seats = (let P : _ → Type 0 = λ seats. HasSeats zones seats.items in subst P (sym kept.seats) fits.seats);
+    pass = (let P : Pass H Part h → Type 0 = λ pass. IsOf clock pass in subst P (sym kept.pass) fits.pass);
+    slots = λ slot it found.
+        let same : Some (seen_held it) ≡ seen_slot (slot_at old.slots slot) = ap seen_slot (sym found) ∙ seen_at new.slots slot ∙ ap (λ (l : List (Option (ℕ × Seen Counted))). slot_at l slot) kept.slots ∙ sym (seen_at old.slots slot) in
+        let was = seen_there (slot_at old.slots slot) it same in
+        held_kept zones was.0 it was.2 (fits.slots slot was.0 was.1);
+  }
 
-pub fits_kept : (zones : List CountedZone) (clock : BareClock) (old new : List Worker) → KeepsWorkers old new → AllFit zones clock old → AllFit zones clock new
-fits_kept zones clock old new keeps fits n w at = let was = has_too old new n w keeps.count at in worker_kept zones clock was.0 w (keeps.each n was.0 w was.1 at) (fits n was.0 was.1)
+  pub fits_kept : (zones : List (CountedZone H Part h)) (clock : Clock H Part) (old new : List (Worker H Part h)) → KeepsWorkers old new → AllFit zones clock old → AllFit zones clock new
+  fits_kept zones clock old new keeps fits n w at = let was = has_too old new n w keeps.count at in worker_kept zones clock was.0 w (keeps.each n was.0 w was.1 at) (fits n was.0 was.1)
 
-pub few_kept : (old new : List Worker) → KeepsWorkers old new → AreFew old → AreFew new
-few_kept old new keeps few = record {
-  few = (let P : ℕ → Type 0 = λ n. n ≤ 16 in subst P (sym keeps.count) few.few);
-  slots = λ n w at.
-      let was = has_too old new n w keeps.count at in
-      let as_many : length was.0.slots ≡ length w.slots = sym (length-map was.0.slots seen_slot) ∙ ap length (sym (keeps.each n was.0 w was.1 at).slots) ∙ length-map w.slots seen_slot in
-      let P : ℕ → Type 0 = λ m. m ≤ 65536 in
-      subst P as_many (few.slots n was.0 was.1);
-}
+  pub few_kept : (old new : List (Worker H Part h)) → KeepsWorkers old new → AreFew old → AreFew new
+  few_kept old new keeps few = record {
+    few = (let P : ℕ → Type 0 = λ n. n ≤ 16 in subst P (sym keeps.count) few.few);
+    slots = λ n w at.
+        let was = has_too old new n w keeps.count at in
+        let as_many : length was.0.slots ≡ length w.slots = sym (length-map was.0.slots seen_slot) ∙ ap length (sym (keeps.each n was.0 w was.1 at).slots) ∙ length-map w.slots seen_slot in
+        let P : ℕ → Type 0 = λ m. m ≤ 65536 in
+        subst P as_many (few.slots n was.0 was.1);
+  }
 
-keeps_one : (w : Worker) → KeepsWorker w w
-keeps_one w = record { pass = refl; seats = refl; slots = refl; entered = refl; late = refl }
+  keeps_one : (w : Worker H Part h) → KeepsWorker w w
+  keeps_one w = record { pass = refl; seats = refl; slots = refl; entered = refl; late = refl }
 
-pub keeps_none : (workers : List Worker) → KeepsWorkers workers workers
-keeps_none workers = record {
-  count = refl;
-  each = λ n a b was is. (let P : Worker → Type 0 = λ w. KeepsWorker a w in subst P (one_at workers n a b was is) (keeps_one a));
-}
+  pub keeps_none : (workers : List (Worker H Part h)) → KeepsWorkers workers workers
+  keeps_none workers = record {
+    count = refl;
+    each = λ n a b was is. (let P : Worker H Part h → Type 0 = λ w. KeepsWorker a w in subst P (one_at workers n a b was is) (keeps_one a));
+  }
 
-pub keeps_more : (old mid new : List Worker) → KeepsWorkers old mid → KeepsWorkers mid new → KeepsWorkers old new
-keeps_more old mid new first then = record {
-  count = then.count ∙ first.count;
-  each = λ n a b was is.
-      let m = has_too mid old n a (sym first.count) was in
-      let p = first.each n a m.0 was m.1 in
-      let q = then.each n m.0 b m.1 is in
-      record { pass = q.pass ∙ p.pass; seats = q.seats ∙ p.seats; slots = q.slots ∙ p.slots; entered = q.entered ∙ p.entered; late = q.late ∙ p.late };
-}
+  pub keeps_more : (old mid new : List (Worker H Part h)) → KeepsWorkers old mid → KeepsWorkers mid new → KeepsWorkers old new
+  keeps_more old mid new first then = record {
+    count = then.count ∙ first.count;
+    each = λ n a b was is.
+        let m = has_too mid old n a (sym first.count) was in
+        let p = first.each n a m.0 was m.1 in
+        let q = then.each n m.0 b m.1 is in
+        record { pass = q.pass ∙ p.pass; seats = q.seats ∙ p.seats; slots = q.slots ∙ p.slots; entered = q.entered ∙ p.entered; late = q.late ∙ p.late };
+  }
 
-pub keeps_back : (old new : List Worker) → KeepsWorkers old new → KeepsWorkers new old
-keeps_back old new keeps = record {
-  count = sym keeps.count;
-  each = λ n a b was is.
-      let k = keeps.each n b a is was in
-      record { pass = sym k.pass; seats = sym k.seats; slots = sym k.slots; entered = sym k.entered; late = sym k.late };
-}
+  pub keeps_back : (old new : List (Worker H Part h)) → KeepsWorkers old new → KeepsWorkers new old
+  keeps_back old new keeps = record {
+    count = sym keeps.count;
+    each = λ n a b was is.
+        let k = keeps.each n b a is was in
+        record { pass = sym k.pass; seats = sym k.seats; slots = sym k.slots; entered = sym k.entered; late = sym k.late };
+  }

@@ -4,20 +4,20 @@ ghost use Rattle.smr_clock.specs.Notes.{IsNoteOf, note_holder};
 ghost use Rattle.trace_worker.specs.declared.worker.Worker.{Worker};
 ghost use Rattle.trace_totals.specs.Clock.{AllLearn, Gathers, Knows, Learns, Looks, LooksAt, NotesAt, PassesOn, ReadsHands, TakesAt, Tells};
 
-use smr_clock::{Bare, Clock, Note};
+use smr_clock::{Clock, Host, Note};
 use trace_worker::Worker;
 
 /// The read hand and the write hand when all lines are done. Worker 0's pass takes in what each other worker's knows, and
 /// looks at both hands; the read hand is the greatest number that it then knows to be at or below it. `begun` is the note from
 /// before the first line, and `window` the clock's.
-pub fn read_hands(
-    clock: &Clock<Bare>,
-    workers: &mut [Worker],
-    begun: Note<Bare>,
+pub fn read_hands<H: Host>(
+    clock: &Clock<H>,
+    workers: &mut [Worker<H>],
+    begun: Note<H>,
     window: u64,
 ) -> (u64, u64)
     requires some { 0 < length workers.old }
-    requires here { (n : ℕ) (w : Worker) → slice_get workers.old n ≡ Some w → IsOf clock.now w.pass }
+    requires here { (n : ℕ) (w : Worker H H.Part H.Host) → slice_get workers.old n ≡ Some w → IsOf clock.now w.pass }
     requires begun_here { IsNoteOf clock.now begun }
     requires begun { (setup_of clock.now).about.start ≤ (note_holder begun).floor }
     requires window { window ≡ (setup_of clock.now).about.window }
@@ -29,9 +29,9 @@ pub fn read_hands(
 }
 
 /// Worker 0's pass takes in the note, and what each other worker's knows.
-fn gather(clock: &Clock<Bare>, workers: &mut [Worker], begun: Note<Bare>)
+fn gather<H: Host>(clock: &Clock<H>, workers: &mut [Worker<H>], begun: Note<H>)
     requires some { 0 < length workers.old }
-    requires here { (n : ℕ) (w : Worker) → slice_get workers.old n ≡ Some w → IsOf clock.now w.pass }
+    requires here { (n : ℕ) (w : Worker H H.Part H.Host) → slice_get workers.old n ≡ Some w → IsOf clock.now w.pass }
     requires begun_here { IsNoteOf clock.now begun }
     requires begun { (setup_of clock.now).about.start ≤ (note_holder begun).floor }
     ensures { Gathers clock.now (length workers.old) workers.old workers.new }
@@ -43,9 +43,9 @@ fn gather(clock: &Clock<Bare>, workers: &mut [Worker], begun: Note<Bare>)
 }
 
 /// Worker 0's pass takes in what another worker's knows.
-fn pass_on(clock: &Clock<Bare>, workers: &mut [Worker], number: usize)
+fn pass_on<H: Host>(clock: &Clock<H>, workers: &mut [Worker<H>], number: usize)
     requires at { number < length workers.old }
-    requires here { (n : ℕ) (w : Worker) → slice_get workers.old n ≡ Some w → IsOf clock.now w.pass }
+    requires here { (n : ℕ) (w : Worker H H.Part H.Host) → slice_get workers.old n ≡ Some w → IsOf clock.now w.pass }
     ensures { PassesOn clock.now number workers.old workers.new }
 {
     let note = note_at(clock, workers, number);
@@ -53,18 +53,18 @@ fn pass_on(clock: &Clock<Bare>, workers: &mut [Worker], number: usize)
 }
 
 /// A note of what the pass of the worker with this number knows.
-fn note_at(clock: &Clock<Bare>, workers: &mut [Worker], number: usize) -> Note<Bare>
+fn note_at<H: Host>(clock: &Clock<H>, workers: &mut [Worker<H>], number: usize) -> Note<H>
     requires at { number < length workers.old }
-    requires here { (n : ℕ) (w : Worker) → slice_get workers.old n ≡ Some w → IsOf clock.now w.pass }
+    requires here { (n : ℕ) (w : Worker H H.Part H.Host) → slice_get workers.old n ≡ Some w → IsOf clock.now w.pass }
     ensures { NotesAt clock.now number workers.old result workers.new }
 {
     note_of(clock, &mut workers[number])
 }
 
 /// The pass of the worker with this number takes the note in.
-fn take_at(clock: &Clock<Bare>, workers: &mut [Worker], number: usize, note: Note<Bare>)
+fn take_at<H: Host>(clock: &Clock<H>, workers: &mut [Worker<H>], number: usize, note: Note<H>)
     requires at { number < length workers.old }
-    requires here { (n : ℕ) (w : Worker) → slice_get workers.old n ≡ Some w → IsOf clock.now w.pass }
+    requires here { (n : ℕ) (w : Worker H H.Part H.Host) → slice_get workers.old n ≡ Some w → IsOf clock.now w.pass }
     requires note_here { IsNoteOf clock.now note }
     ensures { TakesAt clock.now number workers.old note workers.new }
 {
@@ -72,9 +72,9 @@ fn take_at(clock: &Clock<Bare>, workers: &mut [Worker], number: usize, note: Not
 }
 
 /// The hands, by worker 0's pass.
-fn look_at(clock: &Clock<Bare>, workers: &mut [Worker], window: u64) -> (u64, u64)
+fn look_at<H: Host>(clock: &Clock<H>, workers: &mut [Worker<H>], window: u64) -> (u64, u64)
     requires at { 0 < length workers.old }
-    requires here { (n : ℕ) (w : Worker) → slice_get workers.old n ≡ Some w → IsOf clock.now w.pass }
+    requires here { (n : ℕ) (w : Worker H H.Part H.Host) → slice_get workers.old n ≡ Some w → IsOf clock.now w.pass }
     requires window { window ≡ (setup_of clock.now).about.window }
     ensures { LooksAt clock.now workers.old result.0 result.1 workers.new }
 {
@@ -82,7 +82,7 @@ fn look_at(clock: &Clock<Bare>, workers: &mut [Worker], window: u64) -> (u64, u6
 }
 
 /// A note of what the worker's pass knows, the write hand as it is now included.
-fn note_of(clock: &Clock<Bare>, worker: &mut Worker) -> Note<Bare>
+fn note_of<H: Host>(clock: &Clock<H>, worker: &mut Worker<H>) -> Note<H>
     requires { IsOf clock.now worker.old.pass }
     ensures learns { Learns clock.now worker.old worker.new }
     ensures tells { Tells clock.now result worker.new }
@@ -91,7 +91,7 @@ fn note_of(clock: &Clock<Bare>, worker: &mut Worker) -> Note<Bare>
 }
 
 /// The worker's pass takes the note in.
-fn take_in(clock: &Clock<Bare>, worker: &mut Worker, note: Note<Bare>)
+fn take_in<H: Host>(clock: &Clock<H>, worker: &mut Worker<H>, note: Note<H>)
     requires here { IsOf clock.now worker.old.pass }
     requires note_here { IsNoteOf clock.now note }
     ensures learns { Learns clock.now worker.old worker.new }
@@ -101,7 +101,7 @@ fn take_in(clock: &Clock<Bare>, worker: &mut Worker, note: Note<Bare>)
 }
 
 /// The read hand, or where it stands at least by the write hand, and the write hand.
-fn look(clock: &Clock<Bare>, worker: &mut Worker, window: u64) -> (u64, u64)
+fn look<H: Host>(clock: &Clock<H>, worker: &mut Worker<H>, window: u64) -> (u64, u64)
     requires here { IsOf clock.now worker.old.pass }
     requires window { window ≡ (setup_of clock.now).about.window }
     ensures { Looks clock.now worker.old result.0 result.1 worker.new }

@@ -10,7 +10,7 @@ ghost use Rattle.trace_setting.specs.Zones.{AreZones};
 ghost use Rattle.trace_census.specs.Lending.{AllFit, AreFew, KeepsWorkers};
 ghost use Rattle.trace_totals.specs.Taking.{is_of_keg, keg_sums, TakesKeg};
 
-use smr_clock::{Bare, Clock};
+use smr_clock::{Clock, Host};
 use std::alloc::Global;
 use std::sync::Wait;
 use trace_census::take_census;
@@ -22,15 +22,15 @@ use uma_life::TallySum;
 
 /// The census of the keg whose primary zone stands at `place`, and its hooks' sums: with those of its zones, which `sums`
 /// has for each zone. Waits until it has the keg's lock. After the Err slots may have lost items.
-pub(crate) fn take_keg<R: Wait>(
+pub(crate) fn take_keg<H: Host, R: Wait>(
     rt: &R,
     alloc: Global,
     head: &Head,
-    clock: &Clock<Bare>,
-    zones: &[CountedZone],
+    clock: &Clock<H>,
+    zones: &[CountedZone<H>],
     place: usize,
     sums: &[Sums],
-    workers: &mut [Worker],
+    workers: &mut [Worker<H>],
 ) -> Result<(Census, TallySum), Memory>
     requires head { HeadFits head.now }
     requires zones { AreZones head.now clock.now zones.now }

@@ -2,20 +2,21 @@ ghost use Rattle.std.specs.Prelude.{◌≡◌, ◌≤◌, ◌<◌, ℕ, Some, le
 ghost use Rattle.trace_worker.specs.declared.worker.Worker.{Worker};
 ghost use Rattle.trace_totals.specs.Summing.{AreOfSeat, HasSeat, SumsOfFirst, SumsUp};
 
+use smr_clock::Host;
 use std::sync::Wait;
 use trace_worker::{CountedZone, Worker};
 use uma_bucket::Sums;
 
 /// What the zone's domains and all workers' seats of it list, summed up. Its seats stand at this place. Waits until it has
 /// each domain's lock.
-pub(crate) fn zone_sums<R: Wait>(
+pub(crate) fn zone_sums<H: Host, R: Wait>(
     rt: &R,
-    zone: &CountedZone,
+    zone: &CountedZone<H>,
     place: usize,
-    workers: &[Worker],
+    workers: &[Worker<H>],
 ) -> Sums
     requires few { length workers.now ≤ 16 }
-    requires seats { (n : ℕ) (w : Worker) → slice_get workers.now n ≡ Some w → HasSeat zone.now place w }
+    requires seats { (n : ℕ) (w : Worker H H.Part H.Host) → slice_get workers.now n ≡ Some w → HasSeat zone.now place w }
     ensures { SumsUp zone.now place workers.now result }
 {
     let mut sums = zone.sums(rt);
@@ -26,7 +27,7 @@ pub(crate) fn zone_sums<R: Wait>(
 }
 
 /// What the worker's seat of the zone at this place lists, summed up.
-fn seat_sums(worker: &Worker, place: usize) -> Sums
+fn seat_sums<H: Host>(worker: &Worker<H>, place: usize) -> Sums
     requires { place < length worker.now.seats.items }
     ensures { AreOfSeat place worker.now result }
 {

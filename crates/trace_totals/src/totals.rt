@@ -12,7 +12,7 @@ ghost use Rattle.trace_totals.specs.Taking.{AllSumUp, TakesKegs};
 
 use crate::keg::take_keg;
 use crate::summing::zone_sums;
-use smr_clock::{Bare, Clock};
+use smr_clock::{Clock, Host};
 use std::alloc::Global;
 use std::sync::Wait;
 use trace_text::Head;
@@ -42,13 +42,13 @@ struct Kegs {
 /// What the zones and the workers come to when all lines are done. The zones are those of the head's lines, over this
 /// clock. The workers' items stay in their slots. Waits until it has each domain's and each keg's lock. After the Err slots
 /// may have lost items.
-pub fn take_totals<R: Wait>(
+pub fn take_totals<H: Host, R: Wait>(
     rt: &R,
     alloc: Global,
     head: &Head,
-    zones: &[CountedZone],
-    clock: &Clock<Bare>,
-    workers: &mut [Worker],
+    zones: &[CountedZone<H>],
+    clock: &Clock<H>,
+    workers: &mut [Worker<H>],
 ) -> Result<Totals, Memory>
     requires head { HeadFits head.now }
     requires zones { AreZones head.now clock.now zones.now }
@@ -68,14 +68,14 @@ pub fn take_totals<R: Wait>(
 }
 
 /// What each zone's domains and seats list, summed up.
-fn all_sums<R: Wait>(
+fn all_sums<H: Host, R: Wait>(
     rt: &R,
     alloc: Global,
-    zones: &[CountedZone],
-    workers: &[Worker],
+    zones: &[CountedZone<H>],
+    workers: &[Worker<H>],
 ) -> Result<Vec<Sums>, Memory>
     requires few { length workers.now ≤ 16 }
-    requires seats { (z n : ℕ) (zone : CountedZone) (w : Worker) → slice_get zones.now z ≡ Some zone → slice_get workers.now n ≡ Some w → HasSeat zone z w }
+    requires seats { (z n : ℕ) (zone : CountedZone H H.Part H.Host) (w : Worker H H.Part H.Host) → slice_get zones.now z ≡ Some zone → slice_get workers.now n ≡ Some w → HasSeat zone z w }
     ensures { IfOk result (λ sums. AllSumUp zones.now workers.now sums.items) }
 {
     let mut all = Vec::new(alloc);
@@ -97,14 +97,14 @@ fn all_deferred(alloc: Global, sums: &[Sums]) -> Result<Vec<u64>, Memory>
 }
 
 /// Each keg, in the order of the primary zones' lines.
-fn take_kegs<R: Wait>(
+fn take_kegs<H: Host, R: Wait>(
     rt: &R,
     alloc: Global,
     head: &Head,
-    clock: &Clock<Bare>,
-    zones: &[CountedZone],
+    clock: &Clock<H>,
+    zones: &[CountedZone<H>],
     sums: &[Sums],
-    workers: &mut [Worker],
+    workers: &mut [Worker<H>],
 ) -> Result<Kegs, Memory>
     requires head { HeadFits head.now }
     requires zones { AreZones head.now clock.now zones.now }

@@ -14,7 +14,7 @@ past_none {A} slots slot past = let none : Option A = None in get_or_past slots 
 pub past_emptied : {A : Type 0} (slots : List (Option A)) (slot : ℕ) → length slots ≤ slot → emptied slots slot ≡ slots
 past_emptied slots slot past = emptied_none slots slot (past_none slots slot past)
 
-pub unboxed_set : {A : Type 0} (boxes : List (Option (Box (Option Held) A))) (slot : ℕ) (box : Option (Box (Option Held) A)) → map unboxed (slice_set boxes slot box) ≡ slice_set (map unboxed boxes) slot (unboxed box)
+pub unboxed_set : {A : Type 0} (boxes : List (Option (Box Held A))) (slot : ℕ) (box : Option (Box Held A)) → map unboxed (slice_set boxes slot box) ≡ slice_set (map unboxed boxes) slot (unboxed box)
 unboxed_set boxes slot box = map-set unboxed boxes slot box
 
 -- ---- growing
@@ -37,34 +37,37 @@ padded-all {A} slots count past =
 
 -- ---- taking
 
-pub emptied_past : {A : Type 0} (boxes : List (Option (Box (Option Held) A))) (slot : ℕ) → length boxes ≤ slot → map unboxed boxes ≡ emptied (map unboxed boxes) slot
+pub emptied_unboxed : {A : Type 0} (boxes : List (Option (Box Held A))) (slot : ℕ) → map unboxed (slice_set boxes slot None) ≡ emptied (map unboxed boxes) slot
+unfolding emptied
+emptied_unboxed {A} boxes slot = let none : Option (Box Held A) = None in map-set unboxed boxes slot none
+
+pub emptied_past : {A : Type 0} (boxes : List (Option (Box Held A))) (slot : ℕ) → length boxes ≤ slot → map unboxed boxes ≡ emptied (map unboxed boxes) slot
 emptied_past boxes slot past = sym (past_emptied (map unboxed boxes) slot (omega (arith, length-map boxes unboxed)))
 
--- what is left of a slot that was taken holds nothing
-pub emptied_left : {A : Type 0} (boxes : List (Option (Box (Option Held) A))) (slot : ℕ) (left : Option (Box (Option Held) A)) → unboxed left ≡ None → map unboxed (slice_set boxes slot left) ≡ emptied (map unboxed boxes) slot
-unfolding emptied
-emptied_left boxes slot left is = unboxed_set boxes slot left ∙ ap (λ (o : Option Held). slice_set (map unboxed boxes) slot o) is
+-- what is left of a box that was taken is nothing
+pub emptied_left : {A : Type 0} (boxes : List (Option (Box Held A))) (slot : ℕ) (left : Option (Box Held A)) → left ≡ None → map unboxed (slice_set boxes slot left) ≡ emptied (map unboxed boxes) slot
+emptied_left {A} boxes slot left is = ap (λ (o : Option (Box Held A)). map unboxed (slice_set boxes slot o)) is ∙ emptied_unboxed boxes slot
 
 -- ---- putting
 
 -- a slot is within the padded list
-pub padded_below : {A : Type 0} (boxes : List (Option (Box (Option Held) A))) (slots : List (Option Held)) (slot n : ℕ) → map unboxed boxes ≡ padded slots (slot + 1) → n ≡ length boxes → slot < n
+pub padded_below : {A : Type 0} (boxes : List (Option (Box Held A))) (slots : List (Option Held)) (slot n : ℕ) → map unboxed boxes ≡ padded slots (slot + 1) → n ≡ length boxes → slot < n
 padded_below boxes slots slot n is size = omega (arith, length-padded slots (slot + 1), ap length is, length-map boxes unboxed)
 
-pub put_unboxed : {A : Type 0} (boxes : List (Option (Box (Option Held) A))) (slots : List (Option Held)) (slot : ℕ) (kept : Option (Box (Option Held) A)) (it : Held) → map unboxed boxes ≡ padded slots (slot + 1) → unboxed kept ≡ Some it
-    → map unboxed (slice_set boxes slot kept) ≡ with_held slots slot it
+pub put_unboxed : {A : Type 0} (boxes : List (Option (Box Held A))) (slots : List (Option Held)) (slot : ℕ) (box : Box Held A) (it : Held) → map unboxed boxes ≡ padded slots (slot + 1) → box.value ≡ it
+    → map unboxed (slice_set boxes slot (Some box)) ≡ with_held slots slot it
 unfolding with_held
-put_unboxed boxes slots slot kept it is same =
-    unboxed_set boxes slot kept
-    ∙ (ap (λ (list : List (Option Held)). slice_set list slot (unboxed kept)) is ∙ ap (λ (o : Option Held). slice_set (padded slots (slot + 1)) slot o) same)
+put_unboxed boxes slots slot box it is same =
+    unboxed_set boxes slot (Some box)
+    ∙ (ap (λ (list : List (Option Held)). slice_set list slot (Some box.value)) is ∙ ap (λ (x : Held). slice_set (padded slots (slot + 1)) slot (Some x)) same)
 
 -- one more empty slot, as it lies in its box's place
-pub grown : {A : Type 0} (boxes more : List (Option (Box (Option Held) A))) (slots : List (Option Held)) (count : ℕ) → more ≡ boxes ++ None ∷ [] → length boxes < count
+pub grown : {A : Type 0} (boxes more : List (Option (Box Held A))) (slots : List (Option Held)) (count : ℕ) → more ≡ boxes ++ None ∷ [] → length boxes < count
     → padded (map unboxed boxes) count ≡ padded slots count → padded (map unboxed more) count ≡ padded slots count
 grown {A} boxes more slots count is below same =
-    let none : Option (Box (Option Held) A) = None in
+    let none : Option (Box Held A) = None in
     let empty : Option Held = None in
     let short : length (map unboxed boxes) < count = omega (arith, length-map boxes unboxed) in
-    ap (λ (list : List (Option (Box (Option Held) A))). padded (map unboxed list) count) is
+    ap (λ (list : List (Option (Box Held A))). padded (map unboxed list) count) is
     ∙ (ap (λ (list : List (Option Held)). padded list count) (map-append unboxed boxes (none ∷ []))
     ∙ (padded-more (map unboxed boxes) count short ∙ same))

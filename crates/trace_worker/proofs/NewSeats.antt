@@ -3,6 +3,9 @@ use Rattle.std.proofs.Common.{◌≡◌, ℕ, zero, suc, inl, inr, ◌⊎◌, Li
 use Rattle.std.proofs.lemmas.List.{get_or_past}
 use Rattle.std.proofs.lemmas.Option.{same_Some, none-some, slice_get-get_or}
 use Rattle.std.specs.Prelude.{slice_get}
+use Rattle.smr_clock.specs.declared.clock.Clock.{Clock}
+use Rattle.smr_clock.specs.declared.pass.Pass.{Pass}
+use Rattle.smr_clock.specs.declared.host.Host.{Ghosts}
 use Rattle.smr_clock.specs.Belongs.{IsOf}
 use Rattle.uma_seat.specs.Seat.{ledger_of}
 use Rattle.zone_stats.specs.declared.ledger.SeatLedger.{SeatLedger}
@@ -11,7 +14,7 @@ use Rattle.trace_worker.proofs.Belongs.{some_within}
 use Rattle.trace_worker.proofs.Numbers.{below_as, none_room, none_count}
 use Rattle.trace_worker.specs.declared.held.Held.{Held}
 use Rattle.trace_worker.specs.declared.worker.Worker.{Worker}
-use Rattle.trace_worker.specs.Items.{BareClock, CountedSeat, CountedZone, BarePass}
+use Rattle.trace_worker.specs.Items.{CountedSeat, CountedZone}
 use Rattle.trace_worker.specs.Making.{AreSeats, IsNewSeat, IsNewWorker}
 use Rattle.trace_worker.specs.Slots.{slot_at}
 use Rattle.trace_worker.specs.Worker.{Fits, HasRooms}
@@ -26,49 +29,51 @@ pushed (w ∷ xs) x (suc z) y e = elim (pushed xs x z y e) [
   | inr before ↦ inr before
 ]
 
-abbrev pub AreNew : List CountedZone → ℕ → List CountedSeat → Type 0
-AreNew zones domain seats = (z : ℕ) (zone : CountedZone) (seat : CountedSeat) → slice_get zones z ≡ Some zone → slice_get seats z ≡ Some seat → IsNewSeat zone domain seat
+module _ {H Part : Type 0} {h : Ghosts H Part} where
+  abbrev pub AreNew : List (CountedZone H Part h) → ℕ → List (CountedSeat H Part h) → Type 0
+  AreNew zones domain seats = (z : ℕ) (zone : CountedZone H Part h) (seat : CountedSeat H Part h) → slice_get zones z ≡ Some zone → slice_get seats z ≡ Some seat → IsNewSeat zone domain seat
 
-pub AreNew-more : (zones : List CountedZone) (domain : ℕ) (seats : List CountedSeat) (of : CountedZone) (new : CountedSeat) → slice_get zones (length seats) ≡ Some of → IsNewSeat of domain new
-    → AreNew zones domain seats → AreNew zones domain (seats ++ new ∷ [])
-AreNew-more zones domain seats of new at_zone is_new are z zone seat is_zone at = elim (pushed seats new z seat at) [
-  | inl last ↦
-      let Z : ℕ → Type 0 = λ i. slice_get zones i ≡ Some zone in
-      let of_is : of ≡ zone = same_Some of zone (sym at_zone ∙ subst Z last.0 is_zone) in
-      let P : CountedZone → Type 0 = λ x. IsNewSeat x domain new in
-      let Q : CountedSeat → Type 0 = λ x. IsNewSeat zone domain x in
-      subst Q last.1 (subst P of_is is_new)
-  | inr before ↦ are z zone seat is_zone before
-]
+  pub AreNew-more : (zones : List (CountedZone H Part h)) (domain : ℕ) (seats : List (CountedSeat H Part h)) (of : CountedZone H Part h) (new : CountedSeat H Part h) → slice_get zones (length seats) ≡ Some of → IsNewSeat of domain new
+      → AreNew zones domain seats → AreNew zones domain (seats ++ new ∷ [])
+  AreNew-more zones domain seats of new at_zone is_new are z zone seat is_zone at = elim (pushed seats new z seat at) [
+    | inl last ↦
+        let Z : ℕ → Type 0 = λ i. slice_get zones i ≡ Some zone in
+        let of_is : of ≡ zone = same_Some of zone (sym at_zone ∙ subst Z last.0 is_zone) in
+        let P : CountedZone H Part h → Type 0 = λ x. IsNewSeat x domain new in
+        let Q : CountedSeat H Part h → Type 0 = λ x. IsNewSeat zone domain x in
+        subst Q last.1 (subst P of_is is_new)
+    | inr before ↦ are z zone seat is_zone before
+  ]
 
-pub fits_new : (zones : List CountedZone) (clock : BareClock) (domain : ℕ) (w : Worker) → AreSeats zones domain w.seats.items → IsOf clock w.pass → w.slots ≡ [] → Fits zones clock w
-fits_new zones clock domain w seats pass slots = record {
-  seats = record { count = seats.count; each = λ z zone seat is_zone at. (seats.each z zone seat is_zone at).seat_of };
-  pass = pass;
-  slots = λ slot it found.
-      let P : List (Option Held) → Type 0 = λ list. slot_at list slot ≡ Some it in
+  pub fits_new : (zones : List (CountedZone H Part h)) (clock : Clock H Part) (domain : ℕ) (w : Worker H Part h) → AreSeats zones domain w.seats.items → IsOf clock w.pass → w.slots ≡ [] → Fits zones clock w
+  fits_new zones clock domain w seats pass slots = record {
+    seats = record { count = seats.count; each = λ z zone seat is_zone at. (seats.each z zone seat is_zone at).seat_of };
+    pass = pass;
+    slots = λ slot it found.
+        let P : List (Option Held) → Type 0 = λ list. slot_at list slot ≡ Some it in
+        let none : Option Held = None in
+        absurd (none-some it (sym (get_or_past [] slot none zero-le) ∙ subst P slots found));
+  }
+
+  -- ---- what a new worker may do
+
+  pub empty_new : (zones : List (CountedZone H Part h)) (pass : Pass H Part h) (domain : ℕ) (w : Worker H Part h) (slot : ℕ) → IsNewWorker zones pass domain w → slot_at w.slots slot ≡ None
+  empty_new zones pass domain w slot new =
       let none : Option Held = None in
-      absurd (none-some it (sym (get_or_past [] slot none zero-le) ∙ subst P slots found));
-}
-
--- ---- what a new worker may do
-
-pub empty_new : (zones : List CountedZone) (pass : BarePass) (domain : ℕ) (w : Worker) (slot : ℕ) → IsNewWorker zones pass domain w → slot_at w.slots slot ≡ None
-empty_new zones pass domain w slot new =
-    let none : Option Held = None in
-    let P : List (Option Held) → Type 0 = λ list. slot_at list slot ≡ None in
-    subst P (sym new.slots) (get_or_past [] slot none zero-le)
+      let P : List (Option Held) → Type 0 = λ list. slot_at list slot ≡ None in
+      subst P (sym new.slots) (get_or_past [] slot none zero-le)
 
 -- nothing counted leaves room
 room_new : (ledger : SeatLedger) → IsNew ledger → HasRoom ledger
 room_new ledger new = record { requests = none_room new.requests; frees = none_room new.frees }
 
-pub rooms_new : (zones : List CountedZone) (pass : BarePass) (domain : ℕ) (w : Worker) → IsNewWorker zones pass domain w → HasRooms w
-rooms_new zones pass domain w new = record {
-  ledgers = λ z d below.
-      let zone = some_within zones z (below_as below (sym new.seats.count)) in
-      let seat = get_or w.seats.items z d in
-      room_new (ledger_of seat) (new.seats.each z zone.0 seat zone.1 (slice_get-get_or w.seats.items z d below)).fresh.ledger;
-  entered = none_count new.entered;
-  late = none_count new.late;
-}
+module _ {H Part : Type 0} {h : Ghosts H Part} where
+  pub rooms_new : (zones : List (CountedZone H Part h)) (pass : Pass H Part h) (domain : ℕ) (w : Worker H Part h) → IsNewWorker zones pass domain w → HasRooms w
+  rooms_new zones pass domain w new = record {
+    ledgers = λ z d below.
+        let zone = some_within zones z (below_as below (sym new.seats.count)) in
+        let seat = get_or w.seats.items z d in
+        room_new (ledger_of seat) (new.seats.each z zone.0 seat zone.1 (slice_get-get_or w.seats.items z d below)).fresh.ledger;
+    entered = none_count new.entered;
+    late = none_count new.late;
+  }

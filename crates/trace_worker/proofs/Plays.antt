@@ -1,25 +1,26 @@
 -- What lines do one after another, with one line more at the end.
 use Rattle.std.proofs.Common.{ℕ, ◌+◌, ◌<◌, List, [], ◌∷◌, ◌++◌, refl, sym, subst, length, take, get_or}
 use Rattle.std.proofs.lemmas.List.{take_more}
+use Rattle.smr_clock.specs.declared.host.Host.{Ghosts}
 use Rattle.trace_text.specs.declared.op.Op.{Op}
 use Rattle.trace_worker.specs.declared.worker.Worker.{Worker}
 use Rattle.trace_worker.specs.Items.{CountedZone}
 use Rattle.trace_worker.specs.Performs.{Performs, PerformsAll}
 
-module _ (zones : List CountedZone) where
-  pub plays-none : (ops : List Op) (w : Worker) → PerformsAll zones w (take 0 ops) w
+module _ {H Part : Type 0} {h : Ghosts H Part} (zones : List (CountedZone H Part h)) where
+  pub plays-none : (ops : List Op) (w : Worker H Part h) → PerformsAll zones w (take 0 ops) w
   unfolding PerformsAll
   plays-none [] w = refl
   plays-none (op ∷ ops) w = refl
 
-  plays-snoc : (ops : List Op) (op : Op) (old now new : Worker) → PerformsAll zones old ops now → Performs zones now op new → PerformsAll zones old (ops ++ op ∷ []) new
+  plays-snoc : (ops : List Op) (op : Op) (old now new : Worker H Part h) → PerformsAll zones old ops now → Performs zones now op new → PerformsAll zones old (ops ++ op ∷ []) new
   unfolding PerformsAll
   plays-snoc [] op old now new same step =
-      let P : Worker → Type 0 = λ w. Performs zones w op new in
+      let P : Worker H Part h → Type 0 = λ w. Performs zones w op new in
       (new, subst P same step, refl)
   plays-snoc (first ∷ ops) op old now new plays step = (plays.0, plays.1, plays-snoc ops op plays.0 now new plays.2 step)
 
-  pub plays-more : (i : ℕ) (ops : List Op) (d : Op) (old now new : Worker) → i < length ops → PerformsAll zones old (take i ops) now → Performs zones now (get_or ops i d) new
+  pub plays-more : (i : ℕ) (ops : List Op) (d : Op) (old now new : Worker H Part h) → i < length ops → PerformsAll zones old (take i ops) now → Performs zones now (get_or ops i d) new
       → PerformsAll zones old (take (i + 1) ops) new
   plays-more i ops d old now new below plays step =
       let P : List Op → Type 0 = λ list. PerformsAll zones old list new in

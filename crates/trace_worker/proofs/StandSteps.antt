@@ -5,6 +5,8 @@ use Rattle.std.proofs.lemmas.Bool.Decides.{nat_tests}
 use Rattle.std.proofs.lemmas.List.{length-set, get_or-set_same, get_or-set_other}
 use Rattle.std.proofs.lemmas.Option.{slice_get_within, get_or_from_slice_get, slice_get-get_or, same_Some, none-some}
 use Rattle.std.specs.Prelude.{slice_get, slice_set, option_map}
+use Rattle.smr_clock.specs.declared.clock.Clock.{Clock}
+use Rattle.smr_clock.specs.declared.host.Host.{Ghosts}
 use Rattle.smr_core.specs.declared.phase.Phase.TheVariants.{Outside}
 use Rattle.trace_text.specs.declared.op.Op.{Op}
 use Rattle.trace_text.specs.declared.op.Op.TheVariants.{Alloc, Free, Enter, Exit, Prealloc, Bind, Unbind, Look, Trim, Drain, DrainSeat}
@@ -21,7 +23,7 @@ use Rattle.trace_worker.specs.declared.held.Held.{Held}
 use Rattle.trace_worker.specs.declared.worker.Worker.{Worker}
 use Rattle.trace_worker.specs.Hooks.{refusal_of}
 use Rattle.trace_worker.specs.Counting.{enters, is_ask, is_ask_with_arg, is_enter}
-use Rattle.trace_worker.specs.Items.{BareClock, CountedSeat, CountedZone, LiveItem}
+use Rattle.trace_worker.specs.Items.{CountedSeat, CountedZone, LiveItem}
 use Rattle.trace_worker.specs.LedgerStands.{LedgerStands}
 use Rattle.trace_worker.specs.Live.{holding}
 use Rattle.trace_worker.specs.Performs.{Allocs, Frees, FreesSlot, EntersInTime, EntersLate, Leaves, KeepsHolds, Reclaims, IsBetween, CanPerform, Performs, ask_of}
@@ -39,44 +41,45 @@ use Rattle.trace_worker.proofs.ReclaimSteps.{flushed_keeps, drained_keeps}
 use Rattle.trace_worker.proofs.SlotLemmas.{slot_at-with_same, slot_at-with_other, slot_at-emptied_same, slot_at-emptied_other, emptied_none, length-emptied, length-filled}
 use Rattle.trace_worker.proofs.SlotReading.{held-own, in_section-own, held-alloc_same, held-alloc_other, held-free_other}
 
--- ---- the seats
+module _ {H Part : Type 0} {h : Ghosts H Part} where
+  -- ---- the seats
 
--- the seat that stands at a place after one was written
-seat_same : (seats others : List CountedSeat) (z w : ℕ) (before after seat : CountedSeat) → z ≡ w → slice_get seats w ≡ Some before
-    → others ≡ slice_set seats w after → slice_get others z ≡ Some seat → after ≡ seat
-seat_same seats others z w before after seat same at is found =
-    let P : List CountedSeat → Type 0 = λ list. slice_get list z ≡ Some seat in
-    let Q : ℕ → Type 0 = λ i. slice_get (slice_set seats w after) i ≡ Some seat in
-    let here : slice_get (slice_set seats w after) w ≡ Some seat = subst Q same (subst P is found) in
-    sym (get_or-set_same seats w after after (slice_get_within seats w before at))
-    ∙ get_or_from_slice_get (slice_set seats w after) w seat after here
+  -- the seat that stands at a place after one was written
+  seat_same : (seats others : List (CountedSeat H Part h)) (z w : ℕ) (before after seat : CountedSeat H Part h) → z ≡ w → slice_get seats w ≡ Some before
+      → others ≡ slice_set seats w after → slice_get others z ≡ Some seat → after ≡ seat
+  seat_same seats others z w before after seat same at is found =
+      let P : List (CountedSeat H Part h) → Type 0 = λ list. slice_get list z ≡ Some seat in
+      let Q : ℕ → Type 0 = λ i. slice_get (slice_set seats w after) i ≡ Some seat in
+      let here : slice_get (slice_set seats w after) w ≡ Some seat = subst Q same (subst P is found) in
+      sym (get_or-set_same seats w after after (slice_get_within seats w before at))
+      ∙ get_or_from_slice_get (slice_set seats w after) w seat after here
 
-seat_other : (seats others : List CountedSeat) (z w : ℕ) (after seat : CountedSeat) → z ≢ w
-    → others ≡ slice_set seats w after → slice_get others z ≡ Some seat → slice_get seats z ≡ Some seat
-seat_other seats others z w after seat apart is found =
-    let P : List CountedSeat → Type 0 = λ list. slice_get list z ≡ Some seat in
-    let there : slice_get (slice_set seats w after) z ≡ Some seat = subst P is found in
-    let within : z < length (slice_set seats w after) = slice_get_within (slice_set seats w after) z seat there in
-    let below : z < length seats = below_as within (sym (length-set seats w after)) in
-    slice_get-get_or seats z seat below
-    ∙ ap Some (sym (get_or-set_other seats w z after seat apart) ∙ get_or_from_slice_get (slice_set seats w after) z seat seat there)
+  seat_other : (seats others : List (CountedSeat H Part h)) (z w : ℕ) (after seat : CountedSeat H Part h) → z ≢ w
+      → others ≡ slice_set seats w after → slice_get others z ≡ Some seat → slice_get seats z ≡ Some seat
+  seat_other seats others z w after seat apart is found =
+      let P : List (CountedSeat H Part h) → Type 0 = λ list. slice_get list z ≡ Some seat in
+      let there : slice_get (slice_set seats w after) z ≡ Some seat = subst P is found in
+      let within : z < length (slice_set seats w after) = slice_get_within (slice_set seats w after) z seat there in
+      let below : z < length seats = below_as within (sym (length-set seats w after)) in
+      slice_get-get_or seats z seat below
+      ∙ ap Some (sym (get_or-set_other seats w z after seat apart) ∙ get_or_from_slice_get (slice_set seats w after) z seat seat there)
 
--- What is said of each zone with its seat, where one seat is written: of this one, and of each other one as it was.
-pub zones_go : (zones : List CountedZone) (old new : List CountedSeat) (w : ℕ) (of : CountedZone) (before after : CountedSeat) (P : ℕ → CountedZone → CountedSeat → Type 0)
-    → slice_get zones w ≡ Some of → slice_get old w ≡ Some before → new ≡ slice_set old w after
-    → P w of after → ((z : ℕ) (zone : CountedZone) (seat : CountedSeat) → z ≢ w → slice_get zones z ≡ Some zone → slice_get old z ≡ Some seat → P z zone seat)
-    → (z : ℕ) (zone : CountedZone) (seat : CountedSeat) → slice_get zones z ≡ Some zone → slice_get new z ≡ Some seat → P z zone seat
-zones_go zones old new w of before after P is_zone at is here there z zone seat is_other found = elim (cases_eq z w) [
-  | inl same ↦
-      let Z : ℕ → Type 0 = λ i. slice_get zones i ≡ Some zone in
-      let of_is : of ≡ zone = same_Some of zone (sym is_zone ∙ subst Z same is_other) in
-      let after_is : after ≡ seat = seat_same old new z w before after seat same at is found in
-      let A : CountedZone → Type 0 = λ x. P w x after in
-      let B : CountedSeat → Type 0 = λ x. P w zone x in
-      let C : ℕ → Type 0 = λ i. P i zone seat in
-      subst C (sym same) (subst B after_is (subst A of_is here))
-  | inr apart ↦ there z zone seat apart is_other (seat_other old new z w after seat apart is found)
-]
+  -- What is said of each zone with its seat, where one seat is written: of this one, and of each other one as it was.
+  pub zones_go : (zones : List (CountedZone H Part h)) (old new : List (CountedSeat H Part h)) (w : ℕ) (of : CountedZone H Part h) (before after : CountedSeat H Part h) (P : ℕ → CountedZone H Part h → CountedSeat H Part h → Type 0)
+      → slice_get zones w ≡ Some of → slice_get old w ≡ Some before → new ≡ slice_set old w after
+      → P w of after → ((z : ℕ) (zone : CountedZone H Part h) (seat : CountedSeat H Part h) → z ≢ w → slice_get zones z ≡ Some zone → slice_get old z ≡ Some seat → P z zone seat)
+      → (z : ℕ) (zone : CountedZone H Part h) (seat : CountedSeat H Part h) → slice_get zones z ≡ Some zone → slice_get new z ≡ Some seat → P z zone seat
+  zones_go zones old new w of before after P is_zone at is here there z zone seat is_other found = elim (cases_eq z w) [
+    | inl same ↦
+        let Z : ℕ → Type 0 = λ i. slice_get zones i ≡ Some zone in
+        let of_is : of ≡ zone = same_Some of zone (sym is_zone ∙ subst Z same is_other) in
+        let after_is : after ≡ seat = seat_same old new z w before after seat same at is found in
+        let A : CountedZone H Part h → Type 0 = λ x. P w x after in
+        let B : CountedSeat H Part h → Type 0 = λ x. P w zone x in
+        let C : ℕ → Type 0 = λ i. P i zone seat in
+        subst C (sym same) (subst B after_is (subst A of_is here))
+    | inr apart ↦ there z zone seat apart is_other (seat_other old new z w after seat apart is found)
+  ]
 
 -- ---- a request
 
@@ -94,33 +97,34 @@ refused_some arg code refuses = elim (cases_eq arg 0) [
   | inr some ↦ (omega arith, grind (arith, nat_tests))
 ]
 
--- the ledger of a refused request
-ledger_refused : (zone : CountedZone) (n z slot arg : ℕ) (reserve : Bool) (lines : List Line) (before after : CountedSeat) (why : Refusal)
-    → Refuses zone (ask_of arg reserve) before after (Refused why)
-    → LedgerStands (NamesZone zone) n z lines (ledger_of before)
-    → LedgerStands (NamesZone zone) n z (Does n (Alloc z slot arg reserve) ∷ lines) (ledger_of after)
-ledger_refused zone n z slot arg reserve lines before after (Ctor code) refuses stands =
-    let some = refused_some arg code refuses.refused in
-    let P : ℕ → Type 0 = λ c. CountsCtor (ledger_of before) (ledger_of after) c in
-    LedgerStands-dropped (NamesZone zone) n z slot arg reserve lines (ledger_of before) (ledger_of after) some.0 (subst P some.1 refuses.counted) stands
-ledger_refused zone n z slot arg reserve lines before after (AtLimit out limit) refuses stands =
-    LedgerStands-turned (NamesZone zone) n z slot arg reserve lines (ledger_of before) (ledger_of after) (AtLimit out limit) refl (reserve, refuses.names) refuses.counted stands
-ledger_refused zone n z slot arg reserve lines before after (Reserved free kept) refuses stands =
-    LedgerStands-turned (NamesZone zone) n z slot arg reserve lines (ledger_of before) (ledger_of after) (Reserved free kept) refl (reserve, refuses.names) refuses.counted stands
-ledger_refused zone n z slot arg reserve lines before after (Full slabs made) refuses stands =
-    LedgerStands-turned (NamesZone zone) n z slot arg reserve lines (ledger_of before) (ledger_of after) (Full slabs made) refl (reserve, refuses.names) refuses.counted stands
-ledger_refused zone n z slot arg reserve lines before after (Init code) refuses stands =
-    LedgerStands-turned (NamesZone zone) n z slot arg reserve lines (ledger_of before) (ledger_of after) (Init code) refl (reserve, refuses.names) refuses.counted stands
+module _ {H Part : Type 0} {h : Ghosts H Part} where
+  -- the ledger of a refused request
+  ledger_refused : (zone : CountedZone H Part h) (n z slot arg : ℕ) (reserve : Bool) (lines : List Line) (before after : CountedSeat H Part h) (why : Refusal)
+      → Refuses zone (ask_of arg reserve) before after (Refused why)
+      → LedgerStands (NamesZone zone) n z lines (ledger_of before)
+      → LedgerStands (NamesZone zone) n z (Does n (Alloc z slot arg reserve) ∷ lines) (ledger_of after)
+  ledger_refused zone n z slot arg reserve lines before after (Ctor code) refuses stands =
+      let some = refused_some arg code refuses.refused in
+      let P : ℕ → Type 0 = λ c. CountsCtor (ledger_of before) (ledger_of after) c in
+      LedgerStands-dropped (NamesZone zone) n z slot arg reserve lines (ledger_of before) (ledger_of after) some.0 (subst P some.1 refuses.counted) stands
+  ledger_refused zone n z slot arg reserve lines before after (AtLimit out limit) refuses stands =
+      LedgerStands-turned (NamesZone zone) n z slot arg reserve lines (ledger_of before) (ledger_of after) (AtLimit out limit) refl (reserve, refuses.names) refuses.counted stands
+  ledger_refused zone n z slot arg reserve lines before after (Reserved free kept) refuses stands =
+      LedgerStands-turned (NamesZone zone) n z slot arg reserve lines (ledger_of before) (ledger_of after) (Reserved free kept) refl (reserve, refuses.names) refuses.counted stands
+  ledger_refused zone n z slot arg reserve lines before after (Full slabs made) refuses stands =
+      LedgerStands-turned (NamesZone zone) n z slot arg reserve lines (ledger_of before) (ledger_of after) (Full slabs made) refl (reserve, refuses.names) refuses.counted stands
+  ledger_refused zone n z slot arg reserve lines before after (Init code) refuses stands =
+      LedgerStands-turned (NamesZone zone) n z slot arg reserve lines (ledger_of before) (ledger_of after) (Init code) refl (reserve, refuses.names) refuses.counted stands
 
--- the ledger of a request, however it ended
-ledger_ends : (zone : CountedZone) (n z slot arg : ℕ) (reserve : Bool) (lines : List Line) (before after : CountedSeat) (got : Option LiveItem) → arg ≤ 254
-    → Ends zone (ask_of arg reserve) before got after
-    → LedgerStands (NamesZone zone) n z lines (ledger_of before)
-    → LedgerStands (NamesZone zone) n z (Does n (Alloc z slot arg reserve) ∷ lines) (ledger_of after)
-ledger_ends zone n z slot arg reserve lines before after (Some item) few ends stands =
-    LedgerStands-served (NamesZone zone) n z slot arg reserve lines (ledger_of before) (ledger_of after) (accepted_zero arg few ends.0.built.accepted) ends.0.counted stands
-ledger_ends zone n z slot arg reserve lines before after None few ends stands =
-    ledger_refused zone n z slot arg reserve lines before after ends.0 ends.1 stands
+  -- the ledger of a request, however it ended
+  ledger_ends : (zone : CountedZone H Part h) (n z slot arg : ℕ) (reserve : Bool) (lines : List Line) (before after : CountedSeat H Part h) (got : Option LiveItem) → arg ≤ 254
+      → Ends zone (ask_of arg reserve) before got after
+      → LedgerStands (NamesZone zone) n z lines (ledger_of before)
+      → LedgerStands (NamesZone zone) n z (Does n (Alloc z slot arg reserve) ∷ lines) (ledger_of after)
+  ledger_ends zone n z slot arg reserve lines before after (Some item) few ends stands =
+      LedgerStands-served (NamesZone zone) n z slot arg reserve lines (ledger_of before) (ledger_of after) (accepted_zero arg few ends.0.built.accepted) ends.0.counted stands
+  ledger_ends zone n z slot arg reserve lines before after None few ends stands =
+      ledger_refused zone n z slot arg reserve lines before after ends.0 ends.1 stands
 
 -- ---- the slots
 
@@ -158,193 +162,196 @@ reads_quiet : (n : ℕ) (op : Op) (lines : List Line) (slots : List (Option Held
     → ReadsAs n lines slots → ReadsAs n (Does n op ∷ lines) slots
 reads_quiet n op lines slots quiet reads at it found = held-own lines n at op ∙ (quiet at (held lines n at) ∙ reads at it found)
 
--- ---- the lines, by their kinds
+module _ {H Part : Type 0} {h : Ghosts H Part} where
+  -- ---- the lines, by their kinds
 
-between_same : (old new : Worker) → phase_of new ≡ phase_of old → IsBetween old → IsBetween new
-between_same old new same (inl out) = inl (same ∙ out)
-between_same old new same (inr inside) = inr (same ∙ inside)
+  between_same : (old new : Worker H Part h) → phase_of new ≡ phase_of old → IsBetween old → IsBetween new
+  between_same old new same (inl out) = inl (same ∙ out)
+  between_same old new same (inr inside) = inr (same ∙ inside)
 
 -- a line that is no enter
 enters_quiet : (n : ℕ) (op : Op) (lines : List Line) → is_enter n (Does n op) ≡ false → enters n (Does n op ∷ lines) ≡ enters n lines
 enters_quiet n op lines no_enter = enters-more n (Does n op) lines ∙ (ap (λ b. enters n lines + cond b 1 0) no_enter ∙ add-zero (enters n lines))
 
-pub stands_alloc : (zones : List CountedZone) (clock : BareClock) (n z slot arg : ℕ) (reserve : Bool) (lines : List Line) (old new : Worker) → arg ≤ 254 → slot_at old.slots slot ≡ None → slot ≤ 65535
-    → Allocs zones old z slot (ask_of arg reserve) new → Stands zones clock n lines old → Stands zones clock n (Does n (Alloc z slot arg reserve) ∷ lines) new
-stands_alloc zones clock n z slot arg reserve lines old new few empty within step stands =
-    let op : Op = Alloc z slot arg reserve in
-    let P : ℕ → CountedZone → CountedSeat → Type 0 = λ i zone seat. LedgerStands (NamesZone zone) n i (Does n op ∷ lines) (ledger_of seat) in
-    let Q : List (Option Held) → Type 0 = ReadsAs n (Does n op ∷ lines) in
-    record {
-      ledgers = zones_go zones old.seats.items new.seats.items z step.of step.before step.after P step.is_zone step.at step.seats
-          (ledger_ends step.of n z slot arg reserve lines step.before step.after step.got few step.requests.ends (stands.ledgers z step.of step.before step.is_zone step.at))
-          (λ i zone seat apart is_zone at. LedgerStands-other_zone (NamesZone zone) n i z slot arg reserve lines (ledger_of seat) (λ e. apart (sym e)) (stands.ledgers i zone seat is_zone at));
-      filled = subst Q (sym step.slots) (reads_alloc n z slot arg reserve lines old.slots step.got empty stands.filled);
-      few = few_as (ap length step.slots) (length-filled old.slots slot 65536 (option_map (holding z) step.got) stands.few (below_next within));
-      outside = λ closed. step.section.phase ∙ stands.outside (sym (in_section-own lines n op) ∙ closed);
-      between = between_same old new step.section.phase stands.between;
-      enters_add_up = sum_same step.section.entered step.section.late stands.enters_add_up (enters_quiet n op lines refl);
-      begun = le_trans stands.begun step.section.seen;
-      overtaken = λ some. le_trans (stands.overtaken (still_some step.section.late some)) step.section.seen;
-    }
+module _ {H Part : Type 0} {h : Ghosts H Part} where
+  pub stands_alloc : (zones : List (CountedZone H Part h)) (clock : Clock H Part) (n z slot arg : ℕ) (reserve : Bool) (lines : List Line) (old new : Worker H Part h) → arg ≤ 254 → slot_at old.slots slot ≡ None → slot ≤ 65535
+      → Allocs zones old z slot (ask_of arg reserve) new → Stands zones clock n lines old → Stands zones clock n (Does n (Alloc z slot arg reserve) ∷ lines) new
+  stands_alloc zones clock n z slot arg reserve lines old new few empty within step stands =
+      let op : Op = Alloc z slot arg reserve in
+      let P : ℕ → CountedZone H Part h → CountedSeat H Part h → Type 0 = λ i zone seat. LedgerStands (NamesZone zone) n i (Does n op ∷ lines) (ledger_of seat) in
+      let Q : List (Option Held) → Type 0 = ReadsAs n (Does n op ∷ lines) in
+      record {
+        ledgers = zones_go zones old.seats.items new.seats.items z step.of step.before step.after P step.is_zone step.at step.seats
+            (ledger_ends step.of n z slot arg reserve lines step.before step.after step.got few step.requests.ends (stands.ledgers z step.of step.before step.is_zone step.at))
+            (λ i zone seat apart is_zone at. LedgerStands-other_zone (NamesZone zone) n i z slot arg reserve lines (ledger_of seat) (λ e. apart (sym e)) (stands.ledgers i zone seat is_zone at));
+        filled = subst Q (sym step.slots) (reads_alloc n z slot arg reserve lines old.slots step.got empty stands.filled);
+        few = few_as (ap length step.slots) (length-filled old.slots slot 65536 (option_map (holding z) step.got) stands.few (below_next within));
+        outside = λ closed. step.section.phase ∙ stands.outside (sym (in_section-own lines n op) ∙ closed);
+        between = between_same old new step.section.phase stands.between;
+        enters_add_up = sum_same step.section.entered step.section.late stands.enters_add_up (enters_quiet n op lines refl);
+        begun = le_trans stands.begun step.section.seen;
+        overtaken = λ some. le_trans (stands.overtaken (still_some step.section.late some)) step.section.seen;
+      }
 
--- what a slot holds is freed
-stands_freed : (zones : List CountedZone) (clock : BareClock) (n slot : ℕ) (it : Held) (lines : List Line) (old new : Worker) → Frees zones old slot it new
-    → Stands zones clock n lines old → Stands zones clock n (Does n (Free slot) ∷ lines) new
-stands_freed zones clock n slot it lines old new step stands =
-    let op : Op = Free slot in
-    let P : ℕ → CountedZone → CountedSeat → Type 0 = λ i zone seat. LedgerStands (NamesZone zone) n i (Does n op ∷ lines) (ledger_of seat) in
-    let Q : List (Option Held) → Type 0 = ReadsAs n (Does n op ∷ lines) in
-    let R : SeatLedger → Type 0 = LedgerStands (NamesZone step.of) n it.zone lines in
-    let ready_is : ledger_of step.gives_back.ready ≡ ledger_of step.before = ap (λ c. c.ledger) step.gives_back.made.counts in
-    let was : LedgerStands (NamesZone step.of) n it.zone lines (ledger_of step.gives_back.ready) =
-    subst R (sym ready_is) (stands.ledgers it.zone step.of step.before step.is_zone step.at) in
-    record {
-      ledgers = zones_go zones old.seats.items new.seats.items it.zone step.of step.before step.after P step.is_zone step.at step.seats
-          (LedgerStands-freed (NamesZone step.of) n it.zone slot lines (ledger_of step.gives_back.ready) (ledger_of step.after) _ (stands.filled slot it step.holds) step.gives_back.released.counted was)
-          (λ i zone seat apart is_zone at. LedgerStands-other (NamesZone zone) n i lines (Does n op) (ledger_of seat) refl refl (stands.ledgers i zone seat is_zone at));
-      filled = subst Q (sym step.slots) (reads_free n slot lines old.slots stands.filled);
-      few = few_as (ap length step.slots ∙ length-emptied old.slots slot) stands.few;
-      outside = λ closed. step.section.phase ∙ stands.outside (sym (in_section-own lines n op) ∙ closed);
-      between = between_same old new step.section.phase stands.between;
-      enters_add_up = sum_same step.section.entered step.section.late stands.enters_add_up (enters_quiet n op lines refl);
-      begun = le_trans stands.begun step.section.seen;
-      overtaken = λ some. le_trans (stands.overtaken (still_some step.section.late some)) step.section.seen;
-    }
+  -- what a slot holds is freed
+  stands_freed : (zones : List (CountedZone H Part h)) (clock : Clock H Part) (n slot : ℕ) (it : Held) (lines : List Line) (old new : Worker H Part h) → Frees zones old slot it new
+      → Stands zones clock n lines old → Stands zones clock n (Does n (Free slot) ∷ lines) new
+  stands_freed zones clock n slot it lines old new step stands =
+      let op : Op = Free slot in
+      let P : ℕ → CountedZone H Part h → CountedSeat H Part h → Type 0 = λ i zone seat. LedgerStands (NamesZone zone) n i (Does n op ∷ lines) (ledger_of seat) in
+      let Q : List (Option Held) → Type 0 = ReadsAs n (Does n op ∷ lines) in
+      let R : SeatLedger → Type 0 = LedgerStands (NamesZone step.of) n it.zone lines in
+      let ready_is : ledger_of step.gives_back.ready ≡ ledger_of step.before = ap (λ c. c.ledger) step.gives_back.made.counts in
+      let was : LedgerStands (NamesZone step.of) n it.zone lines (ledger_of step.gives_back.ready) =
+      subst R (sym ready_is) (stands.ledgers it.zone step.of step.before step.is_zone step.at) in
+      record {
+        ledgers = zones_go zones old.seats.items new.seats.items it.zone step.of step.before step.after P step.is_zone step.at step.seats
+            (LedgerStands-freed (NamesZone step.of) n it.zone slot lines (ledger_of step.gives_back.ready) (ledger_of step.after) _ (stands.filled slot it step.holds) step.gives_back.released.counted was)
+            (λ i zone seat apart is_zone at. LedgerStands-other (NamesZone zone) n i lines (Does n op) (ledger_of seat) refl refl (stands.ledgers i zone seat is_zone at));
+        filled = subst Q (sym step.slots) (reads_free n slot lines old.slots stands.filled);
+        few = few_as (ap length step.slots ∙ length-emptied old.slots slot) stands.few;
+        outside = λ closed. step.section.phase ∙ stands.outside (sym (in_section-own lines n op) ∙ closed);
+        between = between_same old new step.section.phase stands.between;
+        enters_add_up = sum_same step.section.entered step.section.late stands.enters_add_up (enters_quiet n op lines refl);
+        begun = le_trans stands.begun step.section.seen;
+        overtaken = λ some. le_trans (stands.overtaken (still_some step.section.late some)) step.section.seen;
+      }
 
--- a line that leaves the worker as it is
-stands_same : (zones : List CountedZone) (clock : BareClock) (n : ℕ) (op : Op) (lines : List Line) (old : Worker) → ((z : ℕ) → is_ask n z (Does n op) ≡ false) → ((z : ℕ) → is_ask_with_arg n z (Does n op) ≡ false)
-    → ReadsAs n (Does n op ∷ lines) old.slots → in_section (Does n op ∷ lines) n ≡ in_section lines n → is_enter n (Does n op) ≡ false
-    → Stands zones clock n lines old → Stands zones clock n (Does n op ∷ lines) old
-stands_same zones clock n op lines old no_ask no_arg reads same_section no_enter stands = record {
-  ledgers = λ i zone seat is_zone at. LedgerStands-other (NamesZone zone) n i lines (Does n op) (ledger_of seat) (no_ask i) (no_arg i) (stands.ledgers i zone seat is_zone at);
-  filled = reads;
-  few = stands.few;
-  outside = λ closed. stands.outside (sym same_section ∙ closed);
-  between = stands.between;
-  enters_add_up = sum_kept old.entered old.late stands.enters_add_up (enters_quiet n op lines no_enter);
-  begun = stands.begun;
-  overtaken = stands.overtaken;
-}
+  -- a line that leaves the worker as it is
+  stands_same : (zones : List (CountedZone H Part h)) (clock : Clock H Part) (n : ℕ) (op : Op) (lines : List Line) (old : Worker H Part h) → ((z : ℕ) → is_ask n z (Does n op) ≡ false) → ((z : ℕ) → is_ask_with_arg n z (Does n op) ≡ false)
+      → ReadsAs n (Does n op ∷ lines) old.slots → in_section (Does n op ∷ lines) n ≡ in_section lines n → is_enter n (Does n op) ≡ false
+      → Stands zones clock n lines old → Stands zones clock n (Does n op ∷ lines) old
+  stands_same zones clock n op lines old no_ask no_arg reads same_section no_enter stands = record {
+    ledgers = λ i zone seat is_zone at. LedgerStands-other (NamesZone zone) n i lines (Does n op) (ledger_of seat) (no_ask i) (no_arg i) (stands.ledgers i zone seat is_zone at);
+    filled = reads;
+    few = stands.few;
+    outside = λ closed. stands.outside (sym same_section ∙ closed);
+    between = stands.between;
+    enters_add_up = sum_kept old.entered old.late stands.enters_add_up (enters_quiet n op lines no_enter);
+    begun = stands.begun;
+    overtaken = stands.overtaken;
+  }
 
-pub stands_free : (zones : List CountedZone) (clock : BareClock) (n slot : ℕ) (lines : List Line) (old new : Worker) → FreesSlot zones old slot new
-    → Stands zones clock n lines old → Stands zones clock n (Does n (Free slot) ∷ lines) new
-stands_free zones clock n slot lines old new (inl freed) stands = stands_freed zones clock n slot freed.0 lines old new freed.1 stands
-stands_free zones clock n slot lines old new (inr nothing) stands =
-    let P : Worker → Type 0 = Stands zones clock n (Does n (Free slot) ∷ lines) in
-    let Q : List (Option Held) → Type 0 = ReadsAs n (Does n (Free slot) ∷ lines) in
-    subst P (sym nothing.1)
-    (stands_same zones clock n (Free slot) lines old (λ z. refl) (λ z. refl)
-    (subst Q (emptied_none old.slots slot nothing.0) (reads_free n slot lines old.slots stands.filled))
-    (in_section-own lines n (Free slot)) refl stands)
+  pub stands_free : (zones : List (CountedZone H Part h)) (clock : Clock H Part) (n slot : ℕ) (lines : List Line) (old new : Worker H Part h) → FreesSlot zones old slot new
+      → Stands zones clock n lines old → Stands zones clock n (Does n (Free slot) ∷ lines) new
+  stands_free zones clock n slot lines old new (inl freed) stands = stands_freed zones clock n slot freed.0 lines old new freed.1 stands
+  stands_free zones clock n slot lines old new (inr nothing) stands =
+      let P : Worker H Part h → Type 0 = Stands zones clock n (Does n (Free slot) ∷ lines) in
+      let Q : List (Option Held) → Type 0 = ReadsAs n (Does n (Free slot) ∷ lines) in
+      subst P (sym nothing.1)
+      (stands_same zones clock n (Free slot) lines old (λ z. refl) (λ z. refl)
+      (subst Q (emptied_none old.slots slot nothing.0) (reads_free n slot lines old.slots stands.filled))
+      (in_section-own lines n (Free slot)) refl stands)
 
--- a line that changes only the section
-stands_section : (zones : List CountedZone) (clock : BareClock) (n : ℕ) (op : Op) (lines : List Line) (old new : Worker) → ((z : ℕ) → is_ask n z (Does n op) ≡ false) → ((z : ℕ) → is_ask_with_arg n z (Does n op) ≡ false)
-    → ((slot : ℕ) (o : Option ℕ) → held_after op slot o ≡ o) → KeepsHolds old new
-    → (in_section (Does n op ∷ lines) n ≡ false → phase_of new ≡ Outside) → IsBetween new → new.entered + new.late ≡ enters n (Does n op ∷ lines)
-    → seen_of old ≤ seen_of new → (0 < new.late → (setup_of clock).about.start + (setup_of clock).about.window ≤ seen_of new)
-    → Stands zones clock n lines old → Stands zones clock n (Does n op ∷ lines) new
-stands_section zones clock n op lines old new no_ask no_arg quiet holds outside between add_up seen overtaken stands = record {
-  ledgers = λ i zone seat is_zone at.
-      let S : List CountedSeat → Type 0 = λ list. slice_get list i ≡ Some seat in
-      LedgerStands-other (NamesZone zone) n i lines (Does n op) (ledger_of seat) (no_ask i) (no_arg i) (stands.ledgers i zone seat is_zone (subst S (ap (λ v. v.items) holds.seats) at));
-  filled = let Q : List (Option Held) → Type 0 = ReadsAs n (Does n op ∷ lines) in subst Q (sym holds.slots) (reads_quiet n op lines old.slots quiet stands.filled);
-  few = few_as (ap length holds.slots) stands.few;
-  outside = outside;
-  between = between;
-  enters_add_up = add_up;
-  begun = le_trans stands.begun seen;
-  overtaken = overtaken;
-}
+  -- a line that changes only the section
+  stands_section : (zones : List (CountedZone H Part h)) (clock : Clock H Part) (n : ℕ) (op : Op) (lines : List Line) (old new : Worker H Part h) → ((z : ℕ) → is_ask n z (Does n op) ≡ false) → ((z : ℕ) → is_ask_with_arg n z (Does n op) ≡ false)
+      → ((slot : ℕ) (o : Option ℕ) → held_after op slot o ≡ o) → KeepsHolds old new
+      → (in_section (Does n op ∷ lines) n ≡ false → phase_of new ≡ Outside) → IsBetween new → new.entered + new.late ≡ enters n (Does n op ∷ lines)
+      → seen_of old ≤ seen_of new → (0 < new.late → (setup_of clock).about.start + (setup_of clock).about.window ≤ seen_of new)
+      → Stands zones clock n lines old → Stands zones clock n (Does n op ∷ lines) new
+  stands_section zones clock n op lines old new no_ask no_arg quiet holds outside between add_up seen overtaken stands = record {
+    ledgers = λ i zone seat is_zone at.
+        let S : List (CountedSeat H Part h) → Type 0 = λ list. slice_get list i ≡ Some seat in
+        LedgerStands-other (NamesZone zone) n i lines (Does n op) (ledger_of seat) (no_ask i) (no_arg i) (stands.ledgers i zone seat is_zone (subst S (ap (λ v. v.items) holds.seats) at));
+    filled = let Q : List (Option Held) → Type 0 = ReadsAs n (Does n op ∷ lines) in subst Q (sym holds.slots) (reads_quiet n op lines old.slots quiet stands.filled);
+    few = few_as (ap length holds.slots) stands.few;
+    outside = outside;
+    between = between;
+    enters_add_up = add_up;
+    begun = le_trans stands.begun seen;
+    overtaken = overtaken;
+  }
 
 -- the count of enters with one more
 one_more : (n : ℕ) (lines : List Line) → enters n (Does n Enter ∷ lines) ≡ enters n lines + 1
 one_more n lines = enters-more n (Does n Enter) lines ∙ ap (λ b. enters n lines + cond b 1 0) (is_enter-own n)
 
--- a pass whose enter was late has seen the write hand the window or more above where it began
-late_far : (clock : BareClock) (old new : Worker) → IsOf clock old.pass → EntersLate old new → (setup_of clock).about.start ≤ seen_of old
-    → (setup_of clock).about.start + (setup_of clock).about.window ≤ seen_of new
-late_far clock old new of step begun =
-    let setup_is : (view old.pass).setup ≡ setup_of clock = ap (λ i. i.1) of in
-    let P : Setup → Type 0 = λ s. s.about.window ≤ step.overtaken.found - step.overtaken.loaded in
-    far_above begun step.misses.first.not_lower (step.misses.third.found.in_enter refl) (subst P setup_is step.misses.third.late) step.misses.third.seen
+module _ {H Part : Type 0} {h : Ghosts H Part} where
+  -- a pass whose enter was late has seen the write hand the window or more above where it began
+  late_far : (clock : Clock H Part) (old new : Worker H Part h) → IsOf clock old.pass → EntersLate old new → (setup_of clock).about.start ≤ seen_of old
+      → (setup_of clock).about.start + (setup_of clock).about.window ≤ seen_of new
+  late_far clock old new of step begun =
+      let setup_is : (view old.pass).setup ≡ setup_of clock = ap (λ i. i.1) of in
+      let P : Setup → Type 0 = λ s. s.about.window ≤ step.overtaken.found - step.overtaken.loaded in
+      far_above begun step.misses.first.not_lower (step.misses.third.found.in_enter refl) (subst P setup_is step.misses.third.late) step.misses.third.seen
 
-pub stands_enter : (zones : List CountedZone) (clock : BareClock) (n : ℕ) (lines : List Line) (old new : Worker) → IsOf clock old.pass → EntersInTime old new ⊎ EntersLate old new
-    → Stands zones clock n lines old → Stands zones clock n (Does n Enter ∷ lines) new
-stands_enter zones clock n lines old new of (inl step) stands =
-    stands_section zones clock n Enter lines old new (λ z. refl) (λ z. refl) (λ slot o. refl) step.holds
-    (λ closed. absurd (true≢false (sym (in_section-own lines n Enter) ∙ closed)))
-    (inr step.phase)
-    (sum_first old.entered step.entered step.late stands.enters_add_up (one_more n lines))
-    step.seen (λ some. le_trans (stands.overtaken (still_some step.late some)) step.seen) stands
-stands_enter zones clock n lines old new of (inr step) stands =
-    stands_section zones clock n Enter lines old new (λ z. refl) (λ z. refl) (λ slot o. refl) step.holds
-    (λ closed. step.phase) (inl step.phase)
-    (sum_second old.late step.entered step.late stands.enters_add_up (one_more n lines))
-    step.seen (λ some. late_far clock old new of step stands.begun) stands
+  pub stands_enter : (zones : List (CountedZone H Part h)) (clock : Clock H Part) (n : ℕ) (lines : List Line) (old new : Worker H Part h) → IsOf clock old.pass → EntersInTime old new ⊎ EntersLate old new
+      → Stands zones clock n lines old → Stands zones clock n (Does n Enter ∷ lines) new
+  stands_enter zones clock n lines old new of (inl step) stands =
+      stands_section zones clock n Enter lines old new (λ z. refl) (λ z. refl) (λ slot o. refl) step.holds
+      (λ closed. absurd (true≢false (sym (in_section-own lines n Enter) ∙ closed)))
+      (inr step.phase)
+      (sum_first old.entered step.entered step.late stands.enters_add_up (one_more n lines))
+      step.seen (λ some. le_trans (stands.overtaken (still_some step.late some)) step.seen) stands
+  stands_enter zones clock n lines old new of (inr step) stands =
+      stands_section zones clock n Enter lines old new (λ z. refl) (λ z. refl) (λ slot o. refl) step.holds
+      (λ closed. step.phase) (inl step.phase)
+      (sum_second old.late step.entered step.late stands.enters_add_up (one_more n lines))
+      step.seen (λ some. late_far clock old new of step stands.begun) stands
 
-pub stands_exit : (zones : List CountedZone) (clock : BareClock) (n : ℕ) (lines : List Line) (old new : Worker) → Leaves old new
-    → Stands zones clock n lines old → Stands zones clock n (Does n Exit ∷ lines) new
-stands_exit zones clock n lines old new step stands =
-    stands_section zones clock n Exit lines old new (λ z. refl) (λ z. refl) (λ slot o. refl) step.holds
-    (λ closed. step.phase) (inl step.phase)
-    (sum_same step.entered step.late stands.enters_add_up (enters_quiet n Exit lines refl))
-    step.seen (λ some. le_trans (stands.overtaken (still_some step.late some)) step.seen) stands
+  pub stands_exit : (zones : List (CountedZone H Part h)) (clock : Clock H Part) (n : ℕ) (lines : List Line) (old new : Worker H Part h) → Leaves old new
+      → Stands zones clock n lines old → Stands zones clock n (Does n Exit ∷ lines) new
+  stands_exit zones clock n lines old new step stands =
+      stands_section zones clock n Exit lines old new (λ z. refl) (λ z. refl) (λ slot o. refl) step.holds
+      (λ closed. step.phase) (inl step.phase)
+      (sum_same step.entered step.late stands.enters_add_up (enters_quiet n Exit lines refl))
+      step.seen (λ some. le_trans (stands.overtaken (still_some step.late some)) step.seen) stands
 
-pub stands_prealloc : (zones : List CountedZone) (clock : BareClock) (n zone items : ℕ) (lines : List Line) (old : Worker) → Stands zones clock n lines old → Stands zones clock n (Does n (Prealloc zone items) ∷ lines) old
-stands_prealloc zones clock n zone items lines old stands =
-    stands_same zones clock n (Prealloc zone items) lines old (λ z. refl) (λ z. refl)
-    (reads_quiet n (Prealloc zone items) lines old.slots (λ slot o. refl) stands.filled)
-    (in_section-own lines n (Prealloc zone items)) refl stands
+  pub stands_prealloc : (zones : List (CountedZone H Part h)) (clock : Clock H Part) (n zone items : ℕ) (lines : List Line) (old : Worker H Part h) → Stands zones clock n lines old → Stands zones clock n (Does n (Prealloc zone items) ∷ lines) old
+  stands_prealloc zones clock n zone items lines old stands =
+      stands_same zones clock n (Prealloc zone items) lines old (λ z. refl) (λ z. refl)
+      (reads_quiet n (Prealloc zone items) lines old.slots (λ slot o. refl) stands.filled)
+      (in_section-own lines n (Prealloc zone items)) refl stands
 
--- a line of reclaim, which leaves the ledger of its seat
-stands_reclaim : (zones : List CountedZone) (clock : BareClock) (n : ℕ) (op : Op) (z : ℕ) (lines : List Line) (old new : Worker) → ((i : ℕ) → is_ask n i (Does n op) ≡ false) → ((i : ℕ) → is_ask_with_arg n i (Does n op) ≡ false)
-    → ((slot : ℕ) (o : Option ℕ) → held_after op slot o ≡ o) → in_section (Does n op ∷ lines) n ≡ in_section lines n → is_enter n (Does n op) ≡ false
-    → Reclaims zones KeepsSeat old z new → Stands zones clock n lines old → Stands zones clock n (Does n op ∷ lines) new
-stands_reclaim zones clock n op z lines old new no_ask no_arg quiet same_section no_enter step stands =
-    let P : ℕ → CountedZone → CountedSeat → Type 0 = λ i zone seat. LedgerStands (NamesZone zone) n i (Does n op ∷ lines) (ledger_of seat) in
-    let Q : List (Option Held) → Type 0 = ReadsAs n (Does n op ∷ lines) in
-    let R : SeatLedger → Type 0 = LedgerStands (NamesZone step.of) n z lines in
-    let ledger_is : ledger_of step.after ≡ ledger_of step.before = ap (λ c. c.ledger) step.leaves.counts in
-    let was : LedgerStands (NamesZone step.of) n z lines (ledger_of step.after) = subst R (sym ledger_is) (stands.ledgers z step.of step.before step.is_zone step.at) in
-    record {
-      ledgers = zones_go zones old.seats.items new.seats.items z step.of step.before step.after P step.is_zone step.at step.seats
-          (LedgerStands-other (NamesZone step.of) n z lines (Does n op) (ledger_of step.after) (no_ask z) (no_arg z) was)
-          (λ i zone seat apart is_zone at. LedgerStands-other (NamesZone zone) n i lines (Does n op) (ledger_of seat) (no_ask i) (no_arg i) (stands.ledgers i zone seat is_zone at));
-      filled = subst Q (sym step.slots) (reads_quiet n op lines old.slots quiet stands.filled);
-      few = few_as (ap length step.slots) stands.few;
-      outside = λ closed. step.section.phase ∙ stands.outside (sym same_section ∙ closed);
-      between = between_same old new step.section.phase stands.between;
-      enters_add_up = sum_same step.section.entered step.section.late stands.enters_add_up (enters_quiet n op lines no_enter);
-      begun = le_trans stands.begun step.section.seen;
-      overtaken = λ some. le_trans (stands.overtaken (still_some step.section.late some)) step.section.seen;
-    }
+  -- a line of reclaim, which leaves the ledger of its seat
+  stands_reclaim : (zones : List (CountedZone H Part h)) (clock : Clock H Part) (n : ℕ) (op : Op) (z : ℕ) (lines : List Line) (old new : Worker H Part h) → ((i : ℕ) → is_ask n i (Does n op) ≡ false) → ((i : ℕ) → is_ask_with_arg n i (Does n op) ≡ false)
+      → ((slot : ℕ) (o : Option ℕ) → held_after op slot o ≡ o) → in_section (Does n op ∷ lines) n ≡ in_section lines n → is_enter n (Does n op) ≡ false
+      → Reclaims zones KeepsSeat old z new → Stands zones clock n lines old → Stands zones clock n (Does n op ∷ lines) new
+  stands_reclaim zones clock n op z lines old new no_ask no_arg quiet same_section no_enter step stands =
+      let P : ℕ → CountedZone H Part h → CountedSeat H Part h → Type 0 = λ i zone seat. LedgerStands (NamesZone zone) n i (Does n op ∷ lines) (ledger_of seat) in
+      let Q : List (Option Held) → Type 0 = ReadsAs n (Does n op ∷ lines) in
+      let R : SeatLedger → Type 0 = LedgerStands (NamesZone step.of) n z lines in
+      let ledger_is : ledger_of step.after ≡ ledger_of step.before = ap (λ c. c.ledger) step.leaves.counts in
+      let was : LedgerStands (NamesZone step.of) n z lines (ledger_of step.after) = subst R (sym ledger_is) (stands.ledgers z step.of step.before step.is_zone step.at) in
+      record {
+        ledgers = zones_go zones old.seats.items new.seats.items z step.of step.before step.after P step.is_zone step.at step.seats
+            (LedgerStands-other (NamesZone step.of) n z lines (Does n op) (ledger_of step.after) (no_ask z) (no_arg z) was)
+            (λ i zone seat apart is_zone at. LedgerStands-other (NamesZone zone) n i lines (Does n op) (ledger_of seat) (no_ask i) (no_arg i) (stands.ledgers i zone seat is_zone at));
+        filled = subst Q (sym step.slots) (reads_quiet n op lines old.slots quiet stands.filled);
+        few = few_as (ap length step.slots) stands.few;
+        outside = λ closed. step.section.phase ∙ stands.outside (sym same_section ∙ closed);
+        between = between_same old new step.section.phase stands.between;
+        enters_add_up = sum_same step.section.entered step.section.late stands.enters_add_up (enters_quiet n op lines no_enter);
+        begun = le_trans stands.begun step.section.seen;
+        overtaken = λ some. le_trans (stands.overtaken (still_some step.section.late some)) step.section.seen;
+      }
 
-pub stands_trim : (zones : List CountedZone) (clock : BareClock) (n z : ℕ) (lines : List Line) (old new : Worker) → Reclaims zones KeepsSeat old z new → Stands zones clock n lines old → Stands zones clock n (Does n (Trim z) ∷ lines) new
-stands_trim zones clock n z lines old new step stands =
-    stands_reclaim zones clock n (Trim z) z lines old new (λ i. refl) (λ i. refl) (λ slot o. refl) (in_section-own lines n (Trim z)) refl step stands
+  pub stands_trim : (zones : List (CountedZone H Part h)) (clock : Clock H Part) (n z : ℕ) (lines : List Line) (old new : Worker H Part h) → Reclaims zones KeepsSeat old z new → Stands zones clock n lines old → Stands zones clock n (Does n (Trim z) ∷ lines) new
+  stands_trim zones clock n z lines old new step stands =
+      stands_reclaim zones clock n (Trim z) z lines old new (λ i. refl) (λ i. refl) (λ slot o. refl) (in_section-own lines n (Trim z)) refl step stands
 
-pub stands_drain : (zones : List CountedZone) (clock : BareClock) (n z : ℕ) (lines : List Line) (old new : Worker) → Reclaims zones KeepsSeat old z new → Stands zones clock n lines old → Stands zones clock n (Does n (Drain z) ∷ lines) new
-stands_drain zones clock n z lines old new step stands =
-    stands_reclaim zones clock n (Drain z) z lines old new (λ i. refl) (λ i. refl) (λ slot o. refl) (in_section-own lines n (Drain z)) refl step stands
+  pub stands_drain : (zones : List (CountedZone H Part h)) (clock : Clock H Part) (n z : ℕ) (lines : List Line) (old new : Worker H Part h) → Reclaims zones KeepsSeat old z new → Stands zones clock n lines old → Stands zones clock n (Does n (Drain z) ∷ lines) new
+  stands_drain zones clock n z lines old new step stands =
+      stands_reclaim zones clock n (Drain z) z lines old new (λ i. refl) (λ i. refl) (λ slot o. refl) (in_section-own lines n (Drain z)) refl step stands
 
-pub stands_drain_seat : (zones : List CountedZone) (clock : BareClock) (n z : ℕ) (lines : List Line) (old new : Worker) → Reclaims zones KeepsSeat old z new → Stands zones clock n lines old
-    → Stands zones clock n (Does n (DrainSeat z) ∷ lines) new
-stands_drain_seat zones clock n z lines old new step stands =
-    stands_reclaim zones clock n (DrainSeat z) z lines old new (λ i. refl) (λ i. refl) (λ slot o. refl) (in_section-own lines n (DrainSeat z)) refl step stands
+  pub stands_drain_seat : (zones : List (CountedZone H Part h)) (clock : Clock H Part) (n z : ℕ) (lines : List Line) (old new : Worker H Part h) → Reclaims zones KeepsSeat old z new → Stands zones clock n lines old
+      → Stands zones clock n (Does n (DrainSeat z) ∷ lines) new
+  stands_drain_seat zones clock n z lines old new step stands =
+      stands_reclaim zones clock n (DrainSeat z) z lines old new (λ i. refl) (λ i. refl) (λ slot o. refl) (in_section-own lines n (DrainSeat z)) refl step stands
 
--- a line of any kind
-pub stand_step : (zones : List CountedZone) (clock : BareClock) (n : ℕ) (op : Op) (lines : List Line) (old new : Worker) → IsOf clock old.pass → CanPerform zones old op → Performs zones old op new
-    → Stands zones clock n lines old → Stands zones clock n (Does n op ∷ lines) new
-stand_step zones clock n (Alloc zone slot arg reserve) lines old new of can step stands = stands_alloc zones clock n zone slot arg reserve lines old new can.1 can.2 can.3 step stands
-stand_step zones clock n (Free slot) lines old new of can step stands = stands_free zones clock n slot lines old new step stands
-stand_step zones clock n Enter lines old new of can step stands = stands_enter zones clock n lines old new of step stands
-stand_step zones clock n Exit lines old new of can step stands = stands_exit zones clock n lines old new step stands
-stand_step zones clock n (Prealloc zone items) lines old new of can step stands =
-    let P : Worker → Type 0 = Stands zones clock n (Does n (Prealloc zone items) ∷ lines) in
-    subst P (sym step) (stands_prealloc zones clock n zone items lines old stands)
-stand_step zones clock n (Bind key value) lines old new of can step stands = absurd can
-stand_step zones clock n (Unbind key) lines old new of can step stands = absurd can
-stand_step zones clock n (Look key) lines old new of can step stands = absurd can
-stand_step zones clock n (Trim zone) lines old new of can step stands = stands_trim zones clock n zone lines old new (flushed_keeps zones old new zone step) stands
-stand_step zones clock n (Drain zone) lines old new of can step stands = stands_drain zones clock n zone lines old new (flushed_keeps zones old new zone step) stands
-stand_step zones clock n (DrainSeat zone) lines old new of can step stands = stands_drain_seat zones clock n zone lines old new (drained_keeps zones old new zone step) stands
+  -- a line of any kind
+  pub stand_step : (zones : List (CountedZone H Part h)) (clock : Clock H Part) (n : ℕ) (op : Op) (lines : List Line) (old new : Worker H Part h) → IsOf clock old.pass → CanPerform zones old op → Performs zones old op new
+      → Stands zones clock n lines old → Stands zones clock n (Does n op ∷ lines) new
+  stand_step zones clock n (Alloc zone slot arg reserve) lines old new of can step stands = stands_alloc zones clock n zone slot arg reserve lines old new can.1 can.2 can.3 step stands
+  stand_step zones clock n (Free slot) lines old new of can step stands = stands_free zones clock n slot lines old new step stands
+  stand_step zones clock n Enter lines old new of can step stands = stands_enter zones clock n lines old new of step stands
+  stand_step zones clock n Exit lines old new of can step stands = stands_exit zones clock n lines old new step stands
+  stand_step zones clock n (Prealloc zone items) lines old new of can step stands =
+      let P : Worker H Part h → Type 0 = Stands zones clock n (Does n (Prealloc zone items) ∷ lines) in
+      subst P (sym step) (stands_prealloc zones clock n zone items lines old stands)
+  stand_step zones clock n (Bind key value) lines old new of can step stands = absurd can
+  stand_step zones clock n (Unbind key) lines old new of can step stands = absurd can
+  stand_step zones clock n (Look key) lines old new of can step stands = absurd can
+  stand_step zones clock n (Trim zone) lines old new of can step stands = stands_trim zones clock n zone lines old new (flushed_keeps zones old new zone step) stands
+  stand_step zones clock n (Drain zone) lines old new of can step stands = stands_drain zones clock n zone lines old new (flushed_keeps zones old new zone step) stands
+  stand_step zones clock n (DrainSeat zone) lines old new of can step stands = stands_drain_seat zones clock n zone lines old new (drained_keeps zones old new zone step) stands

@@ -1,8 +1,8 @@
--- What a slot holds, which is kept in a box once the slot was filled.
+-- What lies in the box of a slot.
 use Rattle.std.specs.Prelude.{Option, Some, None}
 use Rattle.std.specs.declared.boxed.Box.{Box}
 use Rattle.trace_worker.specs.declared.held.Held.{Held}
 
-abbrev pub unboxed : {A : Type 0} → Option (Box (Option Held) A) → Option Held
+abbrev pub unboxed : {A : Type 0} → Option (Box Held A) → Option Held
 unboxed None = None
-unboxed (Some box) = box.value
+unboxed (Some box) = Some box.value

@@ -1,9 +1,5 @@
--- The items and the zones of a replay: those whose body is `Counted`, with its hooks, and readers by a clock without words of a host.
-use Rattle.smr_clock.specs.declared.bare.Bare.{Bare}
-use Rattle.smr_clock.specs.declared.clock.Clock.{Clock}
-use Rattle.smr_clock.specs.declared.note.Note.{Note}
-use Rattle.smr_clock.specs.declared.pass.Pass.{Pass}
-use Rattle.smr_clock.specs.contracts.bare.BareHost.TheImpl.{ghosts as bare_host}
+-- The items and the zones of a replay: those whose body is `Counted`, with its hooks. Whose clock the readers go by, and so the host, is left open.
+use Rattle.smr_clock.specs.declared.host.Host.{Ghosts}
 use Rattle.uma_life.specs.declared.cached.Cached.{Cached}
 use Rattle.uma_life.specs.declared.live.Live.{Live}
 use Rattle.uma_life.specs.Life.{Life}
@@ -24,17 +20,8 @@ LiveItem = Live Counted counted_body
 abbrev pub CachedItem : Type 0
 CachedItem = Cached Counted counted_body
 
-abbrev pub BareClock : Type 0
-BareClock = Clock Bare (Unit {0})
+abbrev pub CountedSeat : (H P : Type 0) → Ghosts H P → Type 0
+CountedSeat H P h = SeatCache Counted H P counted_body h
 
-abbrev pub BarePass : Type 0
-BarePass = Pass Bare (Unit {0}) bare_host
-
-abbrev pub BareNote : Type 0
-BareNote = Note Bare (Unit {0}) bare_host
-
-abbrev pub CountedSeat : Type 0
-CountedSeat = SeatCache Counted Bare (Unit {0}) counted_body bare_host
-
-abbrev pub CountedZone : Type 0
-CountedZone = Zone Counted CountHooks Bare (Unit {0}) counted_body count_hooks bare_host
+abbrev pub CountedZone : (H P : Type 0) → Ghosts H P → Type 0
+CountedZone H P h = Zone Counted CountHooks H P counted_body count_hooks h

@@ -2,41 +2,44 @@
 use Rattle.std.specs.Prelude.{◌≡◌, ◌+◌, ℕ, List, Option, Some, map, option_map, slice_get}
 use Rattle.std.specs.List.{sum_by}
 use Rattle.std.specs.Option.{option_map_or}
+use Rattle.smr_clock.specs.declared.clock.Clock.{Clock}
+use Rattle.smr_clock.specs.declared.host.Host.{Ghosts}
 use Rattle.trace_text.specs.Lines.{Line}
 use Rattle.uma_seat.specs.Seat.{ledger_of}
 use Rattle.zone_stats.specs.declared.ledger.SeatLedger.{SeatLedger}
 use Rattle.trace_worker.specs.declared.running.Running.{Running}
 use Rattle.trace_worker.specs.declared.worker.Worker.{Worker}
-use Rattle.trace_worker.specs.Items.{BareClock, CountedZone}
+use Rattle.trace_worker.specs.Items.{CountedZone}
 use Rattle.trace_worker.specs.Live.{live_count}
 use Rattle.trace_worker.specs.Stands.{Stands}
 use Rattle.trace_worker.specs.Worker.{Fits}
 
--- the workers of these turns
-abbrev pub crew : List Running → List Worker
-crew runnings = map (λ r. r.worker) runnings
+module _ {H P : Type 0} {h : Ghosts H P} where
+  -- the workers of these turns
+  abbrev pub crew : List (Running H P h) → List (Worker H P h)
+  crew runnings = map (λ r. r.worker) runnings
 
--- Each worker's seats, pass and items belong to the zones and the clock, and it stands for these lines.
-pub record AllStand (zones : List CountedZone) (clock : BareClock) (lines : List Line) (workers : List Worker) : Type 0 where
-  pub fits : (n : ℕ) (w : Worker) → slice_get workers n ≡ Some w → Fits zones clock w
-  pub stands : (n : ℕ) (w : Worker) → slice_get workers n ≡ Some w → Stands zones clock n lines w
+  -- Each worker's seats, pass and items belong to the zones and the clock, and it stands for these lines.
+  pub record AllStand (zones : List (CountedZone H P h)) (clock : Clock H P) (lines : List Line) (workers : List (Worker H P h)) : Type 0 where
+    pub fits : (n : ℕ) (w : Worker H P h) → slice_get workers n ≡ Some w → Fits zones clock w
+    pub stands : (n : ℕ) (w : Worker H P h) → slice_get workers n ≡ Some w → Stands zones clock n lines w
 
--- what the worker's seat of the zone at place `z` counted
-abbrev pub ledger_at : ℕ → Worker → Option SeatLedger
-ledger_at z w = option_map ledger_of (slice_get w.seats.items z)
+  -- what the worker's seat of the zone at place `z` counted
+  abbrev pub ledger_at : ℕ → Worker H P h → Option SeatLedger
+  ledger_at z w = option_map ledger_of (slice_get w.seats.items z)
 
--- the allocs of the zone at place `z` that all workers counted
-abbrev pub all_allocs : ℕ → List Worker → ℕ
-all_allocs z workers = sum_by (λ w. option_map_or (λ ledger. ledger.allocs) (ledger_at z w) 0) workers
+  -- the allocs of the zone at place `z` that all workers counted
+  abbrev pub all_allocs : ℕ → List (Worker H P h) → ℕ
+  all_allocs z workers = sum_by (λ w. option_map_or (λ ledger. ledger.allocs) (ledger_at z w) 0) workers
 
--- and their frees
-abbrev pub all_frees : ℕ → List Worker → ℕ
-all_frees z workers = sum_by (λ w. option_map_or (λ ledger. ledger.frees) (ledger_at z w) 0) workers
+  -- and their frees
+  abbrev pub all_frees : ℕ → List (Worker H P h) → ℕ
+  all_frees z workers = sum_by (λ w. option_map_or (λ ledger. ledger.frees) (ledger_at z w) 0) workers
 
--- the items of the zone at place `z` that all workers' slots hold
-abbrev pub all_live : ℕ → List Worker → ℕ
-all_live z workers = sum_by (λ w. live_count z w.slots) workers
+  -- the items of the zone at place `z` that all workers' slots hold
+  abbrev pub all_live : ℕ → List (Worker H P h) → ℕ
+  all_live z workers = sum_by (λ w. live_count z w.slots) workers
 
--- Each item of the zone that a worker got and none freed is in a slot of some worker.
-abbrev pub AddsUp : ℕ → List Worker → Type 0
-AddsUp z workers = all_live z workers + all_frees z workers ≡ all_allocs z workers
+  -- Each item of the zone that a worker got and none freed is in a slot of some worker.
+  abbrev pub AddsUp : ℕ → List (Worker H P h) → Type 0
+  AddsUp z workers = all_live z workers + all_frees z workers ≡ all_allocs z workers

@@ -5,7 +5,7 @@ use Rattle.trace_text.specs.Valid.{IsValid}
 use Rattle.uma_seat.specs.Seat.{ledger_of}
 use Rattle.trace_worker.specs.declared.running.Running.{Running}
 use Rattle.trace_worker.specs.declared.worker.Worker.{Worker}
-use Rattle.trace_worker.specs.Items.{BareClock, CountedSeat, CountedZone}
+use Rattle.trace_worker.specs.Items.{CountedSeat, CountedZone}
 use Rattle.trace_text.specs.Built.{IsBuilt}
 use Rattle.trace_worker.specs.OwnLines.{lines_before, own_ops, worked}
 use Rattle.trace_worker.specs.Live.{live_count}
@@ -13,39 +13,43 @@ use Rattle.trace_worker.specs.Performs.{PerformsAll}
 use Rattle.trace_worker.specs.Stands.{Stands}
 use Rattle.trace_worker.specs.Worker.{AreOfClock, Fits, seen_of}
 use Rattle.std.specs.Prelude.{Some, slice_get}
+use Rattle.smr_clock.specs.declared.clock.Clock.{Clock}
+use Rattle.smr_clock.specs.declared.host.Host.{Ghosts}
 
--- What a worker's items of the zone at place `z` and its ledger of it come to: the items that it got more are in its slots, or were freed.
-abbrev pub Balances : ℕ → Worker → Worker → Type 0
-Balances z old new = (before after : CountedSeat) → slice_get old.seats.items z ≡ Some before → slice_get new.seats.items z ≡ Some after
-    → live_count z new.slots + (ledger_of after).frees + (ledger_of before).allocs ≡ live_count z old.slots + (ledger_of before).frees + (ledger_of after).allocs
+module _ {H P : Type 0} {h : Ghosts H P} where
+  -- What a worker's items of the zone at place `z` and its ledger of it come to: the items that it got more are in its slots, or were freed.
+  abbrev pub Balances : ℕ → Worker H P h → Worker H P h → Type 0
+  Balances z old new = (before after : CountedSeat H P h) → slice_get old.seats.items z ≡ Some before → slice_get new.seats.items z ≡ Some after
+      → live_count z new.slots + (ledger_of after).frees + (ledger_of before).allocs ≡ live_count z old.slots + (ledger_of before).frees + (ledger_of after).allocs
 
 -- how often a gate that holds is asked before one operation
 abbrev pub most_asks : ℕ
 most_asks = 100000000
 
--- Worker `n` is ready for round `k`: of a valid trace without lines that aren't done so far, with its zones and clock, after the lines of the rounds before.
-pub record IsReady (t : Trace) (zones : List CountedZone) (clock : BareClock) (k n : ℕ) (r : Running) : Type 0 where
-  pub valid : IsValid t
-  pub built : IsBuilt t
-  pub round : k < length t.rounds
-  pub worker : n < t.head.workers
-  pub zone_count : length zones ≡ length t.head.zones
-  pub of_clock : AreOfClock clock zones
-  pub few : length (lines_before t.rounds k) + length (own_ops t.rounds k n) < 2 ^ 32
-  pub asks : r.asked + most_asks * length (own_ops t.rounds k n) < 2 ^ 64
-  pub gave_up : r.gave_up + length (own_ops t.rounds k n) < 2 ^ 64
-  pub fits : Fits zones clock r.worker
-  pub stands : Stands zones clock n (lines_before t.rounds k) r.worker
+module _ {H P : Type 0} {h : Ghosts H P} where
+  -- Worker `n` is ready for round `k`: of a valid trace without lines that aren't done so far, with its zones and clock, after the lines of the rounds before.
+  pub record IsReady (t : Trace) (zones : List (CountedZone H P h)) (clock : Clock H P) (k n : ℕ) (r : Running H P h) : Type 0 where
+    pub valid : IsValid t
+    pub built : IsBuilt t
+    pub round : k < length t.rounds
+    pub worker : n < t.head.workers
+    pub zone_count : length zones ≡ length t.head.zones
+    pub of_clock : AreOfClock clock zones
+    pub few : length (lines_before t.rounds k) + length (own_ops t.rounds k n) < 2 ^ 32
+    pub asks : r.asked + most_asks * length (own_ops t.rounds k n) < 2 ^ 64
+    pub gave_up : r.gave_up + length (own_ops t.rounds k n) < 2 ^ 64
+    pub fits : Fits zones clock r.worker
+    pub stands : Stands zones clock n (lines_before t.rounds k) r.worker
 
--- What its turn leaves: its own list on top of the lines before, and items and ledgers that go together. Line after line it did what each says.
-pub record HasWorked (t : Trace) (zones : List CountedZone) (clock : BareClock) (k n : ℕ) (old new : Running) : Type 0 where
-  pub fits : Fits zones clock new.worker
-  pub stands : Stands zones clock n (worked n (own_ops t.rounds k n) (lines_before t.rounds k)) new.worker
-  pub plays : PerformsAll zones old.worker (own_ops t.rounds k n) new.worker
-  pub balances : (z : ℕ) → Balances z old.worker new.worker
-  -- its pass forgets nothing
-  pub seen : seen_of old.worker ≤ seen_of new.worker
-  -- it was asked at least once and at most so often before each operation, and gave up waiting at most once before each
-  pub asked_some : old.asked + length (own_ops t.rounds k n) ≤ new.asked
-  pub asked_few : new.asked ≤ old.asked + most_asks * length (own_ops t.rounds k n)
-  pub gave_up_few : new.gave_up ≤ old.gave_up + length (own_ops t.rounds k n)
+  -- What its turn leaves: its own list on top of the lines before, and items and ledgers that go together. Line after line it did what each says.
+  pub record HasWorked (t : Trace) (zones : List (CountedZone H P h)) (clock : Clock H P) (k n : ℕ) (old new : Running H P h) : Type 0 where
+    pub fits : Fits zones clock new.worker
+    pub stands : Stands zones clock n (worked n (own_ops t.rounds k n) (lines_before t.rounds k)) new.worker
+    pub plays : PerformsAll zones old.worker (own_ops t.rounds k n) new.worker
+    pub balances : (z : ℕ) → Balances z old.worker new.worker
+    -- its pass forgets nothing
+    pub seen : seen_of old.worker ≤ seen_of new.worker
+    -- it was asked at least once and at most so often before each operation, and gave up waiting at most once before each
+    pub asked_some : old.asked + length (own_ops t.rounds k n) ≤ new.asked
+    pub asked_few : new.asked ≤ old.asked + most_asks * length (own_ops t.rounds k n)
+    pub gave_up_few : new.gave_up ≤ old.gave_up + length (own_ops t.rounds k n)

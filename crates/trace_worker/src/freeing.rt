@@ -13,12 +13,12 @@ use crate::Memory;
 use crate::counted::Counted;
 use crate::items::{CountedSeat, CountedZone};
 use crate::worker::Worker;
-use smr_clock::{Bare, Clock, Pass};
+use smr_clock::{Clock, Host, Pass};
 use std::alloc::Global;
 use std::sync::Wait;
 use uma_life::Live;
 
-impl Worker {
+impl<H: Host> Worker<H> {
     /// A `free` line: the item that the slot holds is freed by the worker's seat of its zone, which is made ready first
     /// where it has no spare bucket. Where the slot is empty, since its request was refused, nothing is done. Waits as
     /// [`uma_zone::Zone::make_room`] does.
@@ -28,8 +28,8 @@ impl Worker {
         &mut self,
         rt: &R,
         alloc: Global,
-        zones: &[CountedZone],
-        clock: &Clock<Bare>,
+        zones: &[CountedZone<H>],
+        clock: &Clock<H>,
         slot: u32,
     ) -> Result<(), Memory>
         requires clock { AreOfClock clock.now zones.now }
@@ -56,13 +56,13 @@ impl Worker {
 }
 
 /// Makes the seat ready, and frees the item.
-fn give_back<R: Wait>(
+fn give_back<H: Host, R: Wait>(
     rt: &R,
     alloc: Global,
-    zone: &CountedZone,
-    clock: &Clock<Bare>,
-    pass: &mut Pass<Bare>,
-    seat: &mut CountedSeat,
+    zone: &CountedZone<H>,
+    clock: &Clock<H>,
+    pass: &mut Pass<H>,
+    seat: &mut CountedSeat<H>,
     item: Live<Counted>,
 ) -> Result<(), Memory>
     requires seat { IsSeatOf zone.now seat.old }
@@ -82,13 +82,13 @@ fn give_back<R: Wait>(
 }
 
 /// Makes room for the next frees where the seat has no spare bucket.
-fn make_ready<R: Wait>(
+fn make_ready<H: Host, R: Wait>(
     rt: &R,
     alloc: Global,
-    zone: &CountedZone,
-    clock: &Clock<Bare>,
-    pass: &mut Pass<Bare>,
-    seat: &mut CountedSeat,
+    zone: &CountedZone<H>,
+    clock: &Clock<H>,
+    pass: &mut Pass<H>,
+    seat: &mut CountedSeat<H>,
 ) -> Result<(), Memory>
     requires seat { IsSeatOf zone.now seat.old }
     requires clock { clock_id clock.now ≡ zone_clock zone.now }
@@ -109,11 +109,11 @@ fn make_ready<R: Wait>(
 }
 
 /// Frees an item by the zone's kind.
-fn release(
-    zone: &CountedZone,
-    clock: &Clock<Bare>,
-    pass: &mut Pass<Bare>,
-    seat: &mut CountedSeat,
+fn release<H: Host>(
+    zone: &CountedZone<H>,
+    clock: &Clock<H>,
+    pass: &mut Pass<H>,
+    seat: &mut CountedSeat<H>,
     item: Live<Counted>,
 )
     requires seat { IsSeatOf zone.now seat.old }

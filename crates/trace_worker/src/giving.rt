@@ -6,13 +6,14 @@ use crate::Memory;
 use crate::held::Held;
 use crate::requesting::fill;
 use crate::running::Running;
+use smr_clock::Host;
 use std::alloc::Global;
 
 /// A `give` line: moves what a slot of the giver holds to a slot of the taker, or its emptiness. The taker's slot is empty
 /// before. After `Memory`, which comes where the taker's slots have to grow, the item is lost, and the replay is over.
-pub fn move_slot(
+pub fn move_slot<H: Host>(
     alloc: Global,
-    workers: &mut [Running],
+    workers: &mut [Running<H>],
     giver: usize,
     slot: u32,
     taker: usize,
@@ -30,7 +31,7 @@ pub fn move_slot(
 }
 
 /// What a worker's slot holds, which is empty then.
-fn take_from(workers: &mut [Running], number: usize, slot: u32) -> Option<Held>
+fn take_from<H: Host>(workers: &mut [Running<H>], number: usize, slot: u32) -> Option<Held>
     requires { number < length workers.old }
     ensures { TakesFrom number slot workers.old result workers.new }
 {
@@ -38,9 +39,9 @@ fn take_from(workers: &mut [Running], number: usize, slot: u32) -> Option<Held>
 }
 
 /// Puts what is held, if there is something, into a worker's slot.
-fn put_into(
+fn put_into<H: Host>(
     alloc: Global,
-    workers: &mut [Running],
+    workers: &mut [Running<H>],
     number: usize,
     slot: u32,
     held: Option<Held>,

@@ -8,22 +8,22 @@ use crate::Memory;
 use crate::items::{CountedSeat, CountedZone};
 use crate::slots::Slots;
 use crate::worker::Worker;
-use smr_clock::{Bare, Clock, Pass};
+use smr_clock::{Clock, Host, Pass};
 use std::alloc::Global;
 use std::sync::Wait;
 
-impl Worker {
+impl<H: Host> Worker<H> {
     /// A worker in a memory domain, with a new seat of each zone and room for so many slots. Waits until it has the locks
     /// of the zones' kegs and of their domains.
     pub fn new<R: Wait>(
         rt: &R,
         alloc: Global,
-        zones: &[CountedZone],
-        clock: &Clock<Bare>,
-        pass: Pass<Bare>,
+        zones: &[CountedZone<H>],
+        clock: &Clock<H>,
+        pass: Pass<H>,
         domain: u8,
         slots: usize,
-    ) -> Result<Worker, Memory>
+    ) -> Result<Worker<H>, Memory>
         requires domain { All (λ zone. domain < zone_domains zone) zones.now }
         requires pass { IsOf clock.now pass }
         ensures fits { IfOk result (Fits zones.now clock.now) }
@@ -41,12 +41,12 @@ impl Worker {
 }
 
 // A seat of each zone in this memory domain, in order.
-fn new_seats<R: Wait>(
+fn new_seats<H: Host, R: Wait>(
     rt: &R,
     alloc: Global,
-    zones: &[CountedZone],
+    zones: &[CountedZone<H>],
     domain: u8,
-) -> Result<Vec<CountedSeat>, Memory>
+) -> Result<Vec<CountedSeat<H>>, Memory>
     requires { All (λ zone. domain < zone_domains zone) zones.now }
     ensures { IfOk result (λ seats. AreSeats zones.now domain seats.items) }
 {

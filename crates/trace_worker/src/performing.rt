@@ -7,14 +7,14 @@ use crate::Memory;
 use crate::items::{CountedSeat, CountedZone};
 use crate::reclaim_calls::ReclaimCalls;
 use crate::worker::Worker;
-use smr_clock::{Bare, Clock};
+use smr_clock::{Clock, Host};
 use std::alloc::Global;
 use std::sync::Wait;
 use trace_text::Op;
 use uma_keg::FetchRefused;
 use uma_zone::AllocAsk;
 
-impl Worker {
+impl<H: Host> Worker<H> {
     /// Does one line of the worker, by its kind. Waits where the zones' calls do.
     ///
     /// After the Err, which is want of memory, the replay is over.
@@ -22,8 +22,8 @@ impl Worker {
         &mut self,
         rt: &R,
         alloc: Global,
-        zones: &[CountedZone],
-        clock: &Clock<Bare>,
+        zones: &[CountedZone<H>],
+        clock: &Clock<H>,
         reclaim: &C,
         op: Op,
     ) -> Result<(), Memory>
@@ -67,7 +67,7 @@ impl Worker {
         &self,
         rt: &R,
         alloc: Global,
-        zones: &[CountedZone],
+        zones: &[CountedZone<H>],
         zone: u32,
         items: u64,
     ) -> Result<(), Memory>
@@ -81,11 +81,11 @@ impl Worker {
 }
 
 /// Brings in the slabs that so many items fill, of the seat's domain.
-fn bring<R: Wait>(
+fn bring<H: Host, R: Wait>(
     rt: &R,
     alloc: Global,
-    zone: &CountedZone,
-    seat: &CountedSeat,
+    zone: &CountedZone<H>,
+    seat: &CountedSeat<H>,
     items: u64,
 ) -> Result<(), Memory>
     requires items { items ≤ 262144 }

@@ -7,11 +7,11 @@ use crate::Memory;
 use crate::items::CountedZone;
 use crate::reclaim_calls::ReclaimCalls;
 use crate::worker::Worker;
-use smr_clock::{Bare, Clock};
+use smr_clock::{Clock, Host};
 use std::alloc::Global;
 use std::sync::Wait;
 
-impl Worker {
+impl<H: Host> Worker<H> {
     /// A `trim` line, through the worker's seat of the zone. Waits as the call does.
     ///
     /// After `Memory` the replay is over.
@@ -19,8 +19,8 @@ impl Worker {
         &mut self,
         rt: &R,
         alloc: Global,
-        zones: &[CountedZone],
-        clock: &Clock<Bare>,
+        zones: &[CountedZone<H>],
+        clock: &Clock<H>,
         reclaim: &C,
         zone: u32,
     ) -> Result<(), Memory>
@@ -42,8 +42,8 @@ impl Worker {
         &mut self,
         rt: &R,
         alloc: Global,
-        zones: &[CountedZone],
-        clock: &Clock<Bare>,
+        zones: &[CountedZone<H>],
+        clock: &Clock<H>,
         reclaim: &C,
         zone: u32,
     ) -> Result<(), Memory>
@@ -66,8 +66,8 @@ impl Worker {
         &mut self,
         rt: &R,
         alloc: Global,
-        zones: &[CountedZone],
-        clock: &Clock<Bare>,
+        zones: &[CountedZone<H>],
+        clock: &Clock<H>,
         reclaim: &C,
         zone: u32,
     ) -> Result<(), Memory>

@@ -15,13 +15,13 @@ use crate::held::Held;
 use crate::items::{CountedSeat, CountedZone};
 use crate::slots::Slots;
 use crate::worker::Worker;
-use smr_clock::{Bare, Clock, Pass};
+use smr_clock::{Clock, Host, Pass};
 use std::alloc::Global;
 use std::sync::Wait;
 use uma_life::Live;
 use uma_zone::{AllocAsk, AllocRefused};
 
-impl Worker {
+impl<H: Host> Worker<H> {
     /// An `alloc` line: one request of a zone by the worker's seat. The slot holds the item then, or stays empty where
     /// the request is refused. Waits as [`uma_zone::Zone::alloc`] does.
     ///
@@ -30,8 +30,8 @@ impl Worker {
         &mut self,
         rt: &R,
         alloc: Global,
-        zones: &[CountedZone],
-        clock: &Clock<Bare>,
+        zones: &[CountedZone<H>],
+        clock: &Clock<H>,
         zone: u32,
         slot: u32,
         ask: AllocAsk,
@@ -52,13 +52,13 @@ impl Worker {
 }
 
 /// One request of a zone. None where it is refused, which the seat's ledger counts and keeps.
-pub(crate) fn request<R: Wait>(
+pub(crate) fn request<H: Host, R: Wait>(
     rt: &R,
     alloc: Global,
-    zone: &CountedZone,
-    clock: &Clock<Bare>,
-    pass: &mut Pass<Bare>,
-    seat: &mut CountedSeat,
+    zone: &CountedZone<H>,
+    clock: &Clock<H>,
+    pass: &mut Pass<H>,
+    seat: &mut CountedSeat<H>,
     ask: AllocAsk,
 ) -> Result<Option<Live<Counted>>, Memory>
     requires seat { IsSeatOf zone.now seat.old }

@@ -7,7 +7,8 @@ use crate::gate::{Gate, Go};
 use crate::items::CountedZone;
 use crate::reclaim_calls::ReclaimCalls;
 use crate::worker::Worker;
-use smr_clock::{Bare, Clock};
+use crossbeam_utils::CachePadded;
+use smr_clock::{Clock, Host};
 use std::alloc::Global;
 use std::sync::Wait;
 use trace_text::{Op, Trace};
@@ -17,19 +18,22 @@ const MOST_ASKS: u64 = 100_000_000;
 
 /// A worker between its turns, with what the report counts of its gate, and how its last turn ended.
 #[derive(Drop)]
-pub struct Running {
-    pub worker: Worker,
+pub struct Running<H: Host> {
+    pub worker: Worker<H>,
     /// How often the gate was asked.
     pub asked: u64,
     /// Operations that were done though the gate held to the last.
     pub gave_up: u64,
     /// Want of memory in the last turn.
     pub ended: Result<(), Memory>,
+    /// Unused bytes. The workers of a replay lie side by side in a list, and each writes to its own place in it at every
+    /// operation: without these bytes two of them would write to one cache line.
+    apart: CachePadded<()>,
 }
 
-impl Running {
+impl<H: Host> Running<H> {
     /// A worker before its first turn.
-    pub fn new(worker: Worker) -> Running
+    pub fn new(worker: Worker<H>) -> Running<H>
         ensures worker { result.worker ≡ worker }
         ensures asked { result.asked ≡ 0 }
         ensures gave_up { result.gave_up ≡ 0 }
@@ -39,6 +43,7 @@ impl Running {
             asked: 0,
             gave_up: 0,
             ended: Ok(()),
+            apart: CachePadded::new(()),
         }
     }
 
@@ -50,8 +55,8 @@ impl Running {
         rt: &R,
         alloc: Global,
         trace: &Trace,
-        zones: &[CountedZone],
-        clock: &Clock<Bare>,
+        zones: &[CountedZone<H>],
+        clock: &Clock<H>,
         gate: &G,
         reclaim: &C,
         round: usize,
@@ -69,8 +74,8 @@ impl Running {
         rt: &R,
         alloc: Global,
         trace: &Trace,
-        zones: &[CountedZone],
-        clock: &Clock<Bare>,
+        zones: &[CountedZone<H>],
+        clock: &Clock<H>,
         gate: &G,
         reclaim: &C,
         round: usize,
@@ -138,6 +143,7 @@ mod tests {
     use super::*;
     use crate::gate::FreeGate;
     use crate::slots::Slots;
+    use smr_clock::Bare;
     use std::test::Fail;
 
     /// A gate that never lets go.
@@ -155,7 +161,7 @@ mod tests {
     }
 
     /// A worker of no zone, before its first turn.
-    fn idle(alloc: Global) -> Result<Running, Fail>
+    fn idle(alloc: Global) -> Result<Running<Bare>, Fail>
         ensures asked { IfOk result (λ r. r.asked ≡ 0) }
         ensures gave_up { IfOk result (λ r. r.gave_up ≡ 0) }
     {

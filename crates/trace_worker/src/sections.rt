@@ -6,12 +6,12 @@ ghost use Rattle.trace_worker.specs.Worker.{phase_of};
 ghost use Rattle.smr_clock.specs.Belongs.{IsOf};
 
 use crate::worker::Worker;
-use smr_clock::{Bare, Clock};
+use smr_clock::{Clock, Host};
 use smr_core::Phase;
 
-impl Worker {
+impl<H: Host> Worker<H> {
     /// An `enter` line: enters a section, which is counted as entered, or as late where it was overtaken.
-    pub fn enter(&mut self, clock: &Clock<Bare>)
+    pub fn enter(&mut self, clock: &Clock<H>)
         requires outside { phase_of self.old ≡ Phase.Outside }
         requires pass { IsOf clock.now self.old.pass }
         requires entered { self.old.entered < 2 ^ 62 }
@@ -26,7 +26,7 @@ impl Worker {
     }
 
     /// An `exit` line: leaves the section. After an enter that was late there is none, and nothing is done.
-    pub fn exit(&mut self, clock: &Clock<Bare>)
+    pub fn exit(&mut self, clock: &Clock<H>)
         requires between { IsBetween self.old }
         requires pass { IsOf clock.now self.old.pass }
         ensures pass { IsOf clock.now self.new.pass }

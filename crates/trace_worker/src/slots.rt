@@ -1,22 +1,17 @@
-ghost use Rattle.std.specs.Prelude.{◌≡◌, [], None, Some, IfOk, OnOk, length};
-ghost use Rattle.trace_worker.specs.Boxed.{unboxed};
+ghost use Rattle.std.specs.Prelude.{◌≡◌, [], IfOk, OnOk, length};
 
 use crate::held::Held;
 use std::alloc::Global;
 use std::marker::Model;
 use zone_stats::Memory;
 
-/// What is kept of a slot: nothing before it is first filled, and from then on a box, which is empty while the slot is.
-type Kept = Option<Box<Option<Held>>>;
-
 /// What each slot of a worker holds, from slot 0 on. Contracts see the list of it; a slot past the list's end is empty.
 ///
-/// The list grows to the greatest slot that was filled. What a slot holds lies in a box, so a slot that was never filled
-/// takes the room of a pointer. A slot keeps its box once it was filled, so memory is taken once for each slot, and not
-/// for each item that goes through it.
+/// The list grows to the greatest slot that was filled. What a slot holds lies in a box, which goes with what it held, so
+/// an empty slot takes 16 bytes.
 #[derive(Drop)]
 pub struct Slots {
-    held: Vec<Kept>,
+    held: Vec<Option<Box<Held>>>,
 }
 
 impl Model for Slots {
@@ -32,7 +27,7 @@ impl Model for Slots {
 impl Slots {
     ghost use Rattle.trace_worker.specs.Slots.{slot_at, padded, with_held, emptied};
 
-    /// No slot is filled. There is room for so many slots, from slot 0 on, before the list takes memory again.
+    /// No slot is filled. There is room for so many slots, from slot 0 on, before memory is taken again.
     pub fn with_room(alloc: Global, count: usize) -> Result<Slots, Memory>
         ensures { IfOk result (λ slots. slots ≡ []) }
     {
@@ -50,7 +45,10 @@ impl Slots {
         if place >= self.held.len() {
             return None;
         }
-        take_out(&mut self.held[place])
+        match self.held[place].take() {
+            Some(held) => Some(Box::into_inner(held)),
+            None => None,
+        }
     }
 
     /// Puts what is held into the slot. What lay there is dropped.
@@ -59,7 +57,11 @@ impl Slots {
     {
         let place = slot as usize;
         self.grow(place + 1)?;
-        put_in(alloc, &mut self.held[place], held)
+        let Ok(held) = Box::new(alloc, held) else {
+            return Err(Memory);
+        };
+        self.held[place] = Some(held);
+        Ok(())
     }
 
     /// Adds empty slots until there are so many.
@@ -78,31 +80,4 @@ impl Slots {
     {
         self.held.len()
     }
-}
-
-/// What a slot holds. Its box, if it has one, is empty then.
-fn take_out(kept: &mut Kept) -> Option<Held>
-    ensures taken { result ≡ unboxed kept.old }
-    ensures left { unboxed kept.new ≡ None }
-{
-    match kept {
-        Some(held) => held.take(),
-        None => None,
-    }
-}
-
-/// Puts what is held into a slot's box, which is taken where there is none.
-fn put_in(alloc: Global, kept: &mut Kept, held: Held) -> Result<(), Memory>
-    ensures { OnOk result (unboxed kept.new ≡ Some held) }
-{
-    match kept {
-        Some(inside) => **inside = Some(held),
-        None => {
-            let Ok(inside) = Box::new(alloc, Some(held)) else {
-                return Err(Memory);
-            };
-            *kept = Some(inside);
-        }
-    }
-    Ok(())
 }

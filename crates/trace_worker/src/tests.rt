@@ -31,7 +31,7 @@ fn take_pass(clock: &Clock<Bare>, passes: &mut Vec<Pass<Bare>>) -> Result<Pass<B
 }
 
 /// One zone of items of 256 bytes in one domain, without limit and reserve.
-fn one_zone(alloc: Global, clock: &Clock<Bare>) -> Result<Vec<CountedZone>, Fail>
+fn one_zone(alloc: Global, clock: &Clock<Bare>) -> Result<Vec<CountedZone<Bare>>, Fail>
     ensures some { IfOk result (λ zones. 0 < length zones.items) }
     ensures clock { IfOk result (λ zones. AreOfClock clock.now zones.items) }
     ensures domains { IfOk result (λ zones. All (λ zone. 0 < zone_domains zone) zones.items) }
@@ -45,7 +45,7 @@ fn one_zone(alloc: Global, clock: &Clock<Bare>) -> Result<Vec<CountedZone>, Fail
         smr: false,
     };
     let zone = Zone::primary(alloc, clock, 256, set, CountHooks, CountHooks)?;
-    let mut zones: Vec<CountedZone> = Vec::new(alloc);
+    let mut zones: Vec<CountedZone<Bare>> = Vec::new(alloc);
     zones.push(zone)?;
     Ok(zones)
 }
@@ -54,11 +54,11 @@ fn one_zone(alloc: Global, clock: &Clock<Bare>) -> Result<Vec<CountedZone>, Fail
 fn after_alloc<R: Wait>(
     rt: &R,
     alloc: Global,
-    zones: &[CountedZone],
+    zones: &[CountedZone<Bare>],
     clock: &Clock<Bare>,
     pass: Pass<Bare>,
     ask: AllocAsk,
-) -> Result<Running, Fail>
+) -> Result<Running<Bare>, Fail>
     requires some { 0 < length zones.now }
     requires clock { AreOfClock clock.now zones.now }
     requires domains { All (λ zone. 0 < zone_domains zone) zones.now }
@@ -106,7 +106,7 @@ fn an_item_is_given_and_a_refused_request_is_none(rt: HostRuntime) -> Result<(),
 fn freed_again<R: Wait>(
     rt: &R,
     alloc: Global,
-    zones: &[CountedZone],
+    zones: &[CountedZone<Bare>],
     clock: &Clock<Bare>,
     pass: Pass<Bare>,
 ) -> Result<(u64, u64), Fail>

@@ -6,6 +6,8 @@ use Rattle.std.proofs.lemmas.List.Sums.{sum_by-take-le, count_by_more_yes}
 use Rattle.std.proofs.lemmas.Option.{slice_get_within, get_or_from_slice_get}
 use Rattle.std.specs.Prelude.{◌==◌, slice_get, sum_by}
 use Rattle.std.specs.Option.{option_map_or}
+use Rattle.smr_clock.specs.declared.clock.Clock.{Clock}
+use Rattle.smr_clock.specs.declared.host.Host.{Ghosts}
 use Rattle.smr_clock.specs.Belongs.{IsOf, setup_of}
 use Rattle.trace_text.specs.declared.head.Head.{Head}
 use Rattle.trace_text.specs.declared.head.ZoneHead.{ZoneHead}
@@ -15,7 +17,7 @@ use Rattle.trace_text.specs.Lines.{Line, lines_of}
 use Rattle.trace_text.specs.Valid.{HeadFits, IsValid, sharer_count}
 use Rattle.zone_stats.specs.declared.report.Report.{Report}
 use Rattle.trace_worker.specs.declared.worker.Worker.{Worker}
-use Rattle.trace_worker.specs.Items.{BareClock, CountedZone}
+use Rattle.trace_worker.specs.Items.{CountedZone}
 use Rattle.trace_setting.specs.Clock.{start_of, window_of}
 use Rattle.trace_setting.specs.Kegs.{keg_place, index_of, primaries}
 use Rattle.trace_census.specs.Lending.{AllFit, AreFew, KeepsWorkers}
@@ -56,47 +58,48 @@ zero_below index none = omega arith
 index_most : (index before all : ℕ) → index ≡ before + 1 → before + 1 ≤ all → all < 8 → index < 8
 index_most index before all is most few = omega arith
 
--- ---- what stays
+module _ {H Part : Type 0} {h : Ghosts H Part} where
+  -- ---- what stays
 
-done_stay : (t : Trace) (zones : List CountedZone) (clock : BareClock) (old new : List Worker) → AllStay clock old new → AreDone t zones clock old → AreDone t zones clock new
-done_stay t zones clock old new s d = record {
-  clock_made = d.clock_made;
-  zones_made = d.zones_made;
-  worker_count = s.count ∙ d.worker_count;
-  stand = all_stand zones clock (reverse (lines_of t.rounds)) old new s d.stand;
-  played = played_stay t zones clock old new s d.played;
-  adds_up = λ z. adds_stay clock old new s z (d.adds_up z);
-}
+  done_stay : (t : Trace) (zones : List (CountedZone H Part h)) (clock : Clock H Part) (old new : List (Worker H Part h)) → AllStay clock old new → AreDone t zones clock old → AreDone t zones clock new
+  done_stay t zones clock old new s d = record {
+    clock_made = d.clock_made;
+    zones_made = d.zones_made;
+    worker_count = s.count ∙ d.worker_count;
+    stand = all_stand zones clock (reverse (lines_of t.rounds)) old new s d.stand;
+    played = played_stay t zones clock old new s d.played;
+    adds_up = λ z. adds_stay clock old new s z (d.adds_up z);
+  }
 
-pub done_learn : (t : Trace) (zones : List CountedZone) (clock : BareClock) (old new : List Worker) → AllLearn clock old new → AreDone t zones clock old → AreDone t zones clock new
-done_learn t zones clock old new l d = done_stay t zones clock old new (learn_stay clock old new l) d
+  pub done_learn : (t : Trace) (zones : List (CountedZone H Part h)) (clock : Clock H Part) (old new : List (Worker H Part h)) → AllLearn clock old new → AreDone t zones clock old → AreDone t zones clock new
+  done_learn t zones clock old new l d = done_stay t zones clock old new (learn_stay clock old new l) d
 
-pub done_kept : (t : Trace) (zones : List CountedZone) (clock : BareClock) (old new : List Worker) → KeepsWorkers old new → AreDone t zones clock old → AreDone t zones clock new
-done_kept t zones clock old new k d = done_stay t zones clock old new (kept_stay zones clock (reverse (lines_of t.rounds)) old new d.stand k) d
+  pub done_kept : (t : Trace) (zones : List (CountedZone H Part h)) (clock : Clock H Part) (old new : List (Worker H Part h)) → KeepsWorkers old new → AreDone t zones clock old → AreDone t zones clock new
+  done_kept t zones clock old new k d = done_stay t zones clock old new (kept_stay zones clock (reverse (lines_of t.rounds)) old new d.stand k) d
 
--- ---- what the calls need
+  -- ---- what the calls need
 
-pub some_workers : (t : Trace) (zones : List CountedZone) (clock : BareClock) (workers : List Worker) → IsValid t → AreDone t zones clock workers → 0 < length workers
-some_workers t zones clock workers valid d = at_least_one (length workers) t.head.workers d.worker_count valid.head.workers.0
+  pub some_workers : (t : Trace) (zones : List (CountedZone H Part h)) (clock : Clock H Part) (workers : List (Worker H Part h)) → IsValid t → AreDone t zones clock workers → 0 < length workers
+  some_workers t zones clock workers valid d = at_least_one (length workers) t.head.workers d.worker_count valid.head.workers.0
 
-pub passes_here : (t : Trace) (zones : List CountedZone) (clock : BareClock) (workers : List Worker) → AreDone t zones clock workers → (n : ℕ) (w : Worker) → slice_get workers n ≡ Some w → IsOf clock w.pass
-passes_here t zones clock workers d n w at = (d.stand.fits n w at).pass
+  pub passes_here : (t : Trace) (zones : List (CountedZone H Part h)) (clock : Clock H Part) (workers : List (Worker H Part h)) → AreDone t zones clock workers → (n : ℕ) (w : Worker H Part h) → slice_get workers n ≡ Some w → IsOf clock w.pass
+  passes_here t zones clock workers d n w at = (d.stand.fits n w at).pass
 
-pub window_is : (t : Trace) (zones : List CountedZone) (clock : BareClock) (workers : List Worker) → AreDone t zones clock workers → window_of t.head.clock ≡ (setup_of clock).about.window
-window_is t zones clock workers d = sym (ap (λ s. s.about.window) d.clock_made)
+  pub window_is : (t : Trace) (zones : List (CountedZone H Part h)) (clock : Clock H Part) (workers : List (Worker H Part h)) → AreDone t zones clock workers → window_of t.head.clock ≡ (setup_of clock).about.window
+  window_is t zones clock workers d = sym (ap (λ s. s.about.window) d.clock_made)
 
-pub all_fit : (t : Trace) (zones : List CountedZone) (clock : BareClock) (workers : List Worker) → AreDone t zones clock workers → AllFit zones clock workers
-all_fit t zones clock workers d = d.stand.fits
+  pub all_fit : (t : Trace) (zones : List (CountedZone H Part h)) (clock : Clock H Part) (workers : List (Worker H Part h)) → AreDone t zones clock workers → AllFit zones clock workers
+  all_fit t zones clock workers d = d.stand.fits
 
-pub are_few : (t : Trace) (zones : List CountedZone) (clock : BareClock) (workers : List Worker) → IsValid t → AreDone t zones clock workers → AreFew workers
-are_few t zones clock workers valid d = record {
-  few = same_most (length workers) t.head.workers 16 d.worker_count valid.head.workers.1;
-  slots = λ n w at. (d.stand.stands n w at).few;
-}
+  pub are_few : (t : Trace) (zones : List (CountedZone H Part h)) (clock : Clock H Part) (workers : List (Worker H Part h)) → IsValid t → AreDone t zones clock workers → AreFew workers
+  are_few t zones clock workers valid d = record {
+    few = same_most (length workers) t.head.workers 16 d.worker_count valid.head.workers.1;
+    slots = λ n w at. (d.stand.stands n w at).few;
+  }
 
-pub seat_counts : (t : Trace) (zones : List CountedZone) (clock : BareClock) (workers : List Worker) → AreDone t zones clock workers → (n : ℕ) (w : Worker) → slice_get workers n ≡ Some w
-    → length w.seats.items ≡ length t.head.zones
-seat_counts t zones clock workers d n w at = (d.stand.fits n w at).seats.count ∙ d.zones_made.count
+  pub seat_counts : (t : Trace) (zones : List (CountedZone H Part h)) (clock : Clock H Part) (workers : List (Worker H Part h)) → AreDone t zones clock workers → (n : ℕ) (w : Worker H Part h) → slice_get workers n ≡ Some w
+      → length w.seats.items ≡ length t.head.zones
+  seat_counts t zones clock workers d n w at = (d.stand.fits n w at).seats.count ∙ d.zones_made.count
 
 -- ---- sums of counts
 
@@ -104,12 +107,13 @@ enter_few : (lines : List Line) → enter_count lines ≤ length lines
 enter_few [] = omega arith
 enter_few (line ∷ lines) = omega (arith, enter_few lines, unit_most (is_entry lines line))
 
-pub entries_few : (t : Trace) (zones : List CountedZone) (clock : BareClock) (workers : List Worker) → IsValid t → IsBuilt t → length (lines_of t.rounds) ≤ 16777216 → AreDone t zones clock workers
-    → (sum_by (λ (w : Worker). w.entered) workers < 2 ^ 64) × (sum_by (λ (w : Worker). w.late) workers < 2 ^ 64)
-entries_few t zones clock workers valid built few d =
-    let lines = reverse (lines_of t.rounds) in
-    let sum = entries_are t workers (λ (w : Worker). w.entered) (λ (w : Worker). w.late) valid built d.worker_count (λ n w at. (d.stand.stands n w at).enters_add_up) in
-    two_few _ _ (enter_count lines) (length lines) (length (lines_of t.rounds)) sum (enter_few lines) (length-reverse (lines_of t.rounds)) few
+module _ {H Part : Type 0} {h : Ghosts H Part} where
+  pub entries_few : (t : Trace) (zones : List (CountedZone H Part h)) (clock : Clock H Part) (workers : List (Worker H Part h)) → IsValid t → IsBuilt t → length (lines_of t.rounds) ≤ 16777216 → AreDone t zones clock workers
+      → (sum_by (λ (w : Worker H Part h). w.entered) workers < 2 ^ 64) × (sum_by (λ (w : Worker H Part h). w.late) workers < 2 ^ 64)
+  entries_few t zones clock workers valid built few d =
+      let lines = reverse (lines_of t.rounds) in
+      let sum = entries_are t workers (λ (w : Worker H Part h). w.entered) (λ (w : Worker H Part h). w.late) valid built d.worker_count (λ n w at. (d.stand.stands n w at).enters_add_up) in
+      two_few _ _ (enter_count lines) (length lines) (length (lines_of t.rounds)) sum (enter_few lines) (length-reverse (lines_of t.rounds)) few
 
 -- ---- kegs
 
@@ -143,20 +147,21 @@ have_kegs h fits z head at =
       index = index_below h z head head.parent fits at refl has;
     }
 
--- ---- the report stands for the trace
+module _ {H Part : Type 0} {h : Ghosts H Part} where
+  -- ---- the report stands for the trace
 
-pub stands_of_hall : (t : Trace) (report : Report) (hall : Hall) → IsValid t → IsBuilt t → HallStands t report hall → StandsFor t report
-stands_of_hall t report hall valid built h =
-    stands_for t hall.zones hall.clock hall.workers hall.censuses h.tallies h.deferred h.read h.write report.gave_up report (record {
-      valid = valid;
-      built = built;
-      count = h.done.worker_count;
-      stand = h.done.stand;
-      adds_up = h.done.adds_up;
-      are = h.done.zones_made;
-      start = λ c is. ap (λ s. s.about.start) h.done.clock_made ∙ ap start_of is;
-      window = λ c is. ap (λ s. s.about.window) h.done.clock_made ∙ ap window_of is;
-      closes = h.closes;
-      hands = h.hands;
-      is = h.made_of;
-    })
+  pub stands_of_hall : (t : Trace) (report : Report) (hall : Hall H Part h) → IsValid t → IsBuilt t → HallStands t report hall → StandsFor t report
+  stands_of_hall t report hall valid built stands =
+      stands_for t hall.zones hall.clock hall.workers hall.censuses stands.tallies stands.deferred stands.read stands.write report.gave_up report (record {
+        valid = valid;
+        built = built;
+        count = stands.done.worker_count;
+        stand = stands.done.stand;
+        adds_up = stands.done.adds_up;
+        are = stands.done.zones_made;
+        start = λ c is. ap (λ s. s.about.start) stands.done.clock_made ∙ ap start_of is;
+        window = λ c is. ap (λ s. s.about.window) stands.done.clock_made ∙ ap window_of is;
+        closes = stands.closes;
+        hands = stands.hands;
+        is = stands.made_of;
+      })

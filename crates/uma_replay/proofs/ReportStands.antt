@@ -6,6 +6,8 @@ use Rattle.std.proofs.lemmas.List.Sums.{sum_by-cons}
 use Rattle.std.proofs.lemmas.Option.{none-some, same_Some, slice_get_within, get_or_from_slice_get}
 use Rattle.std.specs.Prelude.{All, IfSome, IsSome, is_some, slice_get, slice_index_or, sum_by}
 use Rattle.std.specs.Option.{option_map_or}
+use Rattle.smr_clock.specs.declared.clock.Clock.{Clock}
+use Rattle.smr_clock.specs.declared.host.Host.{Ghosts}
 use Rattle.smr_clock.specs.Belongs.{setup_of}
 use Rattle.trace_text.specs.declared.head.ClockHead.{ClockHead}
 use Rattle.trace_text.specs.declared.head.Head.{Head}
@@ -31,7 +33,7 @@ use Rattle.zone_stats.specs.Ledger.{is_ctor}
 use Rattle.zone_stats.specs.Line.{zone_line, total_allocs, total_frees}
 use Rattle.trace_worker.specs.declared.held.Held.{Held}
 use Rattle.trace_worker.specs.declared.worker.Worker.{Worker}
-use Rattle.trace_worker.specs.Items.{BareClock, CountedSeat, CountedZone}
+use Rattle.trace_worker.specs.Items.{CountedSeat, CountedZone}
 use Rattle.trace_worker.specs.LedgerStands.{LedgerStands}
 use Rattle.trace_worker.specs.Live.{is_of, live_count}
 use Rattle.trace_worker.specs.Slots.{slot_at}
@@ -50,16 +52,17 @@ use Rattle.uma_replay.proofs.Primaries.{IsPrimaryAt, keg_at, keg_within, primary
 use Rattle.uma_replay.proofs.Upto.{upto}
 use Rattle.uma_replay.proofs.ZoneFrees.{row_filled, all_filled}
 
--- ---- what a refusal names
+module _ {H Part : Type 0} {h : Ghosts H Part} where
+  -- ---- what a refusal names
 
-pub names_fit : (t : Trace) (n z : ℕ) (head : ZoneHead) (zone : CountedZone) → IsZoneOf t.head.zones t.head.domains z head zone
-    → (r : Refusal) → is_ctor r ≡ false → NamesZone zone r → RefusalFits t n z head r
-names_fit t n z head zone is (AtLimit out limit) other names = (names.1.0 ∙ is.numbers.limit, names.1.1, names.1.2)
-names_fit t n z head zone is (Reserved free kept) other names = (names.1.0 ∙ is.numbers.reserve, names.1.1, names.1.2)
-names_fit t n z head zone is (Full slabs made) other names = names.1 ∙ is.numbers.cap
--- no init of the replay refuses
-names_fit t n z head zone is (Init code) other names = absurd (none-some code names.1.4)
-names_fit t n z head zone is (Ctor code) other names = absurd (true≢false other)
+  pub names_fit : (t : Trace) (n z : ℕ) (head : ZoneHead) (zone : CountedZone H Part h) → IsZoneOf t.head.zones t.head.domains z head zone
+      → (r : Refusal) → is_ctor r ≡ false → NamesZone zone r → RefusalFits t n z head r
+  names_fit t n z head zone is (AtLimit out limit) other names = (names.1.0 ∙ is.numbers.limit, names.1.1, names.1.2)
+  names_fit t n z head zone is (Reserved free kept) other names = (names.1.0 ∙ is.numbers.reserve, names.1.1, names.1.2)
+  names_fit t n z head zone is (Full slabs made) other names = names.1 ∙ is.numbers.cap
+  -- no init of the replay refuses
+  names_fit t n z head zone is (Init code) other names = absurd (none-some code names.1.4)
+  names_fit t n z head zone is (Ctor code) other names = absurd (true≢false other)
 
 -- ---- ledgers and live items
 
@@ -86,9 +89,10 @@ ledger_found f (w ∷ ws) (first ∷ ls) zero l same at =
     let head : f w ≡ Some first = same_Some (f w) (Some first) (ap (λ xs. slice_get xs 0) same) in (w, refl, head ∙ at)
 ledger_found f (w ∷ ws) (first ∷ ls) (suc n) l same at = ledger_found f ws ls n l (ap tail_of same) at
 
-seat_found : (o : Option CountedSeat) (l : SeatLedger) → option_map ledger_of o ≡ Some l → (seat : CountedSeat) × (o ≡ Some seat) × (ledger_of seat ≡ l)
-seat_found None l is = absurd (none-some l is)
-seat_found (Some seat) l is = (seat, refl, same_Some (ledger_of seat) l is)
+module _ {H Part : Type 0} {h : Ghosts H Part} where
+  seat_found : (o : Option (CountedSeat H Part h)) (l : SeatLedger) → option_map ledger_of o ≡ Some l → (seat : CountedSeat H Part h) × (o ≡ Some seat) × (ledger_of seat ≡ l)
+  seat_found None l is = absurd (none-some l is)
+  seat_found (Some seat) l is = (seat, refl, same_Some (ledger_of seat) l is)
 
 sum-term : {W : Type 0} (f : W → ℕ) (ws : List W) (n : ℕ) (w : W) → slice_get ws n ≡ Some w → f w ≤ sum_by f ws
 sum-term f [] n w at = absurd (none-some w at)
@@ -99,31 +103,32 @@ held_zone : (z : ℕ) (o : Option Held) → is_of z o ≡ true → (it : Held) �
 held_zone z None is = absurd (false≢true is)
 held_zone z (Some it) is = (it, refl, eqb-true it.zone z is)
 
--- what a worker's slots hold of a zone, the reading fills
-worker_filled : (zones : List CountedZone) (clock : BareClock) (n z size : ℕ) (lines : List Line) (w : Worker) → Stands zones clock n lines w → length w.slots ≤ size
-    → live_count z w.slots ≤ upto (filled_at z lines n) 0 size
-worker_filled zones clock n z size lines w stands most =
-    row_filled z n lines size (is_of z) w.slots most (λ slot o at is.
-    let found = held_zone z o is in
-    let here : slot_at w.slots slot ≡ Some found.0 = get_or_from_slice_get w.slots slot (Some found.0) None (at ∙ ap Some found.1) in
-    stands.filled slot found.0 here ∙ ap Some found.2)
+module _ {H Part : Type 0} {h : Ghosts H Part} where
+  -- what a worker's slots hold of a zone, the reading fills
+  worker_filled : (zones : List (CountedZone H Part h)) (clock : Clock H Part) (n z size : ℕ) (lines : List Line) (w : Worker H Part h) → Stands zones clock n lines w → length w.slots ≤ size
+      → live_count z w.slots ≤ upto (filled_at z lines n) 0 size
+  worker_filled zones clock n z size lines w stands most =
+      row_filled z n lines size (is_of z) w.slots most (λ slot o at is.
+      let found = held_zone z o is in
+      let here : slot_at w.slots slot ≡ Some found.0 = get_or_from_slice_get w.slots slot (Some found.0) None (at ∙ ap Some found.1) in
+      stands.filled slot found.0 here ∙ ap Some found.2)
 
--- ---- what a replay leaves
+  -- ---- what a replay leaves
 
--- all that is known when the report is made
-pub record Leaves (t : Trace) (zones : List CountedZone) (clock : BareClock) (workers : List Worker) (censuses : List Census) (tallies : List TallySum) (deferred : List ℕ) (read write gave_up : ℕ)
-    (report : Report) : Type 0 where
-  pub valid : IsValid t
-  pub built : IsBuilt t
-  pub count : length workers ≡ t.head.workers
-  pub stand : AllStand zones clock (all_lines t) workers
-  pub adds_up : (z : ℕ) → AddsUp z workers
-  pub are : AreZones t.head clock zones
-  pub start : (c : ClockHead) → t.head.clock ≡ Some c → (setup_of clock).about.start ≡ c.start
-  pub window : (c : ClockHead) → t.head.clock ≡ Some c → (setup_of clock).about.window ≡ c.window
-  pub closes : AllClose t.head zones workers censuses tallies deferred
-  pub hands : ReadsHands clock workers read write
-  pub is : IsReportOf t.head workers censuses tallies deferred read write gave_up report
+  -- all that is known when the report is made
+  pub record Leaves (t : Trace) (zones : List (CountedZone H Part h)) (clock : Clock H Part) (workers : List (Worker H Part h)) (censuses : List Census) (tallies : List TallySum) (deferred : List ℕ) (read write gave_up : ℕ)
+      (report : Report) : Type 0 where
+    pub valid : IsValid t
+    pub built : IsBuilt t
+    pub count : length workers ≡ t.head.workers
+    pub stand : AllStand zones clock (all_lines t) workers
+    pub adds_up : (z : ℕ) → AddsUp z workers
+    pub are : AreZones t.head clock zones
+    pub start : (c : ClockHead) → t.head.clock ≡ Some c → (setup_of clock).about.start ≡ c.start
+    pub window : (c : ClockHead) → t.head.clock ≡ Some c → (setup_of clock).about.window ≡ c.window
+    pub closes : AllClose t.head zones workers censuses tallies deferred
+    pub hands : ReadsHands clock workers read write
+    pub is : IsReportOf t.head workers censuses tallies deferred read write gave_up report
 
 -- ---- on numbers
 
@@ -217,21 +222,21 @@ own_free o free is = let f : Option ℕ → ℕ = λ o. cond (is_some o) 0 free 
 
 -- ---- the parts of the report, each with all that is known
 
-module _ (t : Trace) (zones : List CountedZone) (clock : BareClock) (workers : List Worker) (censuses : List Census) (tallies : List TallySum) (deferred : List ℕ) (read write gave_up : ℕ) (report : Report)
+module _ {H Part : Type 0} {h : Ghosts H Part} (t : Trace) (zones : List (CountedZone H Part h)) (clock : Clock H Part) (workers : List (Worker H Part h)) (censuses : List Census) (tallies : List TallySum) (deferred : List ℕ) (read write gave_up : ℕ) (report : Report)
     (l : Leaves t zones clock workers censuses tallies deferred read write gave_up report) where
   abbrev heads : List ZoneHead
   heads = t.head.zones
 
   -- a zone, with its keg's census and sums
   record InKeg (z : ℕ) (line : ZoneHead) : Type 0 where
-    zone : CountedZone
+    zone : CountedZone H Part h
     at_zone : slice_get zones z ≡ Some zone
     is_zone : IsZoneOf heads t.head.domains z line zone
     census : Census
     at_census : slice_get censuses (keg_number heads (keg_place z line)) ≡ Some census
     tally : TallySum
     at_tally : slice_get tallies (keg_number heads (keg_place z line)) ≡ Some tally
-    primary : CountedZone
+    primary : CountedZone H Part h
     closes : KegCloses t.head zones workers deferred (keg_place z line) primary census tally
 
   in_keg : (z : ℕ) (line : ZoneHead) → slice_get heads z ≡ Some line → InKeg z line
@@ -257,15 +262,15 @@ module _ (t : Trace) (zones : List CountedZone) (clock : BareClock) (workers : L
       }
 
   abbrev size : ℕ
-  size = 65536 + sum_by (λ (w : Worker). length w.slots) workers
+  size = 65536 + sum_by (λ (w : Worker H Part h). length w.slots) workers
 
   live_filled : (z : ℕ) → all_live z workers ≤ filled_slots t.head.workers size z (all_lines t)
   live_filled z =
-      all_filled z t.head.workers size (all_lines t) (λ (w : Worker). live_count z w.slots) workers l.count (λ n w at.
-      worker_filled zones clock n z size (all_lines t) w (l.stand.stands n w at) (add_le _ _ 65536 (sum-term (λ (w : Worker). length w.slots) workers n w at)))
+      all_filled z t.head.workers size (all_lines t) (λ (w : Worker H Part h). live_count z w.slots) workers l.count (λ n w at.
+      worker_filled zones clock n z size (all_lines t) w (l.stand.stands n w at) (add_le _ _ 65536 (sum-term (λ (w : Worker H Part h). length w.slots) workers n w at)))
 
   one_ledger : (n z : ℕ) (line : ZoneHead) (own : List SeatLedger) (ledger : SeatLedger) → slice_get heads z ≡ Some line → AreLedgersOf z workers own → slice_get own n ≡ Some ledger
-      → (zone : CountedZone) × (IsZoneOf heads t.head.domains z line zone) × LedgerStands (NamesZone zone) n z (all_lines t) ledger
+      → (zone : CountedZone H Part h) × (IsZoneOf heads t.head.domains z line zone) × LedgerStands (NamesZone zone) n z (all_lines t) ledger
   one_ledger n z line own ledger at_line are at =
       let found = ledger_found (ledger_at z) workers own n ledger are at in
       let seat = seat_found (slice_get found.0.seats.items z) ledger found.2 in
@@ -373,7 +378,7 @@ module _ (t : Trace) (zones : List CountedZone) (clock : BareClock) (workers : L
   ends = record {
     valid = l.valid;
     built = l.built;
-    most = least_size (sum_by (λ (w : Worker). length w.slots) workers);
+    most = least_size (sum_by (λ (w : Worker H Part h). length w.slots) workers);
     ledger_count = l.is.ledgers.count;
     line_count = l.is.lines.count;
     hook_count = l.is.hooks.count;

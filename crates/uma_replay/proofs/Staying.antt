@@ -5,6 +5,8 @@ use Rattle.std.proofs.lemmas.List.Sums.{sum_by-cons}
 use Rattle.std.proofs.lemmas.Option.{none-some, same_Some, slice_get_within}
 use Rattle.std.specs.Prelude.{◌==◌, vec_items, slice_get, count_by, sum_by}
 use Rattle.std.specs.Option.{option_map_or}
+use Rattle.smr_clock.specs.declared.clock.Clock.{Clock}
+use Rattle.smr_clock.specs.declared.host.Host.{Ghosts}
 use Rattle.smr_clock.specs.Belongs.{IsOf}
 use Rattle.smr_core.specs.declared.phase.Phase.{Phase}
 use Rattle.smr_core.specs.declared.phase.Phase.TheVariants.{Inside, Outside}
@@ -15,7 +17,7 @@ use Rattle.zone_stats.specs.declared.ledger.SeatLedger.{SeatLedger}
 use Rattle.trace_worker.specs.declared.held.Held.{Held}
 use Rattle.trace_worker.specs.declared.worker.Worker.{Worker}
 use Rattle.trace_worker.specs.declared.counted.Counted.{Counted}
-use Rattle.trace_worker.specs.Items.{BareClock, CountedZone}
+use Rattle.trace_worker.specs.Items.{CountedZone}
 use Rattle.trace_worker.specs.Live.{is_of, live_count}
 use Rattle.trace_worker.specs.Slots.{slot_at}
 use Rattle.trace_worker.specs.Stands.{Stands}
@@ -26,34 +28,36 @@ use Rattle.trace_totals.specs.Clock.{AllLearn, Learns, ReadsHands, floor_of}
 use Rattle.uma_replay.specs.Playing.{Stays}
 use Rattle.uma_replay.proofs.PlainStands.{some_at}
 
-pub record AllStay (clock : BareClock) (old new : List Worker) : Type 0 where
-  pub count : length new ≡ length old
-  pub each : (n : ℕ) (before after : Worker) → slice_get old n ≡ Some before → slice_get new n ≡ Some after → Stays clock before after
+module _ {H Part : Type 0} {h : Ghosts H Part} where
+  pub record AllStay (clock : Clock H Part) (old new : List (Worker H Part h)) : Type 0 where
+    pub count : length new ≡ length old
+    pub each : (n : ℕ) (before after : Worker H Part h) → slice_get old n ≡ Some before → slice_get new n ≡ Some after → Stays clock before after
 
-pub stays_learn : (clock : BareClock) (old new : Worker) → Learns clock old new → Stays clock old new
-stays_learn clock old new l = record {
-  seats = l.seats;
-  slots = ap (map seen_slot) l.slots;
-  entered = l.entered;
-  late = l.late;
-  here = l.here;
-  phase = l.phase;
-  seen = l.seen;
-}
+  pub stays_learn : (clock : Clock H Part) (old new : Worker H Part h) → Learns clock old new → Stays clock old new
+  stays_learn clock old new l = record {
+    seats = l.seats;
+    slots = ap (map seen_slot) l.slots;
+    entered = l.entered;
+    late = l.late;
+    here = l.here;
+    phase = l.phase;
+    seen = l.seen;
+  }
 
 same_most : (a b : ℕ) → b ≡ a → a ≤ b
 same_most a b is = omega arith
 
-pub stays_kept : (clock : BareClock) (old new : Worker) → IsOf clock old.pass → KeepsWorker old new → Stays clock old new
-stays_kept clock old new here k = record {
-  seats = k.seats;
-  slots = k.slots;
-  entered = k.entered;
-  late = k.late;
-  here = let P : _ → Type 0 = λ pass. IsOf clock pass in subst P (sym k.pass) here;
-  phase = ap (λ pass. phase_of (record old { pass = pass })) k.pass;
-  seen = same_most _ _ (ap (λ pass. seen_of (record old { pass = pass })) k.pass);
-}
+module _ {H Part : Type 0} {h : Ghosts H Part} where
+  pub stays_kept : (clock : Clock H Part) (old new : Worker H Part h) → IsOf clock old.pass → KeepsWorker old new → Stays clock old new
+  stays_kept clock old new here k = record {
+    seats = k.seats;
+    slots = k.slots;
+    entered = k.entered;
+    late = k.late;
+    here = let P : _ → Type 0 = λ pass. IsOf clock pass in subst P (sym k.pass) here;
+    phase = ap (λ pass. phase_of (record old { pass = pass })) k.pass;
+    seen = same_most _ _ (ap (λ pass. seen_of (record old { pass = pass })) k.pass);
+  }
 
 -- ---- slots
 
@@ -78,28 +82,29 @@ was_held (Some before) new it same is =
     let both : (it.zone, seen_item it.item) ≡ (before.zone, seen_item before.item) = same_Some (it.zone, seen_item it.item) (before.zone, seen_item before.item) (sym (ap seen_slot is) ∙ same) in
     record { before = before; is = refl; zone = ap (λ p. p.0) both; item = ap (λ p. p.1) both }
 
-held_before : (zones : List CountedZone) (it before : Held) → it.zone ≡ before.zone → seen_item it.item ≡ seen_item before.item → IsHeld zones before → IsHeld zones it
-held_before zones it before zone item was =
-    let home = was.home in
-    let P : ℕ → Type 0 = λ n. n < (zone_home was.zone).domains in
-    record {
-      zone = was.zone;
-      at = ap (slice_get zones) zone ∙ was.at;
-      home = (ap (λ (s : Seen Counted). s.table) item ∙ home.0, ap (λ (s : Seen Counted). s.zone) item ∙ home.1, subst P (sym (ap (λ (s : Seen Counted). s.domain) item)) home.2);
-    }
+module _ {H Part : Type 0} {h : Ghosts H Part} where
+  held_before : (zones : List (CountedZone H Part h)) (it before : Held) → it.zone ≡ before.zone → seen_item it.item ≡ seen_item before.item → IsHeld zones before → IsHeld zones it
+  held_before zones it before zone item was =
+      let home = was.home in
+      let P : ℕ → Type 0 = λ n. n < (zone_home was.zone).domains in
+      record {
+        zone = was.zone;
+        at = ap (slice_get zones) zone ∙ was.at;
+        home = (ap (λ (s : Seen Counted). s.table) item ∙ home.0, ap (λ (s : Seen Counted). s.zone) item ∙ home.1, subst P (sym (ap (λ (s : Seen Counted). s.domain) item)) home.2);
+      }
 
--- ---- one worker
+  -- ---- one worker
 
-pub fits_stay : (zones : List CountedZone) (clock : BareClock) (old new : Worker) → Stays clock old new → Fits zones clock old → Fits zones clock new
-fits_stay zones clock old new s f =
-    let P : _ → Type 0 = λ seats. HasSeats zones (vec_items seats) in
-    record {
-      seats = subst P (sym s.seats) f.seats;
-      pass = s.here;
-      slots = λ slot it at.
-          let was = was_held (slot_at old.slots slot) (slot_at new.slots slot) it (same_seen old.slots new.slots slot s.slots) at in
-          held_before zones it was.before was.zone was.item (f.slots slot was.before was.is);
-    }
+  pub fits_stay : (zones : List (CountedZone H Part h)) (clock : Clock H Part) (old new : Worker H Part h) → Stays clock old new → Fits zones clock old → Fits zones clock new
+  fits_stay zones clock old new s f =
+      let P : _ → Type 0 = λ seats. HasSeats zones (vec_items seats) in
+      record {
+        seats = subst P (sym s.seats) f.seats;
+        pass = s.here;
+        slots = λ slot it at.
+            let was = was_held (slot_at old.slots slot) (slot_at new.slots slot) it (same_seen old.slots new.slots slot s.slots) at in
+            held_before zones it was.before was.zone was.item (f.slots slot was.before was.is);
+      }
 
 first_le : (a b c : ℕ) → a ≡ b → b ≤ c → a ≤ c
 first_le a b c same below = omega arith
@@ -117,33 +122,35 @@ more_seen a b c first second = omega arith
 some_late : (a b : ℕ) → a ≡ b → 0 < a → 0 < b
 some_late a b same some = omega arith
 
-pub stands_stay : (zones : List CountedZone) (clock : BareClock) (n : ℕ) (lines : List Line) (old new : Worker) → Stays clock old new → Stands zones clock n lines old → Stands zones clock n lines new
-stands_stay zones clock n lines old new s f = record {
-  ledgers = λ z zone seat at_zone at_seat. f.ledgers z zone seat at_zone (sym (ap (λ seats. slice_get (vec_items seats) z) s.seats) ∙ at_seat);
-  filled = λ slot it at.
-      let was = was_held (slot_at old.slots slot) (slot_at new.slots slot) it (same_seen old.slots new.slots slot s.slots) at in
-      f.filled slot was.before was.is ∙ ap Some (sym was.zone);
-  few = first_le (length new.slots) (length old.slots) 65536 (sym (length-map new.slots seen_slot) ∙ (ap length s.slots ∙ length-map old.slots seen_slot)) f.few;
-  outside = λ not. s.phase ∙ f.outside not;
-  between = either_phase (phase_of new) (phase_of old) s.phase f.between;
-  enters_add_up = sum_kept old.entered old.late new.entered new.late _ s.entered s.late f.enters_add_up;
-  begun = more_seen _ (seen_of old) (seen_of new) f.begun s.seen;
-  overtaken = λ late. more_seen _ (seen_of old) (seen_of new) (f.overtaken (some_late new.late old.late s.late late)) s.seen;
-}
+module _ {H Part : Type 0} {h : Ghosts H Part} where
+  pub stands_stay : (zones : List (CountedZone H Part h)) (clock : Clock H Part) (n : ℕ) (lines : List Line) (old new : Worker H Part h) → Stays clock old new → Stands zones clock n lines old → Stands zones clock n lines new
+  stands_stay zones clock n lines old new s f = record {
+    ledgers = λ z zone seat at_zone at_seat. f.ledgers z zone seat at_zone (sym (ap (λ seats. slice_get (vec_items seats) z) s.seats) ∙ at_seat);
+    filled = λ slot it at.
+        let was = was_held (slot_at old.slots slot) (slot_at new.slots slot) it (same_seen old.slots new.slots slot s.slots) at in
+        f.filled slot was.before was.is ∙ ap Some (sym was.zone);
+    few = first_le (length new.slots) (length old.slots) 65536 (sym (length-map new.slots seen_slot) ∙ (ap length s.slots ∙ length-map old.slots seen_slot)) f.few;
+    outside = λ not. s.phase ∙ f.outside not;
+    between = either_phase (phase_of new) (phase_of old) s.phase f.between;
+    enters_add_up = sum_kept old.entered old.late new.entered new.late _ s.entered s.late f.enters_add_up;
+    begun = more_seen _ (seen_of old) (seen_of new) f.begun s.seen;
+    overtaken = λ late. more_seen _ (seen_of old) (seen_of new) (f.overtaken (some_late new.late old.late s.late late)) s.seen;
+  }
 
 -- ---- all workers
 
 below_old : (n a b : ℕ) → n < a → a ≡ b → n < b
 below_old n a b below same = omega arith
 
-pub found_before : (old new : List Worker) (n : ℕ) (after : Worker) → length new ≡ length old → slice_get new n ≡ Some after → (before : Worker) × (slice_get old n ≡ Some before)
-found_before old new n after count at = some_at old n (below_old n (length new) (length old) (slice_get_within new n after at) count)
+module _ {H Part : Type 0} {h : Ghosts H Part} where
+  pub found_before : (old new : List (Worker H Part h)) (n : ℕ) (after : Worker H Part h) → length new ≡ length old → slice_get new n ≡ Some after → (before : Worker H Part h) × (slice_get old n ≡ Some before)
+  found_before old new n after count at = some_at old n (below_old n (length new) (length old) (slice_get_within new n after at) count)
 
-pub all_stand : (zones : List CountedZone) (clock : BareClock) (lines : List Line) (old new : List Worker) → AllStay clock old new → AllStand zones clock lines old → AllStand zones clock lines new
-all_stand zones clock lines old new s a = record {
-  fits = λ n w at. let was = found_before old new n w s.count at in fits_stay zones clock was.0 w (s.each n was.0 w was.1 at) (a.fits n was.0 was.1);
-  stands = λ n w at. let was = found_before old new n w s.count at in stands_stay zones clock n lines was.0 w (s.each n was.0 w was.1 at) (a.stands n was.0 was.1);
-}
+  pub all_stand : (zones : List (CountedZone H Part h)) (clock : Clock H Part) (lines : List Line) (old new : List (Worker H Part h)) → AllStay clock old new → AllStand zones clock lines old → AllStand zones clock lines new
+  all_stand zones clock lines old new s a = record {
+    fits = λ n w at. let was = found_before old new n w s.count at in fits_stay zones clock was.0 w (s.each n was.0 w was.1 at) (a.fits n was.0 was.1);
+    stands = λ n w at. let was = found_before old new n w s.count at in stands_stay zones clock n lines was.0 w (s.each n was.0 w was.1 at) (a.stands n was.0 was.1);
+  }
 
 one_slot : (all rest all' rest' unit : ℕ) → all ≡ unit + rest → all' ≡ unit + rest' → rest ≡ rest' → all ≡ all'
 one_slot all rest all' rest' unit e1 e2 e3 = omega arith
@@ -165,46 +172,48 @@ live_seen z (None ∷ slots) = one_slot _ _ _ _ _ (sum_by-cons (λ o. cond (is_o
 live_seen z (Some it ∷ slots) =
     one_slot _ _ _ _ _ (sum_by-cons (λ o. cond (is_of z o) 1 0) (Some it) slots) (sum_by-cons (λ o. cond (seen_is_of z o) 1 0) (seen_slot (Some it)) (map seen_slot slots)) (live_seen z slots)
 
-live_same : (clock : BareClock) (z : ℕ) (old new : Worker) → Stays clock old new → live_count z new.slots ≡ live_count z old.slots
-live_same clock z old new s = live_seen z new.slots ∙ (ap (count_by (seen_is_of z)) s.slots ∙ sym (live_seen z old.slots))
+module _ {H Part : Type 0} {h : Ghosts H Part} where
+  live_same : (clock : Clock H Part) (z : ℕ) (old new : Worker H Part h) → Stays clock old new → live_count z new.slots ≡ live_count z old.slots
+  live_same clock z old new s = live_seen z new.slots ∙ (ap (count_by (seen_is_of z)) s.slots ∙ sym (live_seen z old.slots))
 
-abbrev counted_at : ℕ → (SeatLedger → ℕ) → Worker → ℕ
-counted_at z g w = option_map_or g (ledger_at z w) 0
+  abbrev counted_at : ℕ → (SeatLedger → ℕ) → Worker H Part h → ℕ
+  counted_at z g w = option_map_or g (ledger_at z w) 0
 
-seat_same : (clock : BareClock) (z : ℕ) (g : SeatLedger → ℕ) (old new : Worker) → Stays clock old new → counted_at z g new ≡ counted_at z g old
-seat_same clock z g old new s = ap (λ seats. counted_at z g (record old { seats = seats })) s.seats
+  seat_same : (clock : Clock H Part) (z : ℕ) (g : SeatLedger → ℕ) (old new : Worker H Part h) → Stays clock old new → counted_at z g new ≡ counted_at z g old
+  seat_same clock z g old new s = ap (λ seats. counted_at z g (record old { seats = seats })) s.seats
 
 sums_add : (live frees allocs live' frees' allocs' : ℕ) → live + frees ≡ allocs → live' ≡ live → frees' ≡ frees → allocs' ≡ allocs → live' + frees' ≡ allocs'
 sums_add live frees allocs live' frees' allocs' sum e1 e2 e3 = omega arith
 
-pub adds_stay : (clock : BareClock) (old new : List Worker) → AllStay clock old new → (z : ℕ) → AddsUp z old → AddsUp z new
-adds_stay clock old new s z sum =
-    sums_add (all_live z old) (all_frees z old) (all_allocs z old) (all_live z new) (all_frees z new) (all_allocs z new) sum
-    (sums_same (λ (w : Worker). live_count z w.slots) old new s.count (λ n v w at at'. live_same clock z v w (s.each n v w at at')))
-    (sums_same (counted_at z (λ ledger. ledger.frees)) old new s.count (λ n v w at at'. seat_same clock z (λ ledger. ledger.frees) v w (s.each n v w at at')))
-    (sums_same (counted_at z (λ ledger. ledger.allocs)) old new s.count (λ n v w at at'. seat_same clock z (λ ledger. ledger.allocs) v w (s.each n v w at at')))
+module _ {H Part : Type 0} {h : Ghosts H Part} where
+  pub adds_stay : (clock : Clock H Part) (old new : List (Worker H Part h)) → AllStay clock old new → (z : ℕ) → AddsUp z old → AddsUp z new
+  adds_stay clock old new s z sum =
+      sums_add (all_live z old) (all_frees z old) (all_allocs z old) (all_live z new) (all_frees z new) (all_allocs z new) sum
+      (sums_same (λ (w : Worker H Part h). live_count z w.slots) old new s.count (λ n v w at at'. live_same clock z v w (s.each n v w at at')))
+      (sums_same (counted_at z (λ ledger. ledger.frees)) old new s.count (λ n v w at at'. seat_same clock z (λ ledger. ledger.frees) v w (s.each n v w at at')))
+      (sums_same (counted_at z (λ ledger. ledger.allocs)) old new s.count (λ n v w at at'. seat_same clock z (λ ledger. ledger.allocs) v w (s.each n v w at at')))
 
-pub learn_stay : (clock : BareClock) (old new : List Worker) → AllLearn clock old new → AllStay clock old new
-learn_stay clock old new l = record { count = l.count; each = λ n v w at at'. stays_learn clock v w (l.each n v w at at') }
+  pub learn_stay : (clock : Clock H Part) (old new : List (Worker H Part h)) → AllLearn clock old new → AllStay clock old new
+  learn_stay clock old new l = record { count = l.count; each = λ n v w at at'. stays_learn clock v w (l.each n v w at at') }
 
-pub kept_stay : (zones : List CountedZone) (clock : BareClock) (lines : List Line) (old new : List Worker) → AllStand zones clock lines old → KeepsWorkers old new → AllStay clock old new
-kept_stay zones clock lines old new a k = record { count = k.count; each = λ n v w at at'. stays_kept clock v w (a.fits n v at).pass (k.each n v w at at') }
+  pub kept_stay : (zones : List (CountedZone H Part h)) (clock : Clock H Part) (lines : List Line) (old new : List (Worker H Part h)) → AllStand zones clock lines old → KeepsWorkers old new → AllStay clock old new
+  kept_stay zones clock lines old new a k = record { count = k.count; each = λ n v w at at'. stays_kept clock v w (a.fits n v at).pass (k.each n v w at at') }
 
--- the hands are read by the passes alone
-pub hands_stay : (clock : BareClock) (old new : List Worker) (read write : ℕ) → KeepsWorkers old new → ReadsHands clock old read write → ReadsHands clock new read write
-hands_stay clock old new read write k r = record {
-  first = λ w at. let was = found_before old new 0 w k.count at in
-      let kept = k.each 0 was.0 w was.1 at in
-      (ap (λ pass. seen_of (record w { pass = pass })) kept.pass ∙ (r.first was.0 was.1).0, ap (λ pass. floor_of (record w { pass = pass })) kept.pass ∙ (r.first was.0 was.1).1);
-  greatest_seen = λ n w at. let was = found_before old new n w k.count at in
-      let kept = k.each n was.0 w was.1 at in
-      first_le _ _ _ (ap (λ pass. seen_of (record w { pass = pass })) kept.pass) (r.greatest_seen n was.0 was.1);
-  greatest_floor = λ n w at. let was = found_before old new n w k.count at in
-      let kept = k.each n was.0 w was.1 at in
-      first_le _ _ _ (ap (λ pass. floor_of (record w { pass = pass })) kept.pass) (r.greatest_floor n was.0 was.1);
-  read_odd = r.read_odd;
-  write_odd = r.write_odd;
-  start = r.start;
-  in_order = r.in_order;
-  within = r.within;
-}
+  -- the hands are read by the passes alone
+  pub hands_stay : (clock : Clock H Part) (old new : List (Worker H Part h)) (read write : ℕ) → KeepsWorkers old new → ReadsHands clock old read write → ReadsHands clock new read write
+  hands_stay clock old new read write k r = record {
+    first = λ w at. let was = found_before old new 0 w k.count at in
+        let kept = k.each 0 was.0 w was.1 at in
+        (ap (λ pass. seen_of (record w { pass = pass })) kept.pass ∙ (r.first was.0 was.1).0, ap (λ pass. floor_of (record w { pass = pass })) kept.pass ∙ (r.first was.0 was.1).1);
+    greatest_seen = λ n w at. let was = found_before old new n w k.count at in
+        let kept = k.each n was.0 w was.1 at in
+        first_le _ _ _ (ap (λ pass. seen_of (record w { pass = pass })) kept.pass) (r.greatest_seen n was.0 was.1);
+    greatest_floor = λ n w at. let was = found_before old new n w k.count at in
+        let kept = k.each n was.0 w was.1 at in
+        first_le _ _ _ (ap (λ pass. floor_of (record w { pass = pass })) kept.pass) (r.greatest_floor n was.0 was.1);
+    read_odd = r.read_odd;
+    write_odd = r.write_odd;
+    start = r.start;
+    in_order = r.in_order;
+    within = r.within;
+  }

@@ -1,14 +1,15 @@
 -- What a replay leaves behind, and what its report has to do with it (own).
 use Rattle.std.specs.Prelude.{◌≡◌, ℕ, List, length, reverse}
-use Rattle.smr_clock.specs.Belongs.{setup_of}
+use Rattle.smr_clock.specs.declared.clock.Clock.{Clock}
+use Rattle.smr_clock.specs.declared.host.Host.{Ghosts}
 use Rattle.trace_text.specs.declared.trace.Trace.{Trace}
 use Rattle.trace_text.specs.Lines.{lines_of}
 use Rattle.uma_life.specs.declared.tally_sum.TallySum.{TallySum}
 use Rattle.zone_stats.specs.declared.report.Report.{Report}
 use Rattle.trace_worker.specs.declared.worker.Worker.{Worker}
-use Rattle.trace_worker.specs.Items.{BareClock, CountedZone}
+use Rattle.trace_worker.specs.Items.{CountedZone}
 use Rattle.trace_worker.specs.Together.{AddsUp, AllStand}
-use Rattle.trace_setting.specs.Clock.{setup_for}
+use Rattle.trace_setting.specs.Clock.{IsClockOf}
 use Rattle.trace_setting.specs.Zones.{AreZones}
 use Rattle.trace_totals.specs.Clock.{ReadsHands}
 use Rattle.trace_totals.specs.Closes.{AllClose}
@@ -16,29 +17,30 @@ use Rattle.uma_replay.specs.declared.hall.Hall.{Hall}
 use Rattle.uma_replay.specs.Playing.{AllPlayed}
 use Rattle.uma_replay.specs.Reporting.{IsReportOf}
 
--- All lines of the trace are done.
-pub record AreDone (t : Trace) (zones : List CountedZone) (clock : BareClock) (workers : List Worker) : Type 0 where
-  -- the clock has the numbers of the clock line, and each zone those of its line
-  pub clock_made : setup_of clock ≡ setup_for t.head
-  pub zones_made : AreZones t.head clock zones
-  -- each worker's seats, pass and items are of these zones and this clock, and it stands for all lines
-  pub worker_count : length workers ≡ t.head.workers
-  pub stand : AllStand zones clock (reverse (lines_of t.rounds)) workers
-  -- it began new and did its own lists, line after line, with the `give` lines between them
-  pub played : AllPlayed t zones clock workers
-  -- the live items of each zone are its allocs less its frees
-  pub adds_up : (z : ℕ) → AddsUp z workers
+module _ {H P : Type 0} {h : Ghosts H P} where
+  -- All lines of the trace are done.
+  pub record AreDone (t : Trace) (zones : List (CountedZone H P h)) (clock : Clock H P) (workers : List (Worker H P h)) : Type 0 where
+    -- the clock has the numbers of the clock line, and each zone those of its line
+    pub clock_made : IsClockOf t.head clock
+    pub zones_made : AreZones t.head clock zones
+    -- each worker's seats, pass and items are of these zones and this clock, and it stands for all lines
+    pub worker_count : length workers ≡ t.head.workers
+    pub stand : AllStand zones clock (reverse (lines_of t.rounds)) workers
+    -- it began new and did its own lists, line after line, with the `give` lines between them
+    pub played : AllPlayed t zones clock workers
+    -- the live items of each zone are its allocs less its frees
+    pub adds_up : (z : ℕ) → AddsUp z workers
 
--- The hall of a trace, and its report, which is made of what the hall has: of the workers' ledgers and counts, of the kegs' censuses, and of
--- these sums of hooks, counts of deferred items and hands.
-pub record HallStands (t : Trace) (report : Report) (hall : Hall) : Type 0 where
-  pub done : AreDone t hall.zones hall.clock hall.workers
-  pub tallies : List TallySum
-  pub deferred : List ℕ
-  -- the sums are those of the censuses' items and of the items in slots and seats, and more, which the zones' domains list; so are the counts
-  pub closes : AllClose t.head hall.zones hall.workers hall.censuses tallies deferred
-  pub read : ℕ
-  pub write : ℕ
-  -- worker 0's pass knows no lower hands than any other, and they are these
-  pub hands : ReadsHands hall.clock hall.workers read write
-  pub made_of : IsReportOf t.head hall.workers hall.censuses tallies deferred read write report.gave_up report
+  -- The hall of a trace, and its report, which is made of what the hall has: of the workers' ledgers and counts, of the kegs' censuses, and of
+  -- these sums of hooks, counts of deferred items and hands.
+  pub record HallStands (t : Trace) (report : Report) (hall : Hall H P h) : Type 0 where
+    pub done : AreDone t hall.zones hall.clock hall.workers
+    pub tallies : List TallySum
+    pub deferred : List ℕ
+    -- the sums are those of the censuses' items and of the items in slots and seats, and more, which the zones' domains list; so are the counts
+    pub closes : AllClose t.head hall.zones hall.workers hall.censuses tallies deferred
+    pub read : ℕ
+    pub write : ℕ
+    -- worker 0's pass knows no lower hands than any other, and they are these
+    pub hands : ReadsHands hall.clock hall.workers read write
+    pub made_of : IsReportOf t.head hall.workers hall.censuses tallies deferred read write report.gave_up report

@@ -2,6 +2,7 @@
 use Rattle.std.specs.Option.{option_map_or}
 use Rattle.std.specs.Prelude.{ℕ, ◌≡◌, ◌<◌, Bool, List, Some, None, cond, count_by, is_none, is_some, length, map, option_map, slice_get, take}
 use Rattle.std.specs.List.{sum_by}
+use Rattle.smr_clock.specs.declared.host.Host.{Ghosts}
 use Rattle.trace_text.specs.declared.head.ClockHead.{ClockHead}
 use Rattle.trace_text.specs.declared.head.Head.{Head}
 use Rattle.trace_text.specs.declared.head.ZoneHead.{ZoneHead}
@@ -30,18 +31,19 @@ is_primary head = is_none head.parent
 abbrev pub keg_number : List ZoneHead → ℕ → ℕ
 keg_number heads p = count_by is_primary (take p heads)
 
--- how many zones worker 0 has a seat of
-abbrev pub zone_count : List Worker → ℕ
-zone_count workers = option_map_or (λ (w : Worker). length w.seats.items) (slice_get workers 0) 0
+module _ {H P : Type 0} {h : Ghosts H P} where
+  -- how many zones worker 0 has a seat of
+  abbrev pub zone_count : List (Worker H P h) → ℕ
+  zone_count workers = option_map_or (λ (w : Worker H P h). length w.seats.items) (slice_get workers 0) 0
 
--- The ledgers of one zone's seats, from worker 0 on.
-abbrev pub AreLedgersOf : ℕ → List Worker → List SeatLedger → Type 0
-AreLedgersOf z workers ledgers = map (ledger_at z) workers ≡ map Some ledgers
+  -- The ledgers of one zone's seats, from worker 0 on.
+  abbrev pub AreLedgersOf : ℕ → List (Worker H P h) → List SeatLedger → Type 0
+  AreLedgersOf z workers ledgers = map (ledger_at z) workers ≡ map Some ledgers
 
--- For each of so many zones, in order, the ledgers of its seats.
-pub record AreLedgers (zones : ℕ) (workers : List Worker) (ledgers : List (List SeatLedger)) : Type 0 where
-  pub count : length ledgers ≡ zones
-  pub each : (z : ℕ) (own : List SeatLedger) → slice_get ledgers z ≡ Some own → AreLedgersOf z workers own
+  -- For each of so many zones, in order, the ledgers of its seats.
+  pub record AreLedgers (zones : ℕ) (workers : List (Worker H P h)) (ledgers : List (List SeatLedger)) : Type 0 where
+    pub count : length ledgers ≡ zones
+    pub each : (z : ℕ) (own : List SeatLedger) → slice_get ledgers z ≡ Some own → AreLedgersOf z workers own
 
 -- what a zone's line shows of the items that are free in the keg: a secondary zone leaves them to its primary one
 abbrev pub shown_free : ZoneHead → Census → ℕ
@@ -76,9 +78,10 @@ keg_line name census sums = record {
   finis = sum_of sums KegFini;
 }
 
--- the clock's line, by its hands and what the workers counted
-abbrev pub clock_line : ℕ → ℕ → List Worker → ClockLine
-clock_line read write workers = record { read = read; write = write; entered = sum_by (λ w. w.entered) workers; late = sum_by (λ w. w.late) workers }
+module _ {H P : Type 0} {h : Ghosts H P} where
+  -- the clock's line, by its hands and what the workers counted
+  abbrev pub clock_line : ℕ → ℕ → List (Worker H P h) → ClockLine
+  clock_line read write workers = record { read = read; write = write; entered = sum_by (λ w. w.entered) workers; late = sum_by (λ w. w.late) workers }
 
 -- the line of the zone at place `z`, by its ledgers and its keg's census
 abbrev pub IsLineAt : List ZoneHead → List (List SeatLedger) → List Census → ℕ → ZoneLine → Type 0
@@ -129,13 +132,14 @@ pub record HasKeg (heads : List ZoneHead) (kegs z : ℕ) (head : ZoneHead) : Typ
 abbrev pub HaveKegs : List ZoneHead → ℕ → Type 0
 HaveKegs heads kegs = (z : ℕ) (head : ZoneHead) → slice_get heads z ≡ Some head → HasKeg heads kegs z head
 
--- The report of these workers, censuses, sums, counts of deferred items and hands.
-pub record IsReportOf (head : Head) (workers : List Worker) (censuses : List Census) (tallies : List TallySum) (deferred : List ℕ) (read write gave_up : ℕ) (report : Report) : Type 0 where
-  pub ledgers : AreLedgers (length head.zones) workers report.ledgers
-  pub lines : AreLines head.zones report.ledgers censuses report.lines
-  pub hooks : AreHooks head.zones tallies deferred report.hooks
-  pub kegs : AreKegs head.zones censuses tallies report.kegs
-  pub clock : report.clock ≡ option_map (λ (c : ClockHead). clock_line read write workers) head.clock
-  pub names : report.names ≡ None
-  pub detail : report.detail ≡ head.detail
-  pub waits : report.gave_up ≡ gave_up
+module _ {H P : Type 0} {h : Ghosts H P} where
+  -- The report of these workers, censuses, sums, counts of deferred items and hands.
+  pub record IsReportOf (head : Head) (workers : List (Worker H P h)) (censuses : List Census) (tallies : List TallySum) (deferred : List ℕ) (read write gave_up : ℕ) (report : Report) : Type 0 where
+    pub ledgers : AreLedgers (length head.zones) workers report.ledgers
+    pub lines : AreLines head.zones report.ledgers censuses report.lines
+    pub hooks : AreHooks head.zones tallies deferred report.hooks
+    pub kegs : AreKegs head.zones censuses tallies report.kegs
+    pub clock : report.clock ≡ option_map (λ (c : ClockHead). clock_line read write workers) head.clock
+    pub names : report.names ≡ None
+    pub detail : report.detail ≡ head.detail
+    pub waits : report.gave_up ≡ gave_up

@@ -6,20 +6,21 @@ ghost use Rattle.uma_replay.specs.Reporting.{AreLedgers, AreLedgersOf, zone_coun
 use crate::Memory;
 use crate::hall::Workers;
 use listed::Listed;
+use smr_clock::Host;
 use std::alloc::Global;
 use trace_worker::Worker;
 use zone_stats::{Ledgers, SeatLedger, ZoneLedgers};
 
 /// The ledgers of the workers' seats: zone by zone in order, in each from worker 0 on. Each worker has a seat of each zone.
-pub fn collect(alloc: Global, workers: &Workers) -> Result<Ledgers, Memory>
-    requires { (n : ℕ) (w : Worker) → slice_get workers.now n ≡ Some w → length w.seats.items ≡ zone_count workers.now }
+pub fn collect<H: Host>(alloc: Global, workers: &Workers<H>) -> Result<Ledgers, Memory>
+    requires { (n : ℕ) (w : Worker H H.Part H.Host) → slice_get workers.now n ≡ Some w → length w.seats.items ≡ zone_count workers.now }
     ensures { IfOk result (AreLedgers (zone_count workers.now) workers.now) }
 {
     collect_zones(alloc, seat_count(workers.as_slice()), workers)
 }
 
 /// Of how many zones worker 0 has a seat.
-fn seat_count(workers: &[Worker]) -> usize
+fn seat_count<H: Host>(workers: &[Worker<H>]) -> usize
     ensures { result ≡ zone_count workers.now }
 {
     match workers.first() {
@@ -29,12 +30,12 @@ fn seat_count(workers: &[Worker]) -> usize
 }
 
 /// The ledgers of the workers' seats in so many zones.
-pub(crate) fn collect_zones(
+pub(crate) fn collect_zones<H: Host>(
     alloc: Global,
     zones: usize,
-    workers: &Workers,
+    workers: &Workers<H>,
 ) -> Result<Ledgers, Memory>
-    requires { (n : ℕ) (w : Worker) → slice_get workers.now n ≡ Some w → length w.seats.items ≡ zones }
+    requires { (n : ℕ) (w : Worker H H.Part H.Host) → slice_get workers.now n ≡ Some w → length w.seats.items ≡ zones }
     ensures { IfOk result (AreLedgers zones workers.now) }
 {
     let mut ledgers = Vec::with_capacity(alloc, zones)?;
@@ -45,8 +46,12 @@ pub(crate) fn collect_zones(
 }
 
 /// The ledgers of the workers' seats in one zone.
-fn seat_ledgers(alloc: Global, place: usize, workers: &[Worker]) -> Result<ZoneLedgers, Memory>
-    requires { (n : ℕ) (w : Worker) → slice_get workers.now n ≡ Some w → place < length w.seats.items }
+fn seat_ledgers<H: Host>(
+    alloc: Global,
+    place: usize,
+    workers: &[Worker<H>],
+) -> Result<ZoneLedgers, Memory>
+    requires { (n : ℕ) (w : Worker H H.Part H.Host) → slice_get workers.now n ≡ Some w → place < length w.seats.items }
     ensures { IfOk result (AreLedgersOf place workers.now) }
 {
     let mut ledgers = Vec::with_capacity(alloc, workers.len())?;
@@ -57,7 +62,7 @@ fn seat_ledgers(alloc: Global, place: usize, workers: &[Worker]) -> Result<ZoneL
 }
 
 /// The ledger of a worker's seat.
-fn seat_ledger(place: usize, worker: &Worker) -> SeatLedger
+fn seat_ledger<H: Host>(place: usize, worker: &Worker<H>) -> SeatLedger
     requires { place < length worker.now.seats.items }
     ensures { ledger_at place worker.now ≡ Some result }
 {

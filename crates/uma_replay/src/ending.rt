@@ -17,7 +17,7 @@ use crate::Memory;
 use crate::hall::{Hall, Played, Workers, ZoneList};
 use crate::summing_up::report_of;
 use listed::Listed;
-use smr_clock::{Bare, Clock, Note};
+use smr_clock::{Clock, Host, Note};
 use std::alloc::Global;
 use std::sync::Wait;
 use trace_text::{ClockHead, Trace};
@@ -33,16 +33,16 @@ pub(crate) struct Ended {
 }
 
 /// Ends a replay: reads the clock's hands, takes a census of each keg, and makes the report.
-pub(crate) fn close<R: Wait>(
+pub(crate) fn close<H: Host, R: Wait>(
     rt: &R,
     alloc: Global,
     trace: &Trace,
-    clock: Clock<Bare>,
-    zones: Vec<CountedZone>,
-    mut workers: Vec<Worker>,
-    begun: Note<Bare>,
+    clock: Clock<H>,
+    zones: Vec<CountedZone<H>>,
+    mut workers: Vec<Worker<H>>,
+    begun: Note<H>,
     gave_up: u64,
-) -> Result<Played, Memory>
+) -> Result<Played<H>, Memory>
     requires valid { IsValid trace.now }
     requires built { IsBuilt trace.now }
     requires few { length (lines_of trace.now.rounds) ≤ 16777216 }
@@ -50,6 +50,7 @@ pub(crate) fn close<R: Wait>(
     requires begun_here { IsNoteOf clock begun }
     requires begun { (setup_of clock).about.start ≤ (note_holder begun).floor }
     ensures hall { IfOk result (λ played. HallStands trace.now played.report played.hall) }
+    ensures clock { IfOk result (λ played. played.hall.clock ≡ clock) }
     ensures gave_up { IfOk result (λ played. played.report.gave_up ≡ gave_up) }
 {
     let ended = take_stock(
@@ -67,14 +68,14 @@ pub(crate) fn close<R: Wait>(
 }
 
 /// Reads the clock's hands, and takes a census of each keg.
-fn take_stock<R: Wait>(
+fn take_stock<H: Host, R: Wait>(
     rt: &R,
     alloc: Global,
     trace: &Trace,
-    clock: &Clock<Bare>,
-    zones: &[CountedZone],
-    workers: &mut [Worker],
-    begun: Note<Bare>,
+    clock: &Clock<H>,
+    zones: &[CountedZone<H>],
+    workers: &mut [Worker<H>],
+    begun: Note<H>,
 ) -> Result<Ended, Memory>
     requires valid { IsValid trace.now }
     requires done { AreDone trace.now zones.now clock.now workers.old }
@@ -94,12 +95,12 @@ fn take_stock<R: Wait>(
 }
 
 /// Reads the clock's hands, the read hand first.
-fn look(
+fn look<H: Host>(
     trace: &Trace,
-    clock: &Clock<Bare>,
-    zones: &[CountedZone],
-    workers: &mut [Worker],
-    begun: Note<Bare>,
+    clock: &Clock<H>,
+    zones: &[CountedZone<H>],
+    workers: &mut [Worker<H>],
+    begun: Note<H>,
 ) -> (u64, u64)
     requires valid { IsValid trace.now }
     requires done { AreDone trace.now zones.now clock.now workers.old }
@@ -113,15 +114,15 @@ fn look(
 }
 
 /// The report of what the replay came to, with all that it leaves behind.
-fn reported(
+fn reported<H: Host>(
     alloc: Global,
     trace: &Trace,
-    clock: Clock<Bare>,
-    zones: ZoneList,
-    workers: Workers,
+    clock: Clock<H>,
+    zones: ZoneList<H>,
+    workers: Workers<H>,
     ended: Ended,
     gave_up: u64,
-) -> Result<Played, Memory>
+) -> Result<Played<H>, Memory>
     requires valid { IsValid trace.now }
     requires built { IsBuilt trace.now }
     requires few { length (lines_of trace.now.rounds) ≤ 16777216 }
@@ -129,6 +130,7 @@ fn reported(
     requires hands { ReadsHands clock workers ended.read ended.write }
     requires closes { AllClose trace.now.head zones workers ended.totals.censuses.items ended.totals.tallies.items ended.totals.deferred.items }
     ensures hall { IfOk result (λ played. HallStands trace.now played.report played.hall) }
+    ensures clock { IfOk result (λ played. played.hall.clock ≡ clock) }
     ensures gave_up { IfOk result (λ played. played.report.gave_up ≡ gave_up) }
 {
     let Ended {
@@ -167,9 +169,9 @@ fn window_of(head: Option<ClockHead>) -> u64
 }
 
 /// How often all workers gave up waiting for their gate.
-pub(crate) fn all_gave_up(workers: &[Running]) -> u64
-    requires { sum_by (λ (r : Running). r.gave_up) workers.now < 2 ^ 64 }
-    ensures { result ≡ sum_by (λ (r : Running). r.gave_up) workers.now }
+pub(crate) fn all_gave_up<H: Host>(workers: &[Running<H>]) -> u64
+    requires { sum_by (λ (r : Running H H.Part H.Host). r.gave_up) workers.now < 2 ^ 64 }
+    ensures { result ≡ sum_by (λ (r : Running H H.Part H.Host). r.gave_up) workers.now }
 {
     let mut total = 0;
     for number in 0..workers.len() {
@@ -179,7 +181,10 @@ pub(crate) fn all_gave_up(workers: &[Running]) -> u64
 }
 
 /// The workers, out of their turns.
-pub(crate) fn dismiss(alloc: Global, runnings: Vec<Running>) -> Result<Vec<Worker>, Memory>
+pub(crate) fn dismiss<H: Host>(
+    alloc: Global,
+    runnings: Vec<Running<H>>,
+) -> Result<Vec<Worker<H>>, Memory>
     ensures { IfOk result (λ workers. workers.items ≡ crew runnings.items) }
 {
     let mut workers = Vec::with_capacity(alloc, runnings.len())?;

@@ -6,6 +6,7 @@ ghost use Rattle.trace_worker.specs.declared.worker.Worker.{Worker};
 ghost use Rattle.uma_keg.specs.Census.{census_outs};
 ghost use Rattle.uma_replay.specs.Reporting.{line_by, hook_line as hooks_of, keg_line as keg_of, clock_line as clock_of, shown_free as shown};
 
+use smr_clock::Host;
 use trace_text::{ClockHead, ZoneHead};
 use trace_worker::Worker;
 use uma_keg::Census;
@@ -83,14 +84,14 @@ pub(crate) fn zones_of(census: &Census) -> usize
 }
 
 /// The line of the clock, where the trace has one.
-pub(crate) fn clock_line(
+pub(crate) fn clock_line<H: Host>(
     head: Option<ClockHead>,
     read: u64,
     write: u64,
-    workers: &[Worker],
+    workers: &[Worker<H>],
 ) -> Option<ClockLine>
-    requires entered { sum_by (λ (w : Worker). w.entered) workers.now < 2 ^ 64 }
-    requires late { sum_by (λ (w : Worker). w.late) workers.now < 2 ^ 64 }
+    requires entered { sum_by (λ (w : Worker H H.Part H.Host). w.entered) workers.now < 2 ^ 64 }
+    requires late { sum_by (λ (w : Worker H H.Part H.Host). w.late) workers.now < 2 ^ 64 }
     ensures { result ≡ option_map (λ (c : ClockHead). clock_of read write workers.now) head }
 {
     match head {
@@ -105,9 +106,9 @@ pub(crate) fn clock_line(
 }
 
 /// How many sections all workers entered.
-fn entered(workers: &[Worker]) -> u64
-    requires { sum_by (λ (w : Worker). w.entered) workers.now < 2 ^ 64 }
-    ensures { result ≡ sum_by (λ (w : Worker). w.entered) workers.now }
+fn entered<H: Host>(workers: &[Worker<H>]) -> u64
+    requires { sum_by (λ (w : Worker H H.Part H.Host). w.entered) workers.now < 2 ^ 64 }
+    ensures { result ≡ sum_by (λ (w : Worker H H.Part H.Host). w.entered) workers.now }
 {
     let mut total = 0;
     for number in 0..workers.len() {
@@ -117,9 +118,9 @@ fn entered(workers: &[Worker]) -> u64
 }
 
 /// How many enters of all workers came too late.
-fn late(workers: &[Worker]) -> u64
-    requires { sum_by (λ (w : Worker). w.late) workers.now < 2 ^ 64 }
-    ensures { result ≡ sum_by (λ (w : Worker). w.late) workers.now }
+fn late<H: Host>(workers: &[Worker<H>]) -> u64
+    requires { sum_by (λ (w : Worker H H.Part H.Host). w.late) workers.now < 2 ^ 64 }
+    ensures { result ≡ sum_by (λ (w : Worker H H.Part H.Host). w.late) workers.now }
 {
     let mut total = 0;
     for number in 0..workers.len() {

@@ -1,4 +1,6 @@
 ghost use Rattle.std.specs.Prelude.{◌≡◌, ◌≤◌, IfOk, length};
+ghost use Rattle.smr_clock.specs.Belongs.{setup_of};
+ghost use Rattle.trace_setting.specs.Setting.{IsSetUp};
 ghost use Rattle.trace_text.specs.Built.{IsBuilt};
 ghost use Rattle.trace_text.specs.Lines.{lines_of};
 ghost use Rattle.trace_text.specs.Valid.{IsValid};
@@ -8,6 +10,7 @@ ghost use Rattle.uma_replay.specs.Report.{StandsFor};
 use crate::Memory;
 use crate::ending::{all_gave_up, close, dismiss};
 use crate::hall::Played;
+use smr_clock::{Bare, Host};
 use std::alloc::Global;
 use std::sync::Wait;
 use std::thread::Threads;
@@ -27,12 +30,40 @@ pub fn replay<R: Threads + Wait + Sync, G: Gate + Sync, C: ReclaimCalls + Sync>(
     trace: &Trace,
     gate: &G,
     reclaim: &C,
-) -> Result<Played, Memory>
+) -> Result<Played<Bare>, Memory>
     requires valid { IsValid trace.now }
     requires built { IsBuilt trace.now }
     requires few { length (lines_of trace.now.rounds) ≤ 16777216 }
     ensures stands { IfOk result (λ played. StandsFor trace.now played.report) }
     ensures hall { IfOk result (λ played. HallStands trace.now played.report played.hall) }
+    ensures plan { IfOk result (λ played. (setup_of played.hall.clock).plan ≡ (0, 0)) }
+    ensures free { G.is_free gate.now → IfOk result (λ played. played.report.gave_up ≡ 0) }
+{
+    let setting = set_up(rt, alloc, trace)?;
+    replay_from(rt, alloc, trace, gate, reclaim, setting)
+}
+
+/// The replay of a trace from its setting on.
+fn replay_from<
+    H: Host + Send + Sync,
+    R: Threads + Wait + Sync,
+    G: Gate + Sync,
+    C: ReclaimCalls + Sync,
+>(
+    rt: &R,
+    alloc: Global,
+    trace: &Trace,
+    gate: &G,
+    reclaim: &C,
+    setting: Setting<H>,
+) -> Result<Played<H>, Memory>
+    requires valid { IsValid trace.now }
+    requires built { IsBuilt trace.now }
+    requires few { length (lines_of trace.now.rounds) ≤ 16777216 }
+    requires set_up { IsSetUp trace.now setting }
+    ensures stands { IfOk result (λ played. StandsFor trace.now played.report) }
+    ensures hall { IfOk result (λ played. HallStands trace.now played.report played.hall) }
+    ensures clock { IfOk result (λ played. played.hall.clock ≡ setting.clock) }
     ensures free { G.is_free gate.now → IfOk result (λ played. played.report.gave_up ≡ 0) }
 {
     let Setting {
@@ -40,7 +71,7 @@ pub fn replay<R: Threads + Wait + Sync, G: Gate + Sync, C: ReclaimCalls + Sync>(
         zones,
         mut workers,
         begun,
-    } = set_up(rt, alloc, trace)?;
+    } = setting;
     play(
         rt,
         alloc,

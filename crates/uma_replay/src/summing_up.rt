@@ -10,6 +10,7 @@ use crate::collecting::collect_zones;
 use crate::hall::Workers;
 use crate::lines::clock_line;
 use crate::reporting::{hook_lines, keg_lines, zone_lines};
+use smr_clock::Host;
 use std::alloc::Global;
 use trace_text::Head;
 use uma_keg::Census;
@@ -18,10 +19,10 @@ use zone_stats::Report;
 
 /// The report of a replay, by what its workers counted, a census and the hooks' sums of each keg, how many items of each
 /// zone are deferred, the clock's hands, and how often a worker gave up waiting.
-pub(crate) fn report_of(
+pub(crate) fn report_of<H: Host>(
     alloc: Global,
     head: &Head,
-    workers: &Workers,
+    workers: &Workers<H>,
     censuses: &[Census],
     tallies: &[TallySum],
     deferred: &[u64],
@@ -33,9 +34,9 @@ pub(crate) fn report_of(
     requires censuses { length censuses.now ≡ length (primaries head.now.zones 0) }
     requires tallies { length tallies.now ≡ length (primaries head.now.zones 0) }
     requires deferred { length deferred.now ≡ length head.now.zones }
-    requires seats { (n : ℕ) (w : Worker) → slice_get workers.now n ≡ Some w → length w.seats.items ≡ length head.now.zones }
-    requires entered { sum_by (λ (w : Worker). w.entered) workers.now < 2 ^ 64 }
-    requires late { sum_by (λ (w : Worker). w.late) workers.now < 2 ^ 64 }
+    requires seats { (n : ℕ) (w : Worker H H.Part H.Host) → slice_get workers.now n ≡ Some w → length w.seats.items ≡ length head.now.zones }
+    requires entered { sum_by (λ (w : Worker H H.Part H.Host). w.entered) workers.now < 2 ^ 64 }
+    requires late { sum_by (λ (w : Worker H H.Part H.Host). w.late) workers.now < 2 ^ 64 }
     ensures { IfOk result (IsReportOf head.now workers.now censuses.now tallies.now deferred.now read write gave_up) }
 {
     let heads = head.zones.as_slice();

@@ -115,11 +115,11 @@ fn first_turn<R: Wait, G: Gate>(
     rt: &R,
     alloc: Global,
     trace: &Trace,
-    zones: &[CountedZone],
+    zones: &[CountedZone<Bare>],
     clock: &Clock<Bare>,
     gate: &G,
     number: usize,
-    mut running: Running,
+    mut running: Running<Bare>,
 ) -> Result<(u64, u64), Fail>
     requires valid { IsValid trace.now }
     requires zone_count { length zones.now ≡ length trace.now.head.zones }
@@ -136,10 +136,10 @@ fn first_turn<R: Wait, G: Gate>(
 /// Takes the last worker.
 fn take_last(
     trace: &Trace,
-    zones: &[CountedZone],
+    zones: &[CountedZone<Bare>],
     clock: &Clock<Bare>,
-    workers: &mut Vec<Running>,
-) -> Result<Running, Fail>
+    workers: &mut Vec<Running<Bare>>,
+) -> Result<Running<Bare>, Fail>
     requires { AreBeginners zones.now clock.now trace.now.head.domains (length workers.old.items) workers.old.items }
     ensures left { AreBeginners zones.now clock.now trace.now.head.domains (length workers.new.items) workers.new.items }
     ensures last { IfOk result (IsBeginner zones.now clock.now (length workers.new.items % trace.now.head.domains)) }
@@ -156,7 +156,7 @@ fn two_turns<R: Wait, G: Gate>(
     alloc: Global,
     trace: &Trace,
     gate: &G,
-    setting: Setting,
+    setting: Setting<Bare>,
 ) -> Result<[(u64, u64); 2], Fail>
     requires valid { IsValid trace.now }
     requires set_up { IsSetUp trace.now setting }

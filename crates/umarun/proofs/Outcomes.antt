@@ -17,13 +17,13 @@ use Rattle.trace_text.specs.Grammar.{IsTraceText, trace_test}
 use Rattle.trace_text.specs.Built.{IsBuilt}
 use Rattle.trace_text.specs.TraceLaws.{TextsAreOfOneTrace}
 use Rattle.uma_io.specs.Source.{HasMoreThan}
-use Rattle.uma_replay.specs.declared.hall.Hall.{Hall}
+use Rattle.smr_clock.specs.Belongs.{setup_of}
 use Rattle.uma_replay.specs.Hall.{HallStands}
 use Rattle.uma_replay.specs.Report.{StandsFor}
 use Rattle.umarun.specs.Causes.{parse_fault}
 use Rattle.umarun.specs.declared.fault.Fault.{Fault}
 use Rattle.umarun.specs.declared.fault.Fault.TheVariants as faults
-use Rattle.umarun.specs.Replaying.{Replays, AreBad, AreInput, AreRefused, RefusesTrace, most_bytes}
+use Rattle.umarun.specs.Replaying.{PlainHall, Replays, AreBad, AreInput, AreRefused, RefusesTrace, most_bytes}
 use Rattle.umarun.specs.Stepping.{ArePlayed, RefusesText, RefusesStep}
 use Rattle.zone_stats.specs.declared.report.Report.{Report}
 
@@ -42,18 +42,18 @@ input_not_bad verdict one refused bytes trace text built (inr unbuilt) =
 pub input_not_refused : OneVerdict → TextsAreOfOneTrace → (refused : TraceRefused) (bytes : List ℕ) → RefusesTrace refused bytes → AreInput bytes → ⊥
 input_not_refused verdict one refused bytes refuses input = input_not_bad verdict one refused bytes input.1.0 input.1.1 input.1.2 refuses.why
 
-pub replayed_not_refused : OneVerdict → TextsAreOfOneTrace → (report : Report) (hall : Hall) (bytes : List ℕ) → Replays report hall bytes → AreRefused bytes → ⊥
+pub replayed_not_refused : OneVerdict → TextsAreOfOneTrace → (report : Report) (hall : PlainHall) (bytes : List ℕ) → Replays report hall bytes → AreRefused bytes → ⊥
 replayed_not_refused verdict one report hall bytes replays (inl long) = let within = replays.within in absurd (omega arith)
 replayed_not_refused verdict one report hall bytes replays (inr refused) = input_not_bad verdict one refused.0 bytes replays.trace replays.text replays.built refused.1.why
 
 -- the bytes that were left are those that were read
-pub replays : (left : Option (List ℕ)) (read given : List ℕ) (trace : Trace) (report : Report) (hall : Hall) → IfSome left (λ all. read ≡ all) → given ≡ read → length read ≤ most_bytes
-    → IsTraceText given trace → IsBuilt trace → StandsFor trace report → HallStands trace report hall → IfSome left (Replays report hall)
-replays None read given trace report hall all same within text built stands in_hall = tt
-replays (Some left) read given trace report hall all same within text built stands in_hall =
+pub replays : (left : Option (List ℕ)) (read given : List ℕ) (trace : Trace) (report : Report) (hall : PlainHall) → IfSome left (λ all. read ≡ all) → given ≡ read → length read ≤ most_bytes
+    → IsTraceText given trace → IsBuilt trace → StandsFor trace report → HallStands trace report hall → (setup_of hall.clock).plan ≡ (0, 0) → IfSome left (Replays report hall)
+replays None read given trace report hall all same within text built stands in_hall plan = tt
+replays (Some left) read given trace report hall all same within text built stands in_hall plan =
     let P : List ℕ → Type 0 = λ bytes. Replays report hall bytes in
     let Q : List ℕ → Type 0 = λ bytes. IsTraceText bytes trace in
-    subst P all (record { within = within; trace = trace; text = subst Q same text; built = built; stands = stands; hall_stands = in_hall })
+    subst P all (record { within = within; trace = trace; text = subst Q same text; built = built; stands = stands; hall_stands = in_hall; plan = plan })
 
 bad_by : (why : ParseRefused) (fault : Fault) (refused : TraceRefused) (bytes : List ℕ) → ((r : TraceRefused) → ◌≡◌ {A = Result Trace ParseRefused} (Err why) (Err (parsing.Trace r)) → AreBad r bytes)
     → fault ≡ parse_fault why → fault ≡ faults.Trace refused → AreBad refused bytes
@@ -93,11 +93,11 @@ pub one_refusal : OneVerdict → OneLine → OneKind → (refused other : TraceR
 one_refusal verdict line kind refused other bytes refuses again = one_reason verdict line kind refused other bytes refuses.why again.why
 
 -- bytes that were replayed are none that are refused
-pub none_refused : ((report : Report) (hall : Hall) (bytes : List ℕ) → Replays report hall bytes → AreRefused bytes → ⊥) → (report : Report) (hall : Hall) (left : Option (List ℕ)) → IfSome left (Replays report hall) → IsSomeAnd left AreRefused → ⊥
+pub none_refused : ((report : Report) (hall : PlainHall) (bytes : List ℕ) → Replays report hall bytes → AreRefused bytes → ⊥) → (report : Report) (hall : PlainHall) (left : Option (List ℕ)) → IfSome left (Replays report hall) → IsSomeAnd left AreRefused → ⊥
 none_refused law report hall None replays refused = refused
 none_refused law report hall (Some bytes) replays refused = law report hall bytes replays refused
 
-pub none_named : ((report : Report) (hall : Hall) (bytes : List ℕ) → Replays report hall bytes → AreRefused bytes → ⊥) → (report : Report) (hall : Hall) (left : Option (List ℕ)) (refused : TraceRefused)
+pub none_named : ((report : Report) (hall : PlainHall) (bytes : List ℕ) → Replays report hall bytes → AreRefused bytes → ⊥) → (report : Report) (hall : PlainHall) (left : Option (List ℕ)) (refused : TraceRefused)
     → IfSome left (Replays report hall) → IsSomeAnd left (RefusesTrace refused) → ⊥
 none_named law report hall None refused replays refuses = refuses
 none_named law report hall (Some bytes) refused replays refuses = law report hall bytes replays (inr (refused, refuses))

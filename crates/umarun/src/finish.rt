@@ -2,6 +2,7 @@ ghost use Rattle.std.specs.Prelude.{◌≡◌};
 
 use crate::ended::Ended;
 use crate::fault::Fault;
+use smr_clock::Bare;
 use uma_replay::Played;
 use zone_stats::Report;
 
@@ -98,7 +99,7 @@ impl Finish {
     }
 
     /// A run whose replay is done.
-    pub(crate) fn replayed(played: Played, fault: Option<Fault>) -> Finish
+    pub(crate) fn replayed(played: Played<Bare>, fault: Option<Fault>) -> Finish
         ensures { result ≡ record { status = status_at fault; fault = fault; report = Some played.report; hall = Some (Ended.Plain played.hall) } }
     {
         Finish {

@@ -8,14 +8,14 @@ ghost use Rattle.trace_text.specs.Valid.{IsValid};
 ghost use Rattle.smr_core.specs.declared.step_refused.StepRefused.{StepRefused as Turned};
 ghost use Rattle.uma_io.specs.Faults.{Rose};
 ghost use Rattle.uma_io.specs.Source.{Exhausts, HasMoreThan};
-ghost use Rattle.umarun.specs.Replaying.{Replays, AreBad, AreInput, AreRefused, RefusesTrace, most_bytes};
+ghost use Rattle.umarun.specs.Replaying.{PlainHall, Replays, AreBad, AreInput, AreRefused, RefusesTrace, most_bytes};
 ghost use Rattle.zone_stats.specs.ReportText.{report_text};
-ghost use Rattle.uma_replay.specs.declared.hall.Hall.{Hall as HallValue};
 ghost use Rattle.zone_stats.specs.declared.report.Report.{Report as ReportValue};
 
 use crate::fault::Fault;
 use crate::reclaim::Reclaim;
 use crate::run::MOST_BYTES;
+use smr_clock::Bare;
 use std::alloc::Global;
 use std::sync::Wait;
 use std::thread::Threads;
@@ -34,7 +34,7 @@ pub fn replay<R: Threads + Wait + Sync, S: Source, G: Gate + Sync>(
     alloc: Global,
     source: &mut S,
     gate: &G,
-) -> Result<(Played, Vec<u8>), Fault>
+) -> Result<(Played<Bare>, Vec<u8>), Fault>
     ensures replays { IfOk result (λ done. IfSome (S.bytes_left source.old) (Replays done.0.report done.0.hall)) }
     ensures free { G.is_free gate.now → IfOk result (λ done. done.0.report.gave_up ≡ 0) }
     ensures text { IfOk result (λ done. done.1.items ≡ report_text done.0.report) }
@@ -82,7 +82,7 @@ const UNBUILT: ParseRefused = ParseRefused::Trace {
 /// Bytes that are replayed are refused for no reason, and other bytes for one reason at most. The call does nothing: its
 /// contract is the law.
 pub fn replayed_or_refused()
-    ensures report { (report : ReportValue) (hall : HallValue) (bytes : List ℕ) → Replays report hall bytes → AreRefused bytes → ⊥ }
+    ensures report { (report : ReportValue) (hall : PlainHall) (bytes : List ℕ) → Replays report hall bytes → AreRefused bytes → ⊥ }
     ensures input { (refused : Refused) (bytes : List ℕ) → RefusesTrace refused bytes → AreInput bytes → ⊥ }
     ensures one { (refused other : Refused) (bytes : List ℕ)
         → RefusesTrace refused bytes → RefusesTrace other bytes → refused ≡ other }

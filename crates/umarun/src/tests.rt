@@ -16,6 +16,7 @@ mod zones;
 use crate::ended::Ended;
 use crate::finish::Finish;
 use crate::run::run;
+use smr_clock::Bare;
 use std::alloc::Global;
 use std::sync::Wait;
 use std::test::Fail;
@@ -109,7 +110,10 @@ fn replayed<R: AllocGlobal + Threads + Wait + Sync>(
 }
 
 /// What the replay of this input leaves behind, where nothing of the outside fails.
-fn hall_of<R: AllocGlobal + Threads + Wait + Sync>(rt: &R, input: &str) -> Result<Hall, Fail> {
+fn hall_of<R: AllocGlobal + Threads + Wait + Sync>(
+    rt: &R,
+    input: &str,
+) -> Result<Hall<Bare>, Fail> {
     let (finish, _) = replayed(rt, input)?;
     let Finish { hall, .. } = finish;
     match hall {

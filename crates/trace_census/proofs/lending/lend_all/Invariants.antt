@@ -5,7 +5,7 @@ use Rattle.trace_census.proofs.Loops.{written}
 use Rattle.trace_census.proofs.lending.lend_all.Given as goal
 
 abbrev pub invariant-loop-number : goal.invariant-loop-number
-invariant-loop-number l = record {
+invariant-loop-number g l = record {
   left : l.workers ≡ written (lender (in_keg l.head.zones l.place)) l.number l.initial.workers;
   marks : l.marks.items ≡ all_marks (in_keg l.head.zones l.place) (take l.number l.initial.workers);
   lives : l.lives.items ≡ all_lent (in_keg l.head.zones l.place) (take l.number l.initial.workers);

@@ -5,7 +5,7 @@ use Rattle.trace_census.proofs.Loops.{remains}
 use Rattle.trace_census.proofs.putting_back.put_all_back.Given as goal
 
 abbrev pub invariant-loop-number : goal.invariant-loop-number
-invariant-loop-number l = record {
+invariant-loop-number g l = record {
   workers : l.workers ≡ all_refilled (take l.number l.marks) (reverse l.initial.lives.items) l.initial.workers;
   lives : reverse l.lives.items ≡ remains over (take l.number l.marks) (reverse l.initial.lives.items);
 }

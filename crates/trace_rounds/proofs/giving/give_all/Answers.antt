@@ -3,10 +3,10 @@ use Rattle.trace_rounds.proofs.GiveLines.{moved_none, moved_more}
 use Rattle.trace_rounds.proofs.giving.give_all.Goals as goal
 
 pub loop-between-init : goal.loop-between-init
-loop-between-init c = record { rest = refl; moved = moved_none c.args.betweens.now c.args.workers.now }
+loop-between-init g c = record { rest = refl; moved = moved_none c.args.betweens.now c.args.workers.now }
 
 pub loop-between-preserved : goal.loop-between-preserved
-loop-between-preserved c =
+loop-between-preserved g c =
     let below : c.loop-between.between-index < length c.args.betweens.now = search rules in
     record {
       rest = c.in_ok-give.ensures.rest ∙ c.loop-between.invariant.rest;

@@ -4,7 +4,7 @@ use Rattle.trace_worker.specs.Giving.{KeepsRest}
 use Rattle.trace_rounds.proofs.giving.give_all.Given as goal
 
 abbrev pub invariant-loop-between : goal.invariant-loop-between
-invariant-loop-between l = record {
+invariant-loop-between g l = record {
   rest : KeepsRest l.initial.workers l.workers;
   moved : AllMoved (take l.between-index l.betweens) l.initial.workers l.workers;
 }

@@ -3,4 +3,4 @@ use Rattle.trace_rounds.specs.Rounds.{HasEnded}
 use Rattle.trace_rounds.proofs.round.all_ended.Given as goal
 
 abbrev pub invariant-loop-running : goal.invariant-loop-running
-invariant-loop-running l = All HasEnded (take l.running-index l.workers)
+invariant-loop-running g l = All HasEnded (take l.running-index l.workers)

@@ -1,22 +1,15 @@
-use Rattle.std.proofs.Common.{◌≡◌, ◌∙◌, List, length, sym, subst}
-use Rattle.std.specs.Prelude.{All}
-use Rattle.uma_zone.specs.Zone.{zone_domains}
-use Rattle.trace_worker.specs.Items.{CountedZone}
-use Rattle.trace_setting.specs.Beginners.{AreBeginners}
-use Rattle.trace_setting.proofs.SetUp.{zones_in, set_up_of}
+use Rattle.std.proofs.Common.{◌≡◌}
+use Rattle.std.proofs.lemmas.Result.{IfOk-weaker}
+use Rattle.smr_clock.specs.Belongs.{setup_of}
+use Rattle.trace_setting.specs.declared.setting.Setting.{Setting}
+use Rattle.trace_setting.proofs.SetUp.{clock_of, plan_of}
 use Rattle.trace_setting.proofs.setting.set_up.Goals as goal
 
-pub make_workers-requires-clause-zones : goal.make_workers-requires-clause-zones
-make_workers-requires-clause-zones g c =
-    let head = c.args.trace.now.head in
-    subst (All (λ (zone : CountedZone). zone_domains zone ≡ head.domains)) (sym c.as_slice.ensures.value) (zones_in head c.in_ok-clock.clock c.in_ok-zones.zones.items c.in_ok-zones.ensures)
+pub set_up_with-requires-clause-clock : goal.set_up_with-requires-clause-clock
+set_up_with-requires-clause-clock g c = clock_of (0, 0) c.args.trace.now.head c.in_ok-clock.clock c.in_ok-clock.ensures.clock
 
-pub returns : goal.returns
-returns g c =
-    let head = c.args.trace.now.head in
-    let clock = c.in_ok-clock.clock in
-    let count = length c.note_beginning-begun.new.passes.items in
-    let workers = c.in_ok-workers.workers.items in
-    set_up_of c.args.trace.now (record { clock = clock; begun = c.note_beginning-begun.result; zones = c.in_ok-zones.zones; workers = c.in_ok-workers.workers }) count c.in_ok-clock.ensures.clock c.note_beginning-begun.ensures.note c.in_ok-zones.ensures
-    (c.note_beginning-begun.ensures.passes.one_each ∙ c.in_ok-clock.ensures.passes.one_each)
-    (subst (λ (zones : List CountedZone). AreBeginners zones clock head.domains count workers) c.as_slice.ensures.value c.in_ok-workers.ensures)
+pub returns-clause-plan : goal.returns-clause-plan
+returns-clause-plan g c =
+    let made = c.in_ok-clock.clock in
+    IfOk-weaker c.set_up_with.result (λ (s : Setting _ _ _). s.clock ≡ made) (λ (s : Setting _ _ _). (setup_of s.clock).plan ≡ (0, 0))
+    (λ s same. plan_of (0, 0) c.args.trace.now.head made s.clock same c.in_ok-clock.ensures.clock) c.set_up_with.ensures.clock

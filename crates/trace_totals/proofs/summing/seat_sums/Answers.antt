@@ -4,7 +4,7 @@ use Rattle.trace_totals.proofs.Summed.{of_seat}
 use Rattle.trace_totals.proofs.summing.seat_sums.Goals as goal
 
 pub returns : goal.returns
-returns c =
+returns g c =
     let w = c.args.worker.now in
     let seat = c.index.result.now in
     of_seat c.args.place w seat c.sums.result (slice_get_read w.seats.items _ c.args.place seat refl c.requires c.index.ensures) c.sums.ensures.adds c.sums.ensures.few c.sums.ensures.balance

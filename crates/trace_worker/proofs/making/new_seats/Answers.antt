@@ -13,7 +13,7 @@ loop-zone-preserved g c =
     let count = c.loop-zone.invariant.count in
     let items = c.in_ok-push.ensures.items in
     let At : ℕ → Type 0 = λ z. slice_get zones z ≡ Some c.zone-item.result in
-    let P : List CountedSeat → Type 0 = λ list. AreNew zones c.args.domain list in
+    let P : List (CountedSeat _ _ _) → Type 0 = λ list. AreNew zones c.args.domain list in
     record {
       count = ap length items ∙ (length_push seats _ ∙ ap (λ n. n + 1) count);
       each = subst P (sym items) (AreNew-more zones c.args.domain seats c.zone-item.result _

@@ -9,5 +9,5 @@ abbrev pub invariant-loop-zone : goal.invariant-loop-zone
 invariant-loop-zone g l =
     record {
       count : length l.seats.items ≡ l.zone-index;
-      each : (z : ℕ) (zone : CountedZone) (seat : CountedSeat) → slice_get l.zones z ≡ Some zone → slice_get l.seats.items z ≡ Some seat → IsNewSeat zone l.domain seat;
+      each : (z : ℕ) (zone : CountedZone _ _ _) (seat : CountedSeat _ _ _) → slice_get l.zones z ≡ Some zone → slice_get l.seats.items z ≡ Some seat → IsNewSeat zone l.domain seat;
     }

@@ -3,4 +3,4 @@ use Rattle.uma_replay.specs.Reporting.{AreLedgers}
 use Rattle.uma_replay.proofs.collecting.collect_zones.Given as goal
 
 abbrev pub invariant-loop-place : goal.invariant-loop-place
-invariant-loop-place l = AreLedgers l.place l.workers l.ledgers.items
+invariant-loop-place g l = AreLedgers l.place l.workers l.ledgers.items

@@ -4,4 +4,4 @@ use Rattle.uma_replay.specs.Reporting.{AreLedgersOf}
 use Rattle.uma_replay.proofs.collecting.seat_ledgers.Given as goal
 
 abbrev pub invariant-loop-number : goal.invariant-loop-number
-invariant-loop-number l = AreLedgersOf l.place (take l.number l.workers) l.ledgers.items
+invariant-loop-number g l = AreLedgersOf l.place (take l.number l.workers) l.ledgers.items

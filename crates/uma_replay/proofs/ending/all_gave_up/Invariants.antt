@@ -5,4 +5,4 @@ use Rattle.trace_worker.specs.declared.running.Running.{Running}
 use Rattle.uma_replay.proofs.ending.all_gave_up.Given as goal
 
 abbrev pub invariant-loop-number : goal.invariant-loop-number
-invariant-loop-number l = l.total ≡ sum_by (λ (r : Running). r.gave_up) (take l.number l.workers)
+invariant-loop-number g l = l.total ≡ sum_by (λ (r : Running _ _ _). r.gave_up) (take l.number l.workers)

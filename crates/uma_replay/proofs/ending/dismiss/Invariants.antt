@@ -4,4 +4,4 @@ use Rattle.trace_worker.specs.Together.{crew}
 use Rattle.uma_replay.proofs.ending.dismiss.Given as goal
 
 abbrev pub invariant-loop-running : goal.invariant-loop-running
-invariant-loop-running l = l.workers.items ≡ crew l.yielded
+invariant-loop-running g l = l.workers.items ≡ crew l.yielded

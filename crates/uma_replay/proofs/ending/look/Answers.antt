@@ -2,5 +2,5 @@ use Rattle.uma_replay.proofs.HallOf.{done_learn}
 use Rattle.uma_replay.proofs.ending.look.Goals as goal
 
 pub returns-clause-done : goal.returns-clause-done
-returns-clause-done c =
+returns-clause-done g c =
     done_learn c.args.trace.now c.args.zones.now c.args.clock.now c.args.workers.now c.read_hands.new.workers c.read_hands.ensures.learn c.requires.done

@@ -5,4 +5,4 @@ use Rattle.trace_worker.specs.declared.worker.Worker.{Worker}
 use Rattle.uma_replay.proofs.lines.entered.Given as goal
 
 abbrev pub invariant-loop-number : goal.invariant-loop-number
-invariant-loop-number l = l.total ≡ sum_by (λ (w : Worker). w.entered) (take l.number l.workers)
+invariant-loop-number g l = l.total ≡ sum_by (λ (w : Worker _ _ _). w.entered) (take l.number l.workers)

@@ -26,7 +26,7 @@ perform-requires-clause-clock g c = c.requires.ready.of_clock
 
 pub perform-requires-clause-fits : goal.perform-requires-clause-fits
 perform-requires-clause-fits g c =
-    let P : Worker → Type 0 = λ w. Fits c.args.zones.now c.args.clock.now w in
+    let P : Worker _ _ _ → Type 0 = λ w. Fits c.args.zones.now c.args.clock.now w in
     subst P (sym c.await_gate.ensures.worker) c.loop-place.invariant.midway.fits
 
 pub perform-requires-clause-rooms : goal.perform-requires-clause-rooms
@@ -42,8 +42,8 @@ perform-requires-clause-can g c =
 
 pub loop-place-preserved : goal.loop-place-preserved
 loop-place-preserved g c =
-    let waited : Running = c.await_gate.new.self in
-    let next : Running = record { worker = c.perform.new.self; asked = waited.asked; gave_up = waited.gave_up; ended = waited.ended } in
+    let waited : Running _ _ _ = c.await_gate.new.self in
+    let next : Running _ _ _ = record waited { worker = c.perform.new.self } in
     record {
       midway = Midway-step c.args.trace.now c.args.zones.now c.args.clock.now c.args.round c.args.number c.loop-place.place c.own_list-ops.result.now _ c.args.self.now c.loop-place.self waited next
           c.requires.ready c.own_list-ops.ensures c.loop-place-test.true c.loop-place.invariant.midway c.await_gate.ensures.worker c.in_ok-perform.ensures.performs c.in_ok-perform.ensures.fits

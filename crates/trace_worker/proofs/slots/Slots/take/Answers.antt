@@ -8,4 +8,4 @@ returns-then-place-len-clause-left c =
     rw (← c.self.view_is) (emptied_past c.self.inside.held.items c.args.slot past)
 
 pub returns-clause-left : goal.returns-clause-left
-returns-clause-left c = rw (← c.self.view_is) (emptied_left c.self.inside.held.items c.args.slot c.take_out.new.kept c.take_out.ensures.left)
+returns-clause-left c = rw (← c.self.view_is) (emptied_left c.self.inside.held.items c.args.slot c.take.new.self c.take.ensures.after)

@@ -12,8 +12,8 @@ request-requires-clause-seat g c =
 
 pub returns-clause-fits : goal.returns-clause-fits
 returns-clause-fits g c =
-    let old : Worker = c.args.self.now in
-    let new : Worker = record { pass = c.request.new.pass; seats = with_item old.seats c.args.zone c.request.new.seat; slots = c.fill.new.slots; entered = old.entered; late = old.late } in
+    let old : Worker _ _ _ = c.args.self.now in
+    let new : Worker _ _ _ = record { pass = c.request.new.pass; seats = with_item old.seats c.args.zone c.request.new.seat; slots = c.fill.new.slots; entered = old.entered; late = old.late } in
     on_ok_weaker c.fill.result
     (λ (slots : c.fill.new.slots ≡ filled old.slots c.args.slot c.held_of.result).
     fits_alloc c.args.zones.now c.args.clock.now old new c.args.zone c.args.slot c.index-zones-place.result c.index_mut-seat.result.now c.request.new.seat c.args.ask c.in_ok-got.got
@@ -23,8 +23,8 @@ returns-clause-fits g c =
 
 pub returns-clause-allocs : goal.returns-clause-allocs
 returns-clause-allocs g c =
-    let old : Worker = c.args.self.now in
-    let new : Worker = record { pass = c.request.new.pass; seats = with_item old.seats c.args.zone c.request.new.seat; slots = c.fill.new.slots; entered = old.entered; late = old.late } in
+    let old : Worker _ _ _ = c.args.self.now in
+    let new : Worker _ _ _ = record { pass = c.request.new.pass; seats = with_item old.seats c.args.zone c.request.new.seat; slots = c.fill.new.slots; entered = old.entered; late = old.late } in
     on_ok_weaker c.fill.result
     (λ (slots : c.fill.new.slots ≡ filled old.slots c.args.slot c.held_of.result).
     allocs_at c.args.zones.now c.args.clock.now old new c.args.zone c.args.slot c.index-zones-place.result c.index_mut-seat.result.now c.request.new.seat c.args.ask c.in_ok-got.got

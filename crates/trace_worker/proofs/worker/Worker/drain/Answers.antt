@@ -12,8 +12,8 @@ drain-requires-clause-seat g c =
 
 pub returns-clause-fits : goal.returns-clause-fits
 returns-clause-fits g c =
-    let old : Worker = c.args.self.now in
-    let new : Worker = record { pass = c.drain.new.pass; seats = with_item old.seats c.args.zone c.drain.new.seat; slots = old.slots; entered = old.entered; late = old.late } in
+    let old : Worker _ _ _ = c.args.self.now in
+    let new : Worker _ _ _ = record { pass = c.drain.new.pass; seats = with_item old.seats c.args.zone c.drain.new.seat; slots = old.slots; entered = old.entered; late = old.late } in
     on_ok_weaker c.drain.result
     (λ (left : IsFlushed c.index_mut-seat.result.now c.drain.new.seat).
     fits_reclaim c.args.zones.now c.args.clock.now old new c.args.zone c.index-zones-place.result c.index_mut-seat.result.now c.drain.new.seat
@@ -22,8 +22,8 @@ returns-clause-fits g c =
 
 pub returns-clause-reclaims : goal.returns-clause-reclaims
 returns-clause-reclaims g c =
-    let old : Worker = c.args.self.now in
-    let new : Worker = record { pass = c.drain.new.pass; seats = with_item old.seats c.args.zone c.drain.new.seat; slots = old.slots; entered = old.entered; late = old.late } in
+    let old : Worker _ _ _ = c.args.self.now in
+    let new : Worker _ _ _ = record { pass = c.drain.new.pass; seats = with_item old.seats c.args.zone c.drain.new.seat; slots = old.slots; entered = old.entered; late = old.late } in
     on_ok_weaker c.drain.result
     (λ (left : IsFlushed c.index_mut-seat.result.now c.drain.new.seat).
     reclaims_at c.args.zones.now c.args.clock.now IsFlushed old new c.args.zone c.index-zones-place.result c.index_mut-seat.result.now c.drain.new.seat

@@ -58,9 +58,9 @@ give_back-requires-clause-home g c =
 
 pub returns-clause-fits : goal.returns-clause-fits
 returns-clause-fits g c =
-    let old : Worker = c.args.self.now in
+    let old : Worker _ _ _ = c.args.self.now in
     let it = c.in-Some.held in
-    let new : Worker = record { pass = c.give_back.new.pass; seats = with_item old.seats it.zone c.give_back.new.seat; slots = c.take.new.self; entered = old.entered; late = old.late } in
+    let new : Worker _ _ _ = record { pass = c.give_back.new.pass; seats = with_item old.seats it.zone c.give_back.new.seat; slots = c.take.new.self; entered = old.entered; late = old.late } in
     let holds : slot_at old.slots c.args.slot ≡ Some it = sym c.take.ensures.taken ∙ c.in-Some.is in
     let below : it.zone < length c.args.zones.now = held_below c.args.zones.now it (c.requires.fits.slots c.args.slot it holds) in
     both_ok c.give_back.result
@@ -71,9 +71,9 @@ returns-clause-fits g c =
 
 pub returns-clause-frees : goal.returns-clause-frees
 returns-clause-frees g c =
-    let old : Worker = c.args.self.now in
+    let old : Worker _ _ _ = c.args.self.now in
     let it = c.in-Some.held in
-    let new : Worker = record { pass = c.give_back.new.pass; seats = with_item old.seats it.zone c.give_back.new.seat; slots = c.take.new.self; entered = old.entered; late = old.late } in
+    let new : Worker _ _ _ = record { pass = c.give_back.new.pass; seats = with_item old.seats it.zone c.give_back.new.seat; slots = c.take.new.self; entered = old.entered; late = old.late } in
     let holds : slot_at old.slots c.args.slot ≡ Some it = sym c.take.ensures.taken ∙ c.in-Some.is in
     three_ok c.give_back.result
     (λ (phase : (holder c.give_back.new.pass).phase ≡ (holder old.pass).phase) (seen : (holder old.pass).seen ≤ (holder c.give_back.new.pass).seen)
