@@ -1,0 +1,4 @@
+mod Fails
+mod Opened
+mod Places
+pub mod Shared

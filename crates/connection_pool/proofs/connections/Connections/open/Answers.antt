@@ -1,0 +1,37 @@
+use Rattle.uma_bucket.specs.Home.{IsHome}
+use Rattle.uma_life.specs.Live.{live_ticket}
+use Rattle.uma_seat.specs.Seat.{ledger_of}
+use Rattle.uma_zone.specs.Zone.{zone_home}
+use Rattle.connection_pool.specs.declared.held.Held.{Held}
+use Rattle.connection_pool.specs.Held.{IsOpen}
+use Rattle.connection_pool.specs.Pool.{held_in}
+use Rattle.connection_pool.proofs.Opened.{all_pushed, one_more_out, opens, pushed}
+use Rattle.connection_pool.proofs.connections.Connections.open.Goals as goal
+
+pub invariant_of-self-2-clause-home : goal.invariant_of-self-2-clause-home
+invariant_of-self-2-clause-home g c =
+    let ready = c.make_ready.new.self in
+    let held : Held = record { session = c.args.session; peer = c.args.peer; live = c.in_ok-live.live } in
+    let is = pushed (held_in ready) c.reserve.new.self.items c.push_reserved.new.self.items held c.reserve.ensures.items c.push_reserved.ensures.items in
+    all_pushed (λ (held : Held). IsHome (zone_home ready.pool.now) (live_ticket held.live)) (held_in ready) c.push_reserved.new.self.items held is ready.home c.in_ok-live.ensures.home
+
+pub invariant_of-self-2-clause-open : goal.invariant_of-self-2-clause-open
+invariant_of-self-2-clause-open g c =
+    let ready = c.make_ready.new.self in
+    let held : Held = record { session = c.args.session; peer = c.args.peer; live = c.in_ok-live.live } in
+    let is = pushed (held_in ready) c.reserve.new.self.items c.push_reserved.new.self.items held c.reserve.ensures.items c.push_reserved.ensures.items in
+    all_pushed IsOpen (held_in ready) c.push_reserved.new.self.items held is ready.«open» c.in_ok-live.ensures.served.built.left
+
+pub invariant_of-self-2-clause-balanced : goal.invariant_of-self-2-clause-balanced
+invariant_of-self-2-clause-balanced g c =
+    let ready = c.make_ready.new.self in
+    let held : Held = record { session = c.args.session; peer = c.args.peer; live = c.in_ok-live.live } in
+    let is = pushed (held_in ready) c.reserve.new.self.items c.push_reserved.new.self.items held c.reserve.ensures.items c.push_reserved.ensures.items in
+    one_more_out (ledger_of ready.seat) (ledger_of c.alloc.new.seat) (held_in ready) c.push_reserved.new.self.items held c.in_ok-live.ensures.served.counted is ready.balanced
+
+pub returns-clause-opened : goal.returns-clause-opened
+returns-clause-opened g c =
+    let ready = c.make_ready.new.self in
+    let held : Held = record { session = c.args.session; peer = c.args.peer; live = c.in_ok-live.live } in
+    let is = pushed (held_in ready) c.reserve.new.self.items c.push_reserved.new.self.items held c.reserve.ensures.items c.push_reserved.ensures.items in
+    opens c.no-number.result c.args.self.now ready _ held c.in_ok-make_ready.ensures.kept c.no-number.ensures is c.in_ok-live.ensures.served.counted

@@ -1,0 +1,4 @@
+pub mod Connection
+pub mod Held
+pub mod Refused
+pub mod Pool
