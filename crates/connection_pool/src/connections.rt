@@ -1,4 +1,4 @@
-ghost use Rattle.std.specs.Prelude.{◌≡◌, ◌<◌, ◌+◌, [], false, All, IfOk, IfErr, IfSome, IfNone, OnOk, length};
+ghost use Rattle.std.specs.Prelude.{◌≡◌, ◌<◌, ◌+◌, ℕ, [], true, false, All, IfOk, IfErr, IfSome, IfNone, OnOk, length};
 ghost use Rattle.smr_clock.specs.Belongs.{IsOf, clock_id};
 ghost use Rattle.uma_bucket.specs.Home.{IsHome};
 ghost use Rattle.uma_life.specs.Live.{live_ticket};
@@ -143,7 +143,8 @@ impl<'a> Connections<'a> {
 
     /// Whether a connection is held for a session.
     pub fn holds(&self, session: u64) -> bool
-        ensures { result ≡ false → HasNoneOf session (held_in self.now) }
+        ensures there { result ≡ true → (place : ℕ) × IsFirstOf session place (held_in self.now) }
+        ensures none { result ≡ false → HasNoneOf session (held_in self.now) }
     {
         place_of(self.held.as_slice(), session).is_some()
     }
