@@ -49,8 +49,6 @@ pub enum TraceKind {
     SectionClosed,
     /// The line after the last one: there is no `end`.
     NoEnd,
-    /// The text is none that is built yet; it stands with line 0.
-    Unbuilt,
 }
 
 /// The first bad line of a text, from 1, and what is wrong with it.
@@ -113,7 +111,6 @@ impl fmt::Display for TraceKind {
             TraceKind::SectionOpen => "section open",
             TraceKind::SectionClosed => "no section",
             TraceKind::NoEnd => "no end",
-            TraceKind::Unbuilt => "not built yet",
         })
     }
 }

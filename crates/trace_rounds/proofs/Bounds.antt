@@ -48,6 +48,12 @@ least_as e few = omega arith
 pub most_as : {frees a b : ℕ} → a ≡ b → frees ≤ b → frees ≤ a
 most_as e few = omega arith
 
+pub up_as : {count a b : ℕ} → a ≡ b → count ≤ b → count ≤ a
+up_as e few = omega arith
+
+pub both_as : (b d : ℕ) {frees a c : ℕ} → a ≡ b → c ≡ d → frees ≤ b + d → frees ≤ a + c
+both_as b d e f few = omega arith
+
 -- ---- items, frees and allocs
 
 pub past_end : {i z n : ℕ} → i ≡ z → i < n → n ≤ z → ⊥

@@ -28,6 +28,8 @@ use Rattle.trace_worker.specs.contracts.counted.Counted as Counted
 use Rattle.trace_worker.specs.contracts.counted.CountedBody.TheImpl as counted_body
 use Rattle.trace_worker.proofs.counted.Counted.TheSendSync as counted
 use Rattle.trace_worker.proofs.count_hooks.CountHooks.TheSendSync as counts
+use Rattle.trace_worker.specs.contracts.naming.Naming as Naming
+use Rattle.trace_worker.proofs.naming.NameCounts.TheSendSync as counts_of_names
 use Rattle.trace_worker.specs.contracts.running.Running as Running
 use Rattle.trace_worker.proofs.slots.Slots.TheSendSync as slots
 use Rattle.trace_worker.specs.contracts.worker.Worker as Worker
@@ -42,15 +44,6 @@ module _ (H P : RattleType) (h : host.Ghosts H.Denot P.Denot) (s : IsSend H) (y 
     ),
   )
 
-  running_field_send : IsSend (Running.the_field H P h).row
-  running_field_send = struct_send (shape (Running.the_type H P h)) (
-    worker_field_send,
-    (search sendable, (search sendable, (search (crosses, sendable) depth 20, (search (padded.the_field_send, sendable), tt)))),
-  )
-
-  pub running_send : IsSend (Running.the_row H P h)
-  running_send = recorded_send (Running.the_field H P h).row _ _ (Running.the_type H P h).to_one running_field_send
-
   abbrev pub ZoneRow : RattleType
   ZoneRow = Zone.the_row Counted.the_row CountHooks.the_row H P counted_body.ghosts count_hooks.ghosts h
 
@@ -59,6 +52,17 @@ module _ (H P : RattleType) (h : host.Ghosts H.Denot P.Denot) (s : IsSend H) (y 
 
   pub clock_sync : IsSync (Clock.the_row H P h)
   clock_sync = search (clock.the_sync, sendable) depth 20
+
+module _ (N H C S P : RattleType) (h : host.Ghosts H.Denot P.Denot) (s : IsSend H) (y : IsSync H) (seat : IsSend S) where
+  naming_field_send : IsSend (Naming.the_field N H C S P).row
+  naming_field_send = struct_send (shape (Naming.the_type N H C S P)) (seat, (search (counts_of_names.the_field_send), tt))
+
+  running_field_send : IsSend (Running.the_field N H C S P h).row
+  running_field_send = struct_send (shape (Running.the_type N H C S P h))
+      (worker_field_send H P h s y, (naming_field_send, (search sendable, (search sendable, (search (crosses, sendable) depth 20, (search (padded.the_field_send, sendable), tt))))))
+
+  pub running_send : IsSend (Running.the_row N H C S P h)
+  running_send = recorded_send (Running.the_field N H C S P h).row _ _ (Running.the_type N H C S P h).to_one running_field_send
 
 pub trace_sync : IsSync Trace.the_row
 trace_sync = search (trace.the_sync, sendable)
@@ -71,14 +75,14 @@ parts_sync (T ∷ Ts) all = (all.0, parts_sync Ts all.1)
 pub tuple_sync : (ν : Sym) (Ts : List RattleType) → AllSync Ts → IsSync (TupleAt ν Ts)
 tuple_sync ν Ts all = recorded_sync (Struct (shape (type_at ν Ts))) _ _ (type_at ν Ts).to_one (struct_sync (shape (type_at ν Ts)) (parts_sync Ts all))
 
--- what a round's threads share: the handle, the allocator, the trace, the zones, the clock, the gate, the calls of reclaim and the round
-module _ (H P : RattleType) (h : host.Ghosts H.Denot P.Denot) (s : IsSend H) (y : IsSync H) (R G C : RattleType) (ℓ1 ℓ2 ℓ3 ℓ4 ℓ5 ℓ6 ℓ7 ℓ8 : Lifetime) (κ1 κ2 κ3 κ4 κ5 κ6 κ7 κ8 : Lft) where
+-- what a round's threads share: the handle, the allocator, the trace, the zones, the clock, the calls of names and their cache, the gate, the calls of reclaim and the round
+module _ (H P : RattleType) (h : host.Ghosts H.Denot P.Denot) (s : IsSend H) (y : IsSync H) (R N M G C : RattleType) (ℓ1 ℓ2 ℓ3 ℓ4 ℓ5 ℓ6 ℓ7 ℓ8 ℓ9 ℓ10 : Lifetime) (κ1 κ2 κ3 κ4 κ5 κ6 κ7 κ8 κ9 κ10 : Lft) where
   abbrev pub shared : List RattleType
   shared = ShrRef ℓ1 κ1 R ∷ ShrRef ℓ2 κ2 heap.the_row ∷ ShrRef ℓ3 κ3 Trace.the_row ∷ ShrSlice ℓ4 κ4 (ZoneRow H P h s y)
-      ∷ ShrRef ℓ5 κ5 (Clock.the_row H P h) ∷ ShrRef ℓ6 κ6 G ∷ ShrRef ℓ7 κ7 C ∷ ShrRef ℓ8 κ8 u64 ∷ []
+      ∷ ShrRef ℓ5 κ5 (Clock.the_row H P h) ∷ ShrRef ℓ6 κ6 N ∷ ShrRef ℓ7 κ7 M ∷ ShrRef ℓ8 κ8 G ∷ ShrRef ℓ9 κ9 C ∷ ShrRef ℓ10 κ10 u64 ∷ []
 
-  shared_each : IsSync R → IsSync G → IsSync C → AllSync shared
-  shared_each r g c = (
+  shared_each : IsSync R → IsSync N → IsSync M → IsSync G → IsSync C → AllSync shared
+  shared_each r n m g c = (
     shr_sync _ _ _ r,
     (
       shr_sync _ _ _ heap_sync,
@@ -86,11 +90,14 @@ module _ (H P : RattleType) (h : host.Ghosts H.Denot P.Denot) (s : IsSend H) (y 
         shr_sync _ _ _ trace_sync,
         (
           shr_slice_sync _ _ _ (counted_zone_sync H P h s y),
-          (shr_sync _ _ _ (clock_sync H P h s y), (shr_sync _ _ _ g, (shr_sync _ _ _ c, (shr_sync _ _ u64 (search sendable), tt)))),
+          (
+            shr_sync _ _ _ (clock_sync H P h s y),
+            (shr_sync _ _ _ n, (shr_sync _ _ _ m, (shr_sync _ _ _ g, (shr_sync _ _ _ c, (shr_sync _ _ u64 (search sendable), tt))))),
+          ),
         ),
       ),
     ),
   )
 
-  pub shared_sync : (ν : Sym) → IsSync R → IsSync G → IsSync C → IsSync (TupleAt ν shared)
-  shared_sync ν r g c = tuple_sync ν shared (shared_each r g c)
+  pub shared_sync : (ν : Sym) → IsSync R → IsSync N → IsSync M → IsSync G → IsSync C → IsSync (TupleAt ν shared)
+  shared_sync ν r n m g c = tuple_sync ν shared (shared_each r n m g c)

@@ -15,7 +15,7 @@ sum-most : {A : Type 0} (f : A → ℕ) (xs : List A) → ((n : ℕ) (x : A) →
 sum-most f [] each = most_of_all
 sum-most f (x ∷ xs) each = sum_within (sum_by f xs) (length xs) (sum_by-cons f x xs) (each 0 x refl) (sum-most f xs (λ n. each (suc n)))
 
-module _ {H Part : Type 0} {h : Ghosts H Part} where
-  pub gave_up_few : (lines : List Line) (workers : List (Running H Part h)) → length lines < 2 ^ 31 → length workers ≤ 16 → AllAsked lines workers → sum_by (λ (r : Running H Part h). r.gave_up) workers ≤ 2 ^ 35
+module _ {N H C S Part : Type 0} {h : Ghosts H Part} where
+  pub gave_up_few : (lines : List Line) (workers : List (Running N H C S Part h)) → length lines < 2 ^ 31 → length workers ≤ 16 → AllAsked lines workers → sum_by (λ (r : Running N H C S Part h). r.gave_up) workers ≤ 2 ^ 35
   gave_up_few lines workers few count asked =
-      below_most (sum-most (λ (r : Running H Part h). r.gave_up) workers (λ n r at. within few (up_by_two (asked n r at).gave_up_few (done_by-few n lines)))) count
+      below_most (sum-most (λ (r : Running N H C S Part h). r.gave_up) workers (λ n r at. within few (up_by_two (asked n r at).gave_up_few (done_by-few n lines)))) count

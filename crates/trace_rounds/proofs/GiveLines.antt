@@ -12,9 +12,9 @@ use Rattle.trace_worker.proofs.Alike.{LinesFit-front, LinesFit-back}
 use Rattle.trace_rounds.specs.Rounds.{AllMoved, IsMoved}
 use Rattle.trace_rounds.proofs.RoundLines.{stacked-snoc}
 
-module _ {H Part : Type 0} {h : Ghosts H Part} where
+module _ {N H C S Part : Type 0} {h : Ghosts H Part} where
   -- before the first one
-  pub moved_none : (betweens : List Between) (workers : List (Running H Part h)) → AllMoved (take 0 betweens) workers workers
+  pub moved_none : (betweens : List Between) (workers : List (Running N H C S Part h)) → AllMoved (take 0 betweens) workers workers
   unfolding stacked
   moved_none betweens workers zones clock lines fit all = record { stand = all; adds_up = λ z adds. adds }
 
@@ -22,8 +22,8 @@ mapped : (xs : List Between) (b : Between) → map Moves (xs ++ b ∷ []) ≡ ma
 mapped [] b = refl
 mapped (x ∷ xs) b = ap (λ (lines : List Line). Moves x ∷ lines) (mapped xs b)
 
-module _ {H Part : Type 0} {h : Ghosts H Part} where
-  one_behind : (xs : List Between) (b : Between) (old mid new : List (Running H Part h)) → AllMoved xs old mid → IsMoved b mid new → AllMoved (xs ++ b ∷ []) old new
+module _ {N H C S Part : Type 0} {h : Ghosts H Part} where
+  one_behind : (xs : List Between) (b : Between) (old mid new : List (Running N H C S Part h)) → AllMoved xs old mid → IsMoved b mid new → AllMoved (xs ++ b ∷ []) old new
   one_behind xs b old mid new first next zones clock lines fit all =
       let fits = subst (LinesFit lines) (mapped xs b) fit in
       let so_far = first zones clock lines (LinesFit-front (map Moves xs) (Moves b ∷ []) lines fits) all in
@@ -35,7 +35,7 @@ module _ {H Part : Type 0} {h : Ghosts H Part} where
       }
 
   -- with the next one
-  pub moved_more : (betweens : List Between) (i : ℕ) (d : Between) (old mid new : List (Running H Part h)) → i < length betweens → AllMoved (take i betweens) old mid → IsMoved (get_or betweens i d) mid new
+  pub moved_more : (betweens : List Between) (i : ℕ) (d : Between) (old mid new : List (Running N H C S Part h)) → i < length betweens → AllMoved (take i betweens) old mid → IsMoved (get_or betweens i d) mid new
       → AllMoved (take (i + 1) betweens) old new
   moved_more betweens i d old mid new below first next =
       let P : List Between → Type 0 = λ list. AllMoved list old new in

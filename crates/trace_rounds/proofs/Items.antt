@@ -10,6 +10,7 @@ use Rattle.smr_clock.specs.declared.host.Host.{Ghosts}
 use Rattle.trace_text.specs.declared.trace.Trace.{Trace}
 use Rattle.uma_seat.specs.Seat.{ledger_of}
 use Rattle.trace_worker.specs.declared.held.Held.{Held}
+use Rattle.trace_worker.specs.declared.name_calls.NameCalls.{Ghosts as NameGhosts}
 use Rattle.trace_worker.specs.declared.running.Running.{Running}
 use Rattle.trace_worker.specs.declared.worker.Worker.{Worker}
 use Rattle.trace_worker.specs.Items.{CountedSeat, CountedZone}
@@ -69,7 +70,7 @@ module _ {H Part : Type 0} {h : Ghosts H Part} (zones : List (CountedZone H Part
         ]
       ]
 
-module _ {H Part : Type 0} {h : Ghosts H Part} (t : Trace) (zones : List (CountedZone H Part h)) (clock : Clock H Part) (k : ℕ) (old new : List (Running H Part h)) (done : Turns t zones clock k old new) where
+module _ {N H C S Part : Type 0} {h : Ghosts H Part} (names : NameGhosts N H C S Part) (cache : C) (t : Trace) (zones : List (CountedZone H Part h)) (clock : Clock H Part) (k : ℕ) (old new : List (Running N H C S Part h)) (done : Turns names cache t zones clock k old new) where
   each_adds : (z n : ℕ) (was is : Worker H Part h) → AllStand zones clock (lines_before t.rounds k) (crew old) → slice_get (crew old) n ≡ Some was → slice_get (crew new) n ≡ Some is → Adds z was is
   each_adds z n was is all at now =
       let m = member old n was at in
@@ -77,10 +78,10 @@ module _ {H Part : Type 0} {h : Ghosts H Part} (t : Trace) (zones : List (Counte
       let turn = done.each n m.running v.running m.at v.at in
       let P : Worker H Part h → Type 0 = λ w. Balances z w v.running.worker in
       let Q : Worker H Part h → Type 0 = λ w. Balances z was w in
-      worker_adds zones clock z was is (all.fits n was at) ((stand_after t zones clock k old new done).fits n is now) (subst Q v.is (subst P m.is (turn.balances z)))
+      worker_adds zones clock z was is (all.fits n was at) ((stand_after names cache t zones clock k old new done).fits n is now) (subst Q v.is (subst P m.is (turn.balances z)))
 
   pub adds_after : (z : ℕ) → AllStand zones clock (lines_before t.rounds k) (crew old) → AddsUp z (crew old) → AddsUp z (crew new)
   adds_after z all adds =
-      let size : length (crew new) ≡ length (crew old) = length-map new (λ (r : Running H Part h). r.worker) ∙ (done.size ∙ sym (length-map old (λ (r : Running H Part h). r.worker))) in
+      let size : length (crew new) ≡ length (crew old) = length-map new (λ (r : Running N H C S Part h). r.worker) ∙ (done.size ∙ sym (length-map old (λ (r : Running N H C S Part h). r.worker))) in
       sums_still (all_live z (crew old)) (all_frees z (crew old)) (all_live z (crew new)) (all_frees z (crew new)) adds
       (sums_balance (lives_at z) (frees_at z) (allocs_at z) (crew old) (crew new) size (λ n was is at now. each_adds z n was is all at now))

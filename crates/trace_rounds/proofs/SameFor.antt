@@ -2,16 +2,16 @@
 use Rattle.std.proofs.Common.{◌≡◌, ◌≢◌, ℕ, suc, ◌+◌, ◌≤◌, List, [], ◌∷◌, Bool, true, false, cond, refl, sym, ap, ◌∙◌, arith, length, map, eq-eqb}
 use Rattle.std.proofs.lemmas.Bool.{ne_eqb}
 use Rattle.std.proofs.lemmas.List.Sums.{sum_by-cons, count_by-le-length}
-use Rattle.std.specs.Prelude.{◌==◌, ◌&&◌, nat_lt}
+use Rattle.std.specs.Prelude.{not, ◌==◌, ◌&&◌, nat_lt}
 use Rattle.std.specs.Option.{option_map_or}
 use Rattle.trace_text.specs.declared.op.Op.{Op}
-use Rattle.trace_text.specs.declared.op.Op.TheVariants.{Alloc, Free, Enter}
+use Rattle.trace_text.specs.declared.op.Op.TheVariants.{Alloc, Free, Enter, Bind, Unbind, Look}
 use Rattle.trace_text.specs.Lines.{Line, Does}
-use Rattle.trace_text.specs.Reading.{held}
-use Rattle.trace_worker.specs.Counting.{is_ask, is_ask_with_arg, is_ask_with, is_enter, is_free_of, asked, argued, asked_with, enters, freed}
+use Rattle.trace_text.specs.Reading.{held, in_section}
+use Rattle.trace_worker.specs.Counting.{is_ask, is_ask_with_arg, is_ask_with, is_section, is_look, is_bind, is_unbind, is_free_of, asked, argued, asked_with, sections, looks, binds, unbinds, freed}
 use Rattle.trace_worker.specs.OwnLines.{stacked, worked}
 use Rattle.trace_worker.proofs.Alike.{Alike, Alike-self, Alike-others, Alike-own}
-use Rattle.trace_worker.proofs.LineCounts.{asked-more, argued-more, asked_with-more, enters-more, freed-more}
+use Rattle.trace_worker.proofs.LineCounts.{asked-more, argued-more, asked_with-more, sections-more, looks-more, binds-more, unbinds-more, freed-more}
 use Rattle.trace_rounds.specs.DoneBy.{is_by, done_by}
 
 pub record SameFor (n : ℕ) (a b : List Line) : Type 0 where
@@ -19,7 +19,10 @@ pub record SameFor (n : ℕ) (a b : List Line) : Type 0 where
   pub requests : (z : ℕ) → asked n z a ≡ asked n z b
   pub arguments : (z : ℕ) → argued n z a ≡ argued n z b
   pub codes : (z code : ℕ) → asked_with n z code a ≡ asked_with n z code b
-  pub sections : enters n a ≡ enters n b
+  pub sections_same : sections n a ≡ sections n b
+  pub looks_same : looks n a ≡ looks n b
+  pub binds_same : binds n a ≡ binds n b
+  pub unbinds_same : unbinds n a ≡ unbinds n b
   pub frees : (z : ℕ) → freed n z a ≡ freed n z b
   pub operations : done_by n a ≡ done_by n b
 
@@ -29,7 +32,10 @@ SameFor-self n a = record {
   requests = λ z. refl;
   arguments = λ z. refl;
   codes = λ z code. refl;
-  sections = refl;
+  sections_same = refl;
+  looks_same = refl;
+  binds_same = refl;
+  unbinds_same = refl;
   frees = λ z. refl;
   operations = refl;
 }
@@ -60,9 +66,22 @@ is_ask_with-others : (n z code v : ℕ) (op : Op) → v ≢ n → is_ask_with n 
 is_ask_with-others n z code v (Alloc w slot arg reserve) apart = ap (λ b. b && ((w == z) && (arg == code))) (ne_eqb v n apart)
 is_ask_with-others n z code v op apart = refl
 
-is_enter-others : (n v : ℕ) (op : Op) → v ≢ n → is_enter n (Does v op) ≡ false
-is_enter-others n v Enter apart = ne_eqb v n apart
-is_enter-others n v op apart = refl
+is_section-others : (n v : ℕ) (op : Op) (a : List Line) → v ≢ n → is_section n a (Does v op) ≡ false
+is_section-others n v Enter a apart = ne_eqb v n apart
+is_section-others n v (Look key) a apart = ap (λ b. b && not (in_section a n)) (ne_eqb v n apart)
+is_section-others n v op a apart = refl
+
+is_look-others : (n v : ℕ) (op : Op) → v ≢ n → is_look n (Does v op) ≡ false
+is_look-others n v (Look key) apart = ne_eqb v n apart
+is_look-others n v op apart = refl
+
+is_bind-others : (n v : ℕ) (op : Op) → v ≢ n → is_bind n (Does v op) ≡ false
+is_bind-others n v (Bind key value) apart = ne_eqb v n apart
+is_bind-others n v op apart = refl
+
+is_unbind-others : (n v : ℕ) (op : Op) → v ≢ n → is_unbind n (Does v op) ≡ false
+is_unbind-others n v (Unbind key) apart = ne_eqb v n apart
+is_unbind-others n v op apart = refl
 
 is_free_of-others : (n z v : ℕ) (op : Op) (a : List Line) → v ≢ n → is_free_of n z a (Does v op) ≡ false
 is_free_of-others n z v (Free slot) a apart = ap (λ b. b && option_map_or (λ zone. zone == z) (held a v slot) false) (ne_eqb v n apart)
@@ -77,7 +96,10 @@ SameFor-others n v op a b apart same = record {
   requests = λ z. none_counted (asked-more n z (Does v op) a) (is_ask-others n z v op apart) ∙ same.requests z;
   arguments = λ z. none_counted (argued-more n z (Does v op) a) (is_ask_with_arg-others n z v op apart) ∙ same.arguments z;
   codes = λ z code. none_counted (asked_with-more n z code (Does v op) a) (is_ask_with-others n z code v op apart) ∙ same.codes z code;
-  sections = none_counted (enters-more n (Does v op) a) (is_enter-others n v op apart) ∙ same.sections;
+  sections_same = none_counted (sections-more n (Does v op) a) (is_section-others n v op a apart) ∙ same.sections_same;
+  looks_same = none_counted (looks-more n (Does v op) a) (is_look-others n v op apart) ∙ same.looks_same;
+  binds_same = none_counted (binds-more n (Does v op) a) (is_bind-others n v op apart) ∙ same.binds_same;
+  unbinds_same = none_counted (unbinds-more n (Does v op) a) (is_unbind-others n v op apart) ∙ same.unbinds_same;
   frees = λ z. none_counted (freed-more n z (Does v op) a) (is_free_of-others n z v op a apart) ∙ same.frees z;
   operations = none_counted (done_by-more n (Does v op) a) (ne_eqb v n apart) ∙ same.operations;
 }
@@ -91,13 +113,20 @@ is_free_of-own : (n z : ℕ) (op : Op) (a b : List Line) → Alike n a b → is_
 is_free_of-own n z (Free slot) a b same = ap (λ o. (n == n) && option_map_or (λ zone. zone == z) o false) (same.same_held slot)
 is_free_of-own n z op a b same = refl
 
+is_section-own : (n : ℕ) (op : Op) (a b : List Line) → Alike n a b → is_section n a (Does n op) ≡ is_section n b (Does n op)
+is_section-own n (Look key) a b same = ap (λ inner. (n == n) && not inner) same.same_section
+is_section-own n op a b same = refl
+
 pub SameFor-own : (n : ℕ) (op : Op) (a b : List Line) → SameFor n a b → SameFor n (Does n op ∷ a) (Does n op ∷ b)
 SameFor-own n op a b same = record {
   alike = Alike-own n op a b same.alike;
   requests = λ z. both_counted (asked-more n z (Does n op) a) (asked-more n z (Does n op) b) (same.requests z) refl;
   arguments = λ z. both_counted (argued-more n z (Does n op) a) (argued-more n z (Does n op) b) (same.arguments z) refl;
   codes = λ z code. both_counted (asked_with-more n z code (Does n op) a) (asked_with-more n z code (Does n op) b) (same.codes z code) refl;
-  sections = both_counted (enters-more n (Does n op) a) (enters-more n (Does n op) b) same.sections refl;
+  sections_same = both_counted (sections-more n (Does n op) a) (sections-more n (Does n op) b) same.sections_same (is_section-own n op a b same.alike);
+  looks_same = both_counted (looks-more n (Does n op) a) (looks-more n (Does n op) b) same.looks_same refl;
+  binds_same = both_counted (binds-more n (Does n op) a) (binds-more n (Does n op) b) same.binds_same refl;
+  unbinds_same = both_counted (unbinds-more n (Does n op) a) (unbinds-more n (Does n op) b) same.unbinds_same refl;
   frees = λ z. both_counted (freed-more n z (Does n op) a) (freed-more n z (Does n op) b) (same.frees z) (is_free_of-own n z op a b same.alike);
   operations = both_counted (done_by-more n (Does n op) a) (done_by-more n (Does n op) b) same.operations refl;
 }

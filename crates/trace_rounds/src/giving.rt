@@ -4,16 +4,15 @@ ghost use Rattle.trace_rounds.specs.Rounds.{AllMoved, IsMoved};
 ghost use Rattle.trace_text.specs.declared.between.Between.TheVariants.{Give};
 ghost use Rattle.trace_worker.specs.Giving.{KeepsRest};
 
-use smr_clock::Host;
 use std::alloc::Global;
 use trace_text::Between;
-use trace_worker::{Memory, Running, move_slot};
+use trace_worker::{Memory, NameCalls, Running, move_slot};
 
 /// The `give` lines between two rounds, in order. After `Memory` the replay is over.
-pub(crate) fn give_all<H: Host>(
+pub(crate) fn give_all<N: NameCalls>(
     alloc: Global,
     betweens: &[Between],
-    workers: &mut [Running<H>],
+    workers: &mut [Running<N>],
 ) -> Result<(), Memory>
     requires { All (IsAmong (length workers.old)) betweens.now }
     ensures rest { OnOk result (KeepsRest workers.old workers.new) }
@@ -26,7 +25,11 @@ pub(crate) fn give_all<H: Host>(
 }
 
 /// One `give` line.
-fn give<H: Host>(alloc: Global, between: Between, workers: &mut [Running<H>]) -> Result<(), Memory>
+fn give<N: NameCalls>(
+    alloc: Global,
+    between: Between,
+    workers: &mut [Running<N>],
+) -> Result<(), Memory>
     requires { IsAmong (length workers.old) between }
     ensures rest { OnOk result (KeepsRest workers.old workers.new) }
     ensures moved { OnOk result (IsMoved between workers.old workers.new) }

@@ -2,7 +2,7 @@
 use Rattle.std.proofs.Common.{◌≡◌, ℕ, ◌≤◌, ◌%◌, List, [], ◌∷◌, ◌++◌, Option, None, Some, inl, inr, refl, sym, ap, ◌∙◌, subst, length, zero-le, arith}
 use Rattle.std.proofs.lemmas.List.{get_or_past}
 use Rattle.std.proofs.lemmas.Option.{none-some}
-use Rattle.std.specs.Prelude.{slice_get}
+use Rattle.std.specs.Prelude.{IfOk, Result, Ok, Err, slice_get}
 use Rattle.smr_clock.specs.declared.clock.Clock.{Clock}
 use Rattle.smr_clock.specs.declared.pass.Pass.{Pass}
 use Rattle.smr_clock.specs.declared.host.Host.{Ghosts}
@@ -13,9 +13,8 @@ use Rattle.zone_stats.specs.declared.ledger.SeatLedger.{SeatLedger}
 use Rattle.zone_stats.specs.declared.refusal.Refusal.{Refusal}
 use Rattle.zone_stats.specs.LedgerSteps.{IsNew}
 use Rattle.trace_worker.specs.declared.held.Held.{Held}
-use Rattle.trace_worker.specs.declared.running.Running.{Running}
 use Rattle.trace_worker.specs.declared.worker.Worker.{Worker}
-use Rattle.trace_worker.specs.Counting.{asked, argued, enters}
+use Rattle.trace_worker.specs.Counting.{asked, argued}
 use Rattle.trace_worker.specs.Items.{CountedSeat, CountedZone}
 use Rattle.trace_worker.specs.LedgerStands.{LedgerStands}
 use Rattle.trace_worker.specs.Making.{AreSeats, IsNewWorker}
@@ -23,8 +22,9 @@ use Rattle.trace_worker.specs.Slots.{slot_at}
 use Rattle.trace_worker.specs.Stands.{Stands, NamesZone}
 use Rattle.trace_worker.specs.Worker.{Fits}
 use Rattle.trace_setting.specs.Beginners.{IsUnused, IsBeginner}
-use Rattle.trace_setting.specs.Clock.{IsNewPass}
-use Rattle.trace_setting.proofs.Lists.{pushed, has_too, none_above, none_below, both_none}
+use Rattle.trace_worker.specs.Clocks.{IsNewPass}
+use Rattle.trace_worker.proofs.EntrySteps.{entries_none}
+use Rattle.trace_setting.proofs.Lists.{pushed, has_too, none_above, none_below}
 
 asked_none : (n z : ℕ) → asked n z [] ≡ 0
 unfolding asked
@@ -33,10 +33,6 @@ asked_none n z = refl
 argued_none : (n z : ℕ) → argued n z [] ≡ 0
 unfolding argued
 argued_none n z = refl
-
-enters_none : (n : ℕ) → enters n [] ≡ 0
-unfolding enters
-enters_none n = refl
 
 -- a new ledger stands for no line
 ledger_stands : (Names : Refusal → Type 0) (n z : ℕ) (ledger : SeatLedger) → IsNew ledger → LedgerStands Names n z [] ledger
@@ -68,7 +64,7 @@ module _ {H Part : Type 0} {h : Ghosts H Part} where
         filled = λ slot it found. absurd (nothing_in w.slots slot it new.slots found);
         outside = λ _. outside;
         between = inl outside;
-        enters_add_up = both_none new.entered new.late (enters_none n);
+        entries = entries_none n w.entered w.late (holder w.pass).phase new.entered new.late;
         begun = subst (λ (p : Pass H Part h). clock.setup.about.start ≤ (holder p).seen) (sym new.pass_kept) new_pass.begun;
         overtaken = λ some. absurd (none_above new.late some);
       }
@@ -79,36 +75,32 @@ module _ {H Part : Type 0} {h : Ghosts H Part} where
       let new = are.each z zone.0 seat zone.1 at_seat in
       record { own = new.fresh.own; ledger = new.fresh.ledger }
 
-  beginner : (zones : List (CountedZone H Part h)) (clock : Clock H Part) (domain : ℕ) (pass : Pass H Part h) (w : Worker H Part h) (r : Running H Part h) → Fits zones clock w → IsNewWorker zones pass domain w → IsNewPass clock pass
-      → w ≡ r.worker → r.asked ≡ 0 → r.gave_up ≡ 0 → IsBeginner zones clock domain r
-  beginner zones clock domain pass w r fits new new_pass is asked gave_up =
-      let S : Worker H Part h → Type 0 = λ x. (n : ℕ) → Stands zones clock n [] x in
-      let U : Worker H Part h → Type 0 = λ x. (z : ℕ) (seat : CountedSeat H Part h) → slice_get x.seats.items z ≡ Some seat → IsUnused domain seat in
-      record {
-        fits = subst (Fits zones clock) is fits;
-        stands = subst S is (λ n. stands_new zones clock n domain pass w new new_pass);
-        empty = ap (λ (x : Worker H Part h). x.slots) (sym is) ∙ new.slots;
-        seats = subst U is (unused_at zones domain w.seats.items new.seats);
-        asked = asked;
-        gave_up = gave_up;
-      }
+  pub beginner : (zones : List (CountedZone H Part h)) (clock : Clock H Part) (domain : ℕ) (pass : Pass H Part h) (w : Worker H Part h) → Fits zones clock w → IsNewWorker zones pass domain w → IsNewPass clock pass → IsBeginner zones clock domain w
+  beginner zones clock domain pass w fits new new_pass = record {
+    fits = fits;
+    stands = λ n. stands_new zones clock n domain pass w new new_pass;
+    empty = new.slots;
+    seats = unused_at zones domain w.seats.items new.seats;
+  }
 
-  pub beginner_is : (zones : List (CountedZone H Part h)) (clock : Clock H Part) (domain : ℕ) (pass : Pass H Part h) (w : Worker H Part h) (r : Running H Part h) → Fits zones clock w → IsNewWorker zones pass domain w → IsNewPass clock pass
-      → r.worker ≡ w → r.asked ≡ 0 → r.gave_up ≡ 0 → IsBeginner zones clock domain r
-  beginner_is zones clock domain pass w r fits new new_pass is asked gave_up = beginner zones clock domain pass w r fits new new_pass (sym is) asked gave_up
+  -- the same of what a call answers
+  pub beginner_is : {E : Type 0} (r : Result (Worker H Part h) E) (zones : List (CountedZone H Part h)) (clock : Clock H Part) (domain : ℕ) (pass : Pass H Part h) → IfOk r (Fits zones clock) → IfOk r (IsNewWorker zones pass domain) → IsNewPass clock pass
+      → IfOk r (IsBeginner zones clock domain)
+  beginner_is (Ok w) zones clock domain pass fits new new_pass = beginner zones clock domain pass w fits new new_pass
+  beginner_is (Err e) zones clock domain pass fits new new_pass = tt
 
-  abbrev pub Begin : List (CountedZone H Part h) → Clock H Part → ℕ → List (Running H Part h) → Type 0
-  Begin zones clock domains workers = (n : ℕ) (r : Running H Part h) → slice_get workers n ≡ Some r → IsBeginner zones clock (n % domains) r
+  abbrev pub Begin : List (CountedZone H Part h) → Clock H Part → ℕ → List (Worker H Part h) → Type 0
+  Begin zones clock domains workers = (n : ℕ) (r : Worker H Part h) → slice_get workers n ≡ Some r → IsBeginner zones clock (n % domains) r
 
   pub Begin-none : (zones : List (CountedZone H Part h)) (clock : Clock H Part) (domains : ℕ) → Begin zones clock domains []
   Begin-none zones clock domains n r at = absurd (none-some r at)
 
-  pub Begin-more : (zones : List (CountedZone H Part h)) (clock : Clock H Part) (domains : ℕ) (workers : List (Running H Part h)) (new : Running H Part h) → IsBeginner zones clock (length workers % domains) new → Begin zones clock domains workers
+  pub Begin-more : (zones : List (CountedZone H Part h)) (clock : Clock H Part) (domains : ℕ) (workers : List (Worker H Part h)) (new : Worker H Part h) → IsBeginner zones clock (length workers % domains) new → Begin zones clock domains workers
       → Begin zones clock domains (workers ++ new ∷ [])
   Begin-more zones clock domains workers new is are n r at = elim (pushed workers new n r at) [
     | inl last ↦
         let P : ℕ → Type 0 = λ i. IsBeginner zones clock (i % domains) new in
-        let Q : Running H Part h → Type 0 = λ x. IsBeginner zones clock (n % domains) x in
+        let Q : Worker H Part h → Type 0 = λ x. IsBeginner zones clock (n % domains) x in
         subst Q last.1 (subst P (sym last.0) is)
     | inr before ↦ are n r before
   ]

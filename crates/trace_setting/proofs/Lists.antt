@@ -1,5 +1,5 @@
 -- Plain lists and numbers.
-use Rattle.std.proofs.Common.{◌≡◌, ◌≢◌, ℕ, zero, suc, ◌+◌, ◌<◌, ◌≤◌, List, [], ◌∷◌, ◌++◌, Some, inl, inr, ◌⊎◌, refl, ap, subst, arith, length, map}
+use Rattle.std.proofs.Common.{◌≡◌, ◌≢◌, ℕ, zero, suc, ◌+◌, ◌<◌, ◌≤◌, List, [], ◌∷◌, ◌++◌, Some, inl, inr, ◌⊎◌, refl, ap, subst, arith, length}
 use Rattle.std.proofs.lemmas.Option.{none-some, same_Some, slice_get_within, get_or_from_slice_get}
 use Rattle.std.proofs.lemmas.List.Elements.{All-nil, All-cons}
 use Rattle.std.proofs.lemmas.List.Sums.{sum_by-cons}
@@ -91,12 +91,6 @@ less_than_eight e f g = omega arith
 
 pub behind_all : {z n : ℕ} → z ≡ n → n ≤ z
 behind_all e = omega arith
-
--- what is at a place of a mapped list is of what is at that place
-pub map_at : {X Y : Type 0} (f : X → Y) (xs : List X) (n : ℕ) (y : Y) → slice_get (map f xs) n ≡ Some y → (x : X) × (slice_get xs n ≡ Some x) × (f x ≡ y)
-map_at f [] n y at = absurd (none-some y at)
-map_at f (x ∷ xs) zero y at = (x, refl, same_Some (f x) y at)
-map_at f (x ∷ xs) (suc n) y at = map_at f xs n y at
 
 pub no_sum : {a b c : ℕ} → a ≡ b + c → b ≡ 0 → c ≡ 0 → a ≡ 0
 no_sum e f g = omega arith

@@ -9,7 +9,7 @@ use Rattle.smr_clock.specs.Notes.{IsNoteOf, Notes, note_knows}
 use Rattle.smr_clock.specs.declared.view.View.{View}
 use Rattle.smr_clock.specs.Belongs.{IsOf, setup_of, view}
 use Rattle.smr_clock.specs.Making.{AreWorkers, fresh_view}
-use Rattle.trace_setting.specs.Clock.{IsNewPass, ArePasses, KnowsBeginning}
+use Rattle.trace_worker.specs.Clocks.{IsNewPass, ArePasses, KnowsBeginning}
 use Rattle.trace_setting.proofs.Lists.{read_at, as_low}
 
 module _ {H Part : Type 0} {h : Ghosts H Part} where
@@ -22,7 +22,7 @@ module _ {H Part : Type 0} {h : Ghosts H Part} where
   }
 
   pub passes_of : {copied : Part → Part} {first : Part} (count : ℕ) (clock : Clock H Part) (passes : List (Pass H Part h)) → (setup_of clock).about.seats ≡ count → AreWorkers clock copied first passes → ArePasses count clock passes
-  passes_of {copied} {first} count clock passes seats are = record {
+  passes_of {copied = copied} {first = first} count clock passes seats are = record {
     one_each = are.one_each ∙ seats;
     each = λ n pass at. new_pass copied first clock n pass (are.here n pass (read_at passes n pass at)) (are.fresh n pass (read_at passes n pass at));
   }

@@ -13,19 +13,16 @@ use Rattle.trace_text.specs.declared.trace.Trace.{Trace}
 use Rattle.uma_seat.specs.Seat.{ledger_of}
 use Rattle.uma_zone.specs.Zone.{zone_domains}
 use Rattle.zone_stats.specs.declared.ledger.SeatLedger.{SeatLedger}
-use Rattle.trace_worker.specs.declared.running.Running.{Running}
 use Rattle.trace_worker.specs.declared.worker.Worker.{Worker}
 use Rattle.trace_worker.specs.Items.{CountedSeat, CountedZone}
 use Rattle.trace_worker.specs.Live.{live_count}
-use Rattle.trace_worker.specs.Stands.{Stands}
-use Rattle.trace_worker.specs.Together.{AllStand, AddsUp, crew, ledger_at}
-use Rattle.trace_worker.specs.Worker.{Fits}
+use Rattle.trace_worker.specs.Together.{AllStand, AddsUp, ledger_at}
 use Rattle.trace_setting.specs.declared.setting.Setting.{Setting}
 use Rattle.trace_setting.specs.Beginners.{AreBeginners}
-use Rattle.trace_setting.specs.Clock.{ArePasses, IsClockOf, KnowsBeginning, setup_for}
+use Rattle.trace_worker.specs.Clocks.{ArePasses, IsClockOf, KnowsBeginning, setup_for}
 use Rattle.trace_setting.specs.Setting.{IsSetUp}
 use Rattle.trace_setting.specs.Zones.{AreZones}
-use Rattle.trace_setting.proofs.Lists.{All_there, both_none, has_too, map_at, sum_none}
+use Rattle.trace_setting.proofs.Lists.{All_there, both_none, has_too, sum_none}
 
 -- ---- a clock with the numbers of a head
 
@@ -49,32 +46,26 @@ module _ {H Part : Type 0} {h : Ghosts H Part} where
   pub few_passes : (count : ℕ) (clock : Clock H Part) (passes : List (Pass H Part h)) → ArePasses count clock passes → count ≤ 16 → length passes ≤ 16
   few_passes count clock passes are few = subst (λ (n : ℕ). n ≤ 16) (sym are.one_each) few
 
-  all_stand : (zones : List (CountedZone H Part h)) (clock : Clock H Part) (domains count : ℕ) (workers : List (Running H Part h)) → AreBeginners zones clock domains count workers → AllStand zones clock [] (crew workers)
-  all_stand zones clock domains count workers are = record {
-    fits = λ n w at. let r = map_at (λ (r : Running H Part h). r.worker) workers n w at in subst (Fits zones clock) r.2 (are.each n r.0 r.1).fits;
-    stands = λ n w at. let r = map_at (λ (r : Running H Part h). r.worker) workers n w at in subst (Stands zones clock n []) r.2 ((are.each n r.0 r.1).stands n);
-  }
+  all_stand : (zones : List (CountedZone H Part h)) (clock : Clock H Part) (domains count : ℕ) (workers : List (Worker H Part h)) → AreBeginners zones clock domains count workers → AllStand zones clock [] workers
+  all_stand zones clock domains count workers are = record { fits = λ n w at. (are.each n w at).fits; stands = λ n w at. (are.each n w at).stands n }
 
   none_counted : (count : SeatLedger → ℕ) (o : Option (CountedSeat H Part h)) → ((seat : CountedSeat H Part h) → o ≡ Some seat → count (ledger_of seat) ≡ 0) → option_map_or count (option_map ledger_of o) 0 ≡ 0
   none_counted count None each = refl
   none_counted count (Some seat) each = each seat refl
 
   -- a count of a ledger that is 0 in a new one, over all workers
-  ledgers_none : (zones : List (CountedZone H Part h)) (clock : Clock H Part) (domains many z : ℕ) (workers : List (Running H Part h)) (count : SeatLedger → ℕ) → AreBeginners zones clock domains many workers
-      → ((n : ℕ) (r : Running H Part h) (seat : CountedSeat H Part h) → slice_get workers n ≡ Some r → slice_get r.worker.seats.items z ≡ Some seat → count (ledger_of seat) ≡ 0)
-      → sum_by (λ w. option_map_or count (ledger_at z w) 0) (crew workers) ≡ 0
-  ledgers_none zones clock domains many z workers count are none = sum_none (λ w. option_map_or count (ledger_at z w) 0) (crew workers) (λ n w at.
-      let r = map_at (λ (r : Running H Part h). r.worker) workers n w at in
-      subst (λ (w : Worker H Part h). option_map_or count (ledger_at z w) 0 ≡ 0) r.2 (none_counted count (slice_get r.0.worker.seats.items z) (λ seat at_seat. none n r.0 seat r.1 at_seat)))
+  ledgers_none : (zones : List (CountedZone H Part h)) (clock : Clock H Part) (domains many z : ℕ) (workers : List (Worker H Part h)) (count : SeatLedger → ℕ) → AreBeginners zones clock domains many workers
+      → ((n : ℕ) (w : Worker H Part h) (seat : CountedSeat H Part h) → slice_get workers n ≡ Some w → slice_get w.seats.items z ≡ Some seat → count (ledger_of seat) ≡ 0)
+      → sum_by (λ w. option_map_or count (ledger_at z w) 0) workers ≡ 0
+  ledgers_none zones clock domains many z workers count are none =
+      sum_none (λ w. option_map_or count (ledger_at z w) 0) workers (λ n w at. none_counted count (slice_get w.seats.items z) (λ seat at_seat. none n w seat at at_seat))
 
-  adds_up : (zones : List (CountedZone H Part h)) (clock : Clock H Part) (domains count z : ℕ) (workers : List (Running H Part h)) → AreBeginners zones clock domains count workers → AddsUp z (crew workers)
+  adds_up : (zones : List (CountedZone H Part h)) (clock : Clock H Part) (domains count z : ℕ) (workers : List (Worker H Part h)) → AreBeginners zones clock domains count workers → AddsUp z workers
   adds_up zones clock domains count z workers are =
       both_none
-      (sum_none (λ w. live_count z w.slots) (crew workers) (λ n w at.
-      let r = map_at (λ (r : Running H Part h). r.worker) workers n w at in
-      ap (λ (w : Worker H Part h). live_count z w.slots) (sym r.2) ∙ ap (live_count z) (are.each n r.0 r.1).empty))
-      (ledgers_none zones clock domains count z workers (λ ledger. ledger.frees) are (λ n r seat at at_seat. ((are.each n r at).seats z seat at_seat).ledger.frees))
-      (ledgers_none zones clock domains count z workers (λ ledger. ledger.allocs) are (λ n r seat at at_seat. ((are.each n r at).seats z seat at_seat).ledger.allocs))
+      (sum_none (λ w. live_count z w.slots) workers (λ n w at. ap (live_count z) (are.each n w at).empty))
+      (ledgers_none zones clock domains count z workers (λ ledger. ledger.frees) are (λ n w seat at at_seat. ((are.each n w at).seats z seat at_seat).ledger.frees))
+      (ledgers_none zones clock domains count z workers (λ ledger. ledger.allocs) are (λ n w seat at at_seat. ((are.each n w at).seats z seat at_seat).ledger.allocs))
 
   pub set_up_of : (t : Trace) (s : Setting H Part h) (count : ℕ) → IsClockOf t.head s.clock → KnowsBeginning s.clock s.begun → AreZones t.head s.clock s.zones.items → count ≡ t.head.workers
       → AreBeginners s.zones.items s.clock t.head.domains count s.workers.items → IsSetUp t s

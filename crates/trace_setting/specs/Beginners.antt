@@ -4,7 +4,7 @@ use Rattle.smr_clock.specs.declared.clock.Clock.{Clock}
 use Rattle.smr_clock.specs.declared.host.Host.{Ghosts}
 use Rattle.uma_seat.specs.Seat.{seat_domain, ledger_of}
 use Rattle.zone_stats.specs.LedgerSteps.{IsNew}
-use Rattle.trace_worker.specs.declared.running.Running.{Running}
+use Rattle.trace_worker.specs.declared.worker.Worker.{Worker}
 use Rattle.trace_worker.specs.Items.{CountedSeat, CountedZone}
 use Rattle.trace_worker.specs.Stands.{Stands}
 use Rattle.trace_worker.specs.Worker.{Fits}
@@ -15,16 +15,14 @@ module _ {H P : Type 0} {h : Ghosts H P} where
     pub own : seat_domain seat ≡ domain
     pub ledger : IsNew (ledger_of seat)
 
-  -- A worker of the zones and the clock with its seats in this domain. It stands for no line, and took no turn.
-  pub record IsBeginner (zones : List (CountedZone H P h)) (clock : Clock H P) (domain : ℕ) (r : Running H P h) : Type 0 where
-    pub fits : Fits zones clock r.worker
-    pub stands : (n : ℕ) → Stands zones clock n [] r.worker
-    pub empty : r.worker.slots ≡ []
-    pub seats : (z : ℕ) (seat : CountedSeat H P h) → slice_get r.worker.seats.items z ≡ Some seat → IsUnused domain seat
-    pub asked : r.asked ≡ 0
-    pub gave_up : r.gave_up ≡ 0
+  -- A worker of the zones and the clock with its seats in this domain. It stands for no line.
+  pub record IsBeginner (zones : List (CountedZone H P h)) (clock : Clock H P) (domain : ℕ) (w : Worker H P h) : Type 0 where
+    pub fits : Fits zones clock w
+    pub stands : (n : ℕ) → Stands zones clock n [] w
+    pub empty : w.slots ≡ []
+    pub seats : (z : ℕ) (seat : CountedSeat H P h) → slice_get w.seats.items z ≡ Some seat → IsUnused domain seat
 
   -- So many of them. Worker w is in domain w mod `domains`.
-  pub record AreBeginners (zones : List (CountedZone H P h)) (clock : Clock H P) (domains count : ℕ) (workers : List (Running H P h)) : Type 0 where
+  pub record AreBeginners (zones : List (CountedZone H P h)) (clock : Clock H P) (domains count : ℕ) (workers : List (Worker H P h)) : Type 0 where
     pub one_each : length workers ≡ count
-    pub each : (n : ℕ) (r : Running H P h) → slice_get workers n ≡ Some r → IsBeginner zones clock (n % domains) r
+    pub each : (n : ℕ) (w : Worker H P h) → slice_get workers n ≡ Some w → IsBeginner zones clock (n % domains) w

@@ -1,5 +1,4 @@
 pub mod Beginners
-pub mod Clock
 pub mod Kegs
 pub mod Setting
 pub mod Zones

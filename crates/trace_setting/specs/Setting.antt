@@ -2,10 +2,10 @@
 use Rattle.std.specs.Prelude.{ℕ, []}
 use Rattle.smr_clock.specs.declared.host.Host.{Ghosts}
 use Rattle.trace_text.specs.declared.trace.Trace.{Trace}
-use Rattle.trace_worker.specs.Together.{AllStand, AddsUp, crew}
+use Rattle.trace_worker.specs.Together.{AllStand, AddsUp}
 use Rattle.trace_setting.specs.declared.setting.Setting.{Setting}
 use Rattle.trace_setting.specs.Beginners.{AreBeginners}
-use Rattle.trace_setting.specs.Clock.{IsClockOf, KnowsBeginning}
+use Rattle.trace_worker.specs.Clocks.{IsClockOf, KnowsBeginning}
 use Rattle.trace_setting.specs.Zones.{AreZones}
 
 module _ {H P : Type 0} {h : Ghosts H P} where
@@ -15,7 +15,7 @@ module _ {H P : Type 0} {h : Ghosts H P} where
     pub clock : IsClockOf t.head s.clock
     pub begun : KnowsBeginning s.clock s.begun
     pub zones : AreZones t.head s.clock s.zones.items
-    -- each took no turn, and has its seats in its domain
+    -- each has its seats in its domain
     pub begin : AreBeginners s.zones.items s.clock t.head.domains t.head.workers s.workers.items
-    pub stand : AllStand s.zones.items s.clock [] (crew s.workers.items)
-    pub adds_up : (z : ℕ) → AddsUp z (crew s.workers.items)
+    pub stand : AllStand s.zones.items s.clock [] s.workers.items
+    pub adds_up : (z : ℕ) → AddsUp z s.workers.items

@@ -2,7 +2,7 @@ ghost use Rattle.std.specs.Prelude.{◌≡◌, ◌≤◌, ◌<◌, ◌^◌, ◌%
 ghost use Rattle.smr_clock.specs.Belongs.{setup_of};
 ghost use Rattle.trace_text.specs.Valid.{ClockFits};
 ghost use Rattle.trace_text.specs.Limits.{IsWithin};
-ghost use Rattle.trace_setting.specs.Clock.{start_of, window_of, setup_for, ArePasses, IsNewPass, KnowsBeginning};
+ghost use Rattle.trace_worker.specs.Clocks.{start_of, window_of, setup_for, ArePasses, IsNewPass, KnowsBeginning};
 
 use crate::Memory;
 use smr_clock::{Bare, Clock, ClockRefused, Host, Note, Pass};

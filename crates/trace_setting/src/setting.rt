@@ -1,7 +1,7 @@
 ghost use Rattle.std.specs.Prelude.{◌≡◌, IfOk};
 ghost use Rattle.smr_clock.specs.Belongs.{setup_of};
 ghost use Rattle.trace_text.specs.Valid.{IsValid};
-ghost use Rattle.trace_setting.specs.Clock.{ArePasses, IsClockOf};
+ghost use Rattle.trace_worker.specs.Clocks.{ArePasses, IsClockOf};
 ghost use Rattle.trace_setting.specs.Setting.{IsSetUp};
 
 use crate::Memory;
@@ -12,7 +12,7 @@ use smr_clock::{Bare, Clock, Host, Note, Pass};
 use std::alloc::Global;
 use std::sync::Wait;
 use trace_text::Trace;
-use trace_worker::{CountedZone, Running};
+use trace_worker::{CountedZone, Worker};
 
 /// What a trace begins with.
 #[derive(Drop)]
@@ -22,8 +22,8 @@ pub struct Setting<H: Host> {
     pub begun: Note<H>,
     /// One zone a line, in order.
     pub zones: Vec<CountedZone<H>>,
-    /// The workers before their first turns, in order of number.
-    pub workers: Vec<Running<H>>,
+    /// The workers before their first lines, in order of number.
+    pub workers: Vec<Worker<H>>,
 }
 
 /// Makes the clock of a trace without names, its zones and its workers. Waits as [`set_up_with`] does.

@@ -3,13 +3,13 @@ ghost use Rattle.smr_clock.specs.Belongs.{IsOf};
 ghost use Rattle.uma_zone.specs.Zone.{zone_domains};
 ghost use Rattle.trace_text.specs.Limits.{IsWithin};
 ghost use Rattle.trace_setting.specs.Beginners.{IsBeginner, AreBeginners};
-ghost use Rattle.trace_setting.specs.Clock.{IsNewPass, ArePasses};
+ghost use Rattle.trace_worker.specs.Clocks.{IsNewPass, ArePasses};
 
 use crate::Memory;
 use smr_clock::{Clock, Host, Pass};
 use std::alloc::Global;
 use std::sync::Wait;
-use trace_worker::{CountedZone, Running, Worker};
+use trace_worker::{CountedZone, Worker};
 
 /// A worker for each pass, in order, with a seat of each zone. Waits until it has the locks of the zones' kegs and of their
 /// domains.
@@ -20,7 +20,7 @@ pub fn make_workers<H: Host, R: Wait>(
     zones: &[CountedZone<H>],
     clock: &Clock<H>,
     passes: Vec<Pass<H>>,
-) -> Result<Vec<Running<H>>, Memory>
+) -> Result<Vec<Worker<H>>, Memory>
     requires domains { IsWithin 1 4 domains }
     requires few { length passes.items ≤ 16 }
     requires zones { All (λ zone. zone_domains zone ≡ domains) zones.now }
@@ -35,7 +35,7 @@ pub fn make_workers<H: Host, R: Wait>(
     Ok(workers)
 }
 
-// A worker whose seats are in this domain, before its first turn.
+// A worker whose seats are in this domain.
 fn new_worker<H: Host, R: Wait>(
     rt: &R,
     alloc: Global,
@@ -43,11 +43,10 @@ fn new_worker<H: Host, R: Wait>(
     clock: &Clock<H>,
     pass: Pass<H>,
     domain: u8,
-) -> Result<Running<H>, Memory>
+) -> Result<Worker<H>, Memory>
     requires domain { All (λ zone. domain < zone_domains zone) zones.now }
     requires pass { IsNewPass clock.now pass }
     ensures { IfOk result (IsBeginner zones.now clock.now domain) }
 {
-    let worker = Worker::new(rt, alloc, zones, clock, pass, domain, 0)?;
-    Ok(Running::new(worker))
+    Worker::new(rt, alloc, zones, clock, pass, domain, 0)
 }

@@ -1,4 +1,3 @@
-pub mod Built
 pub mod Grammar
 pub mod Limits
 pub mod Lines

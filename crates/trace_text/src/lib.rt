@@ -7,7 +7,6 @@
 #![tactic(auto)]
 
 mod between;
-mod built;
 mod head;
 mod limits;
 mod op;
@@ -17,7 +16,6 @@ mod trace_laws;
 mod trace_reading;
 
 pub use between::{Between, Betweens};
-pub use built::is_built;
 pub use head::{ClockHead, Head, NamesHead, ZoneHead, ZoneHeads, ZoneKind};
 pub use limits::SLOTS;
 pub use op::{Op, OpList, OpLists};

@@ -143,7 +143,7 @@ module _ {H Part : Type 0} {h : Ghosts H Part} where
       ]
 
   -- seats and slots stay
-  balance_holds : (old new : Worker H Part h) → KeepsHolds old new → (z : ℕ) → Balances z old new
+  pub balance_holds : (old new : Worker H Part h) → KeepsHolds old new → (z : ℕ) → Balances z old new
   balance_holds old new holds z before after here there =
       let P : List (CountedSeat H Part h) → Type 0 = λ list. slice_get list z ≡ Some after in
       let same : before ≡ after = same_Some before after (sym here ∙ subst P (ap (λ v. v.items) holds.seats) there) in

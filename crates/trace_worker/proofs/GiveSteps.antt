@@ -1,5 +1,5 @@
 -- The workers after a `give` line stand for one line more.
-use Rattle.std.proofs.Common.{◌≡◌, ℕ, ◌<◌, ◌≤◌, inl, inr, List, ◌∷◌, false, cond, Option, None, Some, refl, sym, ap, ◌∙◌, subst, add-zero, length, get_or, eq-eqb}
+use Rattle.std.proofs.Common.{◌≡◌, ℕ, ◌<◌, ◌≤◌, inl, inr, List, ◌∷◌, false, cond, Option, None, Some, refl, sym, ap, ◌∙◌, subst, length, get_or, eq-eqb}
 use Rattle.std.proofs.lemmas.Bool.{cases_eq, ne_eqb, and_left, and_right, and_from, cond-true, cond-false}
 use Rattle.std.proofs.lemmas.List.{length-set, get_or-set_same, get_or-set_other}
 use Rattle.std.proofs.lemmas.Option.{same_Some, none-some}
@@ -13,24 +13,23 @@ use Rattle.uma_seat.specs.Seat.{ledger_of}
 use Rattle.trace_worker.specs.declared.held.Held.{Held}
 use Rattle.trace_worker.specs.declared.running.Running.{Running}
 use Rattle.trace_worker.specs.declared.worker.Worker.{Worker}
-use Rattle.trace_worker.specs.Counting.{enters}
 use Rattle.trace_worker.specs.Giving.{Gives, MovesOn, PutsInto, TakesFrom, with_slots}
 use Rattle.trace_worker.specs.Items.{CountedZone}
 use Rattle.trace_worker.specs.Slots.{slot_at, filled, with_held, emptied}
 use Rattle.trace_worker.specs.Stands.{NamesZone, Stands}
 use Rattle.trace_worker.specs.Together.{AllStand, crew}
-use Rattle.trace_worker.specs.Worker.{Fits, IsHeld}
+use Rattle.trace_worker.specs.Worker.{Fits, IsHeld, phase_of}
 use Rattle.trace_worker.proofs.Belongs.{AreHeld, AreHeld-with}
 use Rattle.trace_worker.proofs.GiveSums.{adds_up_on, crew_at, live_gives, rest_gives, worker_of}
 use Rattle.trace_worker.proofs.LedgerSteps.{LedgerStands-other}
-use Rattle.trace_worker.proofs.LineCounts.{enters-more}
-use Rattle.trace_worker.proofs.Numbers.{below_as, below_next, few_as, sum_kept}
+use Rattle.trace_worker.proofs.EntrySteps.{entries_kept}
+use Rattle.trace_worker.proofs.Numbers.{below_as, below_next, few_as}
 use Rattle.trace_worker.proofs.SlotLemmas.{slot_at-with_same, slot_at-with_other, slot_at-emptied_same, slot_at-emptied_other, length-emptied, length-filled}
 
-module _ {H Part : Type 0} {h : Ghosts H Part} where
+module _ {N H C S Part : Type 0} {h : Ghosts H Part} where
   -- all workers fit and stand for these lines, by their place
-  abbrev AllAt : List (CountedZone H Part h) → Clock H Part → List Line → List (Running H Part h) → Type 0
-  AllAt zones clock lines workers = (n : ℕ) (d : Running H Part h) → n < length workers → Fits zones clock (get_or workers n d).worker × Stands zones clock n lines (get_or workers n d).worker
+  abbrev AllAt : List (CountedZone H Part h) → Clock H Part → List Line → List (Running N H C S Part h) → Type 0
+  AllAt zones clock lines workers = (n : ℕ) (d : Running N H C S Part h) → n < length workers → Fits zones clock (get_or workers n d).worker × Stands zones clock n lines (get_or workers n d).worker
 
 -- what is known of the slots of each worker, as a function
 abbrev Reads : List Line → ℕ → List (Option Held) → Type 0
@@ -50,7 +49,7 @@ module _ {H Part : Type 0} {h : Ghosts H Part} where
           few = few;
           outside = was.1.outside;
           between = was.1.between;
-          enters_add_up = sum_kept w.entered w.late was.1.enters_add_up (enters-more n line lines ∙ add-zero (enters n lines));
+          entries = entries_kept n line lines w.entered w.late w.entered w.late (phase_of w) (phase_of w) refl refl refl (λ inner. (inner, refl)) was.1.entries;
           begun = was.1.begun;
           overtaken = was.1.overtaken;
         },
@@ -82,19 +81,19 @@ kept lines giver from taker to n slots slot it reads gone no_taker found = elim 
   | inr apart ↦ elsewhere lines giver from taker to n slot no_taker (and_left (giver == n) (from == slot) (ne_eqb giver n apart)) ∙ reads slot it found
 ]
 
-module _ {H Part : Type 0} {h : Ghosts H Part} where
+module _ {N H C S Part : Type 0} {h : Ghosts H Part} where
   -- ---- the taking
 
   -- the workers without what was taken stand for the lines as before
-  taken : (zones : List (CountedZone H Part h)) (clock : Clock H Part) (lines : List Line) (n slot : ℕ) (old between : List (Running H Part h)) (got : Option Held) → TakesFrom n slot old got between
+  taken : (zones : List (CountedZone H Part h)) (clock : Clock H Part) (lines : List Line) (n slot : ℕ) (old between : List (Running N H C S Part h)) (got : Option Held) → TakesFrom n slot old got between
       → AllAt zones clock lines old → AllAt zones clock lines between
   taken zones clock lines n slot old between got takes all m d below =
       let before = takes.sets.before in
-      let after : Running H Part h = with_slots before (emptied before.worker.slots slot) in
+      let after : Running N H C S Part h = with_slots before (emptied before.worker.slots slot) in
       let size : length between ≡ length old = ap length takes.sets.set ∙ length-set old n after in
       let within : m < length old = below_as below (sym size) in
-      let F : Running H Part h → Type 0 = λ r. Fits zones clock r.worker × Stands zones clock m lines r.worker in
-      let G : List (Running H Part h) → Type 0 = λ list. F (get_or list m d) in
+      let F : Running N H C S Part h → Type 0 = λ r. Fits zones clock r.worker × Stands zones clock m lines r.worker in
+      let G : List (Running N H C S Part h) → Type 0 = λ list. F (get_or list m d) in
       subst G (sym takes.sets.set) (elim (cases_eq m n) [
         | inl same ↦
             let was : F before = subst F (takes.sets.at d) (let I : ℕ → Type 0 = λ i. F (get_or old i d) in subst I same (all m d within)) in
@@ -113,7 +112,7 @@ module _ {H Part : Type 0} {h : Ghosts H Part} where
                 few = few_as (length-emptied before.worker.slots slot) was.1.few;
                 outside = was.1.outside;
                 between = was.1.between;
-                enters_add_up = was.1.enters_add_up;
+                entries = was.1.entries;
                 begun = was.1.begun;
                 overtaken = was.1.overtaken;
               },
@@ -123,6 +122,7 @@ module _ {H Part : Type 0} {h : Ghosts H Part} where
         | inr apart ↦ subst F (sym (get_or-set_other old n m after d apart)) (all m d within)
       ])
 
+module _ {H Part : Type 0} {h : Ghosts H Part} where
   -- ---- the putting
 
   -- what was taken: the reading holds it where the giver had it, and it is at home in its zone
@@ -155,24 +155,25 @@ module _ {H Part : Type 0} {h : Ghosts H Part} where
   put_held zones lines giver from to slots (Some new) was are = AreHeld-with zones slots to new (was.home new refl) are
   put_held zones lines giver from to slots None was are = are
 
-  put : (zones : List (CountedZone H Part h)) (clock : Clock H Part) (lines : List Line) (giver from taker to : ℕ) (between new : List (Running H Part h)) (got : Option Held) → PutsInto taker to got between new
+module _ {N H C S Part : Type 0} {h : Ghosts H Part} where
+  put : (zones : List (CountedZone H Part h)) (clock : Clock H Part) (lines : List Line) (giver from taker to : ℕ) (between new : List (Running N H C S Part h)) (got : Option Held) → PutsInto taker to got between new
       → WasHeld zones lines giver from got → taker < length between → to ≤ 65535
-      → ((d : Running H Part h) → slot_at (get_or between giver d).worker.slots from ≡ None) → ((d : Running H Part h) → slot_at (get_or between taker d).worker.slots to ≡ None)
+      → ((d : Running N H C S Part h) → slot_at (get_or between giver d).worker.slots from ≡ None) → ((d : Running N H C S Part h) → slot_at (get_or between taker d).worker.slots to ≡ None)
       → AllAt zones clock lines between → AllAt zones clock (Moves (Give giver from taker to) ∷ lines) new
   put zones clock lines giver from taker to between new got puts was within least gone empty all m d below =
       let before = puts.sets.before in
       let slots = before.worker.slots in
-      let after : Running H Part h = with_slots before (filled slots to got) in
+      let after : Running N H C S Part h = with_slots before (filled slots to got) in
       let size : length new ≡ length between = ap length puts.sets.set ∙ length-set between taker after in
       let inside : m < length between = below_as below (sym size) in
-      let F : Running H Part h → Type 0 = λ r. Fits zones clock r.worker × Stands zones clock m lines r.worker in
-      let F' : Running H Part h → Type 0 = λ r. Fits zones clock r.worker × Stands zones clock m (Moves (Give giver from taker to) ∷ lines) r.worker in
-      let G : List (Running H Part h) → Type 0 = λ list. F' (get_or list m d) in
+      let F : Running N H C S Part h → Type 0 = λ r. Fits zones clock r.worker × Stands zones clock m lines r.worker in
+      let F' : Running N H C S Part h → Type 0 = λ r. Fits zones clock r.worker × Stands zones clock m (Moves (Give giver from taker to) ∷ lines) r.worker in
+      let G : List (Running N H C S Part h) → Type 0 = λ list. F' (get_or list m d) in
       subst G (sym puts.sets.set) (elim (cases_eq m taker) [
         | inl same ↦
             let at_before : F before = subst F (puts.sets.at d) (let I : ℕ → Type 0 = λ i. F (get_or between i d) in subst I same (all m d inside)) in
-            let E : Running H Part h → Type 0 = λ r. slot_at r.worker.slots to ≡ None in
-            let Z : Running H Part h → Type 0 = λ r. slot_at r.worker.slots from ≡ None in
+            let E : Running N H C S Part h → Type 0 = λ r. slot_at r.worker.slots to ≡ None in
+            let Z : Running N H C S Part h → Type 0 = λ r. slot_at r.worker.slots from ≡ None in
             let none_before : E before = subst E (puts.sets.at d) (empty d) in
             let mine : Fits zones clock before.worker × Stands zones clock taker lines before.worker =
             let T : ℕ → Type 0 = λ i. Fits zones clock before.worker × Stands zones clock i lines before.worker in subst T same at_before in
@@ -183,8 +184,8 @@ module _ {H Part : Type 0} {h : Ghosts H Part} where
             (length-filled slots to 65536 got mine.1.few (below_next least))
             (put_reads zones lines giver from taker to slots got was none_before mine.1.filled gone_before) in
             let K : ℕ → Type 0 = λ i. Fits zones clock (get_or (slice_set between taker after) i d).worker × Stands zones clock i (Moves (Give giver from taker to) ∷ lines) (get_or (slice_set between taker after) i d).worker in
-            let N : Running H Part h → Type 0 = λ r. Fits zones clock r.worker × Stands zones clock taker (Moves (Give giver from taker to) ∷ lines) r.worker in
-            subst K (sym same) (subst N (sym (get_or-set_same between taker after d within)) now)
+            let M : Running N H C S Part h → Type 0 = λ r. Fits zones clock r.worker × Stands zones clock taker (Moves (Give giver from taker to) ∷ lines) r.worker in
+            subst K (sym same) (subst M (sym (get_or-set_same between taker after d within)) now)
         | inr apart ↦
             let other = get_or between m d in
             let here : F other = all m d inside in
@@ -202,41 +203,41 @@ none_from : (o : Option Held) → ((it : Held) → o ≡ Some it → ⊥) → o 
 none_from None never = refl
 none_from (Some it) never = absurd (never it refl)
 
-module _ {H Part : Type 0} {h : Ghosts H Part} where
-  all_at : (zones : List (CountedZone H Part h)) (clock : Clock H Part) (lines : List Line) (workers : List (Running H Part h)) → AllStand zones clock lines (crew workers) → AllAt zones clock lines workers
+module _ {N H C S Part : Type 0} {h : Ghosts H Part} where
+  all_at : (zones : List (CountedZone H Part h)) (clock : Clock H Part) (lines : List Line) (workers : List (Running N H C S Part h)) → AllStand zones clock lines (crew workers) → AllAt zones clock lines workers
   all_at zones clock lines workers all n d below =
       let at = crew_at workers n d below in (all.fits n (get_or workers n d).worker at, all.stands n (get_or workers n d).worker at)
 
-  all_stand : (zones : List (CountedZone H Part h)) (clock : Clock H Part) (lines : List Line) (workers : List (Running H Part h)) → AllAt zones clock lines workers → AllStand zones clock lines (crew workers)
+  all_stand : (zones : List (CountedZone H Part h)) (clock : Clock H Part) (lines : List Line) (workers : List (Running N H C S Part h)) → AllAt zones clock lines workers → AllStand zones clock lines (crew workers)
   all_stand zones clock lines workers all = record {
     fits = worker_of (λ n w. Fits zones clock w) workers (λ n d below. (all n d below).0);
     stands = worker_of (λ n w. Stands zones clock n lines w) workers (λ n d below. (all n d below).1);
   }
 
-  length_between : (giver slot taker slot2 : ℕ) (old new : List (Running H Part h)) (gives : Gives giver slot taker slot2 old new) → length gives.between ≡ length old
+  length_between : (giver slot taker slot2 : ℕ) (old new : List (Running N H C S Part h)) (gives : Gives giver slot taker slot2 old new) → length gives.between ≡ length old
   length_between giver slot taker slot2 old new gives =
       let before = gives.takes.sets.before in
-      let after : Running H Part h = with_slots before (emptied before.worker.slots slot) in
+      let after : Running N H C S Part h = with_slots before (emptied before.worker.slots slot) in
       ap length gives.takes.sets.set ∙ length-set old giver after
 
   -- the taker's slot, as the reading of the lines has it
-  taker_empty : (zones : List (CountedZone H Part h)) (clock : Clock H Part) (lines : List Line) (taker slot2 : ℕ) (workers : List (Running H Part h)) → taker < length workers → held lines taker slot2 ≡ None
-      → AllAt zones clock lines workers → (d : Running H Part h) → slot_at (get_or workers taker d).worker.slots slot2 ≡ None
+  taker_empty : (zones : List (CountedZone H Part h)) (clock : Clock H Part) (lines : List Line) (taker slot2 : ℕ) (workers : List (Running N H C S Part h)) → taker < length workers → held lines taker slot2 ≡ None
+      → AllAt zones clock lines workers → (d : Running N H C S Part h) → slot_at (get_or workers taker d).worker.slots slot2 ≡ None
   taker_empty zones clock lines taker slot2 workers within empty all d =
       none_from (slot_at (get_or workers taker d).worker.slots slot2)
       (λ it found. absurd (none-some it.zone (sym empty ∙ (all taker d within).1.filled slot2 it found)))
 
-  moves_at : (zones : List (CountedZone H Part h)) (clock : Clock H Part) (lines : List Line) (giver slot taker slot2 : ℕ) (old new : List (Running H Part h)) → giver < length old → taker < length old
+  moves_at : (zones : List (CountedZone H Part h)) (clock : Clock H Part) (lines : List Line) (giver slot taker slot2 : ℕ) (old new : List (Running N H C S Part h)) → giver < length old → taker < length old
       → (gives : Gives giver slot taker slot2 old new) → slot2 ≤ 65535 → held lines taker slot2 ≡ None → AllAt zones clock lines old → AllAt zones clock (Moves (Give giver slot taker slot2) ∷ lines) new
   moves_at zones clock lines giver slot taker slot2 old new is_giver is_taker gives least no_item all =
       let before = gives.takes.sets.before in
-      let after : Running H Part h = with_slots before (emptied before.worker.slots slot) in
+      let after : Running N H C S Part h = with_slots before (emptied before.worker.slots slot) in
       let middle = gives.between in
       let within : taker < length middle = below_as is_taker (length_between giver slot taker slot2 old new gives) in
       let stand = taken zones clock lines giver slot old middle gives.held gives.takes all in
-      let gone : (d : Running H Part h) → slot_at (get_or middle giver d).worker.slots slot ≡ None =
-      (λ d. let P : List (Running H Part h) → Type 0 = λ list. slot_at (get_or list giver d).worker.slots slot ≡ None in
-      let Q : Running H Part h → Type 0 = λ r. slot_at r.worker.slots slot ≡ None in
+      let gone : (d : Running N H C S Part h) → slot_at (get_or middle giver d).worker.slots slot ≡ None =
+      (λ d. let P : List (Running N H C S Part h) → Type 0 = λ list. slot_at (get_or list giver d).worker.slots slot ≡ None in
+      let Q : Running N H C S Part h → Type 0 = λ r. slot_at r.worker.slots slot ≡ None in
       subst P (sym gives.takes.sets.set) (subst Q (sym (get_or-set_same old giver after d is_giver)) (slot_at-emptied_same before.worker.slots slot))) in
       let was : WasHeld zones lines giver slot gives.held = record {
         read = λ it is. (all giver before is_giver).1.filled slot it (sym (gives.takes.took before) ∙ is);
@@ -244,14 +245,14 @@ module _ {H Part : Type 0} {h : Ghosts H Part} where
       } in
       put zones clock lines giver slot taker slot2 middle new gives.held gives.puts was within least gone (taker_empty zones clock lines taker slot2 middle within no_item stand) stand
 
-  pub moves_on : (giver slot taker slot2 : ℕ) (old new : List (Running H Part h)) → giver < length old → taker < length old → slot2 ≤ 65535 → Gives giver slot taker slot2 old new → MovesOn giver slot taker slot2 old new
+  pub moves_on : (giver slot taker slot2 : ℕ) (old new : List (Running N H C S Part h)) → giver < length old → taker < length old → slot2 ≤ 65535 → Gives giver slot taker slot2 old new → MovesOn giver slot taker slot2 old new
   moves_on giver slot taker slot2 old new is_giver is_taker least gives zones clock lines no_item stands =
       let all = all_at zones clock lines old stands in
       let middle = gives.between in
       let within : taker < length middle = below_as is_taker (length_between giver slot taker slot2 old new gives) in
       let between = taken zones clock lines giver slot old middle gives.held gives.takes all in
       let put = gives.puts.sets in
-      let E : Running H Part h → Type 0 = λ r. slot_at r.worker.slots slot2 ≡ None in
+      let E : Running N H C S Part h → Type 0 = λ r. slot_at r.worker.slots slot2 ≡ None in
       let empty : E put.before = subst E (put.at put.before) (taker_empty zones clock lines taker slot2 middle within no_item between put.before) in
       record {
         stand = all_stand zones clock (Moves (Give giver slot taker slot2) ∷ lines) new (moves_at zones clock lines giver slot taker slot2 old new is_giver is_taker gives least no_item all);

@@ -18,57 +18,57 @@ use Rattle.trace_worker.proofs.Belongs.{some_within}
 use Rattle.trace_worker.proofs.Numbers.{below_as}
 use Rattle.trace_worker.proofs.SlotLemmas.{count-with, count-emptied, emptied_none}
 
-module _ {H Part : Type 0} {h : Ghosts H Part} where
+module _ {N H C S Part : Type 0} {h : Ghosts H Part} where
   -- ---- a worker of the crew is that of a turn
 
-  abbrev worker_in : Running H Part h → Worker H Part h
+  abbrev worker_in : Running N H C S Part h → Worker H Part h
   worker_in r = r.worker
 
-  pub crew_at : (workers : List (Running H Part h)) (n : ℕ) (d : Running H Part h) → n < length workers → slice_get (crew workers) n ≡ Some (get_or workers n d).worker
+  pub crew_at : (workers : List (Running N H C S Part h)) (n : ℕ) (d : Running N H C S Part h) → n < length workers → slice_get (crew workers) n ≡ Some (get_or workers n d).worker
   crew_at workers n d below = slice_get-map worker_in workers n ∙ ap (option_map worker_in) (slice_get-get_or workers n d below)
 
-  pub worker_of : (P : ℕ → Worker H Part h → Type 0) (workers : List (Running H Part h)) → ((n : ℕ) (d : Running H Part h) → n < length workers → P n (get_or workers n d).worker)
+  pub worker_of : (P : ℕ → Worker H Part h → Type 0) (workers : List (Running N H C S Part h)) → ((n : ℕ) (d : Running N H C S Part h) → n < length workers → P n (get_or workers n d).worker)
       → (n : ℕ) (w : Worker H Part h) → slice_get (crew workers) n ≡ Some w → P n w
   worker_of P workers all n w at =
       let below : n < length workers = below_as (slice_get_within (crew workers) n w at) (sym (length-map workers worker_in)) in
       let found = some_within workers n below in
-      let r : Running H Part h = found.0 in
+      let r : Running N H C S Part h = found.0 in
       let is : r.worker ≡ w = same_Some r.worker w (sym (slice_get-map worker_in workers n ∙ ap (option_map worker_in) found.1) ∙ at) in
-      let F : Running H Part h → Type 0 = λ x. P n x.worker in
+      let F : Running N H C S Part h → Type 0 = λ x. P n x.worker in
       subst (P n) is (subst F (get_or_from_slice_get workers n r r found.1) (all n r below))
 
   -- ---- all but the slots
 
-  abbrev bare : Running H Part h → Running H Part h
+  abbrev bare : Running N H C S Part h → Running N H C S Part h
   bare r = with_slots r []
 
-  rest_set : (n : ℕ) (after : List (Option Held) → List (Option Held)) (old new : List (Running H Part h)) → SetsSlots n after old new → KeepsRest old new
+  rest_set : (n : ℕ) (after : List (Option Held) → List (Option Held)) (old new : List (Running N H C S Part h)) → SetsSlots n after old new → KeepsRest old new
   rest_set n after old new sets =
       let before = sets.before in
-      let changed : Running H Part h = with_slots before (after before.worker.slots) in
+      let changed : Running N H C S Part h = with_slots before (after before.worker.slots) in
       ap (map bare) sets.set ∙ (map-set bare old n changed ∙ (sym (map-set bare old n before) ∙ ap (map bare) (ap (slice_set old n) (sym (sets.at before)) ∙ set-get_or old n before)))
 
-  pub rest_gives : (giver slot taker slot2 : ℕ) (old new : List (Running H Part h)) → Gives giver slot taker slot2 old new → KeepsRest old new
+  pub rest_gives : (giver slot taker slot2 : ℕ) (old new : List (Running N H C S Part h)) → Gives giver slot taker slot2 old new → KeepsRest old new
   rest_gives giver slot taker slot2 old new gives =
       rest_set taker (λ slots. filled slots slot2 gives.held) gives.between new gives.puts.sets ∙ rest_set giver (λ slots. emptied slots slot) old gives.between gives.takes.sets
 
 same_sum : {a b x x' s s' : ℕ} → a ≡ x + s → b ≡ x' + s' → x' ≡ x → s ≡ s' → a ≡ b
 same_sum e f g h = omega arith
 
-module _ {H Part : Type 0} {h : Ghosts H Part} where
+module _ {N H C S Part : Type 0} {h : Ghosts H Part} where
   -- a sum over workers that looks at no slots
-  sum_bare : (f : Worker H Part h → ℕ) → ((w : Worker H Part h) → f (record w { slots = [] }) ≡ f w) → (workers : List (Running H Part h)) → sum_by f (crew workers) ≡ sum_by f (crew (map bare workers))
+  sum_bare : (f : Worker H Part h → ℕ) → ((w : Worker H Part h) → f (record w { slots = [] }) ≡ f w) → (workers : List (Running N H C S Part h)) → sum_by f (crew workers) ≡ sum_by f (crew (map bare workers))
   sum_bare f blind [] = refl
   sum_bare f blind (r ∷ workers) =
       same_sum (sum_by-cons f r.worker (crew workers)) (sum_by-cons f (bare r).worker (crew (map bare workers))) (blind r.worker) (sum_bare f blind workers)
 
-  sum_rest : (f : Worker H Part h → ℕ) → ((w : Worker H Part h) → f (record w { slots = [] }) ≡ f w) → (old new : List (Running H Part h)) → KeepsRest old new → sum_by f (crew new) ≡ sum_by f (crew old)
-  sum_rest f blind old new rest = sum_bare f blind new ∙ (ap (λ (workers : List (Running H Part h)). sum_by f (crew workers)) rest ∙ sym (sum_bare f blind old))
+  sum_rest : (f : Worker H Part h → ℕ) → ((w : Worker H Part h) → f (record w { slots = [] }) ≡ f w) → (old new : List (Running N H C S Part h)) → KeepsRest old new → sum_by f (crew new) ≡ sum_by f (crew old)
+  sum_rest f blind old new rest = sum_bare f blind new ∙ (ap (λ (workers : List (Running N H C S Part h)). sum_by f (crew workers)) rest ∙ sym (sum_bare f blind old))
 
-  pub allocs_rest : (z : ℕ) (old new : List (Running H Part h)) → KeepsRest old new → all_allocs z (crew new) ≡ all_allocs z (crew old)
+  pub allocs_rest : (z : ℕ) (old new : List (Running N H C S Part h)) → KeepsRest old new → all_allocs z (crew new) ≡ all_allocs z (crew old)
   allocs_rest z old new rest = sum_rest (λ w. option_map_or (λ ledger. ledger.allocs) (ledger_at z w) 0) (λ w. refl) old new rest
 
-  pub frees_rest : (z : ℕ) (old new : List (Running H Part h)) → KeepsRest old new → all_frees z (crew new) ≡ all_frees z (crew old)
+  pub frees_rest : (z : ℕ) (old new : List (Running N H C S Part h)) → KeepsRest old new → all_frees z (crew new) ≡ all_frees z (crew old)
   frees_rest z old new rest = sum_rest (λ w. option_map_or (λ ledger. ledger.frees) (ledger_at z w) 0) (λ w. refl) old new rest
 
 -- ---- the items
@@ -84,16 +84,16 @@ live_filled : (z slot : ℕ) (slots : List (Option Held)) (got : Option Held) �
 live_filled z slot slots (Some it) empty = count-with (is_of z) slots slot it refl empty
 live_filled z slot slots None empty = sym (add-zero (live_count z slots))
 
-module _ {H Part : Type 0} {h : Ghosts H Part} where
-  live_set : (z n : ℕ) (after : List (Option Held) → List (Option Held)) (old new : List (Running H Part h)) (sets : SetsSlots n after old new) → n < length old
+module _ {N H C S Part : Type 0} {h : Ghosts H Part} where
+  live_set : (z n : ℕ) (after : List (Option Held) → List (Option Held)) (old new : List (Running N H C S Part h)) (sets : SetsSlots n after old new) → n < length old
       → all_live z (crew new) + live_count z sets.before.worker.slots ≡ all_live z (crew old) + live_count z (after sets.before.worker.slots)
   live_set z n after old new sets below =
       let f : Worker H Part h → ℕ = λ w. live_count z w.slots in
       let before = sets.before in
-      let changed : Running H Part h = with_slots before (after before.worker.slots) in
+      let changed : Running N H C S Part h = with_slots before (after before.worker.slots) in
       let inside : n < length (crew old) = below_as below (length-map old worker_in) in
       let at : get_or (crew old) n before.worker ≡ before.worker =
-      get_or_from_slice_get (crew old) n before.worker before.worker (crew_at old n before below ∙ ap (λ (r : Running H Part h). Some r.worker) (sets.at before)) in
+      get_or_from_slice_get (crew old) n before.worker before.worker (crew_at old n before below ∙ ap (λ (r : Running N H C S Part h). Some r.worker) (sets.at before)) in
       let are : all_live z (crew new) ≡ all_live z (slice_set (crew old) n changed.worker) = ap (all_live z) (ap crew sets.set ∙ map-set worker_in old n changed) in
       let P : ℕ → Type 0 = λ now. now + live_count z before.worker.slots ≡ all_live z (crew old) + live_count z changed.worker.slots in
       let Q : Worker H Part h → Type 0 = λ w. all_live z (slice_set (crew old) n changed.worker) + live_count z w.slots ≡ all_live z (crew old) + live_count z changed.worker.slots in
@@ -102,13 +102,13 @@ module _ {H Part : Type 0} {h : Ghosts H Part} where
 moved_sum : (second given took one : ℕ) {first third gave taken : ℕ} → second + gave ≡ first + given → given + one ≡ gave → third + took ≡ second + taken → taken ≡ took + one → third ≡ first
 moved_sum second given took one e f g h = omega arith
 
-module _ {H Part : Type 0} {h : Ghosts H Part} where
-  pub live_gives : (z giver slot taker slot2 : ℕ) (old new : List (Running H Part h)) (gives : Gives giver slot taker slot2 old new) → giver < length old → taker < length gives.between
+module _ {N H C S Part : Type 0} {h : Ghosts H Part} where
+  pub live_gives : (z giver slot taker slot2 : ℕ) (old new : List (Running N H C S Part h)) (gives : Gives giver slot taker slot2 old new) → giver < length old → taker < length gives.between
       → slot_at gives.puts.sets.before.worker.slots slot2 ≡ None → all_live z (crew new) ≡ all_live z (crew old)
   live_gives z giver slot taker slot2 old new gives is_giver is_taker empty =
       let took = gives.takes.sets in
       let put = gives.puts.sets in
-      let S : Running H Part h → Type 0 = λ r. gives.held ≡ slot_at r.worker.slots slot in
+      let S : Running N H C S Part h → Type 0 = λ r. gives.held ≡ slot_at r.worker.slots slot in
       let had : gives.held ≡ slot_at took.before.worker.slots slot = subst S (took.at took.before) (gives.takes.took took.before) in
       moved_sum (all_live z (crew gives.between)) (live_count z (emptied took.before.worker.slots slot)) (live_count z put.before.worker.slots) (one_of z gives.held)
       (live_set z giver (λ slots. emptied slots slot) old gives.between took is_giver) (live_emptied z slot took.before.worker.slots gives.held had)
@@ -117,6 +117,6 @@ module _ {H Part : Type 0} {h : Ghosts H Part} where
 adds_as : {live frees allocs live' frees' allocs' : ℕ} → live' ≡ live → frees' ≡ frees → allocs' ≡ allocs → live + frees ≡ allocs → live' + frees' ≡ allocs'
 adds_as e f g h = omega arith
 
-module _ {H Part : Type 0} {h : Ghosts H Part} where
-  pub adds_up_on : (z : ℕ) (old new : List (Running H Part h)) → KeepsRest old new → all_live z (crew new) ≡ all_live z (crew old) → AddsUp z (crew old) → AddsUp z (crew new)
+module _ {N H C S Part : Type 0} {h : Ghosts H Part} where
+  pub adds_up_on : (z : ℕ) (old new : List (Running N H C S Part h)) → KeepsRest old new → all_live z (crew new) ≡ all_live z (crew old) → AddsUp z (crew old) → AddsUp z (crew new)
   adds_up_on z old new rest live adds = adds_as live (frees_rest z old new rest) (allocs_rest z old new rest) adds

@@ -3,13 +3,16 @@ pub mod AtPlace
 pub mod Balance
 pub mod Belongs
 pub mod Boxes
+pub mod DoneLines
 pub mod Ends
+pub mod EntrySteps
 pub mod GiveSteps
 pub mod GiveSums
 pub mod LedgerSteps
 pub mod LineCounts
 pub mod Midway
 pub mod Moving
+pub mod NameSteps
 pub mod NewRooms
 pub mod NewSeats
 pub mod Numbers

@@ -10,8 +10,8 @@ use Rattle.trace_worker.specs.Slots.{slot_at, filled, emptied}
 use Rattle.trace_worker.proofs.GiveSteps.{moves_on}
 use Rattle.trace_worker.proofs.GiveSums.{rest_gives}
 
-module _ {H Part : Type 0} {h : Ghosts H Part} where
-  sets_at : (workers : List (Running H Part h)) (n : ℕ) (seen : Running H Part h) (after : List (Option Held) → List (Option Held)) (slots : List (Option Held)) → n < length workers → slots ≡ after (get_or workers n seen).worker.slots
+module _ {N H C S Part : Type 0} {h : Ghosts H Part} where
+  sets_at : (workers : List (Running N H C S Part h)) (n : ℕ) (seen : Running N H C S Part h) (after : List (Option Held) → List (Option Held)) (slots : List (Option Held)) → n < length workers → slots ≡ after (get_or workers n seen).worker.slots
       → SetsSlots n after workers (slice_set workers n (with_slots (get_or workers n seen) slots))
   sets_at workers n seen after slots below is = record {
     before = get_or workers n seen;
@@ -19,28 +19,28 @@ module _ {H Part : Type 0} {h : Ghosts H Part} where
     set = ap (λ (s : List (Option Held)). slice_set workers n (with_slots (get_or workers n seen) s)) is;
   }
 
-  pub takes_at : (workers : List (Running H Part h)) (n slot : ℕ) (seen : Running H Part h) (got : Option Held) (slots : List (Option Held)) → n < length workers → got ≡ slot_at (get_or workers n seen).worker.slots slot
+  pub takes_at : (workers : List (Running N H C S Part h)) (n slot : ℕ) (seen : Running N H C S Part h) (got : Option Held) (slots : List (Option Held)) → n < length workers → got ≡ slot_at (get_or workers n seen).worker.slots slot
       → slots ≡ emptied (get_or workers n seen).worker.slots slot → TakesFrom n slot workers got (slice_set workers n (with_slots (get_or workers n seen) slots))
   takes_at workers n slot seen got slots below took is = record {
-    took = λ d. took ∙ ap (λ (r : Running H Part h). slot_at r.worker.slots slot) (get_or_default workers n seen d below);
+    took = λ d. took ∙ ap (λ (r : Running N H C S Part h). slot_at r.worker.slots slot) (get_or_default workers n seen d below);
     sets = sets_at workers n seen (λ slots. emptied slots slot) slots below is;
   }
 
-  pub puts_at : {T E : Type 0} (r : Result T E) (workers : List (Running H Part h)) (n slot : ℕ) (seen : Running H Part h) (got : Option Held) (slots : List (Option Held)) → n < length workers
+  pub puts_at : {T E : Type 0} (r : Result T E) (workers : List (Running N H C S Part h)) (n slot : ℕ) (seen : Running N H C S Part h) (got : Option Held) (slots : List (Option Held)) → n < length workers
       → OnOk r (slots ≡ filled (get_or workers n seen).worker.slots slot got) → OnOk r (PutsInto n slot got workers (slice_set workers n (with_slots (get_or workers n seen) slots)))
   puts_at (Ok x) workers n slot seen got slots below is = record { sets = sets_at workers n seen (λ slots. filled slots slot got) slots below is }
   puts_at (Err e) workers n slot seen got slots below is = tt
 
-  pub gives_of : {T E : Type 0} (r : Result T E) (giver slot taker slot2 : ℕ) (old between new : List (Running H Part h)) (got : Option Held) → TakesFrom giver slot old got between
+  pub gives_of : {T E : Type 0} (r : Result T E) (giver slot taker slot2 : ℕ) (old between new : List (Running N H C S Part h)) (got : Option Held) → TakesFrom giver slot old got between
       → OnOk r (PutsInto taker slot2 got between new) → OnOk r (Gives giver slot taker slot2 old new)
   gives_of (Ok x) giver slot taker slot2 old between new got takes puts = record { held = got; between = between; takes = takes; puts = puts }
   gives_of (Err e) giver slot taker slot2 old between new got takes puts = tt
 
-  pub rest_of : {T E : Type 0} (r : Result T E) (giver slot taker slot2 : ℕ) (old new : List (Running H Part h)) → OnOk r (Gives giver slot taker slot2 old new) → OnOk r (KeepsRest old new)
+  pub rest_of : {T E : Type 0} (r : Result T E) (giver slot taker slot2 : ℕ) (old new : List (Running N H C S Part h)) → OnOk r (Gives giver slot taker slot2 old new) → OnOk r (KeepsRest old new)
   rest_of (Ok x) giver slot taker slot2 old new gives = rest_gives giver slot taker slot2 old new gives
   rest_of (Err e) giver slot taker slot2 old new gives = tt
 
-  pub moves_of : {T E : Type 0} (r : Result T E) (giver slot taker slot2 : ℕ) (old new : List (Running H Part h)) → giver < length old → taker < length old → slot2 ≤ 65535 → OnOk r (Gives giver slot taker slot2 old new)
+  pub moves_of : {T E : Type 0} (r : Result T E) (giver slot taker slot2 : ℕ) (old new : List (Running N H C S Part h)) → giver < length old → taker < length old → slot2 ≤ 65535 → OnOk r (Gives giver slot taker slot2 old new)
       → OnOk r (MovesOn giver slot taker slot2 old new)
   moves_of (Ok x) giver slot taker slot2 old new is_giver is_taker least gives = moves_on giver slot taker slot2 old new is_giver is_taker least gives
   moves_of (Err e) giver slot taker slot2 old new is_giver is_taker least gives = tt

@@ -1,25 +1,15 @@
 -- Sums and bounds of plain numbers, so that no proof over a worker searches through it.
 use Rattle.std.proofs.Common.{◌≡◌, ℕ, ◌+◌, ◌-◌, ◌*◌, ◌<◌, ◌≤◌, ◌^◌, arith}
 
--- two counts and their sum: both stay, or the one or the other goes up by one
-pub sum_same : {a b a' b' c c' : ℕ} → a' ≡ a → b' ≡ b → a + b ≡ c → c' ≡ c → a' + b' ≡ c'
-sum_same e f g h = omega arith
-
-pub sum_first : (a : ℕ) {b a' b' c c' : ℕ} → a' ≡ a + 1 → b' ≡ b → a + b ≡ c → c' ≡ c + 1 → a' + b' ≡ c'
-sum_first a e f g h = omega arith
-
-pub sum_second : (b : ℕ) {a a' b' c c' : ℕ} → a' ≡ a → b' ≡ b + 1 → a + b ≡ c → c' ≡ c + 1 → a' + b' ≡ c'
-sum_second b e f g h = omega arith
-
-pub sum_kept : (a b : ℕ) {c c' : ℕ} → a + b ≡ c → c' ≡ c → a + b ≡ c'
-sum_kept a b e f = omega arith
-
 pub still_some : {a b : ℕ} → b ≡ a → 0 < b → 0 < a
 still_some e some = omega arith
 
 -- what was found a window or more above what was loaded
 pub far_above : {start window seen loaded found after : ℕ} → start ≤ seen → seen ≤ loaded → loaded ≤ found → window ≤ found - loaded → found ≤ after → start + window ≤ after
 far_above a b c d e = omega arith
+
+pub some_as : {a b least : ℕ} → a ≡ b → least ≤ b → least ≤ a
+some_as same some = omega arith
 
 pub below_next : {slot : ℕ} → slot ≤ 65535 → slot < 65536
 below_next within = omega arith
@@ -44,8 +34,8 @@ none_count none = omega arith
 pub room_for : {count lines : ℕ} → lines < 2 ^ 32 → count ≤ lines → count < 2 ^ 63
 room_for few most = omega arith
 
-pub rooms_for : {a b sum lines : ℕ} → lines < 2 ^ 32 → a + b ≡ sum → sum ≤ lines → (a < 2 ^ 62) × (b < 2 ^ 62)
-rooms_for few adds most = (omega arith, omega arith)
+pub rooms_for : {a b wanted more lines : ℕ} → lines < 2 ^ 32 → a + b ≤ wanted + more → wanted ≤ lines → more ≤ lines → (a < 2 ^ 62) × (b < 2 ^ 62)
+rooms_for few adds most many = (omega arith, omega arith)
 
 pub few_so_far : (before : ℕ) {i count own taken size : ℕ} → i < count → count ≡ own → taken ≡ i → size ≡ taken + before → before + own < 2 ^ 32 → size < 2 ^ 32
 few_so_far before below all e f few = omega arith

@@ -1,5 +1,5 @@
 -- A worker after one line more stands for one line more.
-use Rattle.std.proofs.Common.{◌≡◌, ◌≢◌, ℕ, ◌+◌, ◌-◌, ◌<◌, ◌≤◌, inl, inr, ◌⊎◌, List, ◌∷◌, Bool, false, true≢false, cond, Option, None, Some, refl, sym, ap, ◌∙◌, subst, arith, le_trans, add-zero, length}
+use Rattle.std.proofs.Common.{◌≡◌, ◌≢◌, ℕ, ◌+◌, ◌-◌, ◌<◌, ◌≤◌, inl, inr, ◌⊎◌, List, ◌∷◌, Bool, true, false, true≢false, Option, None, Some, refl, sym, ap, ◌∙◌, subst, arith, le_trans, length}
 use Rattle.std.proofs.lemmas.Bool.{cases_eq}
 use Rattle.std.proofs.lemmas.Bool.Decides.{nat_tests}
 use Rattle.std.proofs.lemmas.List.{length-set, get_or-set_same, get_or-set_other}
@@ -7,11 +7,12 @@ use Rattle.std.proofs.lemmas.Option.{slice_get_within, get_or_from_slice_get, sl
 use Rattle.std.specs.Prelude.{slice_get, slice_set, option_map}
 use Rattle.smr_clock.specs.declared.clock.Clock.{Clock}
 use Rattle.smr_clock.specs.declared.host.Host.{Ghosts}
-use Rattle.smr_core.specs.declared.phase.Phase.TheVariants.{Outside}
+use Rattle.smr_core.specs.declared.phase.Phase.{Phase}
+use Rattle.smr_core.specs.declared.phase.Phase.TheVariants.{Outside, Inside}
 use Rattle.trace_text.specs.declared.op.Op.{Op}
 use Rattle.trace_text.specs.declared.op.Op.TheVariants.{Alloc, Free, Enter, Exit, Prealloc, Bind, Unbind, Look, Trim, Drain, DrainSeat}
 use Rattle.trace_text.specs.Lines.{Line, Does}
-use Rattle.trace_text.specs.Reading.{held, held_after, in_section}
+use Rattle.trace_text.specs.Reading.{held, held_after, in_section, open_after}
 use Rattle.uma_seat.specs.Seat.{ledger_of}
 use Rattle.uma_zone.specs.declared.alloc_ask.AllocRefused.TheVariants.{Refused}
 use Rattle.uma_zone.specs.Alloc.{Refuses}
@@ -22,21 +23,25 @@ use Rattle.zone_stats.specs.declared.refusal.Refusal.TheVariants.{AtLimit, Reser
 use Rattle.trace_worker.specs.declared.held.Held.{Held}
 use Rattle.trace_worker.specs.declared.worker.Worker.{Worker}
 use Rattle.trace_worker.specs.Hooks.{refusal_of}
-use Rattle.trace_worker.specs.Counting.{enters, is_ask, is_ask_with_arg, is_enter}
+use Rattle.trace_worker.specs.Counting.{is_ask, is_ask_with_arg, is_section}
+use Rattle.trace_worker.specs.EntriesStand.{EntriesStand}
 use Rattle.trace_worker.specs.Items.{CountedSeat, CountedZone, LiveItem}
 use Rattle.trace_worker.specs.LedgerStands.{LedgerStands}
 use Rattle.trace_worker.specs.Live.{holding}
-use Rattle.trace_worker.specs.Performs.{Allocs, Frees, FreesSlot, EntersInTime, EntersLate, Leaves, KeepsHolds, Reclaims, IsBetween, CanPerform, Performs, ask_of}
+use Rattle.trace_worker.specs.Performs.{Allocs, Frees, FreesSlot, EntersInTime, EntersLate, Leaves, KeepsHolds, KeepsSection, Reclaims, IsBetween, CanPerform, Performs, ask_of}
 use Rattle.trace_worker.specs.Reclaims.{KeepsSeat}
 use Rattle.trace_worker.specs.Requests.{Ends}
 use Rattle.trace_worker.specs.Slots.{slot_at, filled, with_held, emptied}
 use Rattle.trace_worker.specs.Stands.{NamesZone, Stands}
 use Rattle.smr_clock.specs.Belongs.{IsOf, setup_of, view}
+use Rattle.smr_clock.specs.declared.refused.Overtaken.{Overtaken}
 use Rattle.smr_clock.specs.declared.setup.Setup.{Setup}
+use Rattle.smr_clock.specs.Sections.{Misses}
 use Rattle.trace_worker.specs.Worker.{phase_of, seen_of}
-use Rattle.trace_worker.proofs.Numbers.{sum_same, sum_first, sum_second, sum_kept, still_some, far_above, below_as, below_next, few_as}
+use Rattle.trace_worker.proofs.Numbers.{still_some, far_above, below_as, below_next, few_as}
+use Rattle.trace_worker.proofs.EntrySteps.{entries_entered, entries_kept, entries_late, looks_up, wants}
 use Rattle.trace_worker.proofs.LedgerSteps.{LedgerStands-other, LedgerStands-other_zone, LedgerStands-served, LedgerStands-turned, LedgerStands-dropped, LedgerStands-freed}
-use Rattle.trace_worker.proofs.LineCounts.{enters-more, is_enter-own}
+use Rattle.trace_worker.proofs.LineCounts.{is_enter-own, is_look-own, is_section-look}
 use Rattle.trace_worker.proofs.ReclaimSteps.{flushed_keeps, drained_keeps}
 use Rattle.trace_worker.proofs.SlotLemmas.{slot_at-with_same, slot_at-with_other, slot_at-emptied_same, slot_at-emptied_other, emptied_none, length-emptied, length-filled}
 use Rattle.trace_worker.proofs.SlotReading.{held-own, in_section-own, held-alloc_same, held-alloc_other, held-free_other}
@@ -80,6 +85,19 @@ module _ {H Part : Type 0} {h : Ghosts H Part} where
         subst C (sym same) (subst B after_is (subst A of_is here))
     | inr apart ↦ there z zone seat apart is_other (seat_other old new z w after seat apart is found)
   ]
+
+-- ---- sections
+
+apart : (phase : Phase) → phase ≡ Inside → phase ≡ Outside → ⊥
+apart phase inside outside = let never : Inside ≡ Outside = sym inside ∙ outside in cc
+
+not_false : (b : Bool) → (b ≡ false → ⊥) → b ≡ true
+not_false true never = refl
+not_false false never = absurd (never refl)
+
+not_true : (b : Bool) → (b ≡ true → ⊥) → b ≡ false
+not_true true never = absurd (never refl)
+not_true false never = refl
 
 -- ---- a request
 
@@ -169,9 +187,13 @@ module _ {H Part : Type 0} {h : Ghosts H Part} where
   between_same old new same (inl out) = inl (same ∙ out)
   between_same old new same (inr inside) = inr (same ∙ inside)
 
--- a line that is no enter
-enters_quiet : (n : ℕ) (op : Op) (lines : List Line) → is_enter n (Does n op) ≡ false → enters n (Does n op ∷ lines) ≡ enters n lines
-enters_quiet n op lines no_enter = enters-more n (Does n op) lines ∙ (ap (λ b. enters n lines + cond b 1 0) no_enter ∙ add-zero (enters n lines))
+module _ {H Part : Type 0} {h : Ghosts H Part} where
+  -- a line that wants no section, and leaves the one that is open
+  entries_quiet : (n : ℕ) (op : Op) (lines : List Line) (old new : Worker H Part h) → is_section n lines (Does n op) ≡ false → ((b : Bool) → open_after op b ≡ b) → KeepsSection old new
+      → EntriesStand n lines old.entered old.late (phase_of old) → EntriesStand n (Does n op ∷ lines) new.entered new.late (phase_of new)
+  entries_quiet n op lines old new quiet still section stands =
+      entries_kept n (Does n op) lines old.entered old.late new.entered new.late (phase_of old) (phase_of new) quiet section.entered section.late
+      (λ inner. (sym (in_section-own lines n op ∙ still (in_section lines n)) ∙ inner, section.phase)) stands
 
 module _ {H Part : Type 0} {h : Ghosts H Part} where
   pub stands_alloc : (zones : List (CountedZone H Part h)) (clock : Clock H Part) (n z slot arg : ℕ) (reserve : Bool) (lines : List Line) (old new : Worker H Part h) → arg ≤ 254 → slot_at old.slots slot ≡ None → slot ≤ 65535
@@ -188,7 +210,7 @@ module _ {H Part : Type 0} {h : Ghosts H Part} where
         few = few_as (ap length step.slots) (length-filled old.slots slot 65536 (option_map (holding z) step.got) stands.few (below_next within));
         outside = λ closed. step.section.phase ∙ stands.outside (sym (in_section-own lines n op) ∙ closed);
         between = between_same old new step.section.phase stands.between;
-        enters_add_up = sum_same step.section.entered step.section.late stands.enters_add_up (enters_quiet n op lines refl);
+        entries = entries_quiet n op lines old new refl (λ b. refl) step.section stands.entries;
         begun = le_trans stands.begun step.section.seen;
         overtaken = λ some. le_trans (stands.overtaken (still_some step.section.late some)) step.section.seen;
       }
@@ -212,22 +234,22 @@ module _ {H Part : Type 0} {h : Ghosts H Part} where
         few = few_as (ap length step.slots ∙ length-emptied old.slots slot) stands.few;
         outside = λ closed. step.section.phase ∙ stands.outside (sym (in_section-own lines n op) ∙ closed);
         between = between_same old new step.section.phase stands.between;
-        enters_add_up = sum_same step.section.entered step.section.late stands.enters_add_up (enters_quiet n op lines refl);
+        entries = entries_quiet n op lines old new refl (λ b. refl) step.section stands.entries;
         begun = le_trans stands.begun step.section.seen;
         overtaken = λ some. le_trans (stands.overtaken (still_some step.section.late some)) step.section.seen;
       }
 
   -- a line that leaves the worker as it is
   stands_same : (zones : List (CountedZone H Part h)) (clock : Clock H Part) (n : ℕ) (op : Op) (lines : List Line) (old : Worker H Part h) → ((z : ℕ) → is_ask n z (Does n op) ≡ false) → ((z : ℕ) → is_ask_with_arg n z (Does n op) ≡ false)
-      → ReadsAs n (Does n op ∷ lines) old.slots → in_section (Does n op ∷ lines) n ≡ in_section lines n → is_enter n (Does n op) ≡ false
+      → ReadsAs n (Does n op ∷ lines) old.slots → in_section (Does n op ∷ lines) n ≡ in_section lines n → is_section n lines (Does n op) ≡ false
       → Stands zones clock n lines old → Stands zones clock n (Does n op ∷ lines) old
-  stands_same zones clock n op lines old no_ask no_arg reads same_section no_enter stands = record {
+  stands_same zones clock n op lines old no_ask no_arg reads same_section no_section stands = record {
     ledgers = λ i zone seat is_zone at. LedgerStands-other (NamesZone zone) n i lines (Does n op) (ledger_of seat) (no_ask i) (no_arg i) (stands.ledgers i zone seat is_zone at);
     filled = reads;
     few = stands.few;
     outside = λ closed. stands.outside (sym same_section ∙ closed);
     between = stands.between;
-    enters_add_up = sum_kept old.entered old.late stands.enters_add_up (enters_quiet n op lines no_enter);
+    entries = entries_kept n (Does n op) lines old.entered old.late old.entered old.late (phase_of old) (phase_of old) no_section refl refl (λ inner. (sym same_section ∙ inner, refl)) stands.entries;
     begun = stands.begun;
     overtaken = stands.overtaken;
   }
@@ -246,10 +268,10 @@ module _ {H Part : Type 0} {h : Ghosts H Part} where
   -- a line that changes only the section
   stands_section : (zones : List (CountedZone H Part h)) (clock : Clock H Part) (n : ℕ) (op : Op) (lines : List Line) (old new : Worker H Part h) → ((z : ℕ) → is_ask n z (Does n op) ≡ false) → ((z : ℕ) → is_ask_with_arg n z (Does n op) ≡ false)
       → ((slot : ℕ) (o : Option ℕ) → held_after op slot o ≡ o) → KeepsHolds old new
-      → (in_section (Does n op ∷ lines) n ≡ false → phase_of new ≡ Outside) → IsBetween new → new.entered + new.late ≡ enters n (Does n op ∷ lines)
+      → (in_section (Does n op ∷ lines) n ≡ false → phase_of new ≡ Outside) → IsBetween new → EntriesStand n (Does n op ∷ lines) new.entered new.late (phase_of new)
       → seen_of old ≤ seen_of new → (0 < new.late → (setup_of clock).about.start + (setup_of clock).about.window ≤ seen_of new)
       → Stands zones clock n lines old → Stands zones clock n (Does n op ∷ lines) new
-  stands_section zones clock n op lines old new no_ask no_arg quiet holds outside between add_up seen overtaken stands = record {
+  stands_section zones clock n op lines old new no_ask no_arg quiet holds outside between entries seen overtaken stands = record {
     ledgers = λ i zone seat is_zone at.
         let S : List (CountedSeat H Part h) → Type 0 = λ list. slice_get list i ≡ Some seat in
         LedgerStands-other (NamesZone zone) n i lines (Does n op) (ledger_of seat) (no_ask i) (no_arg i) (stands.ledgers i zone seat is_zone (subst S (ap (λ v. v.items) holds.seats) at));
@@ -257,23 +279,19 @@ module _ {H Part : Type 0} {h : Ghosts H Part} where
     few = few_as (ap length holds.slots) stands.few;
     outside = outside;
     between = between;
-    enters_add_up = add_up;
+    entries = entries;
     begun = le_trans stands.begun seen;
     overtaken = overtaken;
   }
 
--- the count of enters with one more
-one_more : (n : ℕ) (lines : List Line) → enters n (Does n Enter ∷ lines) ≡ enters n lines + 1
-one_more n lines = enters-more n (Does n Enter) lines ∙ ap (λ b. enters n lines + cond b 1 0) (is_enter-own n)
-
 module _ {H Part : Type 0} {h : Ghosts H Part} where
   -- a pass whose enter was late has seen the write hand the window or more above where it began
-  late_far : (clock : Clock H Part) (old new : Worker H Part h) → IsOf clock old.pass → EntersLate old new → (setup_of clock).about.start ≤ seen_of old
+  late_far : (clock : Clock H Part) (old new : Worker H Part h) (overtaken : Overtaken) → IsOf clock old.pass → Misses (view old.pass) overtaken (view new.pass) → (setup_of clock).about.start ≤ seen_of old
       → (setup_of clock).about.start + (setup_of clock).about.window ≤ seen_of new
-  late_far clock old new of step begun =
+  late_far clock old new overtaken of misses begun =
       let setup_is : (view old.pass).setup ≡ setup_of clock = ap (λ i. i.1) of in
-      let P : Setup → Type 0 = λ s. s.about.window ≤ step.overtaken.found - step.overtaken.loaded in
-      far_above begun step.misses.first.not_lower (step.misses.third.found.in_enter refl) (subst P setup_is step.misses.third.late) step.misses.third.seen
+      let P : Setup → Type 0 = λ s. s.about.window ≤ overtaken.found - overtaken.loaded in
+      far_above begun misses.first.not_lower (misses.third.found.in_enter refl) (subst P setup_is misses.third.late) misses.third.seen
 
   pub stands_enter : (zones : List (CountedZone H Part h)) (clock : Clock H Part) (n : ℕ) (lines : List Line) (old new : Worker H Part h) → IsOf clock old.pass → EntersInTime old new ⊎ EntersLate old new
       → Stands zones clock n lines old → Stands zones clock n (Does n Enter ∷ lines) new
@@ -281,20 +299,22 @@ module _ {H Part : Type 0} {h : Ghosts H Part} where
       stands_section zones clock n Enter lines old new (λ z. refl) (λ z. refl) (λ slot o. refl) step.holds
       (λ closed. absurd (true≢false (sym (in_section-own lines n Enter) ∙ closed)))
       (inr step.phase)
-      (sum_first old.entered step.entered step.late stands.enters_add_up (one_more n lines))
+      (entries_entered n (Does n Enter) lines old.entered old.late new.entered new.late (phase_of old) (phase_of new) (λ none. is_enter-own n lines) (wants n (Does n Enter) lines (is_enter-own n lines))
+      step.entered step.late (λ none inner. step.phase) stands.entries)
       step.seen (λ some. le_trans (stands.overtaken (still_some step.late some)) step.seen) stands
   stands_enter zones clock n lines old new of (inr step) stands =
       stands_section zones clock n Enter lines old new (λ z. refl) (λ z. refl) (λ slot o. refl) step.holds
       (λ closed. step.phase) (inl step.phase)
-      (sum_second old.late step.entered step.late stands.enters_add_up (one_more n lines))
-      step.seen (λ some. late_far clock old new of step stands.begun) stands
+      (entries_late n (Does n Enter) lines old.entered old.late new.entered new.late (phase_of old) (phase_of new) (wants n (Does n Enter) lines (is_enter-own n lines)) step.entered step.late stands.entries)
+      step.seen (λ some. late_far clock old new step.overtaken of step.misses stands.begun) stands
 
   pub stands_exit : (zones : List (CountedZone H Part h)) (clock : Clock H Part) (n : ℕ) (lines : List Line) (old new : Worker H Part h) → Leaves old new
       → Stands zones clock n lines old → Stands zones clock n (Does n Exit ∷ lines) new
   stands_exit zones clock n lines old new step stands =
       stands_section zones clock n Exit lines old new (λ z. refl) (λ z. refl) (λ slot o. refl) step.holds
       (λ closed. step.phase) (inl step.phase)
-      (sum_same step.entered step.late stands.enters_add_up (enters_quiet n Exit lines refl))
+      (entries_kept n (Does n Exit) lines old.entered old.late new.entered new.late (phase_of old) (phase_of new) refl step.entered step.late
+      (λ inner. absurd (true≢false (sym inner ∙ in_section-own lines n Exit))) stands.entries)
       step.seen (λ some. le_trans (stands.overtaken (still_some step.late some)) step.seen) stands
 
   pub stands_prealloc : (zones : List (CountedZone H Part h)) (clock : Clock H Part) (n zone items : ℕ) (lines : List Line) (old : Worker H Part h) → Stands zones clock n lines old → Stands zones clock n (Does n (Prealloc zone items) ∷ lines) old
@@ -303,11 +323,51 @@ module _ {H Part : Type 0} {h : Ghosts H Part} where
       (reads_quiet n (Prealloc zone items) lines old.slots (λ slot o. refl) stands.filled)
       (in_section-own lines n (Prealloc zone items)) refl stands
 
+  -- a line that changes the pass alone, and no section
+  pub stands_quiet : (zones : List (CountedZone H Part h)) (clock : Clock H Part) (n : ℕ) (op : Op) (lines : List Line) (old new : Worker H Part h) → ((z : ℕ) → is_ask n z (Does n op) ≡ false) → ((z : ℕ) → is_ask_with_arg n z (Does n op) ≡ false)
+      → ((slot : ℕ) (o : Option ℕ) → held_after op slot o ≡ o) → is_section n lines (Does n op) ≡ false → ((b : Bool) → open_after op b ≡ b) → KeepsHolds old new → KeepsSection old new
+      → Stands zones clock n lines old → Stands zones clock n (Does n op ∷ lines) new
+  stands_quiet zones clock n op lines old new no_ask no_arg quiet no_section still holds section stands =
+      stands_section zones clock n op lines old new no_ask no_arg quiet holds
+      (λ closed. section.phase ∙ stands.outside (sym (in_section-own lines n op ∙ still (in_section lines n)) ∙ closed))
+      (between_same old new section.phase stands.between)
+      (entries_quiet n op lines old new no_section still section stands.entries)
+      section.seen (λ some. le_trans (stands.overtaken (still_some section.late some)) section.seen) stands
+
+  -- a look in a section: the reading says that it is open
+  pub stands_find : (zones : List (CountedZone H Part h)) (clock : Clock H Part) (n key : ℕ) (lines : List Line) (old new : Worker H Part h) → phase_of old ≡ Inside → KeepsHolds old new → KeepsSection old new
+      → Stands zones clock n lines old → Stands zones clock n (Does n (Look key) ∷ lines) new
+  stands_find zones clock n key lines old new inside holds section stands =
+      let opened : in_section lines n ≡ true = not_false (in_section lines n) (λ closed. apart (phase_of old) inside (stands.outside closed)) in
+      stands_quiet zones clock n (Look key) lines old new (λ z. refl) (λ z. refl) (λ slot o. refl) (is_section-look n key lines true opened) (λ b. refl) holds section stands
+
+  -- a look in a section of its own, in time
+  pub stands_look : (zones : List (CountedZone H Part h)) (clock : Clock H Part) (n key : ℕ) (lines : List Line) (old new : Worker H Part h) → phase_of old ≡ Outside → phase_of new ≡ Outside → KeepsHolds old new
+      → seen_of old ≤ seen_of new → new.entered ≡ old.entered + 1 → new.late ≡ old.late
+      → Stands zones clock n lines old → Stands zones clock n (Does n (Look key) ∷ lines) new
+  stands_look zones clock n key lines old new was phase holds seen entered late stands =
+      let closed : old.late ≡ 0 → in_section lines n ≡ false = λ none. not_true (in_section lines n) (λ inner. apart (phase_of old) (stands.entries.inside none inner) was) in
+      stands_section zones clock n (Look key) lines old new (λ z. refl) (λ z. refl) (λ slot o. refl) holds (λ out. phase) (inl phase)
+      (entries_entered n (Does n (Look key)) lines old.entered old.late new.entered new.late (phase_of old) (phase_of new)
+      (λ none. is_section-look n key lines false (closed none)) (looks_up n (Does n (Look key)) lines (is_look-own n key)) entered late
+      (λ none inner. absurd (true≢false (sym inner ∙ (in_section-own lines n (Look key) ∙ closed none)))) stands.entries)
+      seen (λ some. le_trans (stands.overtaken (still_some late some)) seen) stands
+
+  -- a look whose section was late
+  pub stands_late : (zones : List (CountedZone H Part h)) (clock : Clock H Part) (n key : ℕ) (lines : List Line) (old new : Worker H Part h) (overtaken : Overtaken) → IsOf clock old.pass → Misses (view old.pass) overtaken (view new.pass)
+      → phase_of new ≡ Outside → KeepsHolds old new → seen_of old ≤ seen_of new → new.entered ≡ old.entered → new.late ≡ old.late + 1
+      → Stands zones clock n lines old → Stands zones clock n (Does n (Look key) ∷ lines) new
+  stands_late zones clock n key lines old new overtaken of misses phase holds seen entered late stands =
+      stands_section zones clock n (Look key) lines old new (λ z. refl) (λ z. refl) (λ slot o. refl) holds (λ out. phase) (inl phase)
+      (entries_late n (Does n (Look key)) lines old.entered old.late new.entered new.late (phase_of old) (phase_of new)
+      (looks_up n (Does n (Look key)) lines (is_look-own n key)) entered late stands.entries)
+      seen (λ some. late_far clock old new overtaken of misses stands.begun) stands
+
   -- a line of reclaim, which leaves the ledger of its seat
   stands_reclaim : (zones : List (CountedZone H Part h)) (clock : Clock H Part) (n : ℕ) (op : Op) (z : ℕ) (lines : List Line) (old new : Worker H Part h) → ((i : ℕ) → is_ask n i (Does n op) ≡ false) → ((i : ℕ) → is_ask_with_arg n i (Does n op) ≡ false)
-      → ((slot : ℕ) (o : Option ℕ) → held_after op slot o ≡ o) → in_section (Does n op ∷ lines) n ≡ in_section lines n → is_enter n (Does n op) ≡ false
+      → ((slot : ℕ) (o : Option ℕ) → held_after op slot o ≡ o) → in_section (Does n op ∷ lines) n ≡ in_section lines n → is_section n lines (Does n op) ≡ false
       → Reclaims zones KeepsSeat old z new → Stands zones clock n lines old → Stands zones clock n (Does n op ∷ lines) new
-  stands_reclaim zones clock n op z lines old new no_ask no_arg quiet same_section no_enter step stands =
+  stands_reclaim zones clock n op z lines old new no_ask no_arg quiet same_section no_section step stands =
       let P : ℕ → CountedZone H Part h → CountedSeat H Part h → Type 0 = λ i zone seat. LedgerStands (NamesZone zone) n i (Does n op ∷ lines) (ledger_of seat) in
       let Q : List (Option Held) → Type 0 = ReadsAs n (Does n op ∷ lines) in
       let R : SeatLedger → Type 0 = LedgerStands (NamesZone step.of) n z lines in
@@ -321,7 +381,7 @@ module _ {H Part : Type 0} {h : Ghosts H Part} where
         few = few_as (ap length step.slots) stands.few;
         outside = λ closed. step.section.phase ∙ stands.outside (sym same_section ∙ closed);
         between = between_same old new step.section.phase stands.between;
-        enters_add_up = sum_same step.section.entered step.section.late stands.enters_add_up (enters_quiet n op lines no_enter);
+        entries = entries_kept n (Does n op) lines old.entered old.late new.entered new.late (phase_of old) (phase_of new) no_section step.section.entered step.section.late (λ inner. (sym same_section ∙ inner, step.section.phase)) stands.entries;
         begun = le_trans stands.begun step.section.seen;
         overtaken = λ some. le_trans (stands.overtaken (still_some step.section.late some)) step.section.seen;
       }

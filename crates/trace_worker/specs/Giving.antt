@@ -12,47 +12,49 @@ use Rattle.trace_worker.specs.Items.{CountedZone}
 use Rattle.trace_worker.specs.Slots.{slot_at, filled, emptied}
 use Rattle.trace_worker.specs.Together.{AddsUp, AllStand, crew}
 
-module _ {H P : Type 0} {h : Ghosts H P} where
+module _ {N H C S P : Type 0} {h : Ghosts H P} where
   -- the worker with other slots
-  abbrev pub with_slots : Running H P h → List (Option Held) → Running H P h
+  abbrev pub with_slots : Running N H C S P h → List (Option Held) → Running N H C S P h
   with_slots r slots = record r { worker = record r.worker { slots = slots } }
 
   -- One worker's slots become these, and nothing else changes.
-  pub record SetsSlots (n : ℕ) (after : List (Option Held) → List (Option Held)) (old new : List (Running H P h)) : Type 0 where
-    pub before : Running H P h
-    pub at : (d : Running H P h) → slice_index_or old n d ≡ before
+  pub record SetsSlots (n : ℕ) (after : List (Option Held) → List (Option Held)) (old new : List (Running N H C S P h)) : Type 0 where
+    pub before : Running N H C S P h
+    pub at : (d : Running N H C S P h) → slice_index_or old n d ≡ before
     pub set : new ≡ slice_set old n (with_slots before (after before.worker.slots))
 
   -- what a worker's slot holds
-  abbrev pub slot_of : List (Running H P h) → ℕ → ℕ → Running H P h → Option Held
+  abbrev pub slot_of : List (Running N H C S P h) → ℕ → ℕ → Running N H C S P h → Option Held
   slot_of workers n slot d = slot_at (slice_index_or workers n d).worker.slots slot
 
   -- it is taken out of the slot
-  pub record TakesFrom (n slot : ℕ) (old : List (Running H P h)) (held : Option Held) (new : List (Running H P h)) : Type 0 where
-    pub took : (d : Running H P h) → held ≡ slot_of old n slot d
+  pub record TakesFrom (n slot : ℕ) (old : List (Running N H C S P h)) (held : Option Held) (new : List (Running N H C S P h)) : Type 0 where
+    pub took : (d : Running N H C S P h) → held ≡ slot_of old n slot d
     pub sets : SetsSlots n (λ slots. emptied slots slot) old new
 
   -- this is put into the slot
-  pub record PutsInto (n slot : ℕ) (held : Option Held) (old new : List (Running H P h)) : Type 0 where
+  pub record PutsInto (n slot : ℕ) (held : Option Held) (old new : List (Running N H C S P h)) : Type 0 where
     pub sets : SetsSlots n (λ slots. filled slots slot held) old new
 
   -- What the giver's slot holds is taken out and put into the taker's, or nothing is.
-  pub record Gives (giver slot taker slot2 : ℕ) (old new : List (Running H P h)) : Type 0 where
+  pub record Gives (giver slot taker slot2 : ℕ) (old new : List (Running N H C S P h)) : Type 0 where
     pub held : Option Held
-    pub between : List (Running H P h)
+    pub between : List (Running N H C S P h)
     pub takes : TakesFrom giver slot old held between
     pub puts : PutsInto taker slot2 held between new
 
   -- each worker is as it was but for its slots
-  abbrev pub KeepsRest : List (Running H P h) → List (Running H P h) → Type 0
+  abbrev pub KeepsRest : List (Running N H C S P h) → List (Running N H C S P h) → Type 0
   KeepsRest old new = map (λ r. with_slots r []) new ≡ map (λ r. with_slots r []) old
 
+module _ {H P : Type 0} {h : Ghosts H P} where
   -- They stand for these lines, and a zone's items add up where they did.
   pub record HasMoved (zones : List (CountedZone H P h)) (clock : Clock H P) (lines : List Line) (old new : List (Worker H P h)) : Type 0 where
     pub stand : AllStand zones clock lines new
     pub adds_up : (z : ℕ) → AddsUp z old → AddsUp z new
 
+module _ {N H C S P : Type 0} {h : Ghosts H P} where
   -- Whatever the zones, the clock and the lines before are: where the workers stood for these, and the taker's slot is empty in their reading, the workers stand for the `give` line too.
-  abbrev pub MovesOn : ℕ → ℕ → ℕ → ℕ → List (Running H P h) → List (Running H P h) → Type 0
+  abbrev pub MovesOn : ℕ → ℕ → ℕ → ℕ → List (Running N H C S P h) → List (Running N H C S P h) → Type 0
   MovesOn giver slot taker slot2 old new = (zones : List (CountedZone H P h)) (clock : Clock H P) (lines : List Line) → held lines taker slot2 ≡ None → AllStand zones clock lines (crew old)
       → HasMoved zones clock (Moves (Give giver slot taker slot2) ∷ lines) (crew old) (crew new)

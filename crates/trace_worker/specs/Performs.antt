@@ -1,5 +1,5 @@
 -- What each kind of line does to its worker (own).
-use Rattle.std.specs.Prelude.{◌≡◌, ◌<◌, ◌≤◌, ◌+◌, ◌⊎◌, ℕ, Bool, List, [], ◌∷◌, length, Option, Some, None, option_map, slice_get, slice_set}
+use Rattle.std.specs.Prelude.{◌≡◌, ◌<◌, ◌≤◌, ◌+◌, ◌⊎◌, ℕ, Bool, List, length, Option, Some, None, option_map, slice_get, slice_set}
 use Rattle.smr_clock.specs.declared.host.Host.{Ghosts}
 use Rattle.smr_core.specs.declared.phase.Phase.TheVariants.{Outside, Inside}
 use Rattle.smr_clock.specs.declared.refused.Overtaken.{Overtaken}
@@ -112,7 +112,7 @@ module _ {H P : Type 0} {h : Ghosts H P} where
   abbrev pub IsBetween : Worker H P h → Type 0
   IsBetween w = (phase_of w ≡ Outside) ⊎ (phase_of w ≡ Inside)
 
-  -- What a line needs. Lines of names aren't done yet.
+  -- What a line needs that isn't of names.
   abbrev pub CanPerform : List (CountedZone H P h) → Worker H P h → Op → Type 0
   CanPerform zones w (Alloc zone slot arg reserve) = (zone < length zones) × (arg ≤ 254) × (slot_at w.slots slot ≡ None) × (slot ≤ last_slot)
   CanPerform zones w (Free slot) = Unit {0}
@@ -135,8 +135,3 @@ module _ {H P : Type 0} {h : Ghosts H P} where
   Performs zones old (Drain zone) new = Reclaims zones IsFlushed old zone new
   Performs zones old (DrainSeat zone) new = Reclaims zones IsDrained old zone new
   Performs zones old op new = ⊥
-
-  -- what lines do, one after another
-  unfoldable pub PerformsAll : List (CountedZone H P h) → Worker H P h → List Op → Worker H P h → Type 0
-  PerformsAll zones old [] new = new ≡ old
-  PerformsAll zones old (op ∷ ops) new = (next : Worker H P h) × Performs zones old op next × PerformsAll zones next ops new

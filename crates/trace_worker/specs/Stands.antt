@@ -11,7 +11,7 @@ use Rattle.uma_zone.specs.Alloc.{Names}
 use Rattle.zone_stats.specs.declared.refusal.Refusal.{Refusal}
 use Rattle.trace_worker.specs.declared.held.Held.{Held}
 use Rattle.trace_worker.specs.declared.worker.Worker.{Worker}
-use Rattle.trace_worker.specs.Counting.{enters}
+use Rattle.trace_worker.specs.EntriesStand.{EntriesStand}
 use Rattle.trace_worker.specs.Items.{CountedSeat, CountedZone}
 use Rattle.trace_worker.specs.LedgerStands.{LedgerStands}
 use Rattle.trace_worker.specs.Performs.{IsBetween}
@@ -32,7 +32,7 @@ module _ {H P : Type 0} {h : Ghosts H P} where
     -- outside a section in the reading its pass is outside; inside it may be outside too, after a late enter
     pub outside : in_section lines n ≡ false → phase_of w ≡ Outside
     pub between : IsBetween w
-    pub enters_add_up : w.entered + w.late ≡ enters n lines
+    pub entries : EntriesStand n lines w.entered w.late (phase_of w)
     -- its pass knows where the clock's hands began; and once an enter was late, that the write hand is the window or more above that
     pub begun : (setup_of clock).about.start ≤ seen_of w
     pub overtaken : 0 < w.late → (setup_of clock).about.start + (setup_of clock).about.window ≤ seen_of w

@@ -7,18 +7,21 @@ use Rattle.smr_clock.specs.declared.host.Host.{Ghosts}
 use Rattle.trace_text.specs.Lines.{Line}
 use Rattle.uma_seat.specs.Seat.{ledger_of}
 use Rattle.zone_stats.specs.declared.ledger.SeatLedger.{SeatLedger}
+use Rattle.trace_worker.specs.declared.name_calls.NameCalls.{Ghosts as NameGhosts}
 use Rattle.trace_worker.specs.declared.running.Running.{Running}
 use Rattle.trace_worker.specs.declared.worker.Worker.{Worker}
 use Rattle.trace_worker.specs.Items.{CountedZone}
 use Rattle.trace_worker.specs.Live.{live_count}
+use Rattle.trace_worker.specs.NamesStand.{NamesStand}
 use Rattle.trace_worker.specs.Stands.{Stands}
 use Rattle.trace_worker.specs.Worker.{Fits}
 
-module _ {H P : Type 0} {h : Ghosts H P} where
+module _ {N H C S P : Type 0} {h : Ghosts H P} where
   -- the workers of these turns
-  abbrev pub crew : List (Running H P h) → List (Worker H P h)
+  abbrev pub crew : List (Running N H C S P h) → List (Worker H P h)
   crew runnings = map (λ r. r.worker) runnings
 
+module _ {H P : Type 0} {h : Ghosts H P} where
   -- Each worker's seats, pass and items belong to the zones and the clock, and it stands for these lines.
   pub record AllStand (zones : List (CountedZone H P h)) (clock : Clock H P) (lines : List Line) (workers : List (Worker H P h)) : Type 0 where
     pub fits : (n : ℕ) (w : Worker H P h) → slice_get workers n ≡ Some w → Fits zones clock w
@@ -43,3 +46,8 @@ module _ {H P : Type 0} {h : Ghosts H P} where
   -- Each item of the zone that a worker got and none freed is in a slot of some worker.
   abbrev pub AddsUp : ℕ → List (Worker H P h) → Type 0
   AddsUp z workers = all_live z workers + all_frees z workers ≡ all_allocs z workers
+
+module _ {N H C S P : Type 0} {h : Ghosts H P} (names : NameGhosts N H C S P) (cache : C) where
+  -- what each of them has of the names stands for these lines
+  abbrev pub AllNamed : List Line → List (Running N H C S P h) → Type 0
+  AllNamed lines workers = (n : ℕ) (r : Running N H C S P h) → slice_get workers n ≡ Some r → NamesStand names cache n lines r.worker.late r.naming

@@ -1,15 +1,16 @@
 -- A worker's turn in a round: what it needs, and what it leaves (own).
-use Rattle.std.specs.Prelude.{◌≡◌, ◌<◌, ◌≤◌, ◌+◌, ◌*◌, ◌^◌, ℕ, List, length}
+use Rattle.std.specs.Prelude.{◌≡◌, ◌<◌, ◌≤◌, ◌+◌, ◌*◌, ◌^◌, ℕ, List, length, is_some}
 use Rattle.trace_text.specs.declared.trace.Trace.{Trace}
 use Rattle.trace_text.specs.Valid.{IsValid}
 use Rattle.uma_seat.specs.Seat.{ledger_of}
+use Rattle.trace_worker.specs.declared.name_calls.NameCalls.{Ghosts as NameGhosts}
 use Rattle.trace_worker.specs.declared.running.Running.{Running}
 use Rattle.trace_worker.specs.declared.worker.Worker.{Worker}
 use Rattle.trace_worker.specs.Items.{CountedSeat, CountedZone}
-use Rattle.trace_text.specs.Built.{IsBuilt}
 use Rattle.trace_worker.specs.OwnLines.{lines_before, own_ops, worked}
 use Rattle.trace_worker.specs.Live.{live_count}
-use Rattle.trace_worker.specs.Performs.{PerformsAll}
+use Rattle.trace_worker.specs.NameLines.{DoesAll, doing}
+use Rattle.trace_worker.specs.NamesStand.{NamesOfClock, NamesStand}
 use Rattle.trace_worker.specs.Stands.{Stands}
 use Rattle.trace_worker.specs.Worker.{AreOfClock, Fits, seen_of}
 use Rattle.std.specs.Prelude.{Some, slice_get}
@@ -26,26 +27,29 @@ module _ {H P : Type 0} {h : Ghosts H P} where
 abbrev pub most_asks : ℕ
 most_asks = 100000000
 
-module _ {H P : Type 0} {h : Ghosts H P} where
-  -- Worker `n` is ready for round `k`: of a valid trace without lines that aren't done so far, with its zones and clock, after the lines of the rounds before.
-  pub record IsReady (t : Trace) (zones : List (CountedZone H P h)) (clock : Clock H P) (k n : ℕ) (r : Running H P h) : Type 0 where
+module _ {N H C S P : Type 0} {h : Ghosts H P} (names : NameGhosts N H C S P) (cache : C) where
+  -- Worker `n` is ready for round `k`: of a valid trace whose names, if it has any, are served, with its zones, its clock and its cache of names, after the lines of the rounds before.
+  pub record IsReady (t : Trace) (zones : List (CountedZone H P h)) (clock : Clock H P) (k n : ℕ) (r : Running N H C S P h) : Type 0 where
     pub valid : IsValid t
-    pub built : IsBuilt t
+    pub served : names.serves ≡ is_some t.head.names
     pub round : k < length t.rounds
     pub worker : n < t.head.workers
     pub zone_count : length zones ≡ length t.head.zones
     pub of_clock : AreOfClock clock zones
+    pub names_of_clock : NamesOfClock names cache clock
     pub few : length (lines_before t.rounds k) + length (own_ops t.rounds k n) < 2 ^ 32
     pub asks : r.asked + most_asks * length (own_ops t.rounds k n) < 2 ^ 64
     pub gave_up : r.gave_up + length (own_ops t.rounds k n) < 2 ^ 64
     pub fits : Fits zones clock r.worker
     pub stands : Stands zones clock n (lines_before t.rounds k) r.worker
+    pub named : NamesStand names cache n (lines_before t.rounds k) r.worker.late r.naming
 
   -- What its turn leaves: its own list on top of the lines before, and items and ledgers that go together. Line after line it did what each says.
-  pub record HasWorked (t : Trace) (zones : List (CountedZone H P h)) (clock : Clock H P) (k n : ℕ) (old new : Running H P h) : Type 0 where
+  pub record HasWorked (t : Trace) (zones : List (CountedZone H P h)) (clock : Clock H P) (k n : ℕ) (old new : Running N H C S P h) : Type 0 where
     pub fits : Fits zones clock new.worker
     pub stands : Stands zones clock n (worked n (own_ops t.rounds k n) (lines_before t.rounds k)) new.worker
-    pub plays : PerformsAll zones old.worker (own_ops t.rounds k n) new.worker
+    pub named : NamesStand names cache n (worked n (own_ops t.rounds k n) (lines_before t.rounds k)) new.worker.late new.naming
+    pub plays : DoesAll names cache zones (doing old) (own_ops t.rounds k n) (doing new)
     pub balances : (z : ℕ) → Balances z old.worker new.worker
     -- its pass forgets nothing
     pub seen : seen_of old.worker ≤ seen_of new.worker

@@ -14,6 +14,9 @@ mod giving;
 mod held;
 mod items;
 mod making;
+mod name_calls;
+mod name_lines;
+mod naming;
 mod performing;
 mod reclaim_calls;
 mod reclaiming;
@@ -29,11 +32,15 @@ pub use gate::{FreeGate, Gate, Go};
 pub use giving::move_slot;
 pub use held::Held;
 pub use items::{CountedSeat, CountedZone};
+pub use name_calls::NameCalls;
+pub use naming::{NameCounts, Naming};
 pub use reclaim_calls::ReclaimCalls;
 pub use running::Running;
 pub use slots::Slots;
 pub use worker::Worker;
 pub use zone_stats::Memory;
 
+#[cfg(test)]
+mod no_keys;
 #[cfg(test)]
 mod tests;

@@ -1,14 +1,20 @@
 ghost use Rattle.std.specs.Prelude.{◌≡◌, ◌<◌, ◌≤◌, ◌+◌, ◌^◌, Some, length, IfOk, IfSome, OnOk, slice_get};
+ghost use Rattle.trace_worker.specs.NameLines.{CanDo, DoesLine, HasNameRooms, KeepsGate, doing};
+ghost use Rattle.trace_worker.specs.NamesStand.{NamesOfClock};
+ghost use Rattle.trace_worker.specs.Naming.{no_counts};
 ghost use Rattle.trace_worker.specs.OwnLines.{own_ops as ops_at};
 ghost use Rattle.trace_worker.specs.Turn.{IsReady, HasWorked, most_asks};
+ghost use Rattle.trace_worker.specs.Worker.{AreOfClock, Fits, HasRooms};
 
 use crate::Memory;
 use crate::gate::{Gate, Go};
 use crate::items::CountedZone;
+use crate::name_calls::NameCalls;
+use crate::naming::Naming;
 use crate::reclaim_calls::ReclaimCalls;
 use crate::worker::Worker;
 use crossbeam_utils::CachePadded;
-use smr_clock::{Clock, Host};
+use smr_clock::Clock;
 use std::alloc::Global;
 use std::sync::Wait;
 use trace_text::{Op, Trace};
@@ -18,8 +24,9 @@ const MOST_ASKS: u64 = 100_000_000;
 
 /// A worker between its turns, with what the report counts of its gate, and how its last turn ended.
 #[derive(Drop)]
-pub struct Running<H: Host> {
-    pub worker: Worker<H>,
+pub struct Running<N: NameCalls> {
+    pub worker: Worker<N::H>,
+    pub naming: Naming<N>,
     /// How often the gate was asked.
     pub asked: u64,
     /// Operations that were done though the gate held to the last.
@@ -31,15 +38,18 @@ pub struct Running<H: Host> {
     apart: CachePadded<()>,
 }
 
-impl<H: Host> Running<H> {
+impl<N: NameCalls> Running<N> {
     /// A worker before its first turn.
-    pub fn new(worker: Worker<H>) -> Running<H>
+    pub fn new(worker: Worker<N::H>, seat: N::Seat) -> Running<N>
         ensures worker { result.worker ≡ worker }
+        ensures seat { result.naming.seat ≡ seat }
+        ensures counts { result.naming.counts ≡ no_counts }
         ensures asked { result.asked ≡ 0 }
         ensures gave_up { result.gave_up ≡ 0 }
     {
         Running {
             worker,
+            naming: Naming::new(seat),
             asked: 0,
             gave_up: 0,
             ended: Ok(()),
@@ -55,18 +65,22 @@ impl<H: Host> Running<H> {
         rt: &R,
         alloc: Global,
         trace: &Trace,
-        zones: &[CountedZone<H>],
-        clock: &Clock<H>,
+        zones: &[CountedZone<N::H>],
+        clock: &Clock<N::H>,
+        names: &N,
+        cache: &N::Cache,
         gate: &G,
         reclaim: &C,
         round: usize,
         number: usize,
     )
-        requires ready { IsReady trace.now zones.now clock.now round number self.old }
-        ensures worked { OnOk self.new.ended (HasWorked trace.now zones.now clock.now round number self.old self.new) }
+        requires ready { IsReady N.NameCalls cache.now trace.now zones.now clock.now round number self.old }
+        ensures worked { OnOk self.new.ended (HasWorked N.NameCalls cache.now trace.now zones.now clock.now round number self.old self.new) }
         ensures free { G.is_free gate.now → self.new.gave_up ≡ self.old.gave_up }
     {
-        self.ended = self.work(rt, alloc, trace, zones, clock, gate, reclaim, round, number);
+        self.ended = self.work(
+            rt, alloc, trace, zones, clock, names, cache, gate, reclaim, round, number,
+        );
     }
 
     fn work<R: Wait, G: Gate, C: ReclaimCalls>(
@@ -74,25 +88,72 @@ impl<H: Host> Running<H> {
         rt: &R,
         alloc: Global,
         trace: &Trace,
-        zones: &[CountedZone<H>],
-        clock: &Clock<H>,
+        zones: &[CountedZone<N::H>],
+        clock: &Clock<N::H>,
+        names: &N,
+        cache: &N::Cache,
         gate: &G,
         reclaim: &C,
         round: usize,
         number: usize,
     ) -> Result<(), Memory>
-        requires ready { IsReady trace.now zones.now clock.now round number self.old }
-        ensures worked { OnOk result (HasWorked trace.now zones.now clock.now round number self.old self.new) }
+        requires ready { IsReady N.NameCalls cache.now trace.now zones.now clock.now round number self.old }
+        ensures worked { OnOk result (HasWorked N.NameCalls cache.now trace.now zones.now clock.now round number self.old self.new) }
         ensures free { G.is_free gate.now → self.new.gave_up ≡ self.old.gave_up }
     {
         let ops = own_list(trace, round, number);
         for place in 0..ops.len() {
             self.await_gate(gate, number as u32, place as u64 + 1);
-            self.worker
-                .perform(rt, alloc, zones, clock, reclaim, ops[place])?;
+            self.perform(rt, alloc, zones, clock, names, cache, reclaim, ops[place])?;
             gate.done(number as u32, place as u64 + 1);
         }
         Ok(())
+    }
+
+    /// Does one line of the worker, by its kind. Waits where the zones' calls do, and those of the names.
+    ///
+    /// After the Err, which is want of memory, the replay is over.
+    fn perform<R: Wait, C: ReclaimCalls>(
+        &mut self,
+        rt: &R,
+        alloc: Global,
+        zones: &[CountedZone<N::H>],
+        clock: &Clock<N::H>,
+        names: &N,
+        cache: &N::Cache,
+        reclaim: &C,
+        op: Op,
+    ) -> Result<(), Memory>
+        requires can { CanDo N.NameCalls zones.now self.old.worker op }
+        requires clock { AreOfClock clock.now zones.now }
+        requires of_clock { NamesOfClock N.NameCalls cache.now clock.now }
+        requires fits { Fits zones.now clock.now self.old.worker }
+        requires seat { N.IsSeat cache.now self.old.naming.seat }
+        requires rooms { HasRooms self.old.worker }
+        requires name_rooms { HasNameRooms N.NameCalls self.old.naming }
+        ensures fits { OnOk result (Fits zones.now clock.now self.new.worker) }
+        ensures seat { OnOk result (N.IsSeat cache.now self.new.naming.seat) }
+        ensures does { OnOk result (DoesLine N.NameCalls cache.now zones.now (doing self.old) op (doing self.new)) }
+        ensures gate { KeepsGate self.old self.new }
+    {
+        match op {
+            Op::Bind { key, value } => {
+                self.bind(rt, alloc, names, cache, clock, key, value)?;
+                Ok(())
+            }
+            Op::Unbind { key } => {
+                self.unbind(rt, alloc, names, cache, clock, key)?;
+                Ok(())
+            }
+            Op::Look { key } => {
+                self.look(names, cache, clock, key);
+                Ok(())
+            }
+            _ => {
+                self.worker.perform(rt, alloc, zones, clock, reclaim, op)?;
+                Ok(())
+            }
+        }
     }
 
     /// Asks the gate before an operation, and counts it.
@@ -100,6 +161,7 @@ impl<H: Host> Running<H> {
         requires asks { self.old.asked + most_asks < 2 ^ 64 }
         requires gave_up { self.old.gave_up + 1 < 2 ^ 64 }
         ensures worker { self.new.worker ≡ self.old.worker }
+        ensures naming { self.new.naming ≡ self.old.naming }
         ensures asked_some { self.old.asked + 1 ≤ self.new.asked }
         ensures asked_few { self.new.asked ≤ self.old.asked + most_asks }
         ensures gave_up { self.new.gave_up ≤ self.old.gave_up + 1 }
@@ -142,9 +204,11 @@ fn own_list(trace: &Trace, round: usize, number: usize) -> &[Op]
 mod tests {
     use super::*;
     use crate::gate::FreeGate;
+    use crate::no_keys::NoKeys;
     use crate::slots::Slots;
     use smr_clock::Bare;
     use std::test::Fail;
+    use zone_stats::SeatLedger;
 
     /// A gate that never lets go.
     #[derive(Clone, Copy, Debug, PartialEq, Eq)]
@@ -161,7 +225,7 @@ mod tests {
     }
 
     /// A worker of no zone, before its first turn.
-    fn idle(alloc: Global) -> Result<Running<Bare>, Fail>
+    fn idle(alloc: Global) -> Result<Running<NoKeys>, Fail>
         ensures asked { IfOk result (λ r. r.asked ≡ 0) }
         ensures gave_up { IfOk result (λ r. r.gave_up ≡ 0) }
     {
@@ -176,7 +240,7 @@ mod tests {
             entered: 0,
             late: 0,
         };
-        Ok(Running::new(worker))
+        Ok(Running::new(worker, SeatLedger::new()))
     }
 
     #[test]

@@ -1,14 +1,16 @@
-ghost use Rattle.std.specs.Prelude.{◌<◌, All, IfOk, length};
-ghost use Rattle.smr_clock.specs.Belongs.{IsOf};
+ghost use Rattle.std.specs.Prelude.{◌≡◌, ◌<◌, All, IfOk, length};
+ghost use Rattle.smr_clock.specs.Belongs.{IsOf, clock_id};
 ghost use Rattle.uma_zone.specs.Zone.{zone_domains};
 ghost use Rattle.trace_worker.specs.Worker.{AreOfClock};
 
-use crate::{CountHooks, CountedZone, Running, Worker, move_slot};
+use crate::no_keys::NoKeys;
+use crate::{CountHooks, CountedZone, NameCounts, Running, Slots, Worker, move_slot};
 use smr_clock::{Bare, Clock, Pass};
 use std::alloc::Global;
 use std::sync::Wait;
 use std::test::Fail;
 use uma_zone::{AllocAsk, Zone, ZoneSet};
+use zone_stats::SeatLedger;
 
 /// A clock of two seats, and its passes.
 fn two_passes(alloc: Global) -> Result<(Clock<Bare>, Vec<Pass<Bare>>), Fail>
@@ -58,7 +60,7 @@ fn after_alloc<R: Wait>(
     clock: &Clock<Bare>,
     pass: Pass<Bare>,
     ask: AllocAsk,
-) -> Result<Running<Bare>, Fail>
+) -> Result<Running<NoKeys>, Fail>
     requires some { 0 < length zones.now }
     requires clock { AreOfClock clock.now zones.now }
     requires domains { All (λ zone. 0 < zone_domains zone) zones.now }
@@ -66,7 +68,7 @@ fn after_alloc<R: Wait>(
 {
     let mut worker = Worker::new(rt, alloc, zones, clock, pass, 0, 8)?;
     worker.alloc(rt, alloc, zones, clock, 0, 3, ask)?;
-    Ok(Running::new(worker))
+    Ok(Running::new(worker, SeatLedger::new()))
 }
 
 #[test]
@@ -135,5 +137,39 @@ fn an_item_is_freed(rt: HostRuntime) -> Result<(), Fail> {
     let pass = take_pass(&clock, &mut passes)?;
     let zones = one_zone(alloc, &clock)?;
     assert!(rt; freed_again(&rt, alloc, zones.as_slice(), &clock, pass)? == (1, 1));
+    Ok(())
+}
+
+/// What a worker of no zone counted of a bind, which is refused.
+fn counts_of_bind<R: Wait>(
+    rt: &R,
+    alloc: Global,
+    clock: &Clock<Bare>,
+    cache: &Clock<Bare>,
+    pass: Pass<Bare>,
+) -> Result<NameCounts, Fail>
+    requires clock { clock_id clock.now ≡ clock_id cache.now }
+    requires pass { IsOf clock.now pass }
+{
+    let worker = Worker {
+        pass,
+        seats: Vec::new(alloc),
+        slots: Slots::with_room(alloc, 0)?,
+        entered: 0,
+        late: 0,
+    };
+    let mut running: Running<NoKeys> = Running::new(worker, SeatLedger::new());
+    running.bind(rt, alloc, &NoKeys, cache, clock, 7, 1)?;
+    Ok(running.naming.counts)
+}
+
+#[test]
+fn a_refused_bind_is_no_bind(rt: HostRuntime) -> Result<(), Fail> {
+    let alloc = rt.alloc();
+    let (clock, mut passes) = two_passes(alloc)?;
+    let pass = take_pass(&clock, &mut passes)?;
+    let cache = clock.share(alloc)?;
+    let counts = counts_of_bind(&rt, alloc, &clock, &cache, pass)?;
+    assert!(rt; counts.refused == 1 && counts.binds == 0);
     Ok(())
 }

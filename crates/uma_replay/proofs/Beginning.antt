@@ -1,62 +1,120 @@
 -- From a trace's setting to its first round, and from its last round to the end.
-use Rattle.std.proofs.Common.{◌≡◌, ℕ, suc, ◌+◌, ◌*◌, ◌<◌, ◌≤◌, ◌^◌, List, [], ◌∷◌, ◌++◌, length, take, drop, Some, refl, sym, ap, ◌∙◌, subst, arith, reverse}
+use Rattle.std.proofs.Common.{◌≡◌, ℕ, suc, ◌+◌, ◌*◌, ◌<◌, ◌≤◌, ◌^◌, List, [], ◌∷◌, ◌++◌, length, take, drop, Option, None, Some, refl, sym, ap, ◌∙◌, subst, arith, reverse}
+use Rattle.std.proofs.lemmas.Bool.{true≢false}
 use Rattle.std.proofs.lemmas.List.{length-map, length-reverse}
 use Rattle.std.proofs.lemmas.List.Sums.{sum_by-cons, count_by-le-length}
 use Rattle.std.proofs.lemmas.Option.{same_Some}
-use Rattle.std.specs.Prelude.{slice_get, sum_by}
+use Rattle.std.specs.Prelude.{IfSome, IsTrue, is_some, slice_get, sum_by}
 use Rattle.smr_clock.specs.declared.host.Host.{Ghosts}
+use Rattle.smr_clock.specs.Belongs.{clock_id}
+use Rattle.trace_text.specs.declared.head.Head.{Head}
+use Rattle.trace_text.specs.declared.head.NamesHead.{NamesHead}
 use Rattle.trace_text.specs.declared.trace.Trace.{Trace}
-use Rattle.trace_text.specs.Built.{IsBuilt}
 use Rattle.trace_text.specs.Lines.{lines_of}
 use Rattle.trace_text.specs.Valid.{IsValid}
+use Rattle.trace_worker.specs.declared.name_calls.NameCalls.{Ghosts as NameGhosts}
+use Rattle.trace_worker.specs.declared.naming.Naming.{Naming}
 use Rattle.trace_worker.specs.declared.running.Running.{Running}
-use Rattle.trace_worker.specs.Together.{AddsUp, AllStand, crew}
+use Rattle.trace_worker.specs.declared.worker.Worker.{Worker}
+use Rattle.trace_worker.specs.NameSizes.{NameSizes, sizes_for}
+use Rattle.trace_worker.specs.NamesStand.{NamesStand}
+use Rattle.trace_worker.specs.Together.{AddsUp, AllNamed, AllStand, crew}
 use Rattle.trace_setting.specs.declared.setting.Setting.{Setting}
 use Rattle.trace_setting.specs.Setting.{IsSetUp}
 use Rattle.trace_rounds.specs.DoneBy.{done_by, is_by}
 use Rattle.trace_rounds.specs.Plays.{AllPlay}
-use Rattle.trace_rounds.specs.Rounds.{AllAsked, GaveUpAsBefore, IsBegun}
-use Rattle.uma_replay.specs.Hall.{AreDone}
+use Rattle.trace_rounds.specs.Rounds.{AllAsked, GaveUpAsBefore, IsBegun, Suits}
+use Rattle.uma_replay.specs.Hall.{AreDone, NamesDone}
+use Rattle.uma_replay.specs.Playing.{AreFirst, gave_ups, namings_of}
 use Rattle.uma_replay.proofs.Playing.{played_of}
+use Rattle.uma_replay.proofs.Runnings.{first_at, named_first, of_both}
 
 few_enough : (n : ℕ) → n ≤ 16777216 → n < 2 ^ 31
 few_enough n few = omega arith
 
-module _ {H Part : Type 0} {h : Ghosts H Part} where
-  pub begun_of : (t : Trace) (s : Setting H Part h) → IsValid t → IsBuilt t → length (lines_of t.rounds) ≤ 16777216 → IsSetUp t s → IsBegun t s.zones.items s.clock s.workers.items
-  begun_of t s valid built few is = record {
-    suits = record {
-      valid = valid;
-      built = built;
-      few = few_enough (length (lines_of t.rounds)) few;
-      zone_count = is.zones.count;
-      of_clock = is.zones.of_clock;
-      worker_count = is.begin.one_each;
-    };
-    stand = is.stand;
-    adds_up = is.adds_up;
-    unasked = λ n r at. let one = is.begin.each n r at in (one.asked, one.gave_up);
+module _ {N H C S Part : Type 0} {h : Ghosts H Part} (names : NameGhosts N H C S Part) (cache : C) where
+  -- the workers before the first round suit the trace
+  pub suits_of : (t : Trace) (s : Setting H Part h) (begun : List (Running N H C S Part h)) → IsValid t → names.serves ≡ is_some t.head.names → length (lines_of t.rounds) ≤ 16777216 → IsSetUp t s
+      → (IsTrue names.serves → names.clock_of cache ≡ clock_id s.clock) → AreFirst names cache s.workers.items begun → Suits names cache t s.zones.items s.clock begun
+  suits_of t s begun valid served few is of_clock first = record {
+    valid = valid;
+    served = served;
+    few = few_enough (length (lines_of t.rounds)) few;
+    zone_count = is.zones.count;
+    of_clock = is.zones.of_clock;
+    names_of_clock = λ serves. sym (of_clock serves);
+    worker_count = sym (length-map begun (λ r. r.worker)) ∙ (ap length first.are ∙ is.begin.one_each);
   }
 
+  -- and did no line yet
+  pub begun_of : (t : Trace) (s : Setting H Part h) (begun : List (Running N H C S Part h)) → IsSetUp t s → AreFirst names cache s.workers.items begun → IsBegun names cache s.zones.items s.clock begun
+  begun_of t s begun is first =
+      let P : List (Worker H Part h) → Type 0 = λ workers. AllStand s.zones.items s.clock [] workers in
+      let Q : List (Worker H Part h) → Type 0 = λ workers. (z : ℕ) → AddsUp z workers in
+      record {
+        stand = subst P (sym first.are) is.stand;
+        adds_up = subst Q (sym first.are) is.adds_up;
+        named = λ n r at. named_first names cache n r.worker.late r (first_at names cache begun n r first.each at);
+        unasked = λ n r at. let one = first_at names cache begun n r first.each at in (one.asked, one.gave_up);
+      }
+
+  pub worker_count : (t : Trace) (s : Setting H Part h) (begun ended : List (Running N H C S Part h)) → IsSetUp t s → AreFirst names cache s.workers.items begun → length ended ≡ length begun → length ended ≡ t.head.workers
+  worker_count t s begun ended is first count = count ∙ (sym (length-map begun (λ r. r.worker)) ∙ (ap length first.are ∙ is.begin.one_each))
+
   -- the workers when all rounds are done
-  pub done_of : (t : Trace) (s : Setting H Part h) (runnings : List (Running H Part h)) (workers : List _) → IsSetUp t s → length runnings ≡ length s.workers.items
-      → AllStand s.zones.items s.clock (reverse (lines_of t.rounds)) (crew runnings) → ((z : ℕ) → AddsUp z (crew runnings)) → AllPlay s.zones.items t.rounds s.workers.items runnings → workers ≡ crew runnings
-      → AreDone t s.zones.items s.clock workers
-  done_of t s runnings workers is count stand adds_up plays same =
-      let P : List _ → Type 0 = λ ws. AreDone t s.zones.items s.clock ws in
+  pub done_of : (t : Trace) (s : Setting H Part h) (begun ended : List (Running N H C S Part h)) (workers : List (Worker H Part h)) → IsSetUp t s → AreFirst names cache s.workers.items begun → length ended ≡ length begun
+      → AllStand s.zones.items s.clock (reverse (lines_of t.rounds)) (crew ended) → ((z : ℕ) → AddsUp z (crew ended)) → workers ≡ crew ended → AreDone t s.zones.items s.clock workers
+  done_of t s begun ended workers is first count stand adds_up same =
+      let P : List (Worker H Part h) → Type 0 = λ ws. AreDone t s.zones.items s.clock ws in
       subst P (sym same) (record {
         clock_made = is.clock;
         zones_made = is.zones;
-        worker_count = length-map runnings (λ r. r.worker) ∙ (count ∙ is.begin.one_each);
+        worker_count = length-map ended (λ r. r.worker) ∙ worker_count t s begun ended is first count;
         stand = stand;
-        played = played_of t s runnings is count (λ n w at. (stand.fits n w at).pass) plays;
         adds_up = adds_up;
       })
 
-  -- ---- how often workers gave up
+  -- and what each has of the names
+  pub named_of : (t : Trace) (s : Setting H Part h) (begun ended : List (Running N H C S Part h)) (workers : List (Worker H Part h)) (namings : List (Naming N H C S Part)) → IsSetUp t s → AreFirst names cache s.workers.items begun
+      → length ended ≡ length begun → names.serves ≡ is_some t.head.names → (IsTrue names.serves → names.clock_of cache ≡ clock_id s.clock) → IfSome t.head.names (λ line. names.sizes_of cache ≡ sizes_for t.head line)
+      → AllStand s.zones.items s.clock (reverse (lines_of t.rounds)) (crew ended) → AllNamed names cache (reverse (lines_of t.rounds)) ended → AllPlay names cache s.zones.items t.rounds begun ended
+      → workers ≡ crew ended → namings ≡ namings_of ended → NamesDone names t cache s.zones.items s.clock workers namings
+  named_of t s begun ended workers namings is first count served of_clock sizes stand named plays same same_namings =
+      let P : List (Worker H Part h) → Type 0 = λ ws. NamesDone names t cache s.zones.items s.clock ws namings in
+      let Q : List (Naming N H C S Part) → Type 0 = λ gs. NamesDone names t cache s.zones.items s.clock (crew ended) gs in
+      subst P (sym same) (subst Q (sym same_namings) (record {
+        served = served;
+        of_clock = λ serves. sym (of_clock serves);
+        sizes = sizes;
+        naming_count = length-map ended (λ r. r.naming) ∙ worker_count t s begun ended is first count;
+        stand = λ n w naming at at_naming.
+            let both = of_both ended n w naming at at_naming in
+            let A : ℕ → Type 0 = λ late. NamesStand names cache n (reverse (lines_of t.rounds)) late naming in
+            let B : Naming N H C S Part → Type 0 = λ g. NamesStand names cache n (reverse (lines_of t.rounds)) both.running.worker.late g in
+            subst A (ap (λ (x : Worker H Part h). x.late) both.is_worker) (subst B both.is_naming (named n both.running both.at));
+        played = played_of names cache t s begun ended is first count (λ n w at. (stand.fits n w at).pass) plays;
+      }))
 
-  abbrev pub gave_ups : List (Running H Part h) → ℕ
-  gave_ups runnings = sum_by (λ (r : Running H Part h). r.gave_up) runnings
+most_workers : (count workers : ℕ) → count ≡ workers → workers ≤ 16 → count ≤ 16
+most_workers count workers same few = omega arith
+
+domains_most : (domains of_names : ℕ) → of_names ≡ domains → domains ≤ of_names
+domains_most domains of_names same = omega arith
+
+module _ {H Part : Type 0} {h : Ghosts H Part} where
+  pub few_workers : (t : Trace) (s : Setting H Part h) → IsValid t → IsSetUp t s → length s.workers.items ≤ 16
+  few_workers t s valid is = most_workers (length s.workers.items) t.head.workers is.begin.one_each valid.head.workers.1
+
+module _ {N H C S Part : Type 0} (names : NameGhosts N H C S Part) (cache : C) where
+  domains_by : (head : Head) (o : Option NamesHead) → names.serves ≡ is_some o → IfSome o (λ line. names.sizes_of cache ≡ sizes_for head line) → IsTrue names.serves → head.domains ≤ (names.sizes_of cache).domains
+  domains_by head None served sizes serves = absurd (true≢false (sym serves ∙ served))
+  domains_by head (Some line) served sizes serves = domains_most head.domains (names.sizes_of cache).domains (ap (λ (s : NameSizes). s.domains) sizes)
+
+  -- who serves the names of a trace has all its memory domains
+  pub served_domains : (t : Trace) → names.serves ≡ is_some t.head.names → IfSome t.head.names (λ line. names.sizes_of cache ≡ sizes_for t.head line) → IsTrue names.serves → t.head.domains ≤ (names.sizes_of cache).domains
+  served_domains t served sizes = domains_by t.head t.head.names served sizes
+
+-- ---- how often workers gave up
 
 below_all : (gave_up done size : ℕ) → gave_up ≤ done → done ≤ size → size ≤ 16777216 → gave_up ≤ 16777216
 below_all gave_up done size e1 e2 e3 = omega arith
@@ -73,45 +131,44 @@ both_same all first rest all' first' rest' e1 e2 e3 e4 = omega arith
 most_same : (a b c : ℕ) → a ≤ b → b ≡ c → a ≤ c
 most_same a b c most same = omega arith
 
-module _ {H Part : Type 0} {h : Ghosts H Part} where
-  sum_most : (f : Running H Part h → ℕ) (most : ℕ) (rs : List (Running H Part h)) → ((n : ℕ) (r : Running H Part h) → slice_get rs n ≡ Some r → f r ≤ most) → sum_by f rs ≤ length rs * most
+module _ {N H C S Part : Type 0} {h : Ghosts H Part} where
+  sum_most : (f : Running N H C S Part h → ℕ) (most : ℕ) (rs : List (Running N H C S Part h)) → ((n : ℕ) (r : Running N H C S Part h) → slice_get rs n ≡ Some r → f r ≤ most) → sum_by f rs ≤ length rs * most
   sum_most f most [] each = omega arith
   sum_most f most (r ∷ rs) each = one_more _ _ _ _ _ (sum_by-cons f r rs) (each 0 r refl) (sum_most f most rs (λ n. each (suc n)))
 
 few_sum : (sum count workers : ℕ) → sum ≤ count * 16777216 → count ≡ workers → workers ≤ 16 → sum < 2 ^ 64
 few_sum sum count workers most same few = omega arith
 
-module _ {H Part : Type 0} {h : Ghosts H Part} where
-  pub gave_ups_few : (t : Trace) (s : Setting H Part h) (runnings : List (Running H Part h)) → IsValid t → length (lines_of t.rounds) ≤ 16777216 → IsSetUp t s → length runnings ≡ length s.workers.items
-      → AllAsked (reverse (lines_of t.rounds)) runnings → gave_ups runnings < 2 ^ 64
+module _ {N H C S Part : Type 0} {h : Ghosts H Part} where
+  pub gave_ups_few : (t : Trace) (ended : List (Running N H C S Part h)) → IsValid t → length (lines_of t.rounds) ≤ 16777216 → length ended ≡ t.head.workers → AllAsked (reverse (lines_of t.rounds)) ended → gave_ups ended < 2 ^ 64
   unfolding done_by
-  gave_ups_few t s runnings valid few is count asked =
+  gave_ups_few t ended valid few count asked =
       let lines = reverse (lines_of t.rounds) in
-      few_sum (gave_ups runnings) (length runnings) t.head.workers
-      (sum_most (λ (r : Running H Part h). r.gave_up) 16777216 runnings (λ n r at.
+      few_sum (gave_ups ended) (length ended) t.head.workers
+      (sum_most (λ (r : Running N H C S Part h). r.gave_up) 16777216 ended (λ n r at.
       below_all r.gave_up (done_by n lines) (length (lines_of t.rounds)) (asked n r at).gave_up_few (most_same _ _ _ (count_by-le-length (is_by n) lines) (length-reverse (lines_of t.rounds))) few))
-      (count ∙ is.begin.one_each) valid.head.workers.1
+      count valid.head.workers.1
 
-  none_all : (rs : List (Running H Part h)) → ((n : ℕ) (r : Running H Part h) → slice_get rs n ≡ Some r → r.gave_up ≡ 0) → gave_ups rs ≡ 0
+  none_all : (rs : List (Running N H C S Part h)) → ((n : ℕ) (r : Running N H C S Part h) → slice_get rs n ≡ Some r → r.gave_up ≡ 0) → gave_ups rs ≡ 0
   none_all [] each = refl
-  none_all (r ∷ rs) each = both_none _ _ _ (sum_by-cons (λ (r : Running H Part h). r.gave_up) r rs) (each 0 r refl) (none_all rs (λ n. each (suc n)))
+  none_all (r ∷ rs) each = both_none _ _ _ (sum_by-cons (λ (r : Running N H C S Part h). r.gave_up) r rs) (each 0 r refl) (none_all rs (λ n. each (suc n)))
 
 abbrev tail_of : List ℕ → List ℕ
 tail_of [] = []
 tail_of (x ∷ xs) = xs
 
-module _ {H Part : Type 0} {h : Ghosts H Part} where
-  same_sums : (old new : List (Running H Part h)) → GaveUpAsBefore old new → gave_ups new ≡ gave_ups old
+module _ {N H C S Part : Type 0} {h : Ghosts H Part} where
+  same_sums : (old new : List (Running N H C S Part h)) → GaveUpAsBefore old new → gave_ups new ≡ gave_ups old
   same_sums [] [] same = refl
   same_sums [] (r ∷ new) same = absurd (let size = ap length same in omega arith)
   same_sums (q ∷ old) [] same = absurd (let size = ap length same in omega arith)
   same_sums (q ∷ old) (r ∷ new) same =
-      both_same _ _ _ _ _ _ (sum_by-cons (λ (r : Running H Part h). r.gave_up) r new) (sum_by-cons (λ (r : Running H Part h). r.gave_up) q old)
+      both_same _ _ _ _ _ _ (sum_by-cons (λ (r : Running N H C S Part h). r.gave_up) r new) (sum_by-cons (λ (r : Running N H C S Part h). r.gave_up) q old)
       (same_Some r.gave_up q.gave_up (ap (λ xs. slice_get xs 0) same)) (same_sums old new (ap tail_of same))
 
   -- a free gate's workers never did
-  pub none_gave_up : (t : Trace) (s : Setting H Part h) (runnings : List (Running H Part h)) → IsSetUp t s → GaveUpAsBefore s.workers.items runnings → gave_ups runnings ≡ 0
-  none_gave_up t s runnings is same = same_sums s.workers.items runnings same ∙ none_all s.workers.items (λ n r at. (is.begin.each n r at).gave_up)
+  pub none_gave_up : (begun ended : List (Running N H C S Part h)) → ((n : ℕ) (r : Running N H C S Part h) → slice_get begun n ≡ Some r → r.gave_up ≡ 0) → GaveUpAsBefore begun ended → gave_ups ended ≡ 0
+  none_gave_up begun ended none same = same_sums begun ended same ∙ none_all begun none
 
 -- ---- a vector whose items were written through a slice of all of them
 

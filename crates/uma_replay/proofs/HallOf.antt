@@ -2,7 +2,7 @@
 use Rattle.std.proofs.Common.{◌≡◌, ℕ, ◌+◌, ◌<◌, ◌≤◌, ◌^◌, List, [], ◌∷◌, Bool, true, false, cond, length, take, get_or, Option, None, Some, refl, sym, ap, ◌∙◌, subst, arith, reverse}
 use Rattle.std.proofs.lemmas.Bool.{eq-eqb}
 use Rattle.std.proofs.lemmas.List.{length-reverse}
-use Rattle.std.proofs.lemmas.List.Sums.{sum_by-take-le, count_by_more_yes}
+use Rattle.std.proofs.lemmas.List.Sums.{sum_by-take-le, count_by_more_yes, count_by-le-length}
 use Rattle.std.proofs.lemmas.Option.{slice_get_within, get_or_from_slice_get}
 use Rattle.std.specs.Prelude.{◌==◌, slice_get, sum_by}
 use Rattle.std.specs.Option.{option_map_or}
@@ -10,31 +10,44 @@ use Rattle.smr_clock.specs.declared.clock.Clock.{Clock}
 use Rattle.smr_clock.specs.declared.host.Host.{Ghosts}
 use Rattle.smr_clock.specs.Belongs.{IsOf, setup_of}
 use Rattle.trace_text.specs.declared.head.Head.{Head}
+use Rattle.trace_text.specs.declared.head.NamesHead.{NamesHead}
 use Rattle.trace_text.specs.declared.head.ZoneHead.{ZoneHead}
 use Rattle.trace_text.specs.declared.trace.Trace.{Trace}
-use Rattle.trace_text.specs.Built.{IsBuilt}
 use Rattle.trace_text.specs.Lines.{Line, lines_of}
 use Rattle.trace_text.specs.Valid.{HeadFits, IsValid, sharer_count}
 use Rattle.zone_stats.specs.declared.report.Report.{Report}
+use Rattle.trace_worker.specs.declared.name_calls.NameCalls.{Ghosts as NameGhosts}
+use Rattle.trace_worker.specs.declared.naming.Naming.{Naming}
 use Rattle.trace_worker.specs.declared.worker.Worker.{Worker}
+use Rattle.trace_worker.specs.NamesStand.{NamesStand}
 use Rattle.trace_worker.specs.Items.{CountedZone}
-use Rattle.trace_setting.specs.Clock.{start_of, window_of}
+use Rattle.trace_worker.specs.Worker.{phase_of}
+use Rattle.trace_worker.specs.Clocks.{start_of, window_of}
 use Rattle.trace_setting.specs.Kegs.{keg_place, index_of, primaries}
 use Rattle.trace_census.specs.Lending.{AllFit, AreFew, KeepsWorkers}
 use Rattle.trace_totals.specs.Clock.{AllLearn}
 use Rattle.uma_replay.specs.declared.hall.Hall.{Hall}
-use Rattle.uma_replay.specs.Counting.{enter_count, is_entry}
-use Rattle.uma_replay.specs.Hall.{AreDone, HallStands}
+use Rattle.uma_replay.specs.Counting.{enter_count, is_done, is_entry, is_look}
+use Rattle.uma_replay.specs.Hall.{AreDone, HallStands, NamesDone}
+use Rattle.uma_replay.specs.Names.{AreSeats, CountsFit, IsWhole}
+use Rattle.uma_replay.specs.Playing.{AllStay}
 use Rattle.uma_replay.specs.Report.{StandsFor}
 use Rattle.uma_replay.specs.Reporting.{HaveKegs}
-use Rattle.uma_replay.proofs.Entries.{entries_are}
+use Rattle.uma_replay.proofs.Entries.{entries_most}
 use Rattle.uma_replay.proofs.KegSums.{shares}
+use Rattle.uma_replay.proofs.NamesFit.{counts_fit, names_ends}
 use Rattle.uma_replay.proofs.Playing.{played_stay}
 use Rattle.uma_replay.proofs.Primaries.{keg_within}
+use Rattle.uma_replay.proofs.PlainStands.{StandsPlain, some_at}
 use Rattle.uma_replay.proofs.ReportStands.{HasPrimary, has_primary, stands_for}
-use Rattle.uma_replay.proofs.Staying.{AllStay, all_stand, adds_stay, learn_stay, kept_stay}
+use Rattle.uma_replay.proofs.WithNames.{stands_named, stands_unnamed}
+use Rattle.trace_setting.proofs.Lists.{All_there}
+use Rattle.uma_replay.proofs.Staying.{all_chain, all_stand, adds_stay, found_before, learn_stay, kept_stay}
 
 -- ---- on numbers
+
+below_both : (n a b count : ℕ) → n < a → a ≡ count → b ≡ count → n < b
+below_both n a b count below e1 e2 = omega arith
 
 at_least_one : (a b : ℕ) → a ≡ b → 1 ≤ b → 0 < a
 at_least_one a b same least = omega arith
@@ -49,8 +62,8 @@ unit_most : (b : Bool) → unit b ≤ 1
 unit_most true = omega arith
 unit_most false = omega arith
 
-two_few : (entered late all size lines : ℕ) → entered + late ≡ all → all ≤ size → size ≡ lines → lines ≤ 16777216 → (entered < 2 ^ 64) × (late < 2 ^ 64)
-two_few entered late all size lines sum most same few = (omega arith, omega arith)
+two_few : (entered late wanted looked size lines : ℕ) → entered + late ≤ wanted + looked → wanted ≤ size → looked ≤ lines → size ≡ lines → lines ≤ 16777216 → (entered < 2 ^ 64) × (late < 2 ^ 64)
+two_few entered late wanted looked size lines sum most looks same few = (omega arith, omega arith)
 
 zero_below : (index : ℕ) → index ≡ 0 → index < 8
 zero_below index none = omega arith
@@ -67,7 +80,6 @@ module _ {H Part : Type 0} {h : Ghosts H Part} where
     zones_made = d.zones_made;
     worker_count = s.count ∙ d.worker_count;
     stand = all_stand zones clock (reverse (lines_of t.rounds)) old new s d.stand;
-    played = played_stay t zones clock old new s d.played;
     adds_up = λ z. adds_stay clock old new s z (d.adds_up z);
   }
 
@@ -76,6 +88,10 @@ module _ {H Part : Type 0} {h : Ghosts H Part} where
 
   pub done_kept : (t : Trace) (zones : List (CountedZone H Part h)) (clock : Clock H Part) (old new : List (Worker H Part h)) → KeepsWorkers old new → AreDone t zones clock old → AreDone t zones clock new
   done_kept t zones clock old new k d = done_stay t zones clock old new (kept_stay zones clock (reverse (lines_of t.rounds)) old new d.stand k) d
+
+  -- from the first stock to the last
+  pub stay_on : (t : Trace) (zones : List (CountedZone H Part h)) (clock : Clock H Part) (old mid new : List (Worker H Part h)) → AreDone t zones clock mid → AllStay clock old mid → KeepsWorkers mid new → AllStay clock old new
+  stay_on t zones clock old mid new d first kept = all_chain clock old mid new first (kept_stay zones clock (reverse (lines_of t.rounds)) mid new d.stand kept)
 
   -- ---- what the calls need
 
@@ -108,12 +124,12 @@ enter_few [] = omega arith
 enter_few (line ∷ lines) = omega (arith, enter_few lines, unit_most (is_entry lines line))
 
 module _ {H Part : Type 0} {h : Ghosts H Part} where
-  pub entries_few : (t : Trace) (zones : List (CountedZone H Part h)) (clock : Clock H Part) (workers : List (Worker H Part h)) → IsValid t → IsBuilt t → length (lines_of t.rounds) ≤ 16777216 → AreDone t zones clock workers
+  pub entries_few : (t : Trace) (zones : List (CountedZone H Part h)) (clock : Clock H Part) (workers : List (Worker H Part h)) → IsValid t → length (lines_of t.rounds) ≤ 16777216 → AreDone t zones clock workers
       → (sum_by (λ (w : Worker H Part h). w.entered) workers < 2 ^ 64) × (sum_by (λ (w : Worker H Part h). w.late) workers < 2 ^ 64)
-  entries_few t zones clock workers valid built few d =
+  entries_few t zones clock workers valid few d =
       let lines = reverse (lines_of t.rounds) in
-      let sum = entries_are t workers (λ (w : Worker H Part h). w.entered) (λ (w : Worker H Part h). w.late) valid built d.worker_count (λ n w at. (d.stand.stands n w at).enters_add_up) in
-      two_few _ _ (enter_count lines) (length lines) (length (lines_of t.rounds)) sum (enter_few lines) (length-reverse (lines_of t.rounds)) few
+      let sum = entries_most t workers (λ (w : Worker H Part h). w.entered) (λ (w : Worker H Part h). w.late) phase_of valid d.worker_count (λ n w at. (d.stand.stands n w at).entries) in
+      two_few _ _ (enter_count lines) _ (length lines) (length (lines_of t.rounds)) sum (enter_few lines) (count_by-le-length (is_done is_look) (lines_of t.rounds)) (length-reverse (lines_of t.rounds)) few
 
 -- ---- kegs
 
@@ -147,14 +163,55 @@ have_kegs h fits z head at =
       index = index_below h z head head.parent fits at refl has;
     }
 
-module _ {H Part : Type 0} {h : Ghosts H Part} where
-  -- ---- the report stands for the trace
+-- ---- what is of the names
 
-  pub stands_of_hall : (t : Trace) (report : Report) (hall : Hall H Part h) → IsValid t → IsBuilt t → HallStands t report hall → StandsFor t report
-  stands_of_hall t report hall valid built stands =
-      stands_for t hall.zones hall.clock hall.workers hall.censuses stands.tallies stands.deferred stands.read stands.write report.gave_up report (record {
+module _ {N H C S Part : Type 0} {h : Ghosts H Part} (names : NameGhosts N H C S Part) where
+  pub names_stay : (t : Trace) (cache : C) (zones : List (CountedZone H Part h)) (clock : Clock H Part) (old new : List (Worker H Part h)) (namings : List (Naming N H C S Part)) → AllStay clock old new
+      → NamesDone names t cache zones clock old namings → NamesDone names t cache zones clock new namings
+  names_stay t cache zones clock old new namings s d = record {
+    served = d.served;
+    of_clock = d.of_clock;
+    sizes = d.sizes;
+    naming_count = d.naming_count;
+    stand = λ n w naming at at_naming.
+        let was = found_before old new n w s.count at in
+        let P : ℕ → Type 0 = λ late. NamesStand names cache n (reverse (lines_of t.rounds)) late naming in
+        subst P (sym (s.each n was.0 w was.1 at).late) (d.stand n was.0 naming was.1 at_naming);
+    played = played_stay names cache t zones clock old new namings s d.played;
+  }
+
+  worker_at : (t : Trace) (workers : List (Worker H Part h)) (namings : List (Naming N H C S Part)) (n : ℕ) (naming : Naming N H C S Part) → length workers ≡ t.head.workers → length namings ≡ t.head.workers
+      → slice_get namings n ≡ Some naming → (w : Worker H Part h) × (slice_get workers n ≡ Some w)
+  worker_at t workers namings n naming count own at = some_at workers n (below_both n (length namings) (length workers) t.head.workers (slice_get_within namings n naming at) own count)
+
+  pub are_seats : (t : Trace) (cache : C) (zones : List (CountedZone H Part h)) (clock : Clock H Part) (workers : List (Worker H Part h)) (namings : List (Naming N H C S Part)) → AreDone t zones clock workers
+      → NamesDone names t cache zones clock workers namings → AreSeats names cache namings
+  are_seats t cache zones clock workers namings done d =
+      All_there (λ (naming : Naming N H C S Part). names.IsSeat cache naming.seat) namings (λ n naming at.
+      let found = worker_at t workers namings n naming done.worker_count d.naming_count at in
+      (d.stand n found.0 naming found.1 at).seat)
+
+  pub few_namings : (t : Trace) (cache : C) (zones : List (CountedZone H Part h)) (clock : Clock H Part) (workers : List (Worker H Part h)) (namings : List (Naming N H C S Part)) → IsValid t
+      → NamesDone names t cache zones clock workers namings → length namings ≤ 16
+  few_namings t cache zones clock workers namings valid d = same_most (length namings) t.head.workers 16 d.naming_count valid.head.workers.1
+
+  pub fit_counts : (t : Trace) (cache : C) (zones : List (CountedZone H Part h)) (clock : Clock H Part) (workers : List (Worker H Part h)) (namings : List (Naming N H C S Part)) → IsValid t → length (lines_of t.rounds) ≤ 16777216
+      → AreDone t zones clock workers → NamesDone names t cache zones clock workers namings → CountsFit namings
+  fit_counts t cache zones clock workers namings valid few done d = counts_fit names t cache zones clock workers namings done.worker_count d valid few
+
+module _ {N H C S Part : Type 0} (names : NameGhosts N H C S Part) where
+  -- the whole report tells of as many waits as that of the zone lines
+  pub whole_waits : (cache : C) (namings : List (Naming N H C S Part)) (first report : Report) (o : Option NamesHead) → IsWhole names cache o namings first report → report.gave_up ≡ first.gave_up
+  whole_waits cache namings first report None whole = ap (λ (r : Report). r.gave_up) whole
+  whole_waits cache namings first report (Some line) whole = ap (λ (r : Report). r.gave_up) whole.whole
+
+-- ---- the report stands for the trace
+
+module _ {N H C S Part : Type 0} {h : Ghosts H Part} (names : NameGhosts N H C S Part) (t : Trace) (report : Report) (hall : Hall N H C S Part h) (valid : IsValid t) (stands : HallStands names t report hall) where
+  plain : StandsPlain t stands.first
+  plain =
+      stands_for t hall.zones hall.clock hall.workers hall.censuses stands.tallies stands.deferred stands.read stands.write stands.first.gave_up stands.first (record {
         valid = valid;
-        built = built;
         count = stands.done.worker_count;
         stand = stands.done.stand;
         adds_up = stands.done.adds_up;
@@ -165,3 +222,16 @@ module _ {H Part : Type 0} {h : Ghosts H Part} where
         hands = stands.hands;
         is = stands.made_of;
       })
+
+  by_line : (o : Option NamesHead) → t.head.names ≡ o → IsWhole names hall.names o hall.namings stands.first report → StandsFor t report
+  by_line None is whole =
+      let P : Report → Type 0 = λ r. StandsFor t r in
+      subst P (sym whole) (stands_unnamed t stands.first plain is stands.made_of.names)
+  by_line (Some line) is whole =
+      let P : Report → Type 0 = λ r. StandsFor t r in
+      let ends = names_ends names t hall.names hall.zones hall.clock hall.workers hall.namings stands.done.worker_count stands.named valid line is whole.census whole.tally whole.deferred whole.closes whole.part whole.is_part
+      stands.read stands.write stands.first.clock stands.made_of.clock in
+      subst P (sym whole.whole) (stands_named t stands.first plain line whole.part is ends)
+
+  pub stands_of_hall : StandsFor t report
+  stands_of_hall = by_line t.head.names refl stands.whole

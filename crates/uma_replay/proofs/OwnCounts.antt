@@ -14,49 +14,46 @@ use Rattle.trace_text.specs.declared.op.Op.{Op}
 use Rattle.trace_text.specs.declared.op.Op.TheVariants.{Alloc}
 use Rattle.trace_text.specs.declared.round.Round.{Round}
 use Rattle.trace_text.specs.declared.trace.Trace.{Trace}
-use Rattle.trace_text.specs.Built.{IsBuiltOp, IsBuiltRound}
 use Rattle.trace_text.specs.Lines.{Line, Does, Moves, worker_lines, lines_of}
 use Rattle.trace_text.specs.Valid.{OpFits, RoundFits}
 use Rattle.trace_worker.specs.Counting.{is_ask, is_ask_with_arg, is_ask_with, asked, argued, asked_with}
 use Rattle.uma_replay.specs.Counting.{worker_ops, is_alloc_of, is_alloc_with, is_alloc_with_arg, is_request_of, is_bind, request_count, arg_count}
 use Rattle.uma_replay.proofs.WorkerSums.{IsLine}
 
--- ---- each line of a valid trace that is replayed fits by itself
+-- ---- each line of a valid trace fits by itself
 
-ops_are : (h : Head) (w : ℕ) (ops : List Op) → w < h.workers → All (OpFits h) ops → All IsBuiltOp ops → All (λ op. IsLine h (Does w op)) ops
-ops_are h w [] below fit built = All-nil (λ op. IsLine h (Does w op))
-ops_are h w (op ∷ ops) below fit built =
-    All-cons (λ op. IsLine h (Does w op)) op ops (below, All-head (OpFits h) op ops fit, All-head IsBuiltOp op ops built)
-    (ops_are h w ops below (All-tail (OpFits h) op ops fit) (All-tail IsBuiltOp op ops built))
+ops_are : (h : Head) (w : ℕ) (ops : List Op) → w < h.workers → All (OpFits h) ops → All (λ op. IsLine h (Does w op)) ops
+ops_are h w [] below fit = All-nil (λ op. IsLine h (Does w op))
+ops_are h w (op ∷ ops) below fit =
+    All-cons (λ op. IsLine h (Does w op)) op ops (below, All-head (OpFits h) op ops fit) (ops_are h w ops below (All-tail (OpFits h) op ops fit))
 
-lists_are : (h : Head) (w : ℕ) (lists : List (List Op)) → w + length lists ≤ h.workers → All (All (OpFits h)) lists → All (All IsBuiltOp) lists → All (IsLine h) (worker_lines w lists)
-lists_are h w [] most fit built = All-nil (IsLine h)
-lists_are h w (ops ∷ lists) most fit built =
+lists_are : (h : Head) (w : ℕ) (lists : List (List Op)) → w + length lists ≤ h.workers → All (All (OpFits h)) lists → All (IsLine h) (worker_lines w lists)
+lists_are h w [] most fit = All-nil (IsLine h)
+lists_are h w (ops ∷ lists) most fit =
     All-append (IsLine h) (map (Does w) ops) (worker_lines (w + 1) lists)
-    (All-map (IsLine h) (Does w) ops (ops_are h w ops (omega arith) (All-head (All (OpFits h)) ops lists fit) (All-head (All IsBuiltOp) ops lists built)))
-    (lists_are h (w + 1) lists (omega arith) (All-tail (All (OpFits h)) ops lists fit) (All-tail (All IsBuiltOp) ops lists built))
+    (All-map (IsLine h) (Does w) ops (ops_are h w ops (omega arith) (All-head (All (OpFits h)) ops lists fit)))
+    (lists_are h (w + 1) lists (omega arith) (All-tail (All (OpFits h)) ops lists fit))
 
-pub lines_are : (h : Head) (rounds : List Round) → All (RoundFits h) rounds → All IsBuiltRound rounds → All (IsLine h) (lines_of rounds)
-lines_are h [] fit built = All-nil (IsLine h)
-lines_are h (r ∷ rounds) fit built =
+pub lines_are : (h : Head) (rounds : List Round) → All (RoundFits h) rounds → All (IsLine h) (lines_of rounds)
+lines_are h [] fit = All-nil (IsLine h)
+lines_are h (r ∷ rounds) fit =
     let fits : RoundFits h r = All-head (RoundFits h) r rounds fit in
     let workers : length r.ops ≡ h.workers = fits.workers in
-    let own : All (IsLine h) (worker_lines 0 r.ops) =
-    lists_are h 0 r.ops (omega arith) fits.ops (All-head IsBuiltRound r rounds built) in
+    let own : All (IsLine h) (worker_lines 0 r.ops) = lists_are h 0 r.ops (omega arith) fits.ops in
     let between : All (IsLine h) (map Moves r.between) = All-map (IsLine h) Moves r.between fits.between in
     All-append (IsLine h) (worker_lines 0 r.ops ++ map Moves r.between) (lines_of rounds)
     (All-append (IsLine h) (worker_lines 0 r.ops) (map Moves r.between) own between)
-    (lines_are h rounds (All-tail (RoundFits h) r rounds fit) (All-tail IsBuiltRound r rounds built))
+    (lines_are h rounds (All-tail (RoundFits h) r rounds fit))
 
 -- ---- counts of one worker's lines
 
 -- the test passes lines of worker `n` alone, by a test of the operation
-record IsOfWorker (n : ℕ) (p : Line → Bool) (q : Op → Bool) : Type 0 where
-  own : (op : Op) → p (Does n op) ≡ q op
-  others : (v : ℕ) (op : Op) → v ≢ n → p (Does v op) ≡ false
-  moves : (between : Between) → p (Moves between) ≡ false
+pub record IsOfWorker (n : ℕ) (p : Line → Bool) (q : Op → Bool) : Type 0 where
+  pub own : (op : Op) → p (Does n op) ≡ q op
+  pub others : (v : ℕ) (op : Op) → v ≢ n → p (Does v op) ≡ false
+  pub moves : (between : Between) → p (Moves between) ≡ false
 
-count-cons : {X : Type 0} (p : X → Bool) (x : X) (xs : List X) → count_by p (x ∷ xs) ≡ cond (p x) 1 0 + count_by p xs
+pub count-cons : {X : Type 0} (p : X → Bool) (x : X) (xs : List X) → count_by p (x ∷ xs) ≡ cond (p x) 1 0 + count_by p xs
 count-cons p x xs = sum_by-cons (λ x. cond (p x) 1 0) x xs
 
 count-append : {X : Type 0} (p : X → Bool) (xs ys : List X) → count_by p (xs ++ ys) ≡ count_by p xs + count_by p ys
@@ -117,7 +114,7 @@ rounds_own n p q (r ∷ rounds) of =
     ap (count_by q) (flat_map-cons (own_of n) r rounds) ∙ count-append q (own_of n r) (flat_map (own_of n) rounds) in
     omega (arith, all, own, moved, rest, parts)
 
-turned : {X : Type 0} (p : X → Bool) (xs : List X) → count_by p (reverse xs) ≡ count_by p xs
+pub turned : {X : Type 0} (p : X → Bool) (xs : List X) → count_by p (reverse xs) ≡ count_by p xs
 turned p xs = sum_by-IsPermutation (λ x. cond (p x) 1 0) xs (reverse xs) (IsPermutation-reverse xs)
 
 -- ---- what a worker asks
@@ -152,7 +149,7 @@ with_others : (n z code v : ℕ) (op : Op) → v ≢ n → is_ask_with n z code 
 with_others n z code v (Alloc zone slot arg reserve) apart = apart_from v n ((zone == z) && (arg == code)) apart
 with_others n z code v op apart = refl
 
-all_own : (t : Trace) (n : ℕ) (p : Line → Bool) (q : Op → Bool) → IsOfWorker n p q → count_by p (reverse (lines_of t.rounds)) ≡ count_by q (worker_ops t n)
+pub all_own : (t : Trace) (n : ℕ) (p : Line → Bool) (q : Op → Bool) → IsOfWorker n p q → count_by p (reverse (lines_of t.rounds)) ≡ count_by q (worker_ops t n)
 all_own t n p q of = turned p (lines_of t.rounds) ∙ rounds_own n p q t.rounds of
 
 request_same : (h : Head) (z : ℕ) (ops : List Op) → nat_lt z (length h.zones) ≡ true → count_by (is_request_of h z) ops ≡ count_by (is_alloc_of z) ops

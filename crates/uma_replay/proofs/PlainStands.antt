@@ -1,10 +1,9 @@
--- A report of which these plain facts are known stands for its trace.
-use Rattle.std.proofs.Common.{◌≡◌, ℕ, zero, suc, ◌+◌, ◌-◌, ◌*◌, ◌<◌, ◌≤◌, List, [], ◌∷◌, false, length, map, Option, None, Some, refl, sym, ap, ◌∙◌, subst, arith, append-nil, reverse}
+-- A report of the zones of the zone lines, of which these plain facts are known, stands for these lines of its trace.
+use Rattle.std.proofs.Common.{◌≡◌, ℕ, zero, suc, ◌+◌, ◌-◌, ◌*◌, ◌<◌, ◌≤◌, List, [], ◌∷◌, false, length, map, Option, None, Some, refl, sym, ap, ◌∙◌, subst, arith, reverse}
 use Rattle.std.proofs.lemmas.Option.{same_Some, slice_get_within, get_or_from_slice_get}
 use Rattle.std.specs.Prelude.{All, IfSome, IsSome, is_some, slice_get, slice_index_or, sum_by}
 use Rattle.trace_text.specs.declared.head.ZoneHead.{ZoneHead}
 use Rattle.trace_text.specs.declared.trace.Trace.{Trace}
-use Rattle.trace_text.specs.Built.{IsBuilt}
 use Rattle.trace_text.specs.Limits.{last_slot}
 use Rattle.trace_text.specs.Lines.{Line, lines_of}
 use Rattle.trace_text.specs.Valid.{IsValid, sharer_count}
@@ -20,8 +19,7 @@ use Rattle.zone_stats.specs.Line.{zone_line, total_allocs, total_frees, used_ite
 use Rattle.uma_life.specs.Trail.{ShowsSame}
 use Rattle.trace_worker.specs.LedgerStands.{LedgerStands, KeptFits}
 use Rattle.trace_setting.specs.Kegs.{per_slab, primaries, index_of, rights_after}
-use Rattle.uma_replay.specs.Counting.{report_zones}
-use Rattle.uma_replay.specs.Report.{StandsFor, ZoneLedgersFit, LedgerFits, FreesFit, IsLineOf, RefusalFits, ledgers_at, KegAddsUp, UsesAreBuilt, ClockLineFits, line_title, head_title}
+use Rattle.uma_replay.specs.Report.{ZoneLedgersFit, LedgerFits, FreesFit, IsLineOf, RefusalFits, ledgers_at, KegAddsUp, UsesAreBuilt, ClockLineFits, line_title, head_title}
 use Rattle.uma_replay.proofs.Filled.{filled_slots}
 use Rattle.uma_replay.proofs.KegSums.{HaveOuts, items, keg_sum}
 use Rattle.uma_replay.proofs.OwnCounts.{requests_are, args_are, asked_some}
@@ -42,7 +40,7 @@ by_refusal t n z head Names (Reserved free reserve) fit kept = fit (Reserved fre
 by_refusal t n z head Names (Full slabs made) fit kept = fit (Full slabs made) refl kept
 by_refusal t n z head Names (Init code) fit kept = fit (Init code) refl kept
 
-by_last : (t : Trace) (n z : ℕ) (head : ZoneHead) (o : Option Refusal) → ((r : Refusal) → o ≡ Some r → RefusalFits t n z head r) → IfSome o (RefusalFits t n z head)
+pub by_last : (t : Trace) (n z : ℕ) (head : ZoneHead) (o : Option Refusal) → ((r : Refusal) → o ≡ Some r → RefusalFits t n z head r) → IfSome o (RefusalFits t n z head)
 by_last t n z head None each = tt
 by_last t n z head (Some r) each = each r refl
 
@@ -99,7 +97,6 @@ pub record KegEnds (t : Trace) (report : Report) (outs_of frees_of : ℕ → ℕ
 
 pub record Ends (t : Trace) (report : Report) (size : ℕ) (outs_of frees_of : ℕ → ℕ) : Type 0 where
   pub valid : IsValid t
-  pub built : IsBuilt t
   pub most : last_slot < size
   pub ledger_count : length report.ledgers ≡ length t.head.zones
   pub line_count : length report.lines ≡ length t.head.zones
@@ -180,12 +177,12 @@ ledgers_fit t report size z head out keg_free e =
       each = λ n. if_some (slice_get e.ledgers n) (LedgerFits t n z head) (λ l at. e.fits n l at);
     })
 
-zone_frees : (t : Trace) (report : Report) (size z : ℕ) (head : ZoneHead) (out keg_free : ℕ) → IsValid t → IsBuilt t → last_slot < size
+zone_frees : (t : Trace) (report : Report) (size z : ℕ) (head : ZoneHead) (out keg_free : ℕ) → IsValid t → last_slot < size
     → ZoneEnds t report size z head out keg_free → FreesFit t z (ledgers_at report z)
-zone_frees t report size z head out keg_free valid built most e =
+zone_frees t report size z head out keg_free valid most e =
     let P : List SeatLedger → Type 0 = λ ls. FreesFit t z ls in
     subst P (sym (ledgers_of t report size z head out keg_free e))
-    (frees_fit t size z e.live e.ledgers valid built most e.workers e.counted e.filled e.balance)
+    (frees_fit t size z e.live e.ledgers valid most e.workers e.counted e.filled e.balance)
 
 zone_line_of : (t : Trace) (report : Report) (size z : ℕ) (head : ZoneHead) (out keg_free : ℕ) → ZoneEnds t report size z head out keg_free
     → IfSome (slice_get report.lines z) (IsLineOf head (ledgers_at report z))
@@ -226,37 +223,48 @@ keg_adds_up t report size outs_of frees_of k p head e primary keg =
 
 -- ---- the report
 
-pub stands_plain : (t : Trace) (report : Report) (size : ℕ) (outs_of frees_of : ℕ → ℕ) → Ends t report size outs_of frees_of → StandsFor t report
+-- What `StandsFor` says, of the zones of the zone lines alone.
+pub record StandsPlain (t : Trace) (first : Report) : Type 0 where
+  pub line_count : length first.lines ≡ length t.head.zones
+  pub ledger_count : length first.ledgers ≡ length t.head.zones
+  pub hook_count : length first.hooks ≡ length t.head.zones
+  pub keg_count : length first.kegs ≡ length (primaries t.head.zones 0)
+  pub zones : map line_title first.lines ≡ map head_title t.head.zones
+  pub ledgers : (z : ℕ) (head : ZoneHead) → slice_get t.head.zones z ≡ Some head → ZoneLedgersFit t z head (ledgers_at first z)
+  pub frees : (z : ℕ) → z < length t.head.zones → FreesFit t z (ledgers_at first z)
+  pub lines : (z : ℕ) (head : ZoneHead) → slice_get t.head.zones z ≡ Some head → IfSome (slice_get first.lines z) (IsLineOf head (ledgers_at first z))
+  pub hook_names : map (λ (line : HookLine). line.name) first.hooks ≡ map (λ (head : ZoneHead). head.name) t.head.zones
+  pub keg_names : map (λ (line : KegLine). line.name) first.kegs ≡ map (λ (place, head). head.name) (primaries t.head.zones 0)
+  pub detail : first.detail ≡ t.head.detail
+  pub kegs : (k p : ℕ) (head : ZoneHead) → slice_get (primaries t.head.zones 0) k ≡ Some (p, head) → IfSome (slice_get first.kegs k) (KegAddsUp t first (p, head))
+  pub uses : (z : ℕ) → z < length t.head.zones → IfSome (slice_get first.lines z) (λ line. IfSome (slice_get first.hooks z) (UsesAreBuilt line))
+  pub clock : ClockLineFits t t.head.clock first.clock
+
+pub stands_plain : (t : Trace) (report : Report) (size : ℕ) (outs_of frees_of : ℕ → ℕ) → Ends t report size outs_of frees_of → StandsPlain t report
 stands_plain t report size outs_of frees_of e =
     let heads = t.head.zones in
-    let are : report_zones t.head ≡ heads = rw e.built.names (append-nil heads) in
     let line_name = λ (line : HookLine). line.name in
     let keg_name = λ (line : KegLine). line.name in
     let head_name = λ (head : ZoneHead). head.name in
     record {
+      line_count = e.line_count;
+      ledger_count = e.ledger_count;
+      hook_count = e.hook_count;
+      keg_count = e.keg_count;
       zones = same_images line_title head_title report.lines heads e.line_count
-          (λ k line head at_line at. ap line_title (same_Some line (zone_line head.name head.size head.limit (e.zone k head at).ledgers (outs_of k) (frees_of k)) (sym at_line ∙ (e.zone k head at).at_line)))
-          ∙ ap (map head_title) (sym are);
-      ledger_count = e.ledger_count ∙ ap length (sym are);
-      ledgers = let P : List ZoneHead → Type 0 = λ zs. (z : ℕ) → IfSome (slice_get zs z) (λ head. ZoneLedgersFit t z head (ledgers_at report z)) in
-          subst P (sym are) (λ z. if_some (slice_get heads z) (λ head. ZoneLedgersFit t z head (ledgers_at report z))
-          (λ head at. ledgers_fit t report size z head (outs_of z) (frees_of z) (e.zone z head at)));
+          (λ k line head at_line at. ap line_title (same_Some line (zone_line head.name head.size head.limit (e.zone k head at).ledgers (outs_of k) (frees_of k)) (sym at_line ∙ (e.zone k head at).at_line)));
+      ledgers = λ z head at. ledgers_fit t report size z head (outs_of z) (frees_of z) (e.zone z head at);
       frees = λ z below. let found = some_at heads z below in
-          zone_frees t report size z found.0 (outs_of z) (frees_of z) e.valid e.built e.most (e.zone z found.0 found.1);
-      lines = let P : List ZoneHead → Type 0 = λ zs. (z : ℕ) → IfSome (slice_get zs z) (λ head. IfSome (slice_get report.lines z) (IsLineOf head (ledgers_at report z))) in
-          subst P (sym are) (λ z. if_some (slice_get heads z) (λ head. IfSome (slice_get report.lines z) (IsLineOf head (ledgers_at report z)))
-          (λ head at. zone_line_of t report size z head (outs_of z) (frees_of z) (e.zone z head at)));
+          zone_frees t report size z found.0 (outs_of z) (frees_of z) e.valid e.most (e.zone z found.0 found.1);
+      lines = λ z head at. zone_line_of t report size z head (outs_of z) (frees_of z) (e.zone z head at);
       hook_names = same_images line_name head_name report.hooks heads e.hook_count
-          (λ k line head at_line at. let zone = e.zone k head at in ap line_name (same_Some line zone.hooks (sym at_line ∙ zone.at_hooks)) ∙ zone.named)
-          ∙ ap (map head_name) (sym are);
+          (λ k line head at_line at. let zone = e.zone k head at in ap line_name (same_Some line zone.hooks (sym at_line ∙ zone.at_hooks)) ∙ zone.named);
       keg_names = pair_images keg_name head_name report.kegs (primaries heads 0) e.keg_count
-          (λ k line p head at_line at. let keg = e.keg k p head at in ap keg_name (same_Some line keg.line (sym at_line ∙ keg.at)) ∙ keg.named)
-          ∙ ap (λ zs. map (λ (place, head). head.name) (primaries zs 0)) (sym are);
+          (λ k line p head at_line at. let keg = e.keg k p head at in ap keg_name (same_Some line keg.line (sym at_line ∙ keg.at)) ∙ keg.named);
       detail = e.detail;
-      kegs = λ k. if_some (slice_get (primaries heads 0) k) (λ primary. IfSome (slice_get report.kegs k) (KegAddsUp t report primary))
-          (λ (p, head) at. let keg = e.keg k p head at in
+      kegs = λ k p head at. let keg = e.keg k p head at in
           if_at (slice_get report.kegs k) (KegAddsUp t report (p, head)) keg.line keg.at
-          (keg_adds_up t report size outs_of frees_of k p head e (primary_is heads 0 k p head at) keg));
+          (keg_adds_up t report size outs_of frees_of k p head e (primary_is heads 0 k p head at) keg);
       uses = λ z below. let found = some_at heads z below in
           let zone = e.zone z found.0 found.1 in
           let line = zone_line found.0.name found.0.size found.0.limit zone.ledgers (outs_of z) (frees_of z) in

@@ -10,10 +10,10 @@ use Rattle.uma_replay.specs.Reporting.{is_primary, keg_number}
 abbrev by_parent : Option ℕ → ℕ → ZoneHead → List ZoneHead → List (ℕ × ZoneHead)
 by_parent o z head heads = cond (is_some o) (primaries heads (z + 1)) ((z, head) ∷ primaries heads (z + 1))
 
-primaries-own : (head : ZoneHead) (heads : List ZoneHead) (z : ℕ) → head.parent ≡ None → primaries (head ∷ heads) z ≡ (z, head) ∷ primaries heads (z + 1)
+pub primaries-own : (head : ZoneHead) (heads : List ZoneHead) (z : ℕ) → head.parent ≡ None → primaries (head ∷ heads) z ≡ (z, head) ∷ primaries heads (z + 1)
 primaries-own head heads z is = ap (λ o. by_parent o z head heads) is
 
-primaries-over : (head : ZoneHead) (heads : List ZoneHead) (z q : ℕ) → head.parent ≡ Some q → primaries (head ∷ heads) z ≡ primaries heads (z + 1)
+pub primaries-over : (head : ZoneHead) (heads : List ZoneHead) (z q : ℕ) → head.parent ≡ Some q → primaries (head ∷ heads) z ≡ primaries heads (z + 1)
 primaries-over head heads z q is = ap (λ o. by_parent o z head heads) is
 
 abbrev number : List ZoneHead → ℕ → ℕ

@@ -1,4 +1,4 @@
--- What a replay leaves stands for its trace.
+-- What a replay leaves stands for the zone lines of its trace.
 use Rattle.std.proofs.Common.{◌≡◌, ℕ, zero, suc, ◌+◌, ◌*◌, ◌/◌, ◌<◌, ◌≤◌, List, [], ◌∷◌, true, false, cond, length, map, min, take, option_map, Option, None, Some, refl, sym, ap, ◌∙◌, subst, arith}
 use Rattle.std.proofs.lemmas.Bool.{false≢true, true≢false, eqb-true}
 use Rattle.std.proofs.lemmas.List.{length-map}
@@ -13,7 +13,6 @@ use Rattle.trace_text.specs.declared.head.ClockHead.{ClockHead}
 use Rattle.trace_text.specs.declared.head.Head.{Head}
 use Rattle.trace_text.specs.declared.head.ZoneHead.{ZoneHead}
 use Rattle.trace_text.specs.declared.trace.Trace.{Trace}
-use Rattle.trace_text.specs.Built.{IsBuilt}
 use Rattle.trace_text.specs.Lines.{Line}
 use Rattle.trace_text.specs.Valid.{IsValid, HeadFits, KegFits, ZoneFits, sharer_count}
 use Rattle.uma_keg.specs.declared.census.Census.{Census}
@@ -38,16 +37,17 @@ use Rattle.trace_worker.specs.LedgerStands.{LedgerStands}
 use Rattle.trace_worker.specs.Live.{is_of, live_count}
 use Rattle.trace_worker.specs.Slots.{slot_at}
 use Rattle.trace_worker.specs.Stands.{NamesZone, Stands}
+use Rattle.trace_worker.specs.Worker.{phase_of}
 use Rattle.trace_worker.specs.Together.{AllStand, AddsUp, ledger_at, all_live, all_frees, all_allocs}
 use Rattle.trace_setting.specs.Kegs.{keg_place, index_of, per_slab, primaries}
 use Rattle.trace_setting.specs.Zones.{AreZones, IsZoneOf}
 use Rattle.trace_totals.specs.Clock.{ReadsHands}
 use Rattle.trace_totals.specs.Closes.{AllClose, KegCloses}
-use Rattle.uma_replay.specs.Report.{StandsFor, RefusalFits, ClockLineFits}
+use Rattle.uma_replay.specs.Report.{RefusalFits, ClockLineFits}
 use Rattle.uma_replay.specs.Reporting.{IsReportOf, AreLedgersOf, keg_number, hook_line, keg_line, clock_line, shown_free}
-use Rattle.uma_replay.proofs.Entries.{clock_stands}
+use Rattle.uma_replay.proofs.Entries.{clock_stands, sum-term}
 use Rattle.uma_replay.proofs.Filled.{filled_at, filled_slots}
-use Rattle.uma_replay.proofs.PlainStands.{Ends, KegEnds, ZoneEnds, all_lines, ledger_fits, some_at, stands_plain}
+use Rattle.uma_replay.proofs.PlainStands.{Ends, KegEnds, StandsPlain, ZoneEnds, all_lines, ledger_fits, some_at, stands_plain}
 use Rattle.uma_replay.proofs.Primaries.{IsPrimaryAt, keg_at, keg_within, primary_is, same_number}
 use Rattle.uma_replay.proofs.Upto.{upto}
 use Rattle.uma_replay.proofs.ZoneFrees.{row_filled, all_filled}
@@ -80,7 +80,7 @@ ledger_sums f g (w ∷ ws) (l ∷ ls) same =
     let here : option_map_or g (f w) 0 ≡ g l = ap (λ o. option_map_or g o 0) first in
     omega (arith, sum_by-cons (λ w. option_map_or g (f w) 0) w ws, sum_by-cons g l ls, here, rest)
 
-ledger_found : {W : Type 0} (f : W → Option SeatLedger) (ws : List W) (ls : List SeatLedger) (n : ℕ) (l : SeatLedger) → map f ws ≡ map Some ls → slice_get ls n ≡ Some l
+pub ledger_found : {W : Type 0} (f : W → Option SeatLedger) (ws : List W) (ls : List SeatLedger) (n : ℕ) (l : SeatLedger) → map f ws ≡ map Some ls → slice_get ls n ≡ Some l
     → (w : W) × (slice_get ws n ≡ Some w) × (f w ≡ Some l)
 ledger_found f [] [] n l same at = absurd (none-some l at)
 ledger_found f [] (first ∷ ls) n l same at = absurd (let size = ap length same in omega arith)
@@ -93,11 +93,6 @@ module _ {H Part : Type 0} {h : Ghosts H Part} where
   seat_found : (o : Option (CountedSeat H Part h)) (l : SeatLedger) → option_map ledger_of o ≡ Some l → (seat : CountedSeat H Part h) × (o ≡ Some seat) × (ledger_of seat ≡ l)
   seat_found None l is = absurd (none-some l is)
   seat_found (Some seat) l is = (seat, refl, same_Some (ledger_of seat) l is)
-
-sum-term : {W : Type 0} (f : W → ℕ) (ws : List W) (n : ℕ) (w : W) → slice_get ws n ≡ Some w → f w ≤ sum_by f ws
-sum-term f [] n w at = absurd (none-some w at)
-sum-term f (first ∷ ws) zero w at = omega (arith, sum_by-cons f first ws, ap f (same_Some first w at))
-sum-term f (first ∷ ws) (suc n) w at = omega (arith, sum_by-cons f first ws, sum-term f ws n w at)
 
 held_zone : (z : ℕ) (o : Option Held) → is_of z o ≡ true → (it : Held) × (o ≡ Some it) × (it.zone ≡ z)
 held_zone z None is = absurd (false≢true is)
@@ -119,7 +114,6 @@ module _ {H Part : Type 0} {h : Ghosts H Part} where
   pub record Leaves (t : Trace) (zones : List (CountedZone H Part h)) (clock : Clock H Part) (workers : List (Worker H Part h)) (censuses : List Census) (tallies : List TallySum) (deferred : List ℕ) (read write gave_up : ℕ)
       (report : Report) : Type 0 where
     pub valid : IsValid t
-    pub built : IsBuilt t
     pub count : length workers ≡ t.head.workers
     pub stand : AllStand zones clock (all_lines t) workers
     pub adds_up : (z : ℕ) → AddsUp z workers
@@ -362,8 +356,8 @@ module _ {H Part : Type 0} {h : Ghosts H Part} (t : Trace) (zones : List (Counte
       let start = l.start c is in
       let window = l.window c is in
       let line : ClockLine = clock_line read write workers in
-      clock_stands t c line workers (λ w. w.entered) (λ w. w.late) l.valid l.built l.count
-      (λ n w at. (l.stand.stands n w at).enters_add_up)
+      clock_stands t c line workers (λ w. w.entered) (λ w. w.late) phase_of l.valid l.count
+      (λ n w at. (l.stand.stands n w at).entries)
       (λ n w at late. far_seen _ _ _ _ _ _ start window ((l.stand.stands n w at).overtaken late) (l.hands.greatest_seen n w at))
       refl refl
       (record {
@@ -377,7 +371,6 @@ module _ {H Part : Type 0} {h : Ghosts H Part} (t : Trace) (zones : List (Counte
   ends : Ends t report size (out_at heads censuses) (free_at heads censuses)
   ends = record {
     valid = l.valid;
-    built = l.built;
     most = least_size (sum_by (λ (w : Worker H Part h). length w.slots) workers);
     ledger_count = l.is.ledgers.count;
     line_count = l.is.lines.count;
@@ -389,5 +382,5 @@ module _ {H Part : Type 0} {h : Ghosts H Part} (t : Trace) (zones : List (Counte
     clock = let P : Option ClockLine → Type 0 = λ o. ClockLineFits t t.head.clock o in subst P (sym l.is.clock) (by_clock t.head.clock refl);
   }
 
-  pub stands_for : StandsFor t report
+  pub stands_for : StandsPlain t report
   stands_for = stands_plain t report size (out_at heads censuses) (free_at heads censuses) ends

@@ -1,5 +1,5 @@
 -- Workers that stay as they were, but for what their passes learn and for the tokens of their items.
-use Rattle.std.proofs.Common.{◌≡◌, ℕ, zero, suc, ◌+◌, ◌<◌, ◌≤◌, inl, inr, ◌⊎◌, List, [], ◌∷◌, Bool, false, cond, length, map, get_or, Option, None, Some, refl, sym, ap, ◌∙◌, subst, arith}
+use Rattle.std.proofs.Common.{◌≡◌, ℕ, zero, suc, ◌+◌, ◌<◌, ◌≤◌, inl, inr, ◌⊎◌, List, [], ◌∷◌, Bool, false, cond, length, map, get_or, Option, None, Some, refl, sym, ap, ◌∙◌, subst, arith, le_trans}
 use Rattle.std.proofs.lemmas.List.{length-map}
 use Rattle.std.proofs.lemmas.List.Sums.{sum_by-cons}
 use Rattle.std.proofs.lemmas.Option.{none-some, same_Some, slice_get_within}
@@ -17,6 +17,8 @@ use Rattle.zone_stats.specs.declared.ledger.SeatLedger.{SeatLedger}
 use Rattle.trace_worker.specs.declared.held.Held.{Held}
 use Rattle.trace_worker.specs.declared.worker.Worker.{Worker}
 use Rattle.trace_worker.specs.declared.counted.Counted.{Counted}
+use Rattle.trace_worker.specs.Counting.{looks, sections}
+use Rattle.trace_worker.specs.EntriesStand.{EntriesStand}
 use Rattle.trace_worker.specs.Items.{CountedZone}
 use Rattle.trace_worker.specs.Live.{is_of, live_count}
 use Rattle.trace_worker.specs.Slots.{slot_at}
@@ -25,14 +27,10 @@ use Rattle.trace_worker.specs.Together.{AllStand, AddsUp, ledger_at, all_live, a
 use Rattle.trace_worker.specs.Worker.{Fits, HasSeats, IsHeld, phase_of, seen_of}
 use Rattle.trace_census.specs.Lending.{seen_slot, KeepsWorker, KeepsWorkers}
 use Rattle.trace_totals.specs.Clock.{AllLearn, Learns, ReadsHands, floor_of}
-use Rattle.uma_replay.specs.Playing.{Stays}
+use Rattle.uma_replay.specs.Playing.{AllStay, Stays}
 use Rattle.uma_replay.proofs.PlainStands.{some_at}
 
 module _ {H Part : Type 0} {h : Ghosts H Part} where
-  pub record AllStay (clock : Clock H Part) (old new : List (Worker H Part h)) : Type 0 where
-    pub count : length new ≡ length old
-    pub each : (n : ℕ) (before after : Worker H Part h) → slice_get old n ≡ Some before → slice_get new n ≡ Some after → Stays clock before after
-
   pub stays_learn : (clock : Clock H Part) (old new : Worker H Part h) → Learns clock old new → Stays clock old new
   stays_learn clock old new l = record {
     seats = l.seats;
@@ -113,8 +111,21 @@ either_phase : (a b : Phase) → a ≡ b → (b ≡ Outside) ⊎ (b ≡ Inside) 
 either_phase a b same (inl is) = inl (same ∙ is)
 either_phase a b same (inr is) = inr (same ∙ is)
 
-sum_kept : (e l e' l' n : ℕ) → e' ≡ e → l' ≡ l → e + l ≡ n → e' + l' ≡ n
-sum_kept e l e' l' n e1 e2 sum = omega arith
+late_none : (l l' : ℕ) → l' ≡ l → l' ≡ 0 → l ≡ 0
+late_none l l' same none = omega arith
+
+kept_counts : (wanted more e l e' l' : ℕ) → e' ≡ e → l' ≡ l → wanted ≤ e + l → e + l ≤ wanted + more → (wanted ≤ e' + l') × (e' + l' ≤ wanted + more)
+kept_counts wanted more e l e' l' e1 e2 enough most = (omega arith, omega arith)
+
+entries_stay : (n : ℕ) (lines : List Line) (e l e' l' : ℕ) (phase phase' : Phase) → e' ≡ e → l' ≡ l → phase' ≡ phase → EntriesStand n lines e l phase → EntriesStand n lines e' l' phase'
+entries_stay n lines e l e' l' phase phase' same_e same_l same s =
+    let both = kept_counts (sections n lines) (looks n lines) e l e' l' same_e same_l s.enough s.most in
+    record {
+      enough = both.0;
+      in_time = λ none. same_e ∙ s.in_time (late_none l l' same_l none);
+      most = both.1;
+      inside = λ none open_one. same ∙ s.inside (late_none l l' same_l none) open_one;
+    }
 
 more_seen : (a b c : ℕ) → a ≤ b → b ≤ c → a ≤ c
 more_seen a b c first second = omega arith
@@ -132,7 +143,7 @@ module _ {H Part : Type 0} {h : Ghosts H Part} where
     few = first_le (length new.slots) (length old.slots) 65536 (sym (length-map new.slots seen_slot) ∙ (ap length s.slots ∙ length-map old.slots seen_slot)) f.few;
     outside = λ not. s.phase ∙ f.outside not;
     between = either_phase (phase_of new) (phase_of old) s.phase f.between;
-    enters_add_up = sum_kept old.entered old.late new.entered new.late _ s.entered s.late f.enters_add_up;
+    entries = entries_stay n lines old.entered old.late new.entered new.late (phase_of old) (phase_of new) s.entered s.late s.phase f.entries;
     begun = more_seen _ (seen_of old) (seen_of new) f.begun s.seen;
     overtaken = λ late. more_seen _ (seen_of old) (seen_of new) (f.overtaken (some_late new.late old.late s.late late)) s.seen;
   }
@@ -192,6 +203,24 @@ module _ {H Part : Type 0} {h : Ghosts H Part} where
       (sums_same (λ (w : Worker H Part h). live_count z w.slots) old new s.count (λ n v w at at'. live_same clock z v w (s.each n v w at at')))
       (sums_same (counted_at z (λ ledger. ledger.frees)) old new s.count (λ n v w at at'. seat_same clock z (λ ledger. ledger.frees) v w (s.each n v w at at')))
       (sums_same (counted_at z (λ ledger. ledger.allocs)) old new s.count (λ n v w at at'. seat_same clock z (λ ledger. ledger.allocs) v w (s.each n v w at at')))
+
+  pub stays_chain : (clock : Clock H Part) (old mid new : Worker H Part h) → Stays clock old mid → Stays clock mid new → Stays clock old new
+  stays_chain clock old mid new first next = record {
+    seats = next.seats ∙ first.seats;
+    slots = next.slots ∙ first.slots;
+    entered = next.entered ∙ first.entered;
+    late = next.late ∙ first.late;
+    here = next.here;
+    phase = next.phase ∙ first.phase;
+    seen = le_trans first.seen next.seen;
+  }
+
+  pub all_chain : (clock : Clock H Part) (old mid new : List (Worker H Part h)) → AllStay clock old mid → AllStay clock mid new → AllStay clock old new
+  all_chain clock old mid new first next = record {
+    count = next.count ∙ first.count;
+    each = λ n v w at at'. let between = found_before mid new n w next.count at' in
+        stays_chain clock v between.0 w (first.each n v between.0 at between.1) (next.each n between.0 w between.1 at');
+  }
 
   pub learn_stay : (clock : Clock H Part) (old new : List (Worker H Part h)) → AllLearn clock old new → AllStay clock old new
   learn_stay clock old new l = record { count = l.count; each = λ n v w at at'. stays_learn clock v w (l.each n v w at at') }

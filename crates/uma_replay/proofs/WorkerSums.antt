@@ -3,28 +3,28 @@ use Rattle.std.proofs.Common.{◌≡◌, ◌≢◌, ℕ, ◌+◌, ◌<◌, ◌�
 use Rattle.std.proofs.lemmas.Bool.{ne_eqb, and_left}
 use Rattle.std.proofs.lemmas.List.{reverse-append, append_assoc}
 use Rattle.std.proofs.lemmas.List.Elements.{All-head, All-tail}
-use Rattle.std.specs.Prelude.{All, ◌==◌}
+use Rattle.std.specs.Prelude.{All, not, ◌==◌}
 use Rattle.trace_text.specs.declared.head.Head.{Head}
 use Rattle.trace_text.specs.declared.op.Op.{Op}
 use Rattle.trace_text.specs.declared.op.Op.TheVariants.{Alloc, Free, Enter, Exit, Bind, Unbind, Look, Trim, Drain, DrainSeat, Prealloc}
 use Rattle.trace_text.specs.declared.between.Between.TheVariants.{Give}
-use Rattle.trace_text.specs.Built.{IsBuiltOp}
 use Rattle.trace_text.specs.Lines.{Line, Does, Moves}
 use Rattle.trace_text.specs.Limits.{last_slot}
 use Rattle.trace_text.specs.Valid.{OpFits, BetweenFits, LineFits, LinesFit}
-use Rattle.trace_worker.specs.Counting.{is_ask, is_enter, is_free_of, asked, enters, freed}
-use Rattle.trace_worker.proofs.LineCounts.{asked-more, enters-more, freed-more, asked-none, enters-none, freed-none}
+use Rattle.trace_text.specs.Reading.{in_section}
+use Rattle.trace_worker.specs.Counting.{is_ask, is_section, is_free_of, asked, sections, freed}
+use Rattle.trace_worker.proofs.LineCounts.{asked-more, sections-more, freed-more, asked-none, sections-none, freed-none}
 use Rattle.uma_replay.specs.Counting.{free_count, frees_of, enter_count, is_entry}
 use Rattle.uma_replay.proofs.Filled.{ask_count, asks_of, NamesBelow, AddsUp, adds-more, AddsUp-none, ask-more, ask-none}
 use Rattle.uma_replay.proofs.Upto.{upto, upto-point, upto-same, upto-zero}
 
 -- the line is of one of so many workers and fits by itself
 abbrev pub IsLine : Head → Line → Type 0
-IsLine h (Does w op) = (w < h.workers) × OpFits h op × IsBuiltOp op
+IsLine h (Does w op) = (w < h.workers) × OpFits h op
 IsLine h (Moves between) = BetweenFits h between
 
 -- sums over the workers that differ at one worker
-more-at : (f g : ℕ → ℕ) (count v unit : ℕ) → v < count → ((n : ℕ) → n ≢ v → f n ≡ g n) → f v ≡ g v + unit → upto f 0 count ≡ upto g 0 count + unit
+pub more-at : (f g : ℕ → ℕ) (count v unit : ℕ) → v < count → ((n : ℕ) → n ≢ v → f n ≡ g n) → f v ≡ g v + unit → upto f 0 count ≡ upto g 0 count + unit
 more-at f g count v unit below others own = omega (arith, upto-point f g 0 count v (omega arith) (omega arith) others, own)
 
 -- a count of lines, and for each worker a count of its own
@@ -49,22 +49,15 @@ free-own : (z v : ℕ) (lines : List Line) (op : Op) → is_free_of v z lines (D
 free-own z v lines (Free slot) = rw (eq-eqb v v refl) refl
 free-own z v lines op = refl
 
-enter-others : (n v : ℕ) (op : Op) → n ≢ v → is_enter n (Does v op) ≡ false
-enter-others n v Enter apart = ne_eqb v n (λ e. apart (sym e))
-enter-others n v op apart = refl
+section-others : (n v : ℕ) (lines : List Line) (op : Op) → n ≢ v → is_section n lines (Does v op) ≡ false
+section-others n v lines Enter apart = ne_eqb v n (λ e. apart (sym e))
+section-others n v lines (Look key) apart = and_left (v == n) (not (in_section lines n)) (ne_eqb v n (λ e. apart (sym e)))
+section-others n v lines op apart = refl
 
-enter-own : (v : ℕ) (lines : List Line) (op : Op) → IsBuiltOp op → is_enter v (Does v op) ≡ is_entry lines (Does v op)
-enter-own v lines Enter built = eq-eqb v v refl
-enter-own v lines (Look key) built = absurd built
-enter-own v lines (Alloc zone slot arg reserve) built = refl
-enter-own v lines (Free slot) built = refl
-enter-own v lines Exit built = refl
-enter-own v lines (Bind key value) built = refl
-enter-own v lines (Unbind key) built = refl
-enter-own v lines (Trim zone) built = refl
-enter-own v lines (Drain zone) built = refl
-enter-own v lines (DrainSeat zone) built = refl
-enter-own v lines (Prealloc zone items) built = refl
+section-own : (v : ℕ) (lines : List Line) (op : Op) → is_section v lines (Does v op) ≡ is_entry lines (Does v op)
+section-own v lines Enter = eq-eqb v v refl
+section-own v lines (Look key) = rw (eq-eqb v v refl) refl
+section-own v lines op = refl
 
 -- ---- one line more
 
@@ -102,20 +95,20 @@ frees-more h z lines (Does v op) is before =
     (omega (arith, freed-more v z line lines, own)) in
     more ∙ ap (λ k. k + one) before
 
-enters-grow : (h : Head) (lines : List Line) (line : Line) → IsLine h line → upto (λ n. enters n lines) 0 h.workers ≡ enter_count lines
-    → upto (λ n. enters n (line ∷ lines)) 0 h.workers ≡ enter_count (line ∷ lines)
-enters-grow h lines (Moves between) is before =
-    let same : upto (λ n. enters n (Moves between ∷ lines)) 0 h.workers ≡ upto (λ n. enters n lines) 0 h.workers =
-    upto-same (λ n. enters n (Moves between ∷ lines)) (λ n. enters n lines) 0 h.workers (λ n from to. omega (arith, enters-more n (Moves between) lines)) in
+sections-grow : (h : Head) (lines : List Line) (line : Line) → IsLine h line → upto (λ n. sections n lines) 0 h.workers ≡ enter_count lines
+    → upto (λ n. sections n (line ∷ lines)) 0 h.workers ≡ enter_count (line ∷ lines)
+sections-grow h lines (Moves between) is before =
+    let same : upto (λ n. sections n (Moves between ∷ lines)) 0 h.workers ≡ upto (λ n. sections n lines) 0 h.workers =
+    upto-same (λ n. sections n (Moves between ∷ lines)) (λ n. sections n lines) 0 h.workers (λ n from to. omega (arith, sections-more n (Moves between) lines)) in
     omega (arith, same, before)
-enters-grow h lines (Does v op) is before =
+sections-grow h lines (Does v op) is before =
     let line = Does v op in
     let one = unit (is_entry lines line) in
-    let own : unit (is_enter v line) ≡ one = ap unit (enter-own v lines op is.2) in
-    let more : upto (λ n. enters n (line ∷ lines)) 0 h.workers ≡ upto (λ n. enters n lines) 0 h.workers + one =
-    more-at (λ n. enters n (line ∷ lines)) (λ n. enters n lines) h.workers v one is.0
-    (λ n apart. let none : unit (is_enter n line) ≡ 0 = ap unit (enter-others n v op apart) in omega (arith, enters-more n line lines, none))
-    (omega (arith, enters-more v line lines, own)) in
+    let own : unit (is_section v lines line) ≡ one = ap unit (section-own v lines op) in
+    let more : upto (λ n. sections n (line ∷ lines)) 0 h.workers ≡ upto (λ n. sections n lines) 0 h.workers + one =
+    more-at (λ n. sections n (line ∷ lines)) (λ n. sections n lines) h.workers v one is.0
+    (λ n apart. let none : unit (is_section n lines line) ≡ 0 = ap unit (section-others n v lines op apart) in omega (arith, sections-more n line lines, none))
+    (omega (arith, sections-more v line lines, own)) in
     more ∙ ap (λ k. k + one) before
 
 -- ---- all lines
@@ -125,7 +118,7 @@ pub record Sums (h : Head) (size z : ℕ) (lines : List Line) : Type 0 where
   pub filled : AddsUp h.workers size z lines
   pub asks : upto (λ n. asked n z lines) 0 h.workers ≡ ask_count z lines
   pub frees : upto (λ n. freed n z lines) 0 h.workers ≡ free_count z lines
-  pub enters : upto (λ n. enters n lines) 0 h.workers ≡ enter_count lines
+  pub sections : upto (λ n. sections n lines) 0 h.workers ≡ enter_count lines
 
 below : (h : Head) (size : ℕ) (line : Line) → last_slot < size → IsLine h line → NamesBelow h.workers size line
 below h size (Does w (Alloc zone slot arg reserve)) most is = let at : slot ≤ 65535 = is.1.1 in let top : 65535 < size = most in (is.0, omega arith)
@@ -147,7 +140,7 @@ Sums-none h size z = record {
   filled = AddsUp-none h.workers size z;
   asks = upto-zero (λ n. asked n z []) 0 h.workers (λ n. asked-none n z) ∙ sym (ask-none z);
   frees = upto-zero (λ n. freed n z []) 0 h.workers (λ n. freed-none n z);
-  enters = upto-zero (λ n. enters n []) 0 h.workers (λ n. enters-none n);
+  sections = upto-zero (λ n. sections n []) 0 h.workers (λ n. sections-none n);
 }
 
 Sums-more : (h : Head) (size z : ℕ) (lines : List Line) (line : Line) → last_slot < size → IsLine h line → LineFits lines line → Sums h size z lines → Sums h size z (line ∷ lines)
@@ -155,7 +148,7 @@ Sums-more h size z lines line most is fits before = record {
   filled = adds-more h.workers size z lines line (below h size line most is) fits before.filled;
   asks = asks-more h z lines line is before.asks;
   frees = frees-more h z lines line is before.frees;
-  enters = enters-grow h lines line is before.enters;
+  sections = sections-grow h lines line is before.sections;
 }
 
 -- the lines in order, on top of earlier ones

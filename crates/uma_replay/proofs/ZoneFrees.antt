@@ -4,7 +4,6 @@ use Rattle.std.proofs.lemmas.Bool.{cond-true}
 use Rattle.std.proofs.lemmas.List.Sums.{sum_by-cons}
 use Rattle.std.specs.Prelude.{◌==◌, slice_get, count_by, sum_by}
 use Rattle.trace_text.specs.declared.trace.Trace.{Trace}
-use Rattle.trace_text.specs.Built.{IsBuilt}
 use Rattle.trace_text.specs.Lines.{Line, lines_of}
 use Rattle.trace_text.specs.Limits.{last_slot}
 use Rattle.trace_text.specs.Reading.{held}
@@ -74,17 +73,17 @@ pub record IsCounted (n z : ℕ) (lines : List Line) (l : SeatLedger) : Type 0 w
   pub requests : l.requests ≡ asked n z lines
   pub frees : l.frees ≤ freed n z lines
 
-pub sums_of : (t : Trace) (size z : ℕ) → IsValid t → IsBuilt t → last_slot < size → Sums t.head size z (reverse (lines_of t.rounds))
-sums_of t size z valid built most = Sums-all t.head size z (lines_of t.rounds) most (lines_are t.head t.rounds valid.rounds built.rounds) valid.lines
+pub sums_of : (t : Trace) (size z : ℕ) → IsValid t → last_slot < size → Sums t.head size z (reverse (lines_of t.rounds))
+sums_of t size z valid most = Sums-all t.head size z (lines_of t.rounds) most (lines_are t.head t.rounds valid.rounds) valid.lines
 
 -- The ledgers and the live items of a zone: as many items as slots hold were allocated and not freed.
-pub frees_fit : (t : Trace) (size z live : ℕ) (ls : List SeatLedger) → IsValid t → IsBuilt t → last_slot < size → length ls ≡ t.head.workers
+pub frees_fit : (t : Trace) (size z live : ℕ) (ls : List SeatLedger) → IsValid t → last_slot < size → length ls ≡ t.head.workers
     → ((n : ℕ) (l : SeatLedger) → slice_get ls n ≡ Some l → IsCounted n z (reverse (lines_of t.rounds)) l)
     → live ≤ filled_slots t.head.workers size z (reverse (lines_of t.rounds)) → live + total_frees ls ≡ total_allocs ls → FreesFit t z ls
 unfolding total_requests
-frees_fit t size z live ls valid built most count each below balance =
+frees_fit t size z live ls valid most count each below balance =
     let lines = reverse (lines_of t.rounds) in
-    let sums : Sums t.head size z lines = sums_of t size z valid built most in
+    let sums : Sums t.head size z lines = sums_of t size z valid most in
     let P : ℕ → Type 0 = λ w. sum_by (λ (ledger : SeatLedger). ledger.frees) ls ≤ upto (λ n. freed n z lines) 0 w in
     let Q : ℕ → Type 0 = λ w. sum_by (λ (ledger : SeatLedger). ledger.requests) ls ≡ upto (λ n. asked n z lines) 0 w in
     let frees : total_frees ls ≤ upto (λ n. freed n z lines) 0 t.head.workers =

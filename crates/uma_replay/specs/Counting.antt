@@ -7,10 +7,10 @@ use Rattle.trace_text.specs.declared.head.NamesHead.{NamesHead}
 use Rattle.trace_text.specs.declared.head.ZoneHead.{ZoneHead}
 use Rattle.trace_text.specs.declared.head.ZoneKind.TheVariants.{Smr}
 use Rattle.trace_text.specs.declared.op.Op.{Op}
-use Rattle.trace_text.specs.declared.op.Op.TheVariants.{Alloc, Free, Enter, Bind, Look}
+use Rattle.trace_text.specs.declared.op.Op.TheVariants.{Alloc, Free, Enter, Bind, Unbind, Look}
 use Rattle.trace_text.specs.declared.round.Round.{Round}
 use Rattle.trace_text.specs.declared.trace.Trace.{Trace}
-use Rattle.trace_text.specs.Lines.{Line, Does}
+use Rattle.trace_text.specs.Lines.{Line, Does, lines_of}
 use Rattle.trace_text.specs.Reading.{held, in_section}
 
 -- the zone of the entries of a name cache: SMR, of size 64, without limit and reserve
@@ -43,6 +43,23 @@ is_alloc_with z code op = false
 abbrev pub is_bind : Op → Bool
 is_bind (Bind key value) = true
 is_bind op = false
+
+abbrev pub is_unbind : Op → Bool
+is_unbind (Unbind key) = true
+is_unbind op = false
+
+abbrev pub is_look : Op → Bool
+is_look (Look key) = true
+is_look op = false
+
+-- some worker's line is of this kind
+abbrev pub is_done : (Op → Bool) → Line → Bool
+is_done kind (Does w op) = kind op
+is_done kind line = false
+
+-- how many lines of this kind all workers have
+abbrev pub kind_count : (Op → Bool) → Trace → ℕ
+kind_count kind t = count_by (is_done kind) (lines_of t.rounds)
 
 -- what counts as a request of the zone at this place: its allocs, and for the names zone the binds
 abbrev pub is_request_of : Head → ℕ → Op → Bool

@@ -1,19 +1,24 @@
 -- What a replay leaves behind, and what its report has to do with it (own).
-use Rattle.std.specs.Prelude.{◌≡◌, ℕ, List, length, reverse}
+use Rattle.std.specs.Prelude.{◌≡◌, ℕ, List, Some, IfSome, is_some, length, reverse, slice_get}
 use Rattle.smr_clock.specs.declared.clock.Clock.{Clock}
 use Rattle.smr_clock.specs.declared.host.Host.{Ghosts}
 use Rattle.trace_text.specs.declared.trace.Trace.{Trace}
 use Rattle.trace_text.specs.Lines.{lines_of}
 use Rattle.uma_life.specs.declared.tally_sum.TallySum.{TallySum}
 use Rattle.zone_stats.specs.declared.report.Report.{Report}
+use Rattle.trace_worker.specs.declared.name_calls.NameCalls.{Ghosts as NameGhosts}
+use Rattle.trace_worker.specs.declared.naming.Naming.{Naming}
 use Rattle.trace_worker.specs.declared.worker.Worker.{Worker}
+use Rattle.trace_worker.specs.Clocks.{IsClockOf}
 use Rattle.trace_worker.specs.Items.{CountedZone}
+use Rattle.trace_worker.specs.NameSizes.{sizes_for}
+use Rattle.trace_worker.specs.NamesStand.{NamesOfClock, NamesStand}
 use Rattle.trace_worker.specs.Together.{AddsUp, AllStand}
-use Rattle.trace_setting.specs.Clock.{IsClockOf}
 use Rattle.trace_setting.specs.Zones.{AreZones}
 use Rattle.trace_totals.specs.Clock.{ReadsHands}
 use Rattle.trace_totals.specs.Closes.{AllClose}
 use Rattle.uma_replay.specs.declared.hall.Hall.{Hall}
+use Rattle.uma_replay.specs.Names.{IsWhole}
 use Rattle.uma_replay.specs.Playing.{AllPlayed}
 use Rattle.uma_replay.specs.Reporting.{IsReportOf}
 
@@ -26,15 +31,27 @@ module _ {H P : Type 0} {h : Ghosts H P} where
     -- each worker's seats, pass and items are of these zones and this clock, and it stands for all lines
     pub worker_count : length workers ≡ t.head.workers
     pub stand : AllStand zones clock (reverse (lines_of t.rounds)) workers
-    -- it began new and did its own lists, line after line, with the `give` lines between them
-    pub played : AllPlayed t zones clock workers
     -- the live items of each zone are its allocs less its frees
     pub adds_up : (z : ℕ) → AddsUp z workers
 
+module _ {N H C S P : Type 0} {h : Ghosts H P} (names : NameGhosts N H C S P) where
+  -- All that is of the names when all lines are done.
+  pub record NamesDone (t : Trace) (cache : C) (zones : List (CountedZone H P h)) (clock : Clock H P) (workers : List (Worker H P h)) (namings : List (Naming N H C S P)) : Type 0 where
+    -- they are served where the trace has a names line, by this clock and with that line's sizes
+    pub served : names.serves ≡ is_some t.head.names
+    pub of_clock : NamesOfClock names cache clock
+    pub sizes : IfSome t.head.names (λ line. names.sizes_of cache ≡ sizes_for t.head line)
+    -- each worker has a seat of them, and its counts stand for all lines
+    pub naming_count : length namings ≡ t.head.workers
+    pub stand : (n : ℕ) (w : Worker H P h) (naming : Naming N H C S P) → slice_get workers n ≡ Some w → slice_get namings n ≡ Some naming → NamesStand names cache n (reverse (lines_of t.rounds)) w.late naming
+    -- it began new and did its own lists, line after line, with the `give` lines between them
+    pub played : AllPlayed names cache t zones clock workers namings
+
   -- The hall of a trace, and its report, which is made of what the hall has: of the workers' ledgers and counts, of the kegs' censuses, and of
   -- these sums of hooks, counts of deferred items and hands.
-  pub record HallStands (t : Trace) (report : Report) (hall : Hall H P h) : Type 0 where
+  pub record HallStands (t : Trace) (report : Report) (hall : Hall N H C S P h) : Type 0 where
     pub done : AreDone t hall.zones hall.clock hall.workers
+    pub named : NamesDone t hall.names hall.zones hall.clock hall.workers hall.namings
     pub tallies : List TallySum
     pub deferred : List ℕ
     -- the sums are those of the censuses' items and of the items in slots and seats, and more, which the zones' domains list; so are the counts
@@ -43,4 +60,8 @@ module _ {H P : Type 0} {h : Ghosts H P} where
     pub write : ℕ
     -- worker 0's pass knows no lower hands than any other, and they are these
     pub hands : ReadsHands hall.clock hall.workers read write
-    pub made_of : IsReportOf t.head hall.workers hall.censuses tallies deferred read write report.gave_up report
+    -- the report of the zones of the zone lines
+    pub first : Report
+    pub made_of : IsReportOf t.head hall.workers hall.censuses tallies deferred read write first.gave_up first
+    -- behind it the zone of the names, where the trace has one
+    pub whole : IsWhole names hall.names t.head.names hall.namings first report

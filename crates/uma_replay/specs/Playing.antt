@@ -1,16 +1,58 @@
--- How each worker came to what it is when all lines are done (own).
-use Rattle.std.specs.Prelude.{◌≡◌, ◌≤◌, ◌%◌, ℕ, List, map, Some, slice_get}
+-- How each worker began, and how it came to what it is when all lines are done (own).
+use Rattle.std.specs.Prelude.{◌≡◌, ◌≤◌, ◌%◌, ℕ, List, All, IfSome, length, map, reverse, Some, slice_get}
+use Rattle.std.specs.List.{sum_by}
 use Rattle.smr_clock.specs.declared.clock.Clock.{Clock}
 use Rattle.smr_clock.specs.declared.host.Host.{Ghosts}
 use Rattle.smr_clock.specs.Belongs.{IsOf}
 use Rattle.trace_text.specs.declared.trace.Trace.{Trace}
+use Rattle.trace_text.specs.Lines.{lines_of}
+use Rattle.zone_stats.specs.LedgerSteps.{IsNew}
+use Rattle.trace_worker.specs.declared.name_calls.NameCalls.{Ghosts as NameGhosts}
+use Rattle.trace_worker.specs.declared.naming.Naming.{Naming}
 use Rattle.trace_worker.specs.declared.running.Running.{Running}
 use Rattle.trace_worker.specs.declared.worker.Worker.{Worker}
 use Rattle.trace_worker.specs.Items.{CountedZone}
+use Rattle.trace_worker.specs.NameLines.{Doing, doing}
+use Rattle.trace_worker.specs.Naming.{no_counts}
+use Rattle.trace_worker.specs.Together.{AddsUp, AllNamed, AllStand, crew}
 use Rattle.trace_worker.specs.Worker.{phase_of, seen_of}
 use Rattle.trace_setting.specs.Beginners.{IsBeginner}
-use Rattle.trace_rounds.specs.Plays.{PlaysRounds}
+use Rattle.trace_rounds.specs.Plays.{AllPlay, PlaysRounds}
+use Rattle.trace_rounds.specs.Rounds.{AllAsked}
 use Rattle.trace_census.specs.Lending.{seen_slot}
+
+module _ {N H C S P : Type 0} {h : Ghosts H P} where
+  -- what these workers have of the names
+  abbrev pub namings_of : List (Running N H C S P h) → List (Naming N H C S P)
+  namings_of runnings = map (λ (r : Running N H C S P h). r.naming) runnings
+
+  -- how often all of them gave up waiting for their gate
+  abbrev pub gave_ups : List (Running N H C S P h) → ℕ
+  gave_ups runnings = sum_by (λ (r : Running N H C S P h). r.gave_up) runnings
+
+module _ {N H C S P : Type 0} {h : Ghosts H P} (names : NameGhosts N H C S P) (cache : C) where
+  -- It has a seat of the names, counted nothing there, and took no turn.
+  pub record IsFirst (r : Running N H C S P h) : Type 0 where
+    pub seat : names.IsSeat cache r.naming.seat
+    pub fresh : IfSome (names.counted r.naming.seat) IsNew
+    pub counts : r.naming.counts ≡ no_counts
+    pub asked : r.asked ≡ 0
+    pub gave_up : r.gave_up ≡ 0
+
+  -- these workers, each before its first turn
+  pub record AreFirst (workers : List (Worker H P h)) (runnings : List (Running N H C S P h)) : Type 0 where
+    pub are : crew runnings ≡ workers
+    pub each : All IsFirst runnings
+
+module _ {N H C S P : Type 0} {h : Ghosts H P} (names : NameGhosts N H C S P) (cache : C) where
+  -- The workers when all rounds of the trace are done, as they came to be from those before.
+  pub record AreEnded (t : Trace) (zones : List (CountedZone H P h)) (clock : Clock H P) (old new : List (Running N H C S P h)) : Type 0 where
+    pub count : length new ≡ length old
+    pub stand : AllStand zones clock (reverse (lines_of t.rounds)) (crew new)
+    pub adds_up : (z : ℕ) → AddsUp z (crew new)
+    pub named : AllNamed names cache (reverse (lines_of t.rounds)) new
+    pub plays : AllPlay names cache zones t.rounds old new
+    pub asked : AllAsked (reverse (lines_of t.rounds)) new
 
 module _ {H P : Type 0} {h : Ghosts H P} where
   -- The worker stays as it was, but for what its pass learns and for the tokens of its items.
@@ -23,14 +65,22 @@ module _ {H P : Type 0} {h : Ghosts H P} where
     pub phase : phase_of new ≡ phase_of old
     pub seen : seen_of old ≤ seen_of new
 
-  -- Worker `n` when all lines are done: it began new, with its seats in its domain, it did the rounds one after another, and since then it stays.
-  pub record HasPlayed (t : Trace) (zones : List (CountedZone H P h)) (clock : Clock H P) (n : ℕ) (w : Worker H P h) : Type 0 where
-    pub begin : Running H P h
-    pub is_new : IsBeginner zones clock (n % t.head.domains) begin
-    pub end : Worker H P h
-    pub plays : PlaysRounds zones n begin.worker t.rounds end
-    pub stays : Stays clock end w
+  -- each of the workers does
+  pub record AllStay (clock : Clock H P) (old new : List (Worker H P h)) : Type 0 where
+    pub count : length new ≡ length old
+    pub each : (n : ℕ) (before after : Worker H P h) → slice_get old n ≡ Some before → slice_get new n ≡ Some after → Stays clock before after
+
+module _ {N H C S P : Type 0} {h : Ghosts H P} (names : NameGhosts N H C S P) (cache : C) where
+  -- Worker `n` and what it has of the names when all lines are done: it began new, with its seats in its domain, it did the rounds one after another, and since then it stays.
+  pub record HasPlayed (t : Trace) (zones : List (CountedZone H P h)) (clock : Clock H P) (n : ℕ) (w : Worker H P h) (naming : Naming N H C S P) : Type 0 where
+    pub begin : Running N H C S P h
+    pub is_new : IsBeginner zones clock (n % t.head.domains) begin.worker
+    pub is_first : IsFirst names cache begin
+    pub end : Doing N H C S P h
+    pub plays : PlaysRounds names cache zones n (doing begin) t.rounds end
+    pub stays : Stays clock end.worker w
+    pub naming_stays : naming ≡ end.naming
 
   -- each worker has
-  abbrev pub AllPlayed : Trace → List (CountedZone H P h) → Clock H P → List (Worker H P h) → Type 0
-  AllPlayed t zones clock workers = (n : ℕ) (w : Worker H P h) → slice_get workers n ≡ Some w → HasPlayed t zones clock n w
+  abbrev pub AllPlayed : Trace → List (CountedZone H P h) → Clock H P → List (Worker H P h) → List (Naming N H C S P) → Type 0
+  AllPlayed t zones clock workers namings = (n : ℕ) (w : Worker H P h) (naming : Naming N H C S P) → slice_get workers n ≡ Some w → slice_get namings n ≡ Some naming → HasPlayed t zones clock n w naming

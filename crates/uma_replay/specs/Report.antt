@@ -7,17 +7,19 @@ use Rattle.zone_stats.specs.declared.refusal.Refusal.TheVariants.{AtLimit, Reser
 use Rattle.zone_stats.specs.declared.report.ClockLine.{ClockLine}
 use Rattle.zone_stats.specs.declared.report.HookLine.{HookLine}
 use Rattle.zone_stats.specs.declared.report.KegLine.{KegLine}
+use Rattle.zone_stats.specs.declared.report.NamesLine.{NamesLine}
 use Rattle.zone_stats.specs.declared.report.Report.{Report}
 use Rattle.zone_stats.specs.declared.report.ZoneLine.{ZoneLine}
 use Rattle.zone_stats.specs.Ledger.{LedgerLaw}
-use Rattle.zone_stats.specs.Line.{zone_line, total_fails, total_frees}
+use Rattle.zone_stats.specs.Line.{zone_line, total_allocs, total_fails, total_frees}
 use Rattle.trace_text.specs.declared.head.ClockHead.{ClockHead}
+use Rattle.trace_text.specs.declared.head.NamesHead.{NamesHead}
 use Rattle.trace_text.specs.declared.head.ZoneHead.{ZoneHead}
 use Rattle.trace_text.specs.declared.trace.Trace.{Trace}
 use Rattle.trace_text.specs.Lines.{lines_of}
 use Rattle.uma_life.specs.Trail.{ShowsSame}
 use Rattle.trace_setting.specs.Kegs.{per_slab, primaries, keg_place}
-use Rattle.uma_replay.specs.Counting.{report_zones, worker_ops, is_alloc_with, request_count, arg_count, free_count, enter_count}
+use Rattle.uma_replay.specs.Counting.{report_zones, worker_ops, is_alloc_with, is_bind, is_unbind, is_look, kind_count, request_count, arg_count, free_count, enter_count}
 
 -- A kept refusal names what its zone has: the zone's own limit, its keg's reserve and capacity, or a constructor's
 -- argument above 0 of the worker's requests. Only the names zone's entries are ever refused by their init, with 255.
@@ -93,6 +95,34 @@ ClockLineFits t (Some c) None = ⊥
 ClockLineFits t None (Some line) = ⊥
 ClockLineFits t None None = Unit {0}
 
+-- Each entry that is deferred, or linked in a row, passed a ctor more than dtors, as counters of 64 bits show it. A row links one at most.
+pub record LinksFew (rows : ℕ) (hooks : HookLine) : Type 0 where
+  pub linked : ℕ
+  pub few : linked ≤ rows
+  pub built : ShowsSame hooks.ctors (hooks.dtors + hooks.deferred + linked)
+
+-- The names line: how the lines of names ended, and what the zone of their entries, the last one, counted.
+pub record NamesLineStands (t : Trace) (report : Report) (n : NamesHead) (line : NamesLine) : Type 0 where
+  -- each look found a value, or none, or came too late
+  pub looks : line.looks ≡ kind_count is_look t
+  pub answered : line.looks ≡ line.hits + line.misses + line.late
+  -- no look is too late whose section isn't
+  pub late : IfSome report.clock (λ clock. line.late ≤ clock.late)
+  -- each bind bound its key or was refused, and only an unbind takes a key out
+  pub binds : line.binds + line.refused ≡ kind_count is_bind t
+  pub unbound : line.unbound ≤ kind_count is_unbind t
+  -- where an entry was refused so was the bind, and a key is bound by an entry
+  pub refused : total_fails (ledgers_at report (length t.head.zones)) ≤ line.refused
+  pub by_entries : line.binds ≤ total_allocs (ledgers_at report (length t.head.zones))
+  pub linked : IfSome (slice_get report.hooks (length t.head.zones)) (LinksFew n.rows)
+
+-- a trace with names has their line in the report, and one without has none
+abbrev pub NamesLineFits : Trace → Report → Option NamesHead → Option NamesLine → Type 0
+NamesLineFits t report (Some n) (Some line) = NamesLineStands t report n line
+NamesLineFits t report (Some n) None = ⊥
+NamesLineFits t report None (Some line) = ⊥
+NamesLineFits t report None None = Unit {0}
+
 -- the name, size and limit of a line
 abbrev pub line_title : ZoneLine → List ℕ × ℕ × ℕ
 line_title line = (line.name, line.size, line.limit)
@@ -120,3 +150,5 @@ pub record StandsFor (t : Trace) (report : Report) : Type 0 where
   pub uses : (z : ℕ) → z < length t.head.zones → IfSome (slice_get report.lines z) (λ line. IfSome (slice_get report.hooks z) (UsesAreBuilt line))
   -- the clock's line, where the trace has a clock
   pub clock : ClockLineFits t t.head.clock report.clock
+  -- the names line, where the trace has names
+  pub names : NamesLineFits t report t.head.names report.names

@@ -1,22 +1,35 @@
 ghost use Rattle.std.specs.Prelude.{◌≡◌, ◌<◌, ℕ, IfOk, Some, length, slice_get};
 ghost use Rattle.trace_worker.specs.declared.worker.Worker.{Worker};
 ghost use Rattle.trace_worker.specs.Together.{ledger_at};
+ghost use Rattle.uma_replay.specs.Names.{AreAllLedgers, first_counts};
 ghost use Rattle.uma_replay.specs.Reporting.{AreLedgers, AreLedgersOf, zone_count};
 
 use crate::Memory;
-use crate::hall::Workers;
+use crate::hall::{Namings, Workers};
+use crate::name_sums::{do_count, name_ledgers};
+use crate::names_part::with_last;
 use listed::Listed;
 use smr_clock::Host;
 use std::alloc::Global;
-use trace_worker::Worker;
+use trace_worker::{NameCalls, Worker};
 use zone_stats::{Ledgers, SeatLedger, ZoneLedgers};
 
 /// The ledgers of the workers' seats: zone by zone in order, in each from worker 0 on. Each worker has a seat of each zone.
-pub fn collect<H: Host>(alloc: Global, workers: &Workers<H>) -> Result<Ledgers, Memory>
-    requires { (n : ℕ) (w : Worker H H.Part H.Host) → slice_get workers.now n ≡ Some w → length w.seats.items ≡ zone_count workers.now }
-    ensures { IfOk result (AreLedgers (zone_count workers.now) workers.now) }
+/// Where names are served, those of the workers' seats of the names come last.
+pub fn collect<N: NameCalls>(
+    alloc: Global,
+    workers: &Workers<N::H>,
+    namings: &Namings<N>,
+) -> Result<Ledgers, Memory>
+    requires { (n : ℕ) (w : Worker N.H N.H.Part N.H.Host) → slice_get workers.now n ≡ Some w → length w.seats.items ≡ zone_count workers.now }
+    ensures { IfOk result (AreAllLedgers N.NameCalls (first_counts N.NameCalls namings.now) (zone_count workers.now) workers.now namings.now) }
 {
-    collect_zones(alloc, seat_count(workers.as_slice()), workers)
+    let ledgers = collect_zones(alloc, seat_count(workers.as_slice()), workers)?;
+    if do_count(namings.as_slice()) {
+        let names = name_ledgers(alloc, namings.as_slice())?;
+        return with_last(ledgers, names);
+    }
+    Ok(ledgers)
 }
 
 /// Of how many zones worker 0 has a seat.

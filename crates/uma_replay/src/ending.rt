@@ -1,28 +1,27 @@
 //! The end of a replay, when all lines are done.
 ghost use Rattle.std.specs.Prelude.{◌≡◌, ◌≤◌, ◌<◌, ◌^◌, IfOk, OnOk, length};
-ghost use Rattle.std.specs.List.{sum_by};
 ghost use Rattle.smr_clock.specs.Belongs.{setup_of};
 ghost use Rattle.smr_clock.specs.Notes.{IsNoteOf, note_holder};
-ghost use Rattle.trace_setting.specs.Clock.{window_of as window_for};
-ghost use Rattle.trace_text.specs.Built.{IsBuilt};
+ghost use Rattle.trace_worker.specs.Clocks.{window_of as window_for};
 ghost use Rattle.trace_text.specs.Lines.{lines_of};
 ghost use Rattle.trace_text.specs.Valid.{IsValid};
-ghost use Rattle.trace_worker.specs.declared.running.Running.{Running};
 ghost use Rattle.trace_worker.specs.Together.{crew};
 ghost use Rattle.trace_totals.specs.Clock.{ReadsHands};
 ghost use Rattle.trace_totals.specs.Closes.{AllClose};
-ghost use Rattle.uma_replay.specs.Hall.{AreDone, HallStands};
+ghost use Rattle.uma_replay.specs.Hall.{AreDone, HallStands, NamesDone};
+ghost use Rattle.uma_replay.specs.Playing.{AllStay, gave_ups, namings_of};
 
 use crate::Memory;
-use crate::hall::{Hall, Played, Workers, ZoneList};
+use crate::hall::{Hall, Namings, Played, Workers, ZoneList};
 use crate::summing_up::report_of;
+use crate::whole::whole_report;
 use listed::Listed;
 use smr_clock::{Clock, Host, Note};
 use std::alloc::Global;
 use std::sync::Wait;
 use trace_text::{ClockHead, Trace};
 use trace_totals::{Totals, read_hands, take_totals};
-use trace_worker::{CountedZone, Running, Worker};
+use trace_worker::{CountedZone, NameCalls, Naming, Running, Worker};
 
 /// What the clock, the zones and the workers come to.
 #[derive(Drop)]
@@ -33,23 +32,26 @@ pub(crate) struct Ended {
 }
 
 /// Ends a replay: reads the clock's hands, takes a census of each keg, and makes the report.
-pub(crate) fn close<H: Host, R: Wait>(
+pub(crate) fn close<N: NameCalls, R: Wait>(
     rt: &R,
     alloc: Global,
     trace: &Trace,
-    clock: Clock<H>,
-    zones: Vec<CountedZone<H>>,
-    mut workers: Vec<Worker<H>>,
-    begun: Note<H>,
+    names: &N,
+    cache: N::Cache,
+    clock: Clock<N::H>,
+    zones: Vec<CountedZone<N::H>>,
+    mut workers: Vec<Worker<N::H>>,
+    namings: Vec<Naming<N>>,
+    begun: Note<N::H>,
     gave_up: u64,
-) -> Result<Played<H>, Memory>
+) -> Result<Played<N>, Memory>
     requires valid { IsValid trace.now }
-    requires built { IsBuilt trace.now }
     requires few { length (lines_of trace.now.rounds) ≤ 16777216 }
     requires done { AreDone trace.now zones.items clock workers.items }
+    requires named { NamesDone N.NameCalls trace.now cache zones.items clock workers.items namings.items }
     requires begun_here { IsNoteOf clock begun }
     requires begun { (setup_of clock).about.start ≤ (note_holder begun).floor }
-    ensures hall { IfOk result (λ played. HallStands trace.now played.report played.hall) }
+    ensures hall { IfOk result (λ played. HallStands N.NameCalls trace.now played.report played.hall) }
     ensures clock { IfOk result (λ played. played.hall.clock ≡ clock) }
     ensures gave_up { IfOk result (λ played. played.report.gave_up ≡ gave_up) }
 {
@@ -64,7 +66,10 @@ pub(crate) fn close<H: Host, R: Wait>(
     )?;
     let zones = Listed::from_vec(zones);
     let workers = Listed::from_vec(workers);
-    reported(alloc, trace, clock, zones, workers, ended, gave_up)
+    let namings = Listed::from_vec(namings);
+    reported(
+        rt, alloc, trace, names, cache, clock, zones, workers, namings, ended, gave_up,
+    )
 }
 
 /// Reads the clock's hands, and takes a census of each keg.
@@ -82,6 +87,7 @@ fn take_stock<H: Host, R: Wait>(
     requires begun_here { IsNoteOf clock.now begun }
     requires begun { (setup_of clock.now).about.start ≤ (note_holder begun).floor }
     ensures done { OnOk result (AreDone trace.now zones.now clock.now workers.new) }
+    ensures stay { OnOk result (AllStay clock.now workers.old workers.new) }
     ensures hands { IfOk result (λ e. ReadsHands clock.now workers.new e.read e.write) }
     ensures closes { IfOk result (λ e. AllClose trace.now.head zones.now workers.new e.totals.censuses.items e.totals.tallies.items e.totals.deferred.items) }
 {
@@ -107,6 +113,7 @@ fn look<H: Host>(
     requires begun_here { IsNoteOf clock.now begun }
     requires begun { (setup_of clock.now).about.start ≤ (note_holder begun).floor }
     ensures done { AreDone trace.now zones.now clock.now workers.new }
+    ensures stay { AllStay clock.now workers.old workers.new }
     ensures hands { ReadsHands clock.now workers.new result.0 result.1 }
 {
     let window = window_of(trace.head.clock);
@@ -114,22 +121,26 @@ fn look<H: Host>(
 }
 
 /// The report of what the replay came to, with all that it leaves behind.
-fn reported<H: Host>(
+fn reported<N: NameCalls, R: Wait>(
+    rt: &R,
     alloc: Global,
     trace: &Trace,
-    clock: Clock<H>,
-    zones: ZoneList<H>,
-    workers: Workers<H>,
+    names: &N,
+    cache: N::Cache,
+    clock: Clock<N::H>,
+    zones: ZoneList<N::H>,
+    workers: Workers<N::H>,
+    namings: Namings<N>,
     ended: Ended,
     gave_up: u64,
-) -> Result<Played<H>, Memory>
+) -> Result<Played<N>, Memory>
     requires valid { IsValid trace.now }
-    requires built { IsBuilt trace.now }
     requires few { length (lines_of trace.now.rounds) ≤ 16777216 }
     requires done { AreDone trace.now zones clock workers }
+    requires named { NamesDone N.NameCalls trace.now cache zones clock workers namings }
     requires hands { ReadsHands clock workers ended.read ended.write }
     requires closes { AllClose trace.now.head zones workers ended.totals.censuses.items ended.totals.tallies.items ended.totals.deferred.items }
-    ensures hall { IfOk result (λ played. HallStands trace.now played.report played.hall) }
+    ensures hall { IfOk result (λ played. HallStands N.NameCalls trace.now played.report played.hall) }
     ensures clock { IfOk result (λ played. played.hall.clock ≡ clock) }
     ensures gave_up { IfOk result (λ played. played.report.gave_up ≡ gave_up) }
 {
@@ -138,7 +149,7 @@ fn reported<H: Host>(
         write,
         totals,
     } = ended;
-    let report = report_of(
+    let first = report_of(
         alloc,
         &trace.head,
         &workers,
@@ -149,10 +160,14 @@ fn reported<H: Host>(
         write,
         gave_up,
     )?;
+    let line = &trace.head.names;
+    let report = whole_report(rt, alloc, line, names, &cache, namings.as_slice(), first)?;
     let hall = Hall {
         zones,
         clock,
+        names: cache,
         workers,
+        namings,
         censuses: Listed::from_vec(totals.censuses),
     };
     Ok(Played { report, hall })
@@ -169,9 +184,9 @@ fn window_of(head: Option<ClockHead>) -> u64
 }
 
 /// How often all workers gave up waiting for their gate.
-pub(crate) fn all_gave_up<H: Host>(workers: &[Running<H>]) -> u64
-    requires { sum_by (λ (r : Running H H.Part H.Host). r.gave_up) workers.now < 2 ^ 64 }
-    ensures { result ≡ sum_by (λ (r : Running H H.Part H.Host). r.gave_up) workers.now }
+pub(crate) fn all_gave_up<N: NameCalls>(workers: &[Running<N>]) -> u64
+    requires { gave_ups workers.now < 2 ^ 64 }
+    ensures { result ≡ gave_ups workers.now }
 {
     let mut total = 0;
     for number in 0..workers.len() {
@@ -180,17 +195,20 @@ pub(crate) fn all_gave_up<H: Host>(workers: &[Running<H>]) -> u64
     total
 }
 
-/// The workers, out of their turns.
-pub(crate) fn dismiss<H: Host>(
+/// The workers, out of their turns, and what each has of the names.
+pub(crate) fn dismiss<N: NameCalls>(
     alloc: Global,
-    runnings: Vec<Running<H>>,
-) -> Result<Vec<Worker<H>>, Memory>
-    ensures { IfOk result (λ workers. workers.items ≡ crew runnings.items) }
+    runnings: Vec<Running<N>>,
+) -> Result<(Vec<Worker<N::H>>, Vec<Naming<N>>), Memory>
+    ensures workers { IfOk result (λ (workers, namings). workers.items ≡ crew runnings.items) }
+    ensures namings { IfOk result (λ (workers, namings). namings.items ≡ namings_of runnings.items) }
 {
     let mut workers = Vec::with_capacity(alloc, runnings.len())?;
+    let mut namings = Vec::with_capacity(alloc, runnings.len())?;
     for running in runnings {
-        let Running { worker, .. } = running;
+        let Running { worker, naming, .. } = running;
         workers.push(worker)?;
+        namings.push(naming)?;
     }
-    Ok(workers)
+    Ok((workers, namings))
 }

@@ -1,6 +1,6 @@
 use listed::Listed;
-use smr_clock::{Clock, Host};
-use trace_worker::{CountedZone, Worker};
+use smr_clock::Clock;
+use trace_worker::{CountedZone, NameCalls, Naming, Worker};
 use uma_keg::Census;
 use zone_stats::Report;
 
@@ -10,22 +10,27 @@ pub type ZoneList<H> = Listed<CountedZone<H>>;
 /// The workers, in order of number. Contracts see the list of them.
 pub type Workers<H> = Listed<Worker<H>>;
 
+/// What each worker has of the names, in order of number. Contracts see the list of them.
+pub type Namings<N> = Listed<Naming<N>>;
+
 /// A census of each keg, in the order of the primary zones. Contracts see the list of them.
 pub type CensusList = Listed<Census>;
 
-/// All that a replay leaves behind: the zones and their clock, the workers with their seats, passes and live items, and of
-/// each keg the census from which the report was made.
+/// All that a replay leaves behind: the zones and their clock, who keeps the names, the workers with their seats, passes and
+/// live items, what each has of the names, and of each keg but that of the names the census from which the report was made.
 #[derive(Drop)]
-pub struct Hall<H: Host> {
-    pub zones: ZoneList<H>,
-    pub clock: Clock<H>,
-    pub workers: Workers<H>,
+pub struct Hall<N: NameCalls> {
+    pub zones: ZoneList<N::H>,
+    pub clock: Clock<N::H>,
+    pub names: N::Cache,
+    pub workers: Workers<N::H>,
+    pub namings: Namings<N>,
     pub censuses: CensusList,
 }
 
 /// What a replay made: its report, and what it leaves behind.
 #[derive(Drop)]
-pub struct Played<H: Host> {
+pub struct Played<N: NameCalls> {
     pub report: Report,
-    pub hall: Hall<H>,
+    pub hall: Hall<N>,
 }

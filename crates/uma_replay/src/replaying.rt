@@ -1,51 +1,35 @@
-ghost use Rattle.std.specs.Prelude.{◌≡◌, ◌≤◌, IfOk, length};
-ghost use Rattle.smr_clock.specs.Belongs.{setup_of};
+ghost use Rattle.std.specs.Prelude.{◌≡◌, ◌≤◌, IfOk, IfSome, IsTrue, is_some, length};
+ghost use Rattle.smr_clock.specs.Belongs.{clock_id, setup_of};
+ghost use Rattle.trace_rounds.specs.Rounds.{GaveUpAsBefore, IsBegun, Suits};
 ghost use Rattle.trace_setting.specs.Setting.{IsSetUp};
-ghost use Rattle.trace_text.specs.Built.{IsBuilt};
 ghost use Rattle.trace_text.specs.Lines.{lines_of};
 ghost use Rattle.trace_text.specs.Valid.{IsValid};
+ghost use Rattle.trace_worker.specs.NameSizes.{sizes_for};
 ghost use Rattle.uma_replay.specs.Hall.{HallStands};
+ghost use Rattle.uma_replay.specs.Playing.{AreEnded};
 ghost use Rattle.uma_replay.specs.Report.{StandsFor};
 
 use crate::Memory;
 use crate::ending::{all_gave_up, close, dismiss};
 use crate::hall::Played;
-use smr_clock::{Bare, Host};
+use crate::starting::begin;
+use smr_clock::Clock;
 use std::alloc::Global;
 use std::sync::Wait;
 use std::thread::Threads;
 use trace_rounds::play;
-use trace_setting::{Setting, set_up};
+use trace_setting::{Setting, set_up_with};
 use trace_text::Trace;
-use trace_worker::{Gate, ReclaimCalls};
+use trace_worker::{CountedZone, Gate, NameCalls, ReclaimCalls, Running};
 
-/// Replays a trace, each worker on a thread of its own, and reports what its ledgers, its kegs and its clock counted.
+/// Replays a trace, each worker on a thread of its own, and reports what its ledgers, its kegs, its clock and its names
+/// counted.
 ///
-/// The gate is asked before each operation, and `reclaim` does the lines of reclaim. When all lines are done, a census of
-/// each keg is taken, and the clock's hands are read. Waits where a worker's lines do. `Memory` where memory is wanting;
-/// nothing else refuses a valid trace.
-pub fn replay<R: Threads + Wait + Sync, G: Gate + Sync, C: ReclaimCalls + Sync>(
-    rt: &R,
-    alloc: Global,
-    trace: &Trace,
-    gate: &G,
-    reclaim: &C,
-) -> Result<Played<Bare>, Memory>
-    requires valid { IsValid trace.now }
-    requires built { IsBuilt trace.now }
-    requires few { length (lines_of trace.now.rounds) ≤ 16777216 }
-    ensures stands { IfOk result (λ played. StandsFor trace.now played.report) }
-    ensures hall { IfOk result (λ played. HallStands trace.now played.report played.hall) }
-    ensures plan { IfOk result (λ played. (setup_of played.hall.clock).plan ≡ (0, 0)) }
-    ensures free { G.is_free gate.now → IfOk result (λ played. played.report.gave_up ≡ 0) }
-{
-    let setting = set_up(rt, alloc, trace)?;
-    replay_from(rt, alloc, trace, gate, reclaim, setting)
-}
-
-/// The replay of a trace from its setting on.
-fn replay_from<
-    H: Host + Send + Sync,
+/// The gate is asked before each operation, `names` does the lines of names, which it serves where the trace has a names
+/// line, and `reclaim` the lines of reclaim. When all lines are done, a census of each keg is taken, and the clock's hands
+/// are read. Waits where a worker's lines do. `Memory` where memory is wanting; nothing else refuses a valid trace.
+pub fn replay<
+    N: NameCalls + Sync,
     R: Threads + Wait + Sync,
     G: Gate + Sync,
     C: ReclaimCalls + Sync,
@@ -54,35 +38,88 @@ fn replay_from<
     alloc: Global,
     trace: &Trace,
     gate: &G,
+    names: &N,
     reclaim: &C,
-    setting: Setting<H>,
-) -> Result<Played<H>, Memory>
+) -> Result<Played<N>, Memory>
     requires valid { IsValid trace.now }
-    requires built { IsBuilt trace.now }
+    requires serves { N.serves ≡ is_some trace.now.head.names }
+    requires few { length (lines_of trace.now.rounds) ≤ 16777216 }
+    ensures stands { IfOk result (λ played. StandsFor trace.now played.report) }
+    ensures hall { IfOk result (λ played. HallStands N.NameCalls trace.now played.report played.hall) }
+    ensures plan { IfOk result (λ played. (setup_of played.hall.clock).plan ≡ N.plans trace.now.head) }
+    ensures free { G.is_free gate.now → IfOk result (λ played. played.report.gave_up ≡ 0) }
+{
+    let (cache, clock, passes) = names.set_up(alloc, trace)?;
+    let setting = set_up_with(rt, alloc, trace, clock, passes)?;
+    replay_from(rt, alloc, trace, gate, names, cache, reclaim, setting)
+}
+
+/// The replay of a trace from its setting on, with who keeps its names.
+fn replay_from<
+    N: NameCalls + Sync,
+    R: Threads + Wait + Sync,
+    G: Gate + Sync,
+    C: ReclaimCalls + Sync,
+>(
+    rt: &R,
+    alloc: Global,
+    trace: &Trace,
+    gate: &G,
+    names: &N,
+    cache: N::Cache,
+    reclaim: &C,
+    setting: Setting<N::H>,
+) -> Result<Played<N>, Memory>
+    requires valid { IsValid trace.now }
+    requires serves { N.serves ≡ is_some trace.now.head.names }
     requires few { length (lines_of trace.now.rounds) ≤ 16777216 }
     requires set_up { IsSetUp trace.now setting }
+    requires of_clock { IsTrue N.serves → N.clock_of cache ≡ clock_id setting.clock }
+    requires sizes { IfSome trace.now.head.names (λ line. N.sizes_of cache ≡ sizes_for trace.now.head line) }
     ensures stands { IfOk result (λ played. StandsFor trace.now played.report) }
-    ensures hall { IfOk result (λ played. HallStands trace.now played.report played.hall) }
+    ensures hall { IfOk result (λ played. HallStands N.NameCalls trace.now played.report played.hall) }
     ensures clock { IfOk result (λ played. played.hall.clock ≡ setting.clock) }
     ensures free { G.is_free gate.now → IfOk result (λ played. played.report.gave_up ≡ 0) }
 {
     let Setting {
         clock,
         zones,
-        mut workers,
+        workers,
         begun,
     } = setting;
-    play(
-        rt,
-        alloc,
-        trace,
-        zones.as_slice(),
-        &clock,
-        gate,
-        reclaim,
-        workers.as_mut_slice(),
+    let first = begin(rt, alloc, names, &cache, trace.head.domains, workers)?;
+    let zone_list = zones.as_slice();
+    let runnings = play_all(
+        rt, alloc, trace, zone_list, &clock, names, &cache, gate, reclaim, first,
     )?;
-    let gave_up = all_gave_up(workers.as_slice());
-    let workers = dismiss(alloc, workers)?;
-    close(rt, alloc, trace, clock, zones, workers, begun, gave_up)
+    let gave_up = all_gave_up(runnings.as_slice());
+    let (workers, namings) = dismiss(alloc, runnings)?;
+    close(
+        rt, alloc, trace, names, cache, clock, zones, workers, namings, begun, gave_up,
+    )
+}
+
+/// The workers when all rounds of the trace are done. Waits where a worker's lines do.
+fn play_all<N: NameCalls + Sync, R: Threads + Wait + Sync, G: Gate + Sync, C: ReclaimCalls + Sync>(
+    rt: &R,
+    alloc: Global,
+    trace: &Trace,
+    zones: &[CountedZone<N::H>],
+    clock: &Clock<N::H>,
+    names: &N,
+    cache: &N::Cache,
+    gate: &G,
+    reclaim: &C,
+    mut runnings: Vec<Running<N>>,
+) -> Result<Vec<Running<N>>, Memory>
+    requires suits { Suits N.NameCalls cache.now trace.now zones.now clock.now runnings.items }
+    requires begun { IsBegun N.NameCalls cache.now zones.now clock.now runnings.items }
+    ensures ended { IfOk result (λ all. AreEnded N.NameCalls cache.now trace.now zones.now clock.now runnings.items all.items) }
+    ensures free { G.is_free gate.now → IfOk result (λ all. GaveUpAsBefore runnings.items all.items) }
+{
+    let workers = runnings.as_mut_slice();
+    play(
+        rt, alloc, trace, zones, clock, names, cache, gate, reclaim, workers,
+    )?;
+    Ok(runnings)
 }

@@ -1,10 +1,11 @@
-ghost use Rattle.std.specs.Prelude.{◌≡◌, ◌<◌, ◌≤◌, ◌%◌, IfOk, IsTrue, length};
+ghost use Rattle.std.specs.Prelude.{◌≡◌, ◌<◌, ◌≤◌, ◌%◌, IfOk, IsTrue, None, length};
 ghost use Rattle.trace_setting.specs.Beginners.{AreBeginners, IsBeginner};
 ghost use Rattle.trace_setting.specs.Setting.{IsSetUp};
 ghost use Rattle.trace_text.specs.Valid.{IsValid};
 ghost use Rattle.trace_worker.specs.OwnLines.{own_ops};
 ghost use Rattle.trace_worker.specs.Worker.{AreOfClock};
 
+use crate::no_names::NoNames;
 use crate::{Gate, Go, Memory, ReclaimCalls};
 use smr_clock::{Bare, Clock, Host, Pass};
 use std::alloc::Global;
@@ -12,8 +13,8 @@ use std::sync::Wait;
 use std::sync::atomic::{AtomicBool, Ordering};
 use std::test::Fail;
 use trace_setting::{Setting, set_up};
-use trace_text::{Trace, is_built, parse};
-use trace_worker::{CountHooks, Counted, CountedZone, Running};
+use trace_text::{Trace, parse};
+use trace_worker::{CountHooks, Counted, CountedZone, Running, Worker};
 use uma_seat::SeatCache;
 use uma_zone::Zone;
 
@@ -99,6 +100,13 @@ fn own_count(trace: &Trace, number: usize) -> usize
     ops.as_slice().len()
 }
 
+/// Whether the trace has no names line.
+fn has_no_names(trace: &Trace) -> bool
+    ensures { IsTrue result → trace.now.head.names ≡ None }
+{
+    trace.head.names.is_none()
+}
+
 /// Whether a worker has a list of the first round, and a short one.
 fn has_turn(trace: &Trace, number: usize) -> bool
     ensures round { IsTrue result → 0 < length trace.now.rounds }
@@ -119,17 +127,21 @@ fn first_turn<R: Wait, G: Gate>(
     clock: &Clock<Bare>,
     gate: &G,
     number: usize,
-    mut running: Running<Bare>,
+    worker: Worker<Bare>,
 ) -> Result<(u64, u64), Fail>
     requires valid { IsValid trace.now }
     requires zone_count { length zones.now ≡ length trace.now.head.zones }
     requires of_clock { AreOfClock clock.now zones.now }
-    requires beginner { IsBeginner zones.now clock.now (number % trace.now.head.domains) running }
+    requires names { trace.now.head.names ≡ None }
+    requires beginner { IsBeginner zones.now clock.now (number % trace.now.head.domains) worker }
 {
-    if !has_turn(trace, number) || !is_built(trace) {
+    if !has_turn(trace, number) {
         return Err(Fail::new("no such turn"));
     }
-    running.turn(rt, alloc, trace, zones, clock, gate, &NoReclaim, 0, number);
+    let mut running: Running<NoNames> = Running::new(worker, ());
+    running.turn(
+        rt, alloc, trace, zones, clock, &NoNames, clock, gate, &NoReclaim, 0, number,
+    );
     Ok((running.asked, running.gave_up))
 }
 
@@ -138,14 +150,14 @@ fn take_last(
     trace: &Trace,
     zones: &[CountedZone<Bare>],
     clock: &Clock<Bare>,
-    workers: &mut Vec<Running<Bare>>,
-) -> Result<Running<Bare>, Fail>
+    workers: &mut Vec<Worker<Bare>>,
+) -> Result<Worker<Bare>, Fail>
     requires { AreBeginners zones.now clock.now trace.now.head.domains (length workers.old.items) workers.old.items }
     ensures left { AreBeginners zones.now clock.now trace.now.head.domains (length workers.new.items) workers.new.items }
     ensures last { IfOk result (IsBeginner zones.now clock.now (length workers.new.items % trace.now.head.domains)) }
 {
     match workers.pop() {
-        Some(running) => Ok(running),
+        Some(worker) => Ok(worker),
         None => Err(Fail::new("no worker")),
     }
 }
@@ -159,6 +171,7 @@ fn two_turns<R: Wait, G: Gate>(
     setting: Setting<Bare>,
 ) -> Result<[(u64, u64); 2], Fail>
     requires valid { IsValid trace.now }
+    requires names { trace.now.head.names ≡ None }
     requires set_up { IsSetUp trace.now setting }
 {
     let Setting {
@@ -182,6 +195,9 @@ fn workers_one_after_another_wait_for_nobody(rt: HostRuntime) -> Result<(), Fail
         done: AtomicBool::new(false),
     };
     let trace = parse(rt.alloc(), TWO_WORKERS)?;
+    if !has_no_names(&trace) {
+        return Err(Fail::new("names"));
+    }
     let setting = set_up(&rt, rt.alloc(), &trace)?;
     let counts = two_turns(&rt, rt.alloc(), &trace, &gate, setting)?;
     assert_eq!(rt; counts, [(100_000_000, 1), (1, 0)]);

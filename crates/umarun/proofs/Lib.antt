@@ -1,2 +1,4 @@
+mod MadeFew
 mod MadeText
 mod Outcomes
+mod Shown

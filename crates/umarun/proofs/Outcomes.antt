@@ -1,5 +1,5 @@
 -- What is done with the bytes leaves no room for another ending.
-use Rattle.std.proofs.Common.{◌≡◌, ◌⊎◌, ℕ, ◌≤◌, List, length, Option, Some, None, Result, Err, refl, sym, ap, ◌∙◌, subst, arith, inl, inr}
+use Rattle.std.proofs.Common.{◌≡◌, ◌⊎◌, ℕ, ◌≤◌, List, length, Option, Some, None, Result, Err, refl, ap, subst, arith, inl, inr}
 use Rattle.std.specs.Prelude.{IfSome, IsSomeAnd}
 use Rattle.smr_core.specs.declared.step_refused.StepRefused.{StepRefused}
 use Rattle.text_lines.specs.TextLines.{TextLine, Test, IsRightText, IsRefusedAt}
@@ -14,16 +14,13 @@ use Rattle.schedule_text.specs.ScheduleLaws.{RefusedPrintsNothing}
 use Rattle.schedule_text.specs.ScheduleText.{RefusesSchedule}
 use Rattle.trace_text.specs.declared.trace.Trace.{Trace}
 use Rattle.trace_text.specs.Grammar.{IsTraceText, trace_test}
-use Rattle.trace_text.specs.Built.{IsBuilt}
-use Rattle.trace_text.specs.TraceLaws.{TextsAreOfOneTrace}
 use Rattle.uma_io.specs.Source.{HasMoreThan}
-use Rattle.smr_clock.specs.Belongs.{setup_of}
-use Rattle.uma_replay.specs.Hall.{HallStands}
 use Rattle.uma_replay.specs.Report.{StandsFor}
 use Rattle.umarun.specs.Causes.{parse_fault}
 use Rattle.umarun.specs.declared.fault.Fault.{Fault}
 use Rattle.umarun.specs.declared.fault.Fault.TheVariants as faults
-use Rattle.umarun.specs.Replaying.{PlainHall, Replays, AreBad, AreInput, AreRefused, RefusesTrace, most_bytes}
+use Rattle.umarun.specs.declared.ended.Ended.{Ended}
+use Rattle.umarun.specs.Replaying.{LeavesHall, Replays, AreInput, AreRefused, RefusesTrace, most_bytes}
 use Rattle.umarun.specs.Stepping.{ArePlayed, RefusesText, RefusesStep}
 use Rattle.zone_stats.specs.declared.report.Report.{Report}
 
@@ -33,42 +30,40 @@ OneVerdict = (test : Test) (bytes : List ℕ) (spoke : List TextLine) (line : �
 
 -- ---- what `replay` does with the bytes
 
-input_not_bad : OneVerdict → TextsAreOfOneTrace → (refused : TraceRefused) (bytes : List ℕ) (trace : Trace) → IsTraceText bytes trace → IsBuilt trace → AreBad refused bytes → ⊥
-input_not_bad verdict one refused bytes trace text built (inl bad) = verdict trace_test bytes text.spoke refused.line refused.kind text.right bad
-input_not_bad verdict one refused bytes trace text built (inr unbuilt) =
-    let P : Trace → Type 0 = λ t. IsBuilt t in
-    unbuilt.1.2 (subst P (one bytes trace unbuilt.1.0 text unbuilt.1.1) built)
+-- the refusal names the first bad line of the bytes
+abbrev IsBad : TraceRefused → List ℕ → Type 0
+IsBad refused bytes = IsRefusedAt trace_test bytes refused.line refused.kind
 
-pub input_not_refused : OneVerdict → TextsAreOfOneTrace → (refused : TraceRefused) (bytes : List ℕ) → RefusesTrace refused bytes → AreInput bytes → ⊥
-input_not_refused verdict one refused bytes refuses input = input_not_bad verdict one refused bytes input.1.0 input.1.1 input.1.2 refuses.why
+pub input_not_refused : OneVerdict → (refused : TraceRefused) (bytes : List ℕ) → RefusesTrace refused bytes → AreInput bytes → ⊥
+input_not_refused verdict refused bytes refuses input = verdict trace_test bytes input.1.1.spoke refused.line refused.kind input.1.1.right refuses.why
 
-pub replayed_not_refused : OneVerdict → TextsAreOfOneTrace → (report : Report) (hall : PlainHall) (bytes : List ℕ) → Replays report hall bytes → AreRefused bytes → ⊥
-replayed_not_refused verdict one report hall bytes replays (inl long) = let within = replays.within in absurd (omega arith)
-replayed_not_refused verdict one report hall bytes replays (inr refused) = input_not_bad verdict one refused.0 bytes replays.trace replays.text replays.built refused.1.why
+pub replayed_not_refused : OneVerdict → (report : Report) (ended : Ended) (bytes : List ℕ) → Replays report ended bytes → AreRefused bytes → ⊥
+replayed_not_refused verdict report ended bytes replays (inl long) = let within = replays.within in absurd (omega arith)
+replayed_not_refused verdict report ended bytes replays (inr refused) = input_not_refused verdict refused.0 bytes refused.1 (replays.within, (replays.trace, replays.text))
 
 -- the bytes that were left are those that were read
-pub replays : (left : Option (List ℕ)) (read given : List ℕ) (trace : Trace) (report : Report) (hall : PlainHall) → IfSome left (λ all. read ≡ all) → given ≡ read → length read ≤ most_bytes
-    → IsTraceText given trace → IsBuilt trace → StandsFor trace report → HallStands trace report hall → (setup_of hall.clock).plan ≡ (0, 0) → IfSome left (Replays report hall)
-replays None read given trace report hall all same within text built stands in_hall plan = tt
-replays (Some left) read given trace report hall all same within text built stands in_hall plan =
-    let P : List ℕ → Type 0 = λ bytes. Replays report hall bytes in
+pub replays : (left : Option (List ℕ)) (read given : List ℕ) (trace : Trace) (report : Report) (ended : Ended) → IfSome left (λ all. read ≡ all) → given ≡ read → length read ≤ most_bytes
+    → IsTraceText given trace → StandsFor trace report → LeavesHall trace report ended → IfSome left (Replays report ended)
+replays None read given trace report ended all same within text stands hall = tt
+replays (Some left) read given trace report ended all same within text stands hall =
+    let P : List ℕ → Type 0 = λ bytes. Replays report ended bytes in
     let Q : List ℕ → Type 0 = λ bytes. IsTraceText bytes trace in
-    subst P all (record { within = within; trace = trace; text = subst Q same text; built = built; stands = stands; hall_stands = in_hall; plan = plan })
+    subst P all (record { within = within; trace = trace; text = subst Q same text; stands = stands; hall = hall })
 
-bad_by : (why : ParseRefused) (fault : Fault) (refused : TraceRefused) (bytes : List ℕ) → ((r : TraceRefused) → ◌≡◌ {A = Result Trace ParseRefused} (Err why) (Err (parsing.Trace r)) → AreBad r bytes)
-    → fault ≡ parse_fault why → fault ≡ faults.Trace refused → AreBad refused bytes
+bad_by : (why : ParseRefused) (fault : Fault) (refused : TraceRefused) (bytes : List ℕ) → ((r : TraceRefused) → ◌≡◌ {A = Result Trace ParseRefused} (Err why) (Err (parsing.Trace r)) → IsBad r bytes)
+    → fault ≡ parse_fault why → fault ≡ faults.Trace refused → IsBad refused bytes
 bad_by (parsing.Trace r) fault refused bytes bad by is =
     let same : r ≡ refused = cc in
-    let P : TraceRefused → Type 0 = λ x. AreBad x bytes in
+    let P : TraceRefused → Type 0 = λ x. IsBad x bytes in
     subst P same (bad r refl)
 bad_by parsing.Memory fault refused bytes bad by is = absurd cc
 
 pub refuses : (left : Option (List ℕ)) (read given : List ℕ) (why : ParseRefused) (fault : Fault) (refused : TraceRefused) → IfSome left (λ all. read ≡ all) → given ≡ read → length read ≤ most_bytes
-    → ((r : TraceRefused) → ◌≡◌ {A = Result Trace ParseRefused} (Err why) (Err (parsing.Trace r)) → AreBad r given) → fault ≡ parse_fault why → fault ≡ faults.Trace refused → IfSome left (RefusesTrace refused)
+    → ((r : TraceRefused) → ◌≡◌ {A = Result Trace ParseRefused} (Err why) (Err (parsing.Trace r)) → IsBad r given) → fault ≡ parse_fault why → fault ≡ faults.Trace refused → IfSome left (RefusesTrace refused)
 refuses None read given why fault refused all same within bad by is = tt
 refuses (Some left) read given why fault refused all same within bad by is =
     let P : List ℕ → Type 0 = λ bytes. RefusesTrace refused bytes in
-    let Q : List ℕ → Type 0 = λ bytes. AreBad refused bytes in
+    let Q : List ℕ → Type 0 = λ bytes. IsBad refused bytes in
     subst P all (record { within = within; why = subst Q same (bad_by why fault refused given bad by is) })
 
 -- no text is refused at two lines, or for two reasons
@@ -82,25 +77,19 @@ same_refusal : (refused other : TraceRefused) → refused.line ≡ other.line �
 same_refusal refused other line kind =
     let made : ◌≡◌ {A = TraceRefused} (record { line = refused.line; kind = refused.kind }) (record { line = other.line; kind = other.kind }) = rw (line, kind) refl in made
 
-one_reason : OneVerdict → OneLine → OneKind → (refused other : TraceRefused) (bytes : List ℕ) → AreBad refused bytes → AreBad other bytes → refused ≡ other
-one_reason verdict line kind refused other bytes (inl bad) (inl worse) =
-    same_refusal refused other (line trace_test bytes refused.line other.line refused.kind other.kind bad worse) (kind trace_test bytes refused.line other.line refused.kind other.kind bad worse)
-one_reason verdict line kind refused other bytes (inl bad) (inr unbuilt) = absurd (verdict trace_test bytes unbuilt.1.1.spoke refused.line refused.kind unbuilt.1.1.right bad)
-one_reason verdict line kind refused other bytes (inr unbuilt) (inl bad) = absurd (verdict trace_test bytes unbuilt.1.1.spoke other.line other.kind unbuilt.1.1.right bad)
-one_reason verdict line kind refused other bytes (inr unbuilt) (inr same) = unbuilt.0 ∙ sym same.0
-
-pub one_refusal : OneVerdict → OneLine → OneKind → (refused other : TraceRefused) (bytes : List ℕ) → RefusesTrace refused bytes → RefusesTrace other bytes → refused ≡ other
-one_refusal verdict line kind refused other bytes refuses again = one_reason verdict line kind refused other bytes refuses.why again.why
+pub one_refusal : OneLine → OneKind → (refused other : TraceRefused) (bytes : List ℕ) → RefusesTrace refused bytes → RefusesTrace other bytes → refused ≡ other
+one_refusal line kind refused other bytes refuses again =
+    same_refusal refused other (line trace_test bytes refused.line other.line refused.kind other.kind refuses.why again.why) (kind trace_test bytes refused.line other.line refused.kind other.kind refuses.why again.why)
 
 -- bytes that were replayed are none that are refused
-pub none_refused : ((report : Report) (hall : PlainHall) (bytes : List ℕ) → Replays report hall bytes → AreRefused bytes → ⊥) → (report : Report) (hall : PlainHall) (left : Option (List ℕ)) → IfSome left (Replays report hall) → IsSomeAnd left AreRefused → ⊥
-none_refused law report hall None replays refused = refused
-none_refused law report hall (Some bytes) replays refused = law report hall bytes replays refused
+pub none_refused : ((report : Report) (ended : Ended) (bytes : List ℕ) → Replays report ended bytes → AreRefused bytes → ⊥) → (report : Report) (ended : Ended) (left : Option (List ℕ)) → IfSome left (Replays report ended) → IsSomeAnd left AreRefused → ⊥
+none_refused law report ended None replays refused = refused
+none_refused law report ended (Some bytes) replays refused = law report ended bytes replays refused
 
-pub none_named : ((report : Report) (hall : PlainHall) (bytes : List ℕ) → Replays report hall bytes → AreRefused bytes → ⊥) → (report : Report) (hall : PlainHall) (left : Option (List ℕ)) (refused : TraceRefused)
-    → IfSome left (Replays report hall) → IsSomeAnd left (RefusesTrace refused) → ⊥
-none_named law report hall None refused replays refuses = refuses
-none_named law report hall (Some bytes) refused replays refuses = law report hall bytes replays (inr (refused, refuses))
+pub none_named : ((report : Report) (ended : Ended) (bytes : List ℕ) → Replays report ended bytes → AreRefused bytes → ⊥) → (report : Report) (ended : Ended) (left : Option (List ℕ)) (refused : TraceRefused)
+    → IfSome left (Replays report ended) → IsSomeAnd left (RefusesTrace refused) → ⊥
+none_named law report ended None refused replays refuses = refuses
+none_named law report ended (Some bytes) refused replays refuses = law report ended bytes replays (inr (refused, refuses))
 
 -- what `replay` answers where it has no report
 pub record EndsReplay (left : Option (List ℕ)) (fault : Fault) : Type 0 where
@@ -111,7 +100,7 @@ pub record EndsReplay (left : Option (List ℕ)) (fault : Fault) : Type 0 where
   pub unwritten : fault ≡ faults.Write → ⊥
   pub unread : fault ≡ faults.Read → ⊥
 
--- a built text ends by want of memory
+-- the text of a trace ends by want of memory
 pub replay_ends : (left : Option (List ℕ)) (fault : Fault) → ((refused : TraceRefused) (bytes : List ℕ) → RefusesTrace refused bytes → AreInput bytes → ⊥)
     → EndsReplay left fault → IsSomeAnd left AreInput → fault ≡ faults.Memory
 replay_ends None fault law ends input = absurd input

@@ -1,5 +1,5 @@
 ghost use Rattle.std.specs.Prelude.{◌≡◌, map, string_bytes, IfOk, IfSome};
-ghost use Rattle.umarun.specs.Ending.{HasRanges, command_named, command_numbered, command_of, gen_numbered};
+ghost use Rattle.umarun.specs.Ending.{AreNumbers, HasRanges, command_made, command_named, command_numbered, command_of, numbers};
 
 use text_lines::{TraceKind, number_in, number_within};
 
@@ -12,6 +12,8 @@ pub enum Command {
     Steps,
     /// Print the trace that a seed gives, of `ops` steps, 1 to 50,000, of `workers` workers, 1 to 16.
     Gen { seed: u64, workers: u32, ops: u32 },
+    /// Replay that trace, and print what no schedule changes.
+    Bulk { seed: u64, workers: u32, ops: u32 },
 }
 
 impl Command {
@@ -48,24 +50,33 @@ impl Command {
         ensures is { result ≡ command_numbered word.now seed.now workers.now ops.now }
         ensures ranges { IfSome result HasRanges }
     {
+        let Ok((seed, workers, ops)) = Command::numbers(seed, workers, ops) else {
+            return None;
+        };
+        Command::made(word, seed, workers, ops)
+    }
+
+    /// The command of a word with these numbers.
+    fn made(word: &[u8], seed: u64, workers: u32, ops: u32) -> Option<Command>
+        requires { AreNumbers (seed, workers, ops) }
+        ensures is { result ≡ command_made word.now (seed, workers, ops) }
+        ensures ranges { IfSome result HasRanges }
+    {
         match word {
-            b"gen" => Command::made(seed, workers, ops).ok(),
+            b"gen" => Some(Command::Gen { seed, workers, ops }),
+            b"bulk" => Some(Command::Bulk { seed, workers, ops }),
             _ => None,
         }
     }
 
-    /// `gen` with these numbers, or what is wrong with the first that is none.
-    fn made(seed: &[u8], workers: &[u8], ops: &[u8]) -> Result<Command, TraceKind>
-        ensures is { result ≡ gen_numbered seed.now workers.now ops.now }
-        ensures ranges { IfOk result HasRanges }
+    /// The seed, the workers and the steps, or what is wrong with the first that is none.
+    fn numbers(seed: &[u8], workers: &[u8], ops: &[u8]) -> Result<(u64, u32, u32), TraceKind>
+        ensures is { result ≡ numbers seed.now workers.now ops.now }
+        ensures ranges { IfOk result AreNumbers }
     {
         let seed = number_in(seed)?;
         let workers = number_within(workers, 1, 16)?;
         let ops = number_within(ops, 1, 50_000)?;
-        Ok(Command::Gen {
-            seed,
-            workers: workers as u32,
-            ops: ops as u32,
-        })
+        Ok((seed, workers as u32, ops as u32))
     }
 }

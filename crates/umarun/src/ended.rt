@@ -1,9 +1,11 @@
-use smr_clock::Bare;
+use trace_names::{CacheNames, PlainNames};
 use uma_replay::Hall;
 
 /// What the replay of a run leaves behind.
 #[derive(Drop)]
 pub enum Ended {
     /// That of a trace without names.
-    Plain { hall: Hall<Bare> },
+    Plain { hall: Hall<PlainNames> },
+    /// That of a trace with names.
+    Named { hall: Hall<CacheNames> },
 }

@@ -2,8 +2,7 @@ ghost use Rattle.std.specs.Prelude.{◌≡◌};
 
 use crate::ended::Ended;
 use crate::fault::Fault;
-use smr_clock::Bare;
-use uma_replay::Played;
+use crate::replaying::Replayed;
 use zone_stats::Report;
 
 /// How a run ended, for the program's exit status.
@@ -99,14 +98,14 @@ impl Finish {
     }
 
     /// A run whose replay is done.
-    pub(crate) fn replayed(played: Played<Bare>, fault: Option<Fault>) -> Finish
-        ensures { result ≡ record { status = status_at fault; fault = fault; report = Some played.report; hall = Some (Ended.Plain played.hall) } }
+    pub(crate) fn replayed(played: Replayed, fault: Option<Fault>) -> Finish
+        ensures { result ≡ record { status = status_at fault; fault = fault; report = Some played.report; hall = Some played.ended } }
     {
         Finish {
             status: fault.map_or(Status::Good, |fault| fault.status()),
             fault,
             report: Some(played.report),
-            hall: Some(Ended::Plain { hall: played.hall }),
+            hall: Some(played.ended),
         }
     }
 }

@@ -1,11 +1,13 @@
 //! Replays a trace of allocations and frees, and prints a table in the manner of `vmstat -z`; plays a schedule of the
-//! reclamation clock, and prints what each step sees; or makes a trace from a number.
+//! reclamation clock, and prints what each step sees; makes a trace from a number; or replays such a trace, and prints what no
+//! schedule changes.
 #![tactic(auto)]
 
 ghost use Rattle.std.specs.Prelude.{◌≡◌, ◌≢◌};
 ghost use Rattle.std.specs.Process.{exit_status};
 ghost use Rattle.umarun.specs.Ending.{exit_code};
 
+mod bulk;
 mod command;
 mod ended;
 mod fault;
@@ -15,6 +17,7 @@ mod reclaim;
 mod replaying;
 mod run;
 mod stepping;
+mod summary;
 
 use fault::Fault;
 use finish::{Ending, Finish};

@@ -4,17 +4,20 @@ ghost use Rattle.text_lines.specs.declared.refused.TraceRefused.{TraceRefused as
 ghost use Rattle.uma_io.specs.Faults.{Rose};
 ghost use Rattle.uma_io.specs.Sink.{Adds, AddsPart};
 ghost use Rattle.uma_io.specs.Source.{Exhausts, HasMoreThan};
-ghost use Rattle.umarun.specs.Ending.{command_of, reads_input, status_at};
+ghost use Rattle.umarun.specs.Bulk.{ReplaysMade};
+ghost use Rattle.umarun.specs.Ending.{command_of, makes_report, reads_input, status_at};
 ghost use Rattle.umarun.specs.Making.{made_text};
-ghost use Rattle.umarun.specs.Replaying.{Replays, AreInput, AreRefused, RefusesTrace, hall_in, most_bytes};
+ghost use Rattle.umarun.specs.Replaying.{Replays, AreInput, AreRefused, RefusesTrace, most_bytes};
 ghost use Rattle.umarun.specs.Stepping.{ArePlayed, WritesOutput, WritesPart, RefusesText, RefusesStep};
+ghost use Rattle.umarun.specs.Summary.{summary_text};
 ghost use Rattle.zone_stats.specs.ReportText.{report_text};
 
+use crate::bulk::replay_made;
 use crate::command::Command;
 use crate::fault::Fault;
 use crate::finish::Finish;
 use crate::making::made_text;
-use crate::replaying::{replay, replayed_or_refused};
+use crate::replaying::{Replayed, replay, replayed_or_refused};
 use crate::stepping::{played_or_refused, steps};
 use std::alloc::Global;
 use std::sync::Wait;
@@ -26,8 +29,8 @@ use uma_replay::Gate;
 pub const MOST_BYTES: u64 = 16_777_216;
 
 /// Does all that the program does: reads the words, then the whole source where the command reads it, then parses it, then
-/// replays or plays it, or makes a trace, and writes the whole output. The first refusal ends it. `words` are those after the
-/// program's name.
+/// replays or plays it, or makes a trace, which `bulk` replays, and writes the whole output. The first refusal ends it. `words`
+/// are those after the program's name.
 pub fn run<R: Threads + Wait + Sync, S: Source, K: Sink, G: Gate + Sync>(
     rt: &R,
     alloc: Global,
@@ -39,7 +42,7 @@ pub fn run<R: Threads + Wait + Sync, S: Source, K: Sink, G: Gate + Sync>(
     // The status is that of the fault, and a run without a fault is good. A report and its hall are there once a replay is
     // done.
     ensures status { result.status ≡ status_at result.fault }
-    ensures report { IsSome result.report ↔ ((command_of (map string_bytes words.now) ≡ Some Command.Replay)
+    ensures report { IsSome result.report ↔ ((makes_report (command_of (map string_bytes words.now)) ≡ true)
         × (IsNone result.fault ⊎ (result.fault ≡ Some Fault.Write))) }
     ensures hall { IsSome result.hall ↔ IsSome result.report }
 
@@ -60,17 +63,17 @@ pub fn run<R: Threads + Wait + Sync, S: Source, K: Sink, G: Gate + Sync>(
     // Nothing is written before a refusal.
     ensures unwritten { IsSome result.fault → result.fault ≢ Some Fault.Write → sink.new ≡ sink.old }
 
-    // `replay`: a report stands for the trace that the bytes read are the text of, and for the zones, clock, workers and
-    // censuses of its hall; its text is written, and nothing else. Under a free gate no operation gave up waiting. A text is
-    // refused only at its first bad line, for the first thing that is wrong with it, or, with line 0, where its trace isn't
-    // one of those that are replayed so far.
-    ensures replays { IfSome result.report (λ report. IfSome result.hall (λ ended.
-        IfSome (S.bytes_left source.old) (Replays report (hall_in ended)))) }
+    // `replay`: a report stands for the trace that the bytes read are the text of, and for the zones, clock, names, workers and
+    // censuses of its hall; its text is written, and nothing else. Under a free gate no operation gave up waiting, nor does one
+    // of `bulk`. A text is refused only at its first bad line, for the first thing that is wrong with it.
+    ensures replays { command_of (map string_bytes words.now) ≡ Some Command.Replay → IfSome result.report (λ report.
+        IfSome result.hall (λ ended. IfSome (S.bytes_left source.old) (Replays report ended))) }
     ensures free { G.is_free gate.now → IfSome result.report (λ report. report.gave_up ≡ 0) }
-    ensures replay_written { IfNone result.fault (IfSome result.report (λ report.
+    ensures replay_written { command_of (map string_bytes words.now) ≡ Some Command.Replay
+        → IfNone result.fault (IfSome result.report (λ report.
         Adds (K.bytes_held sink.old) (report_text report) (K.bytes_held sink.new))) }
-    ensures replay_part { result.fault ≡ Some Fault.Write → IfSome result.report (λ report.
-        AddsPart (K.bytes_held sink.old) (report_text report) (K.bytes_held sink.new)) }
+    ensures replay_part { command_of (map string_bytes words.now) ≡ Some Command.Replay → result.fault ≡ Some Fault.Write
+        → IfSome result.report (λ report. AddsPart (K.bytes_held sink.old) (report_text report) (K.bytes_held sink.new)) }
     ensures replay_refused { (refused : Refused) → command_of (map string_bytes words.now) ≡ Some Command.Replay
         → result.fault ≡ Some (Fault.Trace refused) → IfSome (S.bytes_left source.old) (RefusesTrace refused) }
 
@@ -80,7 +83,8 @@ pub fn run<R: Threads + Wait + Sync, S: Source, K: Sink, G: Gate + Sync>(
         → IsSomeAnd (S.bytes_left source.old) (RefusesTrace refused)
         → ¬ (Rose (S.fault_count source.old) (S.fault_count source.new))
         → (result.fault ≡ Some (Fault.Trace refused)) ⊎ (result.fault ≡ Some Fault.Memory) }
-    ensures replay_refuses { IsSomeAnd (S.bytes_left source.old) AreRefused → IsNone result.report }
+    ensures replay_refuses { command_of (map string_bytes words.now) ≡ Some Command.Replay
+        → IsSomeAnd (S.bytes_left source.old) AreRefused → IsNone result.report }
     ensures replay_complete { command_of (map string_bytes words.now) ≡ Some Command.Replay
         → IsSomeAnd (S.bytes_left source.old) AreInput
         → ¬ (Rose (S.fault_count source.old) (S.fault_count source.new))
@@ -116,6 +120,20 @@ pub fn run<R: Threads + Wait + Sync, S: Source, K: Sink, G: Gate + Sync>(
     ensures gen_complete { (seed workers ops : ℕ) → command_of (map string_bytes words.now) ≡ Some (Command.Gen seed workers ops)
         → ¬ (Rose (K.fault_count sink.old) (K.fault_count sink.new))
         → (result.fault ≡ None) ⊎ (result.fault ≡ Some Fault.Memory) }
+
+    // `bulk`: a report stands for the trace that the numbers give, and for its hall, and no trace is refused; the report's
+    // summary is written, and nothing else, or memory was wanting, where writing didn't fail.
+    ensures bulk_replays { (seed workers ops : ℕ) → command_of (map string_bytes words.now) ≡ Some (Command.Bulk seed workers ops)
+        → IfSome result.report (λ report. IfSome result.hall (ReplaysMade seed workers ops report)) }
+    ensures bulk_written { (seed workers ops : ℕ) → command_of (map string_bytes words.now) ≡ Some (Command.Bulk seed workers ops)
+        → IfNone result.fault (IfSome result.report (λ report.
+        Adds (K.bytes_held sink.old) (summary_text seed workers ops report) (K.bytes_held sink.new))) }
+    ensures bulk_part { (seed workers ops : ℕ) → command_of (map string_bytes words.now) ≡ Some (Command.Bulk seed workers ops)
+        → result.fault ≡ Some Fault.Write → IfSome result.report (λ report.
+        AddsPart (K.bytes_held sink.old) (summary_text seed workers ops report) (K.bytes_held sink.new)) }
+    ensures bulk_complete { (seed workers ops : ℕ) → command_of (map string_bytes words.now) ≡ Some (Command.Bulk seed workers ops)
+        → ¬ (Rose (K.fault_count sink.old) (K.fault_count sink.new))
+        → (result.fault ≡ None) ⊎ (result.fault ≡ Some Fault.Memory) }
 {
     match Command::of(words) {
         None => Finish::refused(Fault::Usage),
@@ -123,10 +141,7 @@ pub fn run<R: Threads + Wait + Sync, S: Source, K: Sink, G: Gate + Sync>(
             replayed_or_refused();
             match replay(rt, alloc, source, gate) {
                 Err(fault) => Finish::refused(fault),
-                Ok((played, text)) => match write_all(sink, &text) {
-                    Ok(()) => Finish::replayed(played, None),
-                    Err(_) => Finish::replayed(played, Some(Fault::Write)),
-                },
+                Ok((played, text)) => reported(sink, played, &text),
             }
         }
         Some(Command::Steps) => {
@@ -140,6 +155,29 @@ pub fn run<R: Threads + Wait + Sync, S: Source, K: Sink, G: Gate + Sync>(
             Err(_) => Finish::refused(Fault::Memory),
             Ok(text) => written(sink, &text),
         },
+        Some(Command::Bulk { seed, workers, ops }) => {
+            match replay_made(rt, alloc, seed, workers, ops, gate) {
+                Err(_) => Finish::refused(Fault::Memory),
+                Ok((played, summary)) => reported(sink, played, &summary),
+            }
+        }
+    }
+}
+
+/// Writes the whole text of a command that makes a report.
+fn reported<K: Sink>(sink: &mut K, played: Replayed, text: &[u8]) -> Finish
+    ensures status { result.status ≡ status_at result.fault }
+    ensures report { result.report ≡ Some played.report }
+    ensures hall { result.hall ≡ Some played.ended }
+    ensures cause { (result.fault ≡ None) ⊎ (result.fault ≡ Some Fault.Write) }
+    ensures all { IfNone result.fault (Adds (K.bytes_held sink.old) text.now (K.bytes_held sink.new)) }
+    ensures part { result.fault ≡ Some Fault.Write → AddsPart (K.bytes_held sink.old) text.now (K.bytes_held sink.new) }
+    ensures write { result.fault ≡ Some Fault.Write → Rose (K.fault_count sink.old) (K.fault_count sink.new) }
+    ensures complete { ¬ (Rose (K.fault_count sink.old) (K.fault_count sink.new)) → result.fault ≡ None }
+{
+    match write_all(sink, text) {
+        Ok(()) => Finish::replayed(played, None),
+        Err(_) => Finish::replayed(played, Some(Fault::Write)),
     }
 }
 

@@ -2,6 +2,7 @@
 
 ghost use Rattle.std.specs.Prelude.{◌≤◌};
 
+mod bulk;
 mod faults;
 mod halls;
 mod making;
@@ -16,11 +17,11 @@ mod zones;
 use crate::ended::Ended;
 use crate::finish::Finish;
 use crate::run::run;
-use smr_clock::Bare;
 use std::alloc::Global;
 use std::sync::Wait;
 use std::test::Fail;
 use std::thread::Threads;
+use trace_names::PlainNames;
 use uma_io::{MemSink, MemSource};
 use uma_replay::{FreeGate, Gate, Hall};
 
@@ -109,15 +110,15 @@ fn replayed<R: AllocGlobal + Threads + Wait + Sync>(
     end_of(rt, &["replay"], input, Outside::fine(rt.alloc()))
 }
 
-/// What the replay of this input leaves behind, where nothing of the outside fails.
+/// What the replay of this input, which has no names, leaves behind, where nothing of the outside fails.
 fn hall_of<R: AllocGlobal + Threads + Wait + Sync>(
     rt: &R,
     input: &str,
-) -> Result<Hall<Bare>, Fail> {
+) -> Result<Hall<PlainNames>, Fail> {
     let (finish, _) = replayed(rt, input)?;
     let Finish { hall, .. } = finish;
     match hall {
         Some(Ended::Plain { hall }) => Ok(hall),
-        None => Err(Fail::new("no hall")),
+        _ => Err(Fail::new("no hall without names")),
     }
 }

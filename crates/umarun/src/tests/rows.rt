@@ -8,7 +8,7 @@ const TITLES: &str =
     "ITEM              SIZE    LIMIT     USED     FREE        REQ     FAIL SLEEP  XDOMAIN\n";
 
 /// The lines of a trace between its header and `end`, and what is printed below the titles.
-fn tables() -> [(&'static str, &'static str); 6] {
+fn tables() -> [(&'static str, &'static str); 7] {
     [
         (
             "zone box 256 4 4 0 0 plain\n",
@@ -38,6 +38,11 @@ fn tables() -> [(&'static str, &'static str); 6] {
             "detail\nzone box 256 4 4 0 0 plain\nalloc 0 box 0\n",
             "box                256        0        1       15          1        0     0        0\nhooks box 0 1 0 0 0\nkeg box 1 12 16 0\n",
         ),
+        // Two keys of one row: the second bind evicts the first, and an unbind empties the row. Two entries are deferred.
+        (
+            "clock 1 8\ndetail\nnames dir 8 2 4\nbind 0 3 30\nlook 0 3\nbind 0 11 110\nlook 0 3\nunbind 0 11\nlook 0 11\n",
+            "dir                 64        0        0       64          2        0     0        0\nhooks dir 0 2 0 0 2\nkeg dir 1 60 64 0\nclock 1 1 3 0\nnames 3 1 2 0 2 1 0\n",
+        ),
     ]
 }
 
@@ -55,7 +60,7 @@ fn the_table_is_that_of_the_worked_rows(rt: HostRuntime) -> Result<(), Fail> {
 }
 
 /// The lines of a trace behind its header, the line that is refused, and its kind.
-fn refused_lines() -> [(&'static str, u64, TraceKind); 5] {
+fn refused_lines() -> [(&'static str, u64, TraceKind); 4] {
     [
         ("zone box 256 4 4 0 0 plain\n", 5, TraceKind::NoEnd),
         (
@@ -73,11 +78,6 @@ fn refused_lines() -> [(&'static str, u64, TraceKind); 5] {
             "zone box 256 4 4 0 0 plain\nsecond s1 box 4 0 plain\nsecond s2 box 4 0 plain\nsecond s3 box 4 0 plain\nsecond s4 box 4 0 plain\nsecond s5 box 4 0 plain\nsecond s6 box 4 0 plain\nsecond s7 box 4 0 plain\nsecond s8 box 4 0 plain\nend\n",
             12,
             TraceKind::Zones,
-        ),
-        (
-            "clock 1 8\nzone box 256 4 4 0 0 plain\nnames dir 8 2 4\ndrain 0 box\nend\n",
-            0,
-            TraceKind::Unbuilt,
         ),
     ]
 }

@@ -6,7 +6,7 @@ use trace_text::{TraceKind, TraceRefused};
 
 #[test]
 fn words_that_are_no_command_are_usage(rt: HostRuntime) -> Result<(), Fail> {
-    let rows: [&[&str]; 12] = [
+    let rows: [&[&str]; 13] = [
         &[],
         &["replay", "x"],
         &["steps", "1"],
@@ -15,7 +15,8 @@ fn words_that_are_no_command_are_usage(rt: HostRuntime) -> Result<(), Fail> {
         &["gen", "7", "17", "5"],
         &["gen", "7", "1", "50001"],
         &["gen", "-7", "1", "1"],
-        &["bulk", "7", "1", "1"],
+        &["bulk", "7", "0", "5"],
+        &["bulk", "7", "1", "50001"],
         &["--help"],
         &["-replay"],
         &["Replay"],
@@ -32,8 +33,8 @@ fn words_that_are_no_command_are_usage(rt: HostRuntime) -> Result<(), Fail> {
 #[test]
 fn each_fault_has_its_text_and_its_status(rt: HostRuntime) -> Result<(), Fail> {
     let refused = TraceRefused {
-        line: 0,
-        kind: TraceKind::Unbuilt,
+        line: 4,
+        kind: TraceKind::Range,
     };
     let step = Fault::Step {
         line: 7,
@@ -50,7 +51,7 @@ fn each_fault_has_its_text_and_its_status(rt: HostRuntime) -> Result<(), Fail> {
             3,
             "input longer than 16777216 bytes",
         ),
-        (Fault::Trace { refused }, 3, "line 0: not built yet"),
+        (Fault::Trace { refused }, 3, "line 4: out of range"),
         (step, 3, "line 7: no such seat"),
         (Fault::Read, 4, "reading failed"),
         (Fault::Write, 5, "writing failed"),

@@ -6,7 +6,7 @@ use Rattle.trace_rounds.proofs.playing.play.Given as goal
 
 abbrev pub invariant-loop-round : goal.invariant-loop-round
 invariant-loop-round g l = record {
-  after : AreAfter l.zones l.clock (lines_before l.trace.rounds l.round) l.workers;
-  plays : AllPlay l.zones (take l.round l.trace.rounds) l.initial.workers l.workers;
+  after : AreAfter g.N.NameCalls l.cache l.zones l.clock (lines_before l.trace.rounds l.round) l.workers;
+  plays : AllPlay g.N.NameCalls l.cache l.zones (take l.round l.trace.rounds) l.initial.workers l.workers;
   free : g.G.Gate.is_free l.gate → GaveUpAsBefore l.initial.workers l.workers;
 }

@@ -1,4 +1,4 @@
-use Rattle.uma_replay.proofs.HallOf.{done_kept, are_few}
+use Rattle.uma_replay.proofs.HallOf.{done_kept, are_few, stay_on}
 use Rattle.uma_replay.proofs.Staying.{hands_stay}
 use Rattle.uma_replay.proofs.ending.take_stock.Goals as goal
 
@@ -13,3 +13,7 @@ returns-clause-done g c =
 pub returns-clause-hands : goal.returns-clause-hands
 returns-clause-hands g c =
     hands_stay c.args.clock.now c.look-read.new.workers c.take_totals.new.workers c.look-read.result.0 c.look-read.result.1 c.in_ok-totals.ensures.workers c.look-read.ensures.hands
+
+pub returns-clause-stay : goal.returns-clause-stay
+returns-clause-stay g c =
+    stay_on c.args.trace.now c.args.zones.now c.args.clock.now c.args.workers.now c.look-read.new.workers c.take_totals.new.workers c.look-read.ensures.done c.look-read.ensures.stay c.in_ok-totals.ensures.workers

@@ -1,11 +1,14 @@
-use Rattle.std.proofs.Common.{◌≡◌, ◌∙◌, ap}
+use Rattle.std.proofs.Common.{◌≡◌, sym, ap, ◌∙◌}
 use Rattle.std.proofs.lemmas.Result.{IfOk-weaker}
-use Rattle.smr_clock.specs.Belongs.{setup_of}
+use Rattle.smr_clock.specs.Belongs.{clock_id, setup_of}
 use Rattle.uma_replay.specs.declared.hall.Played.{Played}
 use Rattle.uma_replay.proofs.replaying.replay.Goals as goal
+
+pub replay_from-requires-clause-of_clock : goal.replay_from-requires-clause-of_clock
+replay_from-requires-clause-of_clock g c κs within = λ serves. c.in_ok-cache.ensures.of_clock serves ∙ ap clock_id (sym c.in_ok-setting.ensures.clock)
 
 pub returns-clause-plan : goal.returns-clause-plan
 returns-clause-plan g c =
     let made = c.in_ok-setting.setting.clock in
-    IfOk-weaker c.replay_from.result (λ (p : Played _ _ _). p.hall.clock ≡ made) (λ (p : Played _ _ _). (setup_of p.hall.clock).plan ≡ (0, 0))
-    (λ p same. ap (λ c. (setup_of c).plan) same ∙ c.in_ok-setting.ensures.plan) c.replay_from.ensures.clock
+    IfOk-weaker c.replay_from.result (λ (p : Played _ _ _ _ _ _). p.hall.clock ≡ made) (λ (p : Played _ _ _ _ _ _). (setup_of p.hall.clock).plan ≡ g.N.NameCalls.plans c.args.trace.now.head)
+    (λ p same. ap (λ clock. (setup_of clock).plan) (same ∙ c.in_ok-setting.ensures.clock) ∙ c.in_ok-cache.ensures.plan) c.replay_from.ensures.clock

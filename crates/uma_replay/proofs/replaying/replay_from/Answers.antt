@@ -1,47 +1,86 @@
-use Rattle.std.proofs.Common.{◌≡◌, ◌<◌, ◌^◌, ◌∙◌, List, length, map, sym, ap, subst, reverse}
+use Rattle.std.proofs.Common.{◌≡◌, ◌<◌, ◌^◌, ◌∙◌, List, sym, ap, subst}
 use Rattle.std.proofs.lemmas.Result.{IfOk-weaker}
-use Rattle.trace_text.specs.Lines.{lines_of}
+use denote.Exit.{yes}
+use denote.Param.Send.{sendable, param_send, arg_send}
 use Rattle.trace_worker.specs.declared.running.Running.{Running}
 use Rattle.trace_worker.specs.Items.{CountedZone}
-use Rattle.trace_worker.specs.Together.{AllStand, crew}
+use Rattle.trace_rounds.specs.Rounds.{IsBegun, Suits}
 use Rattle.uma_replay.specs.Hall.{HallStands}
+use Rattle.uma_replay.specs.Playing.{AreEnded, gave_ups}
 use Rattle.uma_replay.specs.Report.{StandsFor}
-use Rattle.uma_replay.proofs.Beginning.{done_of, gave_ups, gave_ups_few, none_gave_up, written_back}
+use Rattle.uma_replay.proofs.Beginning.{begun_of, done_of, few_workers, gave_ups_few, named_of, none_gave_up, served_domains, suits_of, worker_count}
 use Rattle.uma_replay.proofs.HallOf.{stands_of_hall}
-use Rattle.uma_replay.proofs.Playing.{play_as}
+use Rattle.uma_replay.proofs.Runnings.{first_at}
 use Rattle.uma_replay.proofs.replaying.replay_from.Goals as goal
+
+pub begin-requires-clause-few : goal.begin-requires-clause-few
+begin-requires-clause-few g c κs within = few_workers c.args.trace.now c.args.setting c.requires.valid c.requires.set_up
+
+pub begin-requires-clause-served : goal.begin-requires-clause-served
+begin-requires-clause-served g c κs within = served_domains g.N.NameCalls c.args.cache c.args.trace.now c.requires.serves c.requires.sizes
+
+pub play_all-requires-clause-suits : goal.play_all-requires-clause-suits
+play_all-requires-clause-suits g c κs within =
+    let t = c.args.trace.now in
+    let s = c.args.setting in
+    let first = c.in_ok-first.first.items in
+    let P : List (CountedZone _ _ _) → Type 0 = λ zones. Suits g.N.NameCalls c.args.cache t zones s.clock first in
+    subst P (sym c.as_slice-zone_list.ensures.value) (suits_of g.N.NameCalls c.args.cache t s first c.requires.valid c.requires.serves c.requires.few c.requires.set_up c.requires.of_clock c.in_ok-first.ensures)
+
+pub play_all-requires-clause-begun : goal.play_all-requires-clause-begun
+play_all-requires-clause-begun g c κs within =
+    let s = c.args.setting in
+    let first = c.in_ok-first.first.items in
+    let P : List (CountedZone _ _ _) → Type 0 = λ zones. IsBegun g.N.NameCalls c.args.cache zones s.clock first in
+    subst P (sym c.as_slice-zone_list.ensures.value) (begun_of g.N.NameCalls c.args.cache c.args.trace.now s first c.requires.set_up c.in_ok-first.ensures)
 
 pub all_gave_up-gave_up-requires : goal.all_gave_up-gave_up-requires
 all_gave_up-gave_up-requires g c =
-    let s = c.args.setting in
-    let few : gave_ups c.play.new.workers < 2 ^ 64 =
-    gave_ups_few c.args.trace.now s c.play.new.workers c.requires.valid c.requires.few c.requires.set_up (c.play.ensures.count ∙ ap length c.as_mut_slice.ensures.value) c.in_ok-play.ensures.asked in
-    let same = written_back c.play.new.workers s.workers.items s.workers.len s.workers.ok.0 (c.play.ensures.count ∙ ap length c.as_mut_slice.ensures.value) in
-    let P : List (Running _ _ _) → Type 0 = λ rs. gave_ups rs < 2 ^ 64 in
-    subst P (sym (c.as_slice-2.ensures.value ∙ same)) few
+    let t = c.args.trace.now in
+    let all = c.in_ok-runnings.runnings.items in
+    let ended = c.in_ok-runnings.ensures.ended in
+    let P : List (Running _ _ _ _ _ _) → Type 0 = λ list. gave_ups list < 2 ^ 64 in
+    let few : gave_ups c.as_slice.result.now < 2 ^ 64 =
+    subst P (sym c.as_slice.ensures.value) (gave_ups_few t all c.requires.valid c.requires.few
+    (worker_count g.N.NameCalls c.args.cache t c.args.setting c.in_ok-first.first.items all c.requires.set_up c.in_ok-first.ensures ended.count) ended.asked) in (
+      param_send _ _ (arg_send _ yes _ c.type_bounds.send-N-H),
+      (
+        param_send _ _ (arg_send _ yes _ c.type_bounds.send-N-Seat),
+        (search (c.type_bounds.sync-N-H, sendable), (search (c.type_bounds.sync-N-Cache, sendable), few)),
+      ),
+    )
 
 pub close-requires-clause-done : goal.close-requires-clause-done
-close-requires-clause-done g c =
+close-requires-clause-done g c κs within =
     let t = c.args.trace.now in
     let s = c.args.setting in
-    let same = written_back c.play.new.workers s.workers.items s.workers.len s.workers.ok.0 (c.play.ensures.count ∙ ap length c.as_mut_slice.ensures.value) in
-    let P : List (CountedZone _ _ _) → Type 0 = λ zones. AllStand zones s.clock (reverse (lines_of t.rounds)) (crew c.play.new.workers) in
-    done_of t s c.play.new.workers c.in_ok-workers.workers.items c.requires.set_up (c.play.ensures.count ∙ ap length c.as_mut_slice.ensures.value)
-    (subst P c.as_slice.ensures.value c.in_ok-play.ensures.stands) c.in_ok-play.ensures.adds_up
-    (play_as t.rounds s.zones.items _ s.workers.items _ c.play.new.workers c.as_slice.ensures.value c.as_mut_slice.ensures.value c.in_ok-play.ensures.plays) (c.in_ok-workers.ensures ∙ ap crew same)
+    let first = c.in_ok-first.first.items in
+    let all = c.in_ok-runnings.runnings.items in
+    let P : List (CountedZone _ _ _) → Type 0 = λ zones. AreEnded g.N.NameCalls c.args.cache t zones s.clock first all in
+    let ended = subst P c.as_slice-zone_list.ensures.value c.in_ok-runnings.ensures.ended in
+    done_of g.N.NameCalls c.args.cache t s first all c.in_ok-workers.workers.items c.requires.set_up c.in_ok-first.ensures ended.count ended.stand ended.adds_up c.in_ok-workers.ensures.workers
+
+pub close-requires-clause-named : goal.close-requires-clause-named
+close-requires-clause-named g c κs within =
+    let t = c.args.trace.now in
+    let s = c.args.setting in
+    let first = c.in_ok-first.first.items in
+    let all = c.in_ok-runnings.runnings.items in
+    let P : List (CountedZone _ _ _) → Type 0 = λ zones. AreEnded g.N.NameCalls c.args.cache t zones s.clock first all in
+    let ended = subst P c.as_slice-zone_list.ensures.value c.in_ok-runnings.ensures.ended in
+    named_of g.N.NameCalls c.args.cache t s first all c.in_ok-workers.workers.items c.in_ok-workers.namings.items c.requires.set_up c.in_ok-first.ensures ended.count
+    c.requires.serves c.requires.of_clock c.requires.sizes ended.stand ended.named ended.plays c.in_ok-workers.ensures.workers c.in_ok-workers.ensures.namings
 
 pub returns-clause-stands : goal.returns-clause-stands
 returns-clause-stands g c =
     let t = c.args.trace.now in
-    IfOk-weaker c.close.result (λ played. HallStands t played.report played.hall) (λ played. StandsFor t played.report)
-    (λ played stands. stands_of_hall t played.report played.hall c.requires.valid c.requires.built stands) c.close.ensures.hall
+    IfOk-weaker c.close.result (λ played. HallStands g.N.NameCalls t played.report played.hall) (λ played. StandsFor t played.report)
+    (λ played stands. stands_of_hall g.N.NameCalls t played.report played.hall c.requires.valid stands) c.close.ensures.hall
 
 pub returns-clause-free : goal.returns-clause-free
 returns-clause-free g c = λ free.
-    let t = c.args.trace.now in
-    let s = c.args.setting in
-    let none : gave_ups c.play.new.workers ≡ 0 =
-    none_gave_up t s c.play.new.workers c.requires.set_up (c.in_ok-play.ensures.free free ∙ ap (map (λ (r : Running _ _ _). r.gave_up)) c.as_mut_slice.ensures.value) in
-    let same = written_back c.play.new.workers s.workers.items s.workers.len s.workers.ok.0 (c.play.ensures.count ∙ ap length c.as_mut_slice.ensures.value) in
-    let all : c.all_gave_up-gave_up.result ≡ 0 = c.all_gave_up-gave_up.ensures ∙ (ap gave_ups (c.as_slice-2.ensures.value ∙ same) ∙ none) in
+    let first = c.in_ok-first.first.items in
+    let none : gave_ups c.in_ok-runnings.runnings.items ≡ 0 =
+    none_gave_up first c.in_ok-runnings.runnings.items (λ n r at. (first_at g.N.NameCalls c.args.cache first n r c.in_ok-first.ensures.each at).gave_up) (c.in_ok-runnings.ensures.free free) in
+    let all : c.all_gave_up-gave_up.result ≡ 0 = c.all_gave_up-gave_up.ensures ∙ (ap gave_ups c.as_slice.ensures.value ∙ none) in
     IfOk-weaker c.close.result (λ played. played.report.gave_up ≡ c.all_gave_up-gave_up.result) (λ played. played.report.gave_up ≡ 0) (λ played is. is ∙ all) c.close.ensures.gave_up

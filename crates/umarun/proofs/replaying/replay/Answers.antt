@@ -16,9 +16,8 @@ returns-in_err-trace-clause-refused g c = λ refused is.
 pub returns-clause-replays : goal.returns-clause-replays
 returns-clause-replays g c =
     let within : length c.in_ok-bytes.bytes.items ≤ most_bytes = let len = c.in_ok-bytes.bytes.ok in let le = c.in_ok-bytes.ensures.within in omega arith in
-    replays (g.S.Source.bytes_left c.args.source.now) c.in_ok-bytes.bytes.items c.deref.result.now c.in_ok-trace.trace c.in_ok-played.played.report c.in_ok-played.played.hall
-    c.in_ok-bytes.ensures.all c.deref.ensures.value within c.in_ok-trace.ensures.read c.in_ok-trace.ensures.built
-    c.in_ok-played.ensures.stands c.in_ok-played.ensures.hall c.in_ok-played.ensures.plan
+    replays (g.S.Source.bytes_left c.args.source.now) c.in_ok-bytes.bytes.items c.deref.result.now c.in_ok-trace.trace c.in_ok-played.played.report c.in_ok-played.played.ended
+    c.in_ok-bytes.ensures.all c.deref.ensures.value within c.in_ok-trace.ensures.read c.in_ok-played.ensures.stands c.in_ok-played.ensures.hall
 
 -- want of memory for the report's text is passed on as that
 pub returns-in_err-text-clause-too_long : goal.returns-in_err-text-clause-too_long

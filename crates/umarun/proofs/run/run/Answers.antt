@@ -1,33 +1,26 @@
 -- The text that was written is that of the report.
-use Rattle.std.proofs.Common.{◌≡◌, List, ℕ, Some, Err, sym, ap, ◌∙◌, subst, inl, inr}
-use Rattle.std.specs.Prelude.{IfSome, IfNone}
+use Rattle.std.proofs.Common.{◌≡◌, List, ℕ, Some, Err, sym, ap, ◌∙◌, inl, inr}
 use Rattle.uma_io.specs.Sink.{Adds, AddsPart}
 use Rattle.umarun.specs.declared.finish.Finish.{Finish}
+use Rattle.umarun.specs.Summary.{summary_text}
 use Rattle.umarun.proofs.Outcomes.{EndsReplay, none_named, none_refused, ends_by_memory, replay_ends, replay_names}
+use Rattle.umarun.proofs.Shown.{same_summary, shown, shown_if}
 use Rattle.zone_stats.specs.ReportText.{report_text}
+use Rattle.zone_stats.specs.declared.report.Report.{Report}
 use Rattle.umarun.proofs.run.run.Goals as goal
 
-pub returns-in-Ok-write_all-clause-replay_written : goal.returns-in-Ok-write_all-clause-replay_written
-returns-in-Ok-write_all-clause-replay_written g c =
-    let held = g.K.Sink.bytes_held c.args.sink.now in
-    let after = g.K.Sink.bytes_held c.write_all.new.sink in
-    let P : Finish → Type 0 = λ finish. IfNone finish.fault (IfSome finish.report (λ report. Adds held (report_text report) after)) in
-    let Q : List ℕ → Type 0 = λ text. Adds held text after in
-    subst P (sym c.replayed.ensures) (subst Q (c.deref.ensures.value ∙ c.in-Ok.ensures.text) c.in-Ok-write_all.ensures.written)
+pub returns-in-Ok-clause-replay_written : goal.returns-in-Ok-clause-replay_written
+returns-in-Ok-clause-replay_written g c = λ is.
+    let W : List ℕ → Type 0 = λ text. Adds (g.K.Sink.bytes_held c.args.sink.now) text (g.K.Sink.bytes_held c.reported.new.sink) in
+    shown_if (λ (r : Report). report_text r) W c.reported.result.fault c.reported.result.report c.in-Ok.played.report c.deref.result.now c.reported.ensures.report (c.deref.ensures.value ∙ c.in-Ok.ensures.text) c.reported.ensures.all
 
-pub returns-in-Some-Replay-clause-replay_part : goal.returns-in-Some-Replay-clause-replay_part
-returns-in-Some-Replay-clause-replay_part g c = λ is.
-    let held = g.K.Sink.bytes_held c.args.sink.now in
-    let after = g.K.Sink.bytes_held c.write_all.new.sink in
-    let P : Finish → Type 0 = λ finish. IfSome finish.report (λ report. AddsPart held (report_text report) after) in
-    let Q : List ℕ → Type 0 = λ text. AddsPart held text after in
-    subst P (sym c.replayed-in-Err-write_all.ensures) (subst Q (c.deref.ensures.value ∙ c.in-Ok.ensures.text) c.in-Err-write_all.ensures.part)
+pub returns-in-Ok-clause-replay_part : goal.returns-in-Ok-clause-replay_part
+returns-in-Ok-clause-replay_part g c = λ is fault.
+    let W : List ℕ → Type 0 = λ text. AddsPart (g.K.Sink.bytes_held c.args.sink.now) text (g.K.Sink.bytes_held c.reported.new.sink) in
+    shown (λ (r : Report). report_text r) W c.reported.result.report c.in-Ok.played.report c.deref.result.now c.reported.ensures.report (c.deref.ensures.value ∙ c.in-Ok.ensures.text) (c.reported.ensures.part fault)
 
-pub returns-in-Ok-write_all-clause-replay_refuses : goal.returns-in-Ok-write_all-clause-replay_refuses
-returns-in-Ok-write_all-clause-replay_refuses g c = λ refused. absurd (none_refused c.replayed_or_refused.ensures.report c.in-Ok.played.report c.in-Ok.played.hall (g.S.Source.bytes_left c.args.source.now) c.in-Ok.ensures.replays refused)
-
-pub returns-in-Some-Replay-clause-replay_refuses : goal.returns-in-Some-Replay-clause-replay_refuses
-returns-in-Some-Replay-clause-replay_refuses g c = λ refused. absurd (none_refused c.replayed_or_refused.ensures.report c.in-Ok.played.report c.in-Ok.played.hall (g.S.Source.bytes_left c.args.source.now) c.in-Ok.ensures.replays refused)
+pub returns-in-Ok-clause-replay_refuses : goal.returns-in-Ok-clause-replay_refuses
+returns-in-Ok-clause-replay_refuses g c = λ is refused. absurd (none_refused c.replayed_or_refused.ensures.report c.in-Ok.played.report c.in-Ok.played.ended (g.S.Source.bytes_left c.args.source.now) c.in-Ok.ensures.replays refused)
 
 pub returns-in-Err-clause-replay_names : goal.returns-in-Err-clause-replay_names
 returns-in-Err-clause-replay_names g c = λ refused is refuses unread.
@@ -59,13 +52,9 @@ returns-in-Err-clause-replay_complete g c = λ is input unread unwritten.
     } in
     inr (ap (λ (finish : Finish). finish.fault) c.refused-in-Err.ensures ∙ ap Some (replay_ends left c.in-Err.fault c.replayed_or_refused.ensures.input ends input))
 
-pub returns-in-Ok-write_all-clause-replay_names : goal.returns-in-Ok-write_all-clause-replay_names
-returns-in-Ok-write_all-clause-replay_names g c = λ refused is refuses unread.
-    absurd (none_named c.replayed_or_refused.ensures.report c.in-Ok.played.report c.in-Ok.played.hall (g.S.Source.bytes_left c.args.source.now) refused c.in-Ok.ensures.replays refuses)
-
-pub returns-in-Some-Replay-clause-replay_names : goal.returns-in-Some-Replay-clause-replay_names
-returns-in-Some-Replay-clause-replay_names g c = λ refused is refuses unread.
-    absurd (none_named c.replayed_or_refused.ensures.report c.in-Ok.played.report c.in-Ok.played.hall (g.S.Source.bytes_left c.args.source.now) refused c.in-Ok.ensures.replays refuses)
+pub returns-in-Ok-clause-replay_names : goal.returns-in-Ok-clause-replay_names
+returns-in-Ok-clause-replay_names g c = λ refused is refuses unread.
+    absurd (none_named c.replayed_or_refused.ensures.report c.in-Ok.played.report c.in-Ok.played.ended (g.S.Source.bytes_left c.args.source.now) refused c.in-Ok.ensures.replays refuses)
 
 pub returns-in-Err-steps-clause-steps_complete : goal.returns-in-Err-steps-clause-steps_complete
 returns-in-Err-steps-clause-steps_complete g c = λ is played unread unwritten.
@@ -76,5 +65,13 @@ returns-in-Err-steps-clause-steps_complete g c = λ is played unread unwritten.
     inr (ap (λ (finish : Finish). finish.fault) c.refused-in-Err-steps.ensures ∙ ap Some memory)
 
 -- The text of a made trace is written whole where writing didn't fail.
-pub returns-clause-gen_complete : goal.returns-clause-gen_complete
-returns-clause-gen_complete g c = λ seed workers ops is unwritten. inl (c.written-in-Ok-made_text.ensures.complete unwritten)
+pub returns-in-Ok-made_text-clause-gen_complete : goal.returns-in-Ok-made_text-clause-gen_complete
+returns-in-Ok-made_text-clause-gen_complete g c = λ seed workers ops is unwritten. inl (c.written-in-Ok-made_text.ensures.complete unwritten)
+
+pub returns-in-Ok-replay_made-clause-bulk_part : goal.returns-in-Ok-replay_made-clause-bulk_part
+returns-in-Ok-replay_made-clause-bulk_part g c = λ seed workers ops is fault.
+    let W : List ℕ → Type 0 = λ text. AddsPart (g.K.Sink.bytes_held c.args.sink.now) text (g.K.Sink.bytes_held c.reported-in-Ok-replay_made.new.sink) in
+    let report = c.in-Ok-replay_made.played.report in
+    let same = same_summary c.in-Some-Bulk.seed c.in-Some-Bulk.workers c.in-Some-Bulk.ops seed workers ops (sym is ∙ sym c.of.ensures.is ∙ c.in-Some-Bulk.is ∙ ap Some c.in-Some-Bulk.field-0-is) report in
+    shown (λ (r : Report). summary_text seed workers ops r) W c.reported-in-Ok-replay_made.result.report report c.deref-in-Ok-replay_made.result.now c.reported-in-Ok-replay_made.ensures.report
+    (c.deref-in-Ok-replay_made.ensures.value ∙ c.in-Ok-replay_made.ensures.text ∙ same) (c.reported-in-Ok-replay_made.ensures.part fault)

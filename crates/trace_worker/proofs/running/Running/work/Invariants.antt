@@ -7,6 +7,6 @@ use Rattle.trace_worker.proofs.running.Running.work.Given as goal
 abbrev pub invariant-loop-place : goal.invariant-loop-place
 invariant-loop-place g l =
     record {
-      midway : Midway l.zones l.clock l.number (lines_before l.trace.rounds l.round) l.ops l.place l.fn.self l.self;
+      midway : Midway g.N.NameCalls l.cache l.zones l.clock l.number (lines_before l.trace.rounds l.round) l.ops l.place l.fn.self l.self;
       free : g.G.Gate.is_free l.gate → l.self.gave_up ≡ l.fn.self.gave_up;
     }

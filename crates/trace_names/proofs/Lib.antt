@@ -1,0 +1,4 @@
+mod Counting
+mod Knowing
+mod Ranges
+pub mod Shared

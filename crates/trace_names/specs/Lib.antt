@@ -1,0 +1,4 @@
+pub mod Caches
+pub mod Known
+pub mod Plain
+pub mod Wanting

@@ -1,0 +1,76 @@
+-- A worker that did a line, of names or not: it stands for one line more, its items and ledgers go together, and its pass forgets nothing.
+use Rattle.std.proofs.Common.{ℕ, ◌≤◌, inl, inr, List, ◌∷◌, refl}
+use Rattle.smr_clock.specs.declared.clock.Clock.{Clock}
+use Rattle.smr_clock.specs.declared.host.Host.{Ghosts}
+use Rattle.smr_clock.specs.Belongs.{IsOf}
+use Rattle.trace_text.specs.declared.op.Op.{Op}
+use Rattle.trace_text.specs.declared.op.Op.TheVariants.{Alloc, Free, Enter, Exit, Prealloc, Bind, Unbind, Look, Trim, Drain, DrainSeat}
+use Rattle.trace_text.specs.Lines.{Line, Does}
+use Rattle.trace_worker.specs.declared.name_calls.NameCalls.{Ghosts as NameGhosts}
+use Rattle.trace_worker.specs.Items.{CountedZone}
+use Rattle.trace_worker.specs.NameLines.{CanDo, Doing, DoesLine, LooksLine}
+use Rattle.trace_worker.specs.Performs.{CanPerform, KeepsHolds, Performs}
+use Rattle.trace_worker.specs.Stands.{Stands}
+use Rattle.trace_worker.specs.Turn.{Balances}
+use Rattle.trace_worker.specs.Worker.{seen_of}
+use Rattle.trace_worker.proofs.Balance.{balance_holds, balance_step}
+use Rattle.trace_worker.proofs.SeenSteps.{seen_step}
+use Rattle.trace_worker.proofs.StandSteps.{stand_step, stands_find, stands_late, stands_look, stands_quiet}
+
+module _ {N H C S Part : Type 0} {h : Ghosts H Part} (names : NameGhosts N H C S Part) (cache : C) (zones : List (CountedZone H Part h)) where
+  looks_stand : (clock : Clock H Part) (n key : ℕ) (lines : List Line) (old new : Doing N H C S Part h) → IsOf clock old.worker.pass → LooksLine names cache old key new
+      → Stands zones clock n lines old.worker → Stands zones clock n (Does n (Look key) ∷ lines) new.worker
+  looks_stand clock n key lines old new of (inl step) stands = stands_find zones clock n key lines old.worker new.worker step.inside step.holds step.section stands
+  looks_stand clock n key lines old new of (inr (inl step)) stands = stands_look zones clock n key lines old.worker new.worker step.outside step.phase step.holds step.seen step.entered step.late stands
+  looks_stand clock n key lines old new of (inr (inr step)) stands =
+      stands_late zones clock n key lines old.worker new.worker step.overtaken of step.misses step.phase step.holds step.seen step.entered step.late stands
+
+  pub looks_holds : (key : ℕ) (old new : Doing N H C S Part h) → LooksLine names cache old key new → KeepsHolds old.worker new.worker
+  looks_holds key old new (inl step) = step.holds
+  looks_holds key old new (inr (inl step)) = step.holds
+  looks_holds key old new (inr (inr step)) = step.holds
+
+  looks_seen : (key : ℕ) (old new : Doing N H C S Part h) → LooksLine names cache old key new → seen_of old.worker ≤ seen_of new.worker
+  looks_seen key old new (inl step) = step.section.seen
+  looks_seen key old new (inr (inl step)) = step.seen
+  looks_seen key old new (inr (inr step)) = step.seen
+
+  -- what all lines leave of the worker
+  pub record Leaves (clock : Clock H Part) (n : ℕ) (op : Op) (lines : List Line) (old new : Doing N H C S Part h) : Type 0 where
+    pub stands : Stands zones clock n (Does n op ∷ lines) new.worker
+    pub balances : (z : ℕ) → Balances z old.worker new.worker
+    pub seen : seen_of old.worker ≤ seen_of new.worker
+
+  performed : (clock : Clock H Part) (n : ℕ) (op : Op) (lines : List Line) (old new : Doing N H C S Part h) → IsOf clock old.worker.pass → CanPerform zones old.worker op → Performs zones old.worker op new.worker
+      → Stands zones clock n lines old.worker → Leaves clock n op lines old new
+  performed clock n op lines old new of can step stands = record {
+    stands = stand_step zones clock n op lines old.worker new.worker of can step stands;
+    balances = balance_step zones old.worker new.worker op can step;
+    seen = seen_step zones op old.worker new.worker can step;
+  }
+
+  pub line_step : (clock : Clock H Part) (n : ℕ) (op : Op) (lines : List Line) (old new : Doing N H C S Part h) → IsOf clock old.worker.pass → CanDo names zones old.worker op → DoesLine names cache zones old op new
+      → Stands zones clock n lines old.worker → Leaves clock n op lines old new
+  line_step clock n (Bind key value) lines old new of can step stands = record {
+    stands = stands_quiet zones clock n (Bind key value) lines old.worker new.worker (λ z. refl) (λ z. refl) (λ slot o. refl) refl (λ b. refl) step.holds step.section stands;
+    balances = balance_holds old.worker new.worker step.holds;
+    seen = step.section.seen;
+  }
+  line_step clock n (Unbind key) lines old new of can step stands = record {
+    stands = stands_quiet zones clock n (Unbind key) lines old.worker new.worker (λ z. refl) (λ z. refl) (λ slot o. refl) refl (λ b. refl) step.holds step.section stands;
+    balances = balance_holds old.worker new.worker step.holds;
+    seen = step.section.seen;
+  }
+  line_step clock n (Look key) lines old new of can step stands = record {
+    stands = looks_stand clock n key lines old new of step stands;
+    balances = balance_holds old.worker new.worker (looks_holds key old new step);
+    seen = looks_seen key old new step;
+  }
+  line_step clock n (Alloc zone slot arg reserve) lines old new of can step stands = performed clock n (Alloc zone slot arg reserve) lines old new of can step.0 stands
+  line_step clock n (Free slot) lines old new of can step stands = performed clock n (Free slot) lines old new of can step.0 stands
+  line_step clock n Enter lines old new of can step stands = performed clock n Enter lines old new of can step.0 stands
+  line_step clock n Exit lines old new of can step stands = performed clock n Exit lines old new of can step.0 stands
+  line_step clock n (Prealloc zone items) lines old new of can step stands = performed clock n (Prealloc zone items) lines old new of can step.0 stands
+  line_step clock n (Trim zone) lines old new of can step stands = performed clock n (Trim zone) lines old new of can step.0 stands
+  line_step clock n (Drain zone) lines old new of can step stands = performed clock n (Drain zone) lines old new of can step.0 stands
+  line_step clock n (DrainSeat zone) lines old new of can step stands = performed clock n (DrainSeat zone) lines old new of can step.0 stands

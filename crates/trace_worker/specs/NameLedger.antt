@@ -1,0 +1,53 @@
+-- What a bind or an unbind counts in the seat of the names' zone (own).
+use Rattle.std.specs.Prelude.{◌≡◌, ◌⊎◌, ◌+◌, ◌<◌, ◌^◌, ℕ, Bool, true, false}
+use Rattle.zone_stats.specs.declared.ledger.SeatLedger.{SeatLedger}
+use Rattle.zone_stats.specs.declared.refusal.Refusal.{Refusal}
+use Rattle.zone_stats.specs.declared.refusal.Refusal.TheVariants.{Full, Init}
+use Rattle.zone_stats.specs.LedgerSteps.{HasRoom, CountsAlloc, CountsTurned, CountsFree}
+
+-- a bind counts a request and a free
+pub record HasRoomToBind (ledger : SeatLedger) : Type 0 where
+  pub now : HasRoom ledger
+  pub later : ledger.requests + 1 < 2 ^ 63
+
+-- What the zone of names refuses, which has so many slabs at most, and neither a limit nor a reserve: it has all its slabs, or its hooks refused an entry without words.
+abbrev pub NamesRefuse : ℕ → Refusal → Type 0
+NamesRefuse slabs (Full most made) = most ≡ slabs
+NamesRefuse slabs (Init code) = code ≡ 255
+NamesRefuse slabs refusal = ⊥
+
+-- one free more
+abbrev pub CountsOneFree : SeatLedger → SeatLedger → Type 0
+CountsOneFree old new = (crossed : Bool) × CountsFree old new crossed
+
+-- nothing more, or one free
+abbrev pub MayCountFree : SeatLedger → SeatLedger → Type 0
+MayCountFree old new = (new ≡ old) ⊎ CountsOneFree old new
+
+-- A bind got an entry, and freed the one that the row had, if there was one.
+pub record CountsBind (old new : SeatLedger) : Type 0 where
+  pub between : SeatLedger
+  pub alloc : CountsAlloc old between
+  pub evicts : MayCountFree between new
+
+-- A bind got an entry that the row didn't take, and freed it again.
+pub record CountsGivenBack (old new : SeatLedger) : Type 0 where
+  pub between : SeatLedger
+  pub alloc : CountsAlloc old between
+  pub back : CountsOneFree between new
+
+-- A bind got no entry: its zone refused one.
+pub record CountsRefused (slabs : ℕ) (old new : SeatLedger) : Type 0 where
+  pub refusal : Refusal
+  pub turned : CountsTurned old new refusal
+  pub fits : NamesRefuse slabs refusal
+
+-- what a bind counts, by whether it bound
+abbrev pub BindCounts : ℕ → Bool → SeatLedger → SeatLedger → Type 0
+BindCounts slabs true old new = CountsBind old new
+BindCounts slabs false old new = CountsRefused slabs old new ⊎ CountsGivenBack old new
+
+-- what an unbind counts, by whether it took the key out
+abbrev pub UnbindCounts : Bool → SeatLedger → SeatLedger → Type 0
+UnbindCounts true old new = CountsOneFree old new
+UnbindCounts false old new = new ≡ old

@@ -1,0 +1,128 @@
+-- What each kind of line does to its worker and to what the worker has of the names (own).
+use Rattle.std.specs.Prelude.{◌≡◌, ◌⊎◌, ◌≤◌, ◌+◌, ℕ, Bool, List, [], ◌∷◌, Option, IsTrue, IfSome}
+use Rattle.smr_clock.specs.declared.host.Host.{Ghosts}
+use Rattle.smr_clock.specs.declared.refused.Overtaken.{Overtaken}
+use Rattle.smr_clock.specs.Belongs.{view}
+use Rattle.smr_clock.specs.Sections.{Misses}
+use Rattle.smr_core.specs.declared.phase.Phase.TheVariants.{Outside, Inside}
+use Rattle.trace_text.specs.declared.op.Op.{Op}
+use Rattle.trace_text.specs.declared.op.Op.TheVariants.{Bind, Unbind, Look}
+use Rattle.trace_worker.specs.declared.name_calls.NameCalls.{Ghosts as NameGhosts}
+use Rattle.trace_worker.specs.declared.naming.Naming.{Naming}
+use Rattle.trace_worker.specs.declared.running.Running.{Running}
+use Rattle.trace_worker.specs.declared.worker.Worker.{Worker}
+use Rattle.trace_worker.specs.Items.{CountedZone}
+use Rattle.trace_worker.specs.Knowing.{StillKnows, Finds}
+use Rattle.trace_worker.specs.NameCalls.{Bound, Unbound, CountedBind, CountedUnbind}
+use Rattle.trace_worker.specs.NameLedger.{HasRoomToBind}
+use Rattle.trace_worker.specs.Naming.{CountsFew, CountsBind, CountsUnbind, CountsAnswer, CountsLate}
+use Rattle.trace_worker.specs.Performs.{CanPerform, IsBetween, KeepsHolds, KeepsSection, Performs}
+use Rattle.trace_worker.specs.Worker.{phase_of, seen_of}
+
+-- what a worker's lines change: itself, and what it has of the names
+pub record Doing (N H C S P : Type 0) (h : Ghosts H P) : Type 0 where
+  pub worker : Worker H P h
+  pub naming : Naming N H C S P
+
+module _ {N H C S P : Type 0} {h : Ghosts H P} where
+  abbrev pub doing : Running N H C S P h → Doing N H C S P h
+  doing r = record { worker = r.worker; naming = r.naming }
+
+  -- what it counted of its gate, and how its last turn ended, stay
+  pub record KeepsGate (old new : Running N H C S P h) : Type 0 where
+    pub asked : new.asked ≡ old.asked
+    pub gave_up : new.gave_up ≡ old.gave_up
+
+module _ {N H C S P : Type 0} (names : NameGhosts N H C S P) where
+  -- each of its counts of names can be one more, and so can its ledger of them, also by a free
+  pub record HasNameRooms (naming : Naming N H C S P) : Type 0 where
+    pub counts : CountsFew naming.counts
+    pub ledger : IfSome (names.counted naming.seat) HasRoomToBind
+
+module _ {N H C S P : Type 0} {h : Ghosts H P} (names : NameGhosts N H C S P) (cache : C) where
+  -- a `bind` line: one call, which bound the key or didn't
+  pub record BindsLine (old : Doing N H C S P h) (key value : ℕ) (new : Doing N H C S P h) : Type 0 where
+    pub done : Bool
+    pub still : StillKnows names.knows (view old.worker.pass) (view new.worker.pass)
+    pub bound : Bound names.knows (names.sizes_of cache).rows key value (view old.worker.pass) done (view new.worker.pass)
+    pub ledger : CountedBind (names.sizes_of cache).slabs done (names.counted old.naming.seat) (names.counted new.naming.seat)
+    pub counts : CountsBind done old.naming.counts new.naming.counts
+    pub holds : KeepsHolds old.worker new.worker
+    pub section : KeepsSection old.worker new.worker
+
+  -- an `unbind` line: one call, which took the key out or found it unbound
+  pub record UnbindsLine (old : Doing N H C S P h) (key : ℕ) (new : Doing N H C S P h) : Type 0 where
+    pub done : Bool
+    pub still : StillKnows names.knows (view old.worker.pass) (view new.worker.pass)
+    pub unbound : Unbound names.knows (names.sizes_of cache).rows key (view old.worker.pass) done (view new.worker.pass)
+    pub ledger : CountedUnbind done (names.counted old.naming.seat) (names.counted new.naming.seat)
+    pub counts : CountsUnbind done old.naming.counts new.naming.counts
+    pub holds : KeepsHolds old.worker new.worker
+    pub section : KeepsSection old.worker new.worker
+
+  -- a look in the section that is open
+  pub record FindsLine (old : Doing N H C S P h) (key : ℕ) (new : Doing N H C S P h) : Type 0 where
+    pub found : Option ℕ
+    pub inside : phase_of old.worker ≡ Inside
+    pub still : StillKnows names.knows (view old.worker.pass) (view new.worker.pass)
+    pub finds : Finds names.knows (names.sizes_of cache).rows key (view old.worker.pass) found (view new.worker.pass)
+    pub counts : CountsAnswer found old.naming.counts new.naming.counts
+    pub seat : new.naming.seat ≡ old.naming.seat
+    pub holds : KeepsHolds old.worker new.worker
+    pub section : KeepsSection old.worker new.worker
+
+  -- a look in a section of its own, which is counted as entered
+  pub record LooksInTime (old : Doing N H C S P h) (key : ℕ) (new : Doing N H C S P h) : Type 0 where
+    pub found : Option ℕ
+    pub outside : phase_of old.worker ≡ Outside
+    pub still : StillKnows names.knows (view old.worker.pass) (view new.worker.pass)
+    pub finds : Finds names.knows (names.sizes_of cache).rows key (view old.worker.pass) found (view new.worker.pass)
+    pub counts : CountsAnswer found old.naming.counts new.naming.counts
+    pub seat : new.naming.seat ≡ old.naming.seat
+    pub phase : phase_of new.worker ≡ Outside
+    pub seen : seen_of old.worker ≤ seen_of new.worker
+    pub entered : new.worker.entered ≡ old.worker.entered + 1
+    pub late : new.worker.late ≡ old.worker.late
+    pub holds : KeepsHolds old.worker new.worker
+
+  -- the enter of a look was overtaken: the section is counted as late, and the look too
+  pub record LooksLate (old : Doing N H C S P h) (key : ℕ) (new : Doing N H C S P h) : Type 0 where
+    pub overtaken : Overtaken
+    pub outside : phase_of old.worker ≡ Outside
+    pub misses : Misses (view old.worker.pass) overtaken (view new.worker.pass)
+    pub still : StillKnows names.knows (view old.worker.pass) (view new.worker.pass)
+    pub counts : CountsLate old.naming.counts new.naming.counts
+    pub seat : new.naming.seat ≡ old.naming.seat
+    pub phase : phase_of new.worker ≡ Outside
+    pub seen : seen_of old.worker ≤ seen_of new.worker
+    pub entered : new.worker.entered ≡ old.worker.entered
+    pub late : new.worker.late ≡ old.worker.late + 1
+    pub holds : KeepsHolds old.worker new.worker
+
+  -- a look outside a section
+  abbrev pub LookEnds : Doing N H C S P h → ℕ → Doing N H C S P h → Type 0
+  LookEnds old key new = LooksInTime old key new ⊎ LooksLate old key new
+
+  -- a `look` line
+  abbrev pub LooksLine : Doing N H C S P h → ℕ → Doing N H C S P h → Type 0
+  LooksLine old key new = FindsLine old key new ⊎ LookEnds old key new
+
+  -- what a line does; one that isn't of names leaves what the worker has of them
+  abbrev pub DoesLine : List (CountedZone H P h) → Doing N H C S P h → Op → Doing N H C S P h → Type 0
+  DoesLine zones old (Bind key value) new = BindsLine old key value new
+  DoesLine zones old (Unbind key) new = UnbindsLine old key new
+  DoesLine zones old (Look key) new = LooksLine old key new
+  DoesLine zones old op new = Performs zones old.worker op new.worker × (new.naming ≡ old.naming)
+
+  -- what lines do, one after another
+  unfoldable pub DoesAll : List (CountedZone H P h) → Doing N H C S P h → List Op → Doing N H C S P h → Type 0
+  DoesAll zones old [] new = new ≡ old
+  DoesAll zones old (op ∷ ops) new = (next : Doing N H C S P h) × DoesLine zones old op next × DoesAll zones next ops new
+
+module _ {N H C S P : Type 0} {h : Ghosts H P} (names : NameGhosts N H C S P) where
+  -- what a line needs
+  abbrev pub CanDo : List (CountedZone H P h) → Worker H P h → Op → Type 0
+  CanDo zones w (Bind key value) = IsTrue names.serves
+  CanDo zones w (Unbind key) = IsTrue names.serves
+  CanDo zones w (Look key) = IsTrue names.serves × IsBetween w
+  CanDo zones w op = CanPerform zones w op

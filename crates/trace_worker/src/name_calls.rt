@@ -1,0 +1,213 @@
+ghost use Rattle.std.specs.Prelude.{◌≡◌, ◌≤◌, ◌<◌, ◌^◌, ℕ, Bool, Option, IsTrue, IfOk, IfErr, IfSome, is_some, false};
+ghost use Rattle.smr_clock.specs.Belongs.{IsOf, clock_id, holder, setup_of, view};
+ghost use Rattle.smr_clock.specs.Sections.{Misses};
+ghost use Rattle.smr_core.specs.declared.phase.Phase.{Phase};
+ghost use Rattle.trace_text.specs.Valid.{IsValid};
+ghost use Rattle.uma_bucket.specs.Sums.{Adds, AreOfAtMost, Balance, nothing_held};
+ghost use Rattle.uma_keg.specs.Census.{census_counts};
+ghost use Rattle.zone_stats.specs.LedgerSteps.{HasRoom, IsNew};
+ghost use Rattle.trace_worker.specs.Clocks.{ArePasses, IsClockOf};
+ghost use Rattle.trace_worker.specs.Knowing.{Finds, StillKnows};
+ghost use Rattle.trace_worker.specs.NameCalls.{Bound, CountedBind, CountedUnbind, Unbound};
+ghost use Rattle.trace_worker.specs.NameLedger.{HasRoomToBind};
+ghost use Rattle.trace_worker.specs.NameSizes.{sizes_for};
+ghost use Rattle.trace_worker.specs.NameSums.{HasLinked};
+
+use crate::Memory;
+use smr_clock::{Clock, Host, Overtaken, Pass};
+use std::alloc::Global;
+use std::sync::Wait;
+use trace_text::Trace;
+use uma_bucket::Sums;
+use uma_keg::Census;
+use zone_stats::SeatLedger;
+
+/// The calls behind the lines of names, so that a replay doesn't stand on the crate that keeps them.
+///
+/// An implementation serves names or not. One that serves none is for traces without a `names` line: it makes no more than a
+/// clock and its passes, and answers as a cache in which no key is ever bound.
+pub trait NameCalls {
+    type H: Host + Send + Sync;
+
+    type Cache: Sync + Drop;
+
+    type Seat: Send + Drop;
+
+    ghost use Rattle.std.specs.Prelude.{◌≡◌, ℕ, Bool, Option, is_some};
+    ghost use Rattle.smr_clock.specs.Belongs.{TableId};
+    ghost use Rattle.smr_clock.specs.declared.setup.Setup.{Setup};
+    ghost use Rattle.smr_clock.specs.declared.view.View.{View};
+    ghost use Rattle.trace_text.specs.declared.head.Head.{Head};
+    ghost use Rattle.uma_life.specs.Hook.{Hook};
+    ghost use Rattle.zone_stats.specs.declared.ledger.SeatLedger.{SeatLedger};
+    ghost use Rattle.trace_worker.specs.NameSizes.{NameSizes};
+
+    // Whether it serves names.
+    ghost serves: { Bool };
+
+    // The clock by which the readers of a cache go.
+    ghost clock_of: { Self.Cache → TableId × Setup };
+
+    ghost sizes_of: { Self.Cache → NameSizes };
+
+    // The seat is one of the cache's zone of entries.
+    ghost IsSeat: { Self.Cache → Self.Seat → Type 0 };
+
+    // What the seat counted, where names are served.
+    ghost counted: { Self.Seat → Option SeatLedger };
+
+    // How often the entries that the seat holds passed each hook, and how many of them are deferred.
+    ghost passed: { Self.Seat → Hook → ℕ };
+
+    ghost deferred: { Self.Seat → ℕ };
+
+    // What the host of the clock of a trace plans for it.
+    ghost plans: { Head → ℕ × ℕ };
+
+    // The pass knows the record of this row and version, which binds this key to this value, or nothing.
+    ghost knows: { View Self.H.Part → ℕ → ℕ → Option (ℕ × ℕ) → Type 0 };
+
+    ghost counts_where_served: { (seat : Self.Seat) → is_some (counted seat) ≡ serves };
+
+    /// The cache, the clock and the passes of a trace, which has a `names` line exactly where names are served.
+    fn set_up(
+        &self,
+        alloc: Global,
+        trace: &Trace,
+    ) -> Result<(Self::Cache, Clock<Self::H>, Vec<Pass<Self::H>>), Memory>
+        requires valid { IsValid trace.now }
+        requires serves { serves ≡ is_some trace.now.head.names }
+        ensures clock { IfOk result (λ (cache, clock, passes). IsClockOf trace.now.head clock) }
+        ensures plan { IfOk result (λ (cache, clock, passes). (setup_of clock).plan ≡ plans trace.now.head) }
+        ensures passes { IfOk result (λ (cache, clock, passes). ArePasses trace.now.head.workers clock passes.items) }
+        ensures of_clock { IfOk result (λ (cache, clock, passes). IsTrue serves → clock_of cache ≡ clock_id clock) }
+        ensures sizes { IfOk result (λ (cache, clock, passes). IfSome trace.now.head.names (λ line. sizes_of cache ≡ sizes_for trace.now.head line)) };
+
+    /// A new seat in a memory domain, for one worker. Waits until it has the locks of the keg and of that domain.
+    fn seat<R: Wait>(
+        &self,
+        cache: &Self::Cache,
+        rt: &R,
+        alloc: Global,
+        domain: u8,
+    ) -> Result<Self::Seat, Memory>
+        requires domain { IsTrue serves → domain < (sizes_of cache.now).domains }
+        ensures seat { IfOk result (IsSeat cache.now) }
+        ensures fresh { IfOk result (λ seat. IfSome (counted seat) IsNew) };
+
+    /// Binds a key to a value. False where it is refused for another cause than want of memory. Waits for the locks of the
+    /// key's row and of the zone.
+    ///
+    /// After `Memory` the replay is over.
+    fn bind<R: Wait>(
+        &self,
+        cache: &Self::Cache,
+        rt: &R,
+        alloc: Global,
+        clock: &Clock<Self::H>,
+        pass: &mut Pass<Self::H>,
+        seat: &mut Self::Seat,
+        key: u64,
+        value: u64,
+    ) -> Result<bool, Memory>
+        requires clock { clock_id clock.now ≡ clock_of cache.now }
+        requires pass { IsOf clock.now pass.old }
+        requires seat { IsSeat cache.now seat.old }
+        requires room { IfSome (counted seat.old) HasRoomToBind }
+        ensures seat { IsSeat cache.now seat.new }
+        ensures pass { IsOf clock.now pass.new }
+        ensures phase { (holder pass.new).phase ≡ (holder pass.old).phase }
+        ensures seen { (holder pass.old).seen ≤ (holder pass.new).seen }
+        ensures still { StillKnows knows (view pass.old) (view pass.new) }
+        ensures binds { IfOk result (λ done. Bound knows (sizes_of cache.now).rows key value (view pass.old) done (view pass.new)) }
+        ensures counts { IfOk result (λ done. CountedBind (sizes_of cache.now).slabs done (counted seat.old) (counted seat.new)) };
+
+    /// Takes a key out. True where its row bound it. Waits for the locks of the key's row and of the zone.
+    ///
+    /// After `Memory` the replay is over.
+    fn unbind<R: Wait>(
+        &self,
+        cache: &Self::Cache,
+        rt: &R,
+        alloc: Global,
+        clock: &Clock<Self::H>,
+        pass: &mut Pass<Self::H>,
+        seat: &mut Self::Seat,
+        key: u64,
+    ) -> Result<bool, Memory>
+        requires clock { clock_id clock.now ≡ clock_of cache.now }
+        requires pass { IsOf clock.now pass.old }
+        requires seat { IsSeat cache.now seat.old }
+        requires room { IfSome (counted seat.old) HasRoom }
+        ensures seat { IsSeat cache.now seat.new }
+        ensures pass { IsOf clock.now pass.new }
+        ensures phase { (holder pass.new).phase ≡ (holder pass.old).phase }
+        ensures seen { (holder pass.old).seen ≤ (holder pass.new).seen }
+        ensures still { StillKnows knows (view pass.old) (view pass.new) }
+        ensures unbinds { IfOk result (λ done. Unbound knows (sizes_of cache.now).rows key (view pass.old) done (view pass.new)) }
+        ensures counts { IfOk result (λ done. CountedUnbind done (counted seat.old) (counted seat.new)) };
+
+    /// The value that the key's row binds to the key, looked up in the section in which the pass is. Takes no memory and
+    /// waits for nobody.
+    fn find(
+        &self,
+        cache: &Self::Cache,
+        clock: &Clock<Self::H>,
+        pass: &mut Pass<Self::H>,
+        key: u64,
+    ) -> Option<u64>
+        requires clock { clock_id clock.now ≡ clock_of cache.now }
+        requires pass { IsOf clock.now pass.old }
+        requires inside { (holder pass.old).phase ≡ Phase.Inside }
+        ensures pass { IsOf clock.now pass.new }
+        ensures inside { (holder pass.new).phase ≡ Phase.Inside }
+        ensures seen { (holder pass.old).seen ≤ (holder pass.new).seen }
+        ensures still { StillKnows knows (view pass.old) (view pass.new) }
+        ensures finds { Finds knows (sizes_of cache.now).rows key (view pass.old) result (view pass.new) };
+
+    /// The value that the key's row binds to the key, looked up in a section of its own. Takes no memory and waits for
+    /// nobody.
+    ///
+    /// # Errors
+    ///
+    /// `Overtaken` where the clock went on by its window while the pass entered: nothing was looked up.
+    fn look(
+        &self,
+        cache: &Self::Cache,
+        clock: &Clock<Self::H>,
+        pass: &mut Pass<Self::H>,
+        key: u64,
+    ) -> Result<Option<u64>, Overtaken>
+        requires clock { clock_id clock.now ≡ clock_of cache.now }
+        requires pass { IsOf clock.now pass.old }
+        requires outside { (holder pass.old).phase ≡ Phase.Outside }
+        ensures pass { IsOf clock.now pass.new }
+        ensures outside { (holder pass.new).phase ≡ Phase.Outside }
+        ensures seen { (holder pass.old).seen ≤ (holder pass.new).seen }
+        ensures still { StillKnows knows (view pass.old) (view pass.new) }
+        ensures finds { IfOk result (λ found. Finds knows (sizes_of cache.now).rows key (view pass.old) found (view pass.new)) }
+        ensures late { IfErr result (λ late. Misses (view pass.old) late (view pass.new)) };
+
+    /// What a seat counted. None exactly where no names are served.
+    fn ledger(seat: &Self::Seat) -> Option<SeatLedger>
+        ensures { result ≡ counted seat.now };
+
+    /// How often the entries that a seat holds passed each hook, and how many of them are deferred. All zeros where no
+    /// names are served.
+    fn seat_sums(seat: &Self::Seat) -> Sums
+        ensures adds { Adds (passed seat.now) (deferred seat.now) nothing_held result }
+        ensures few { AreOfAtMost 704 result }
+        ensures balance { (cache : Self.Cache) → IsSeat cache seat.now → Balance 0 result }
+        ensures none { serves ≡ false → result ≡ nothing_held };
+
+    /// The census of the keg of entries, lent no item. Waits until it has the keg's lock.
+    fn census<R: Wait>(&self, cache: &Self::Cache, rt: &R, alloc: Global) -> Result<Census, Memory>
+        ensures cap { IfOk result (λ census. (census_counts census).cap ≡ (sizes_of cache.now).slabs) }
+        ensures reserve { IfOk result (λ census. (census_counts census).reserve ≡ 0) };
+
+    /// How often the entries that the domains list and the rows link passed each hook, and how many are freed. Waits until
+    /// it has the lock of each domain and of each row.
+    fn sums<R: Wait>(&self, cache: &Self::Cache, rt: &R) -> Sums
+        ensures few { AreOfAtMost (2 ^ 35) result }
+        ensures linked { HasLinked (sizes_of cache.now).rows result };
+}

@@ -1,0 +1,105 @@
+-- Workers between turns, by their numbers.
+use Rattle.std.proofs.Common.{◌≡◌, ℕ, zero, suc, ◌+◌, ◌≤◌, List, [], ◌∷◌, ◌++◌, true, Option, None, Some, refl, sym, ap, ◌∙◌, subst, arith}
+use Rattle.std.proofs.lemmas.Bool.{false≢true}
+use Rattle.std.proofs.lemmas.List.{map-append}
+use Rattle.std.proofs.lemmas.List.Elements.{All-append, All-cons, All-head, All-nil, All-tail}
+use Rattle.std.proofs.lemmas.Option.{none-some, same_Some}
+use Rattle.std.specs.Prelude.{All, IfSome, IsTrue, slice_get}
+use Rattle.smr_clock.specs.declared.host.Host.{Ghosts}
+use Rattle.zone_stats.specs.declared.ledger.SeatLedger.{SeatLedger}
+use Rattle.zone_stats.specs.LedgerSteps.{IsNew}
+use Rattle.trace_worker.specs.declared.name_calls.NameCalls.{Ghosts as NameGhosts}
+use Rattle.trace_worker.specs.declared.naming.NameCounts.{NameCounts}
+use Rattle.trace_worker.specs.declared.naming.Naming.{Naming}
+use Rattle.trace_worker.specs.declared.running.Running.{Running}
+use Rattle.trace_worker.specs.declared.worker.Worker.{Worker}
+use Rattle.trace_worker.specs.Counting.{binds, looks, unbinds}
+use Rattle.trace_worker.specs.Naming.{no_counts}
+use Rattle.trace_worker.specs.NamesStand.{NameCountsStand, NameLedgerStands, NamesStand}
+use Rattle.trace_worker.specs.Together.{crew}
+use Rattle.trace_worker.proofs.LineCounts.{binds-none, looks-none}
+use Rattle.uma_replay.specs.Names.{first_counts}
+use Rattle.uma_replay.specs.Playing.{AreFirst, IsFirst, namings_of}
+
+module _ {N H C S Part : Type 0} {h : Ghosts H Part} where
+  -- who has this worker, and this of the names
+  pub record OfBoth (runnings : List (Running N H C S Part h)) (n : ℕ) (w : Worker H Part h) (naming : Naming N H C S Part) : Type 0 where
+    pub running : Running N H C S Part h
+    pub at : slice_get runnings n ≡ Some running
+    pub is_worker : running.worker ≡ w
+    pub is_naming : running.naming ≡ naming
+
+  pub of_both : (runnings : List (Running N H C S Part h)) (n : ℕ) (w : Worker H Part h) (naming : Naming N H C S Part) → slice_get (crew runnings) n ≡ Some w → slice_get (namings_of runnings) n ≡ Some naming → OfBoth runnings n w naming
+  of_both [] n w naming at at_naming = absurd (none-some w at)
+  of_both (r ∷ runnings) zero w naming at at_naming = record { running = r; at = refl; is_worker = same_Some r.worker w at; is_naming = same_Some r.naming naming at_naming }
+  of_both (r ∷ runnings) (suc n) w naming at at_naming =
+      let later = of_both runnings n w naming at at_naming in
+      record { running = later.running; at = later.at; is_worker = later.is_worker; is_naming = later.is_naming }
+
+-- ---- before the first line
+
+all_none : (hits misses late looked : ℕ) → hits ≡ 0 → misses ≡ 0 → late ≡ 0 → looked ≡ 0 → hits + misses + late ≡ looked
+all_none hits misses late looked e1 e2 e3 e4 = omega arith
+
+both_none : (bound refused asked : ℕ) → bound ≡ 0 → refused ≡ 0 → asked ≡ 0 → bound + refused ≡ asked
+both_none bound refused asked e1 e2 e3 = omega arith
+
+none_le : (a b : ℕ) → a ≡ 0 → a ≤ b
+none_le a b none = omega arith
+
+counts_first : (n late : ℕ) (counts : NameCounts) → counts ≡ no_counts → NameCountsStand n [] late counts
+counts_first n late counts none = record {
+  looks_add_up = all_none counts.hits counts.misses counts.late (looks n []) (ap (λ (c : NameCounts). c.hits) none) (ap (λ (c : NameCounts). c.misses) none) (ap (λ (c : NameCounts). c.late) none) (looks-none n);
+  binds_add_up = both_none counts.binds counts.refused (binds n []) (ap (λ (c : NameCounts). c.binds) none) (ap (λ (c : NameCounts). c.refused) none) (binds-none n);
+  unbound = none_le counts.unbound (unbinds n []) (ap (λ (c : NameCounts). c.unbound) none);
+  late_few = none_le counts.late late (ap (λ (c : NameCounts). c.late) none);
+}
+
+ledger_first : (slabs n refused : ℕ) (ledger : SeatLedger) → IsNew ledger → NameLedgerStands slabs n [] refused ledger
+ledger_first slabs n refused ledger new = record {
+  requests = new.requests ∙ sym (binds-none n);
+  turned = none_le ledger.fails ledger.turned new.fails;
+  fails = none_le ledger.fails refused new.fails;
+  frees = none_le ledger.frees (binds n [] + unbinds n []) new.frees;
+  kept = λ refusal is. absurd (none-some refusal (sym new.last ∙ is));
+}
+
+if_first : (slabs n refused : ℕ) (o : Option SeatLedger) → IfSome o IsNew → IfSome o (NameLedgerStands slabs n [] refused)
+if_first slabs n refused None new = tt
+if_first slabs n refused (Some ledger) new = ledger_first slabs n refused ledger new
+
+module _ {N H C S Part : Type 0} {h : Ghosts H Part} (names : NameGhosts N H C S Part) (cache : C) where
+  pub named_first : (n late : ℕ) (r : Running N H C S Part h) → IsFirst names cache r → NamesStand names cache n [] late r.naming
+  named_first n late r is = record {
+    seat = is.seat;
+    counts = counts_first n late r.naming.counts is.counts;
+    ledger = if_first (names.sizes_of cache).slabs n r.naming.counts.refused (names.counted r.naming.seat) is.fresh;
+  }
+
+  pub first_at : (runnings : List (Running N H C S Part h)) (n : ℕ) (r : Running N H C S Part h) → All (IsFirst names cache) runnings → slice_get runnings n ≡ Some r → IsFirst names cache r
+  first_at [] n r all at = absurd (none-some r at)
+  first_at (first ∷ runnings) zero r all at =
+      let P : Running N H C S Part h → Type 0 = λ x. IsFirst names cache x in
+      subst P (same_Some first r at) (All-head (IsFirst names cache) first runnings all)
+  first_at (first ∷ runnings) (suc n) r all at = first_at runnings n r (All-tail (IsFirst names cache) first runnings all) at
+
+  -- a worker before its first turn
+  pub first_of : (seat : S) (r : Running N H C S Part h) → names.IsSeat cache seat → IfSome (names.counted seat) IsNew → r.naming.seat ≡ seat → r.naming.counts ≡ no_counts → r.asked ≡ 0 → r.gave_up ≡ 0 → IsFirst names cache r
+  first_of seat r of_cache new same counts asked gave_up =
+      let P : S → Type 0 = λ s. names.IsSeat cache s in
+      let Q : S → Type 0 = λ s. IfSome (names.counted s) IsNew in
+      record { seat = subst P (sym same) of_cache; fresh = subst Q (sym same) new; counts = counts; asked = asked; gave_up = gave_up }
+
+  -- one more
+  pub first_more : (workers : List (Worker H Part h)) (runnings : List (Running N H C S Part h)) (w : Worker H Part h) (r : Running N H C S Part h) → AreFirst names cache workers runnings → IsFirst names cache r → r.worker ≡ w
+      → AreFirst names cache (workers ++ w ∷ []) (runnings ++ r ∷ [])
+  first_more workers runnings w r are first same = record {
+    are = map-append (λ (x : Running N H C S Part h). x.worker) runnings (r ∷ []) ∙ (ap (λ list. list ++ r.worker ∷ []) are.are ∙ ap (λ x. workers ++ x ∷ []) same);
+    each = All-append (IsFirst names cache) runnings (r ∷ []) are.each (All-cons (IsFirst names cache) r [] first (All-nil (IsFirst names cache)));
+  }
+
+module _ {N H C S Part : Type 0} (names : NameGhosts N H C S Part) where
+  -- names are served where the first seat counts
+  pub serve_where_counted : (namings : List (Naming N H C S Part)) → first_counts names namings ≡ true → IsTrue names.serves
+  serve_where_counted [] counts = absurd (false≢true counts)
+  serve_where_counted (naming ∷ namings) counts = sym (names.counts_where_served naming.seat) ∙ counts

@@ -1,0 +1,58 @@
+use Rattle.std.proofs.Common.{List, sym, ◌∙◌, subst}
+use Rattle.trace_worker.specs.declared.naming.Naming.{Naming}
+use Rattle.trace_worker.specs.declared.worker.Worker.{Worker}
+use Rattle.trace_worker.specs.Items.{CountedZone}
+use Rattle.trace_totals.specs.Clock.{ReadsHands}
+use Rattle.trace_totals.specs.Closes.{AllClose}
+use Rattle.uma_replay.specs.Hall.{AreDone, NamesDone}
+use Rattle.uma_replay.specs.Playing.{AllStay}
+use Rattle.uma_replay.proofs.Beginning.{written_back}
+use Rattle.uma_replay.proofs.HallOf.{names_stay}
+use Rattle.uma_replay.proofs.ending.close.Goals as goal
+
+pub reported-requires-clause-done : goal.reported-requires-clause-done
+reported-requires-clause-done g c κs within =
+    let t = c.args.trace.now in
+    let workers = c.args.workers in
+    let A : List (Worker _ _ _) → Type 0 = λ old. AllStay c.args.clock old c.take_stock.new.workers in
+    let stay = subst A c.as_mut_slice.ensures.value c.in_ok-ended.ensures.stay in
+    let same = written_back c.take_stock.new.workers workers.items workers.len workers.ok.0 stay.count in
+    let P : List (CountedZone _ _ _) → Type 0 = λ zones. AreDone t zones c.args.clock c.take_stock.new.workers in
+    let Q : List (Worker _ _ _) → Type 0 = λ ws. AreDone t c.from_vec-zones.result c.args.clock ws in
+    subst Q (sym (c.from_vec-workers.ensures ∙ same)) (subst P (c.as_slice.ensures.value ∙ sym c.from_vec-zones.ensures) c.in_ok-ended.ensures.done)
+
+pub reported-requires-clause-hands : goal.reported-requires-clause-hands
+reported-requires-clause-hands g c κs within =
+    let workers = c.args.workers in
+    let ended = c.in_ok-ended.ended in
+    let A : List (Worker _ _ _) → Type 0 = λ old. AllStay c.args.clock old c.take_stock.new.workers in
+    let stay = subst A c.as_mut_slice.ensures.value c.in_ok-ended.ensures.stay in
+    let same = written_back c.take_stock.new.workers workers.items workers.len workers.ok.0 stay.count in
+    let Q : List (Worker _ _ _) → Type 0 = λ ws. ReadsHands c.args.clock ws ended.read ended.write in
+    subst Q (sym (c.from_vec-workers.ensures ∙ same)) c.in_ok-ended.ensures.hands
+
+pub reported-requires-clause-closes : goal.reported-requires-clause-closes
+reported-requires-clause-closes g c κs within =
+    let head = c.args.trace.now.head in
+    let workers = c.args.workers in
+    let totals = c.in_ok-ended.ended.totals in
+    let A : List (Worker _ _ _) → Type 0 = λ old. AllStay c.args.clock old c.take_stock.new.workers in
+    let stay = subst A c.as_mut_slice.ensures.value c.in_ok-ended.ensures.stay in
+    let same = written_back c.take_stock.new.workers workers.items workers.len workers.ok.0 stay.count in
+    let P : List (CountedZone _ _ _) → Type 0 = λ zones. AllClose head zones c.take_stock.new.workers totals.censuses.items totals.tallies.items totals.deferred.items in
+    let Q : List (Worker _ _ _) → Type 0 = λ ws. AllClose head c.from_vec-zones.result ws totals.censuses.items totals.tallies.items totals.deferred.items in
+    subst Q (sym (c.from_vec-workers.ensures ∙ same)) (subst P (c.as_slice.ensures.value ∙ sym c.from_vec-zones.ensures) c.in_ok-ended.ensures.closes)
+
+pub reported-requires-clause-named : goal.reported-requires-clause-named
+reported-requires-clause-named g c κs within =
+    let names = g.N.NameCalls in
+    let t = c.args.trace.now in
+    let workers = c.args.workers in
+    let A : List (Worker _ _ _) → Type 0 = λ old. AllStay c.args.clock old c.take_stock.new.workers in
+    let stay = subst A c.as_mut_slice.ensures.value c.in_ok-ended.ensures.stay in
+    let same = written_back c.take_stock.new.workers workers.items workers.len workers.ok.0 stay.count in
+    let P : List (CountedZone _ _ _) → Type 0 = λ zones. NamesDone names t c.args.cache zones c.args.clock c.take_stock.new.workers c.args.namings.items in
+    let Q : List (Worker _ _ _) → Type 0 = λ ws. NamesDone names t c.args.cache c.from_vec-zones.result c.args.clock ws c.args.namings.items in
+    let R : List (Naming _ _ _ _ _) → Type 0 = λ gs. NamesDone names t c.args.cache c.from_vec-zones.result c.args.clock c.from_vec-workers.result gs in
+    subst R (sym c.from_vec-namings.ensures) (subst Q (sym (c.from_vec-workers.ensures ∙ same)) (subst P (sym c.from_vec-zones.ensures)
+    (names_stay names t c.args.cache c.args.zones.items c.args.clock workers.items c.take_stock.new.workers c.args.namings.items stay c.requires.named)))

@@ -1,0 +1,16 @@
+use Rattle.std.proofs.Common.{ap, ◌∙◌}
+use Rattle.trace_text.specs.declared.head.ZoneHead.{ZoneHead}
+use Rattle.uma_replay.specs.Reporting.{hook_line, keg_line, line_by}
+use Rattle.uma_replay.proofs.whole.names_part.Goals as goal
+
+pub returns : goal.returns
+returns g c =
+    let totals = c.args.totals.now in
+    let is = c.entry_zone-zone.ensures in
+    record {
+      of_seats = c.in_ok-ledgers.ensures;
+      of_zone = c.zone_line.ensures ∙ ap (λ (z : ZoneHead). line_by z 0 c.in_ok-ledgers.ledgers totals.census) is;
+      of_hooks = c.hook_line.ensures ∙ ap (λ (z : ZoneHead). hook_line z.name 0 totals.tally totals.deferred) is;
+      of_keg = c.keg_line.ensures ∙ ap (λ (z : ZoneHead). keg_line z.name totals.census totals.tally) is;
+      of_counts = c.names_line.ensures;
+    }
