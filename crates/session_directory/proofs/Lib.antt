@@ -1,0 +1,2 @@
+mod Knows
+pub mod Shared

@@ -1,0 +1,6 @@
+mod Balanced
+mod Crossed
+mod Ended
+mod Looks
+mod Passes
+mod Rounds

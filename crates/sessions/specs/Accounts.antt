@@ -1,0 +1,60 @@
+-- Own: what a user of the server wants of each worker.
+use Rattle.std.specs.Prelude.{◌≡◌, ◌+◌, ℕ, Bool, true, false, List, All, count_by, length}
+use Rattle.name_rows.specs.declared.records.Record.{Record}
+use Rattle.sessions.specs.declared.answer.Answer.{Answer}
+use Rattle.sessions.specs.declared.answer.Answer.TheVariants.{Opened, Unnamed, Refused, Closed, Found}
+use Rattle.sessions.specs.declared.answer.Done.{Done}
+use Rattle.sessions.specs.declared.desk.Desk.{Desk}
+use Rattle.sessions.specs.declared.request.Request.{Request}
+use Rattle.sessions.specs.declared.request.Request.TheVariants.{Look}
+use Rattle.session_directory.specs.Directory.{WasBound, known_to}
+use Rattle.connection_pool.specs.Pool.{held_in, ledger_in}
+use Rattle.sessions.specs.Answers.{is_turned_away}
+
+-- a connection was opened
+abbrev pub opens : Answer → Bool
+opens (Opened connection) = true
+opens (Unnamed connection why) = true
+opens _ = false
+
+-- a connection was closed
+abbrev pub closes : Answer → Bool
+closes (Closed named) = true
+closes _ = false
+
+-- the pool turned the request away
+abbrev pub turns : Answer → Bool
+turns (Refused why) = is_turned_away why
+turns _ = false
+
+-- how many of these requests opened a connection, closed one, or were turned away by the pool
+
+abbrev pub opened_in : List Done → ℕ
+opened_in log = count_by (λ done. opens done.answer) log
+
+abbrev pub closed_in : List Done → ℕ
+closed_in log = count_by (λ done. closes done.answer) log
+
+abbrev pub turned_in : List Done → ℕ
+turned_in log = count_by (λ done. turns done.answer) log
+
+-- what was found was bound to the session that was asked for
+abbrev pub IsBound : List Record → Request → Answer → Type 0
+IsBound known (Look session) (Found connection) = WasBound session connection known
+IsBound known request (Found connection) = ⊥
+IsBound known request answer = Unit {0}
+
+-- the same as a fact that a type can keep, which has at most one proof
+abbrev pub IsTold : List Record → Request → Answer → Type 0
+IsTold known request answer = ∥ IsBound known request answer ∥₁
+
+-- The accounts of a worker:
+-- 1. Each connection that was opened is closed or still held.
+-- 2. The pool counted as many allocations as connections were opened, as many frees as were closed, and as many fails as requests were turned away.
+-- 3. What was found was bound.
+pub record Balances (desk : Desk) (log : List Done) : Type 0 where
+  pub held : opened_in log ≡ closed_in log + length (held_in desk.connections)
+  pub allocs : (ledger_in desk.connections).allocs ≡ opened_in log
+  pub frees : (ledger_in desk.connections).frees ≡ closed_in log
+  pub fails : (ledger_in desk.connections).fails ≡ turned_in log
+  pub told : All (λ done. IsTold (known_to desk.registrar) done.request done.answer) log

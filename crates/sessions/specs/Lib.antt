@@ -1,0 +1,5 @@
+pub mod Looked
+pub mod Answers
+pub mod Accounts
+pub mod Serving
+pub mod Staff

@@ -1,0 +1,60 @@
+ghost use Rattle.std.specs.Prelude.{◌≡◌, All, OnOk, length};
+ghost use Rattle.sessions.specs.Serving.{AllBalance, AllServed, AllWorked, HasEnded, HasServed, asked_of};
+
+use crate::round::Round;
+use crate::worker::Worker;
+use std::alloc::{AllocError, Global};
+use std::sync::Wait;
+use std::thread::{self, Threads};
+
+/// Serves all rounds, one after another. In each round every worker does its own list, on a thread of its own, and all threads are
+/// joined. Waits where a worker's requests do.
+///
+/// Whatever the threads' schedule, and whether memory was wanting or not, the accounts of each worker balance.
+pub fn serve<R: Threads + Wait + Sync>(
+    rt: &R,
+    alloc: Global,
+    rounds: &[Round],
+    workers: &mut [Worker<'_>],
+) -> Result<(), AllocError>
+    ensures accounts { AllBalance workers.new }
+    ensures count { length workers.new ≡ length workers.old }
+    ensures served { OnOk result (AllServed rounds.now workers.old workers.new) }
+{
+    for round in rounds {
+        serve_round(rt, alloc, round, workers)?;
+    }
+    Ok(())
+}
+
+// One round.
+fn serve_round<R: Threads + Wait + Sync>(
+    rt: &R,
+    alloc: Global,
+    round: &Round,
+    workers: &mut [Worker<'_>],
+) -> Result<(), AllocError>
+    ensures count { length workers.new ≡ length workers.old }
+    ensures served { OnOk result (AllWorked round.now workers.old workers.new) }
+{
+    let threads = workers.len().max(1);
+    thread::for_each_mut(
+        rt,
+        workers,
+        threads,
+        &|number, worker: &mut Worker<'_>|
+            ensures { OnOk worker.new.ended (HasServed (asked_of round.entry.now number) worker.old worker.new) }
+        { worker.work(rt, alloc, round.list(number)) },
+    );
+    all_ended(workers)
+}
+
+// Whether each worker's last round ended without want of memory.
+fn all_ended(workers: &[Worker<'_>]) -> Result<(), AllocError>
+    ensures { OnOk result (All HasEnded workers.now) }
+{
+    for worker in workers {
+        worker.ended?;
+    }
+    Ok(())
+}
