@@ -1,5 +1,10 @@
-//! The loads of a find, written as plain atomics, to be timed beside it. Nothing of it is proved.
+//! The loads of a find, written as plain atomics, to be timed beside it; and looks in std's HashMap behind its RwLock, while one more
+//! thread writes it. Nothing of it is proved.
+use std::collections::HashMap;
+use std::hint::black_box;
 use std::sync::atomic::{AtomicU64, Ordering::SeqCst};
+use std::sync::RwLock;
+use std::thread;
 use std::time::Instant;
 
 const ROUNDS: u64 = 200_000;
@@ -56,9 +61,9 @@ impl Names {
     }
 }
 
-fn main() {
+fn time_finds() {
     // The number of rows is known only when it runs, as it is to a clock of names.
-    let rows = std::hint::black_box(4096);
+    let rows = black_box(4096);
     let names = Names::new(rows);
     let mut least = u128::MAX;
     let mut found = 0u64;
@@ -73,4 +78,59 @@ fn main() {
         least = least.min(start.elapsed().as_nanos() / u128::from(ROUNDS / 1000));
     }
     println!("plain   find: {least} picoseconds, {found} found");
+}
+
+/// The looks of each thread, and the tries of which the least counts, as in the cache's program.
+const LOOKS: u64 = 200_000;
+const MAP_TRIES: u32 = 15;
+
+type Map = RwLock<HashMap<u64, u64>>;
+
+/// Looks one name up after another. The nanoseconds that it took.
+fn looks(map: &Map, looking: &AtomicU64, number: u64) -> u64 {
+    let begin = Instant::now();
+    let mut found = 0;
+    for round in 0..LOOKS {
+        let key = (round * 7 + number) % KEYS;
+        found += u64::from(map.read().unwrap().get(&key).is_some());
+    }
+    looking.fetch_sub(1, SeqCst);
+    assert_eq!(black_box(found), LOOKS);
+    begin.elapsed().as_nanos() as u64
+}
+
+/// Binds one name after another as long as others look. How many were bound.
+fn binds(map: &Map, looking: &AtomicU64) -> u64 {
+    let mut round = 0;
+    while looking.load(SeqCst) != 0 {
+        map.write().unwrap().insert(round % KEYS, round);
+        round += 1;
+    }
+    round
+}
+
+/// The nanoseconds of the longest looks, and the binds of the thread beside them.
+fn longest(threads: u64) -> (u64, u64) {
+    let map: Map = RwLock::new((0..KEYS).map(|key| (key, key)).collect());
+    let looking = AtomicU64::new(threads);
+    thread::scope(|scope| {
+        let (map, looking) = (&map, &looking);
+        let binder = scope.spawn(move || binds(map, looking));
+        let lookers: Vec<_> = (1..=threads).map(|number| scope.spawn(move || looks(map, looking, number))).collect();
+        let longest = lookers.into_iter().map(|looker| looker.join().unwrap()).max().unwrap();
+        (longest, binder.join().unwrap())
+    })
+}
+
+fn time_maps() {
+    for threads in [1, 4] {
+        let (took, bound) = (0..MAP_TRIES).map(|_| longest(threads)).min().unwrap();
+        let each = took / (LOOKS / 1000);
+        println!("map     {threads} looking: {each} picoseconds a look, {bound} binds in {took} nanoseconds");
+    }
+}
+
+fn main() {
+    time_finds();
+    time_maps();
 }
