@@ -35,7 +35,7 @@ use Rattle.uma_life.specs.Ticket.{ticket_no}
 use Rattle.name_cache.specs.Parts.{words_of}
 use Rattle.name_cache.specs.Deferred.{Frees, FreesBound}
 use Rattle.name_cache.specs.LockedRow.{IsOutStamped, UnbindsInRow, HasNotKey}
-use Rattle.name_cache.specs.Bind.{Binds, RefusesToBind, HandsBack, WantsMemory}
+use Rattle.name_cache.specs.Bind.{entry_ask, Binds, RefusesToBind, HandsBack, WantsMemory}
 use Rattle.name_cache.specs.Unbind.{Unbinds, FindsUnbound}
 use Rattle.name_cache.specs.Rebound.{HandsOutNone, HasRebound, FreesParts, FreesEvicted}
 use Rattle.name_cache.proofs.Telling.{still_then, still_host, meets_from, meets_to}
@@ -80,7 +80,7 @@ module _ (zone : ZoneOfEntries) (rows key value : ℕ) (v v1 v2 v3 : View Part) 
       }
 
   module _ (entry : EntryParts) (frees : FreesParts (ledger_of two) entry new) (alloc : CountsAlloc (ledger_of one) (ledger_of two)) where
-    hands_back : (handed : LiveEntry) → Serves zone 0 one handed two → live_ticket frees.live ≡ live_ticket handed → HandsBack zone old handed frees.live new
+    hands_back : (handed : LiveEntry) → Serves zone entry_ask one handed two → live_ticket frees.live ≡ live_ticket handed → HandsBack zone old handed frees.live new
     hands_back handed served ticket = record { before = one; after = two; served = served; ticket = ticket; counted = ledger_of two; alloc = counted_from_old alloc; frees = frees.frees }
 
     pub refuses : (refused : BindRefused) → HasRebound zone rows key value v1 one (Refused entry refused) v2 two → v3.host ≡ v2.host → RefusesToBind zone rows key v old v3 new refused

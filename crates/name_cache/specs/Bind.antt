@@ -5,6 +5,7 @@ use Rattle.zone_stats.specs.declared.ledger.SeatLedger.{SeatLedger}
 use Rattle.zone_stats.specs.LedgerSteps.{HasRoom, CountsAlloc}
 use Rattle.uma_life.specs.Live.{live_no, live_ticket}
 use Rattle.uma_seat.specs.Seat.{ledger_of, usable_of, KeepsFreed}
+use Rattle.uma_zone.specs.declared.alloc_ask.AllocAsk.{AllocAsk}
 use Rattle.uma_zone.specs.declared.alloc_ask.AllocRefused.{AllocRefused}
 use Rattle.uma_zone.specs.declared.alloc_ask.AllocRefused.TheVariants.{Refused, Memory as NoMemory}
 use Rattle.uma_zone.specs.Alloc.{Serves, TurnsAway}
@@ -21,6 +22,10 @@ use Rattle.name_cache.specs.Types.{ZoneOfEntries, EntrySeat, LiveEntry}
 use Rattle.name_cache.specs.Known.{known_in, Meets, KnowsBound}
 use Rattle.name_cache.specs.Parts.{words_of, state_of}
 use Rattle.name_cache.specs.Deferred.{Frees, FreesBound}
+
+-- What a bind asks of the zone: `ctor` of an entry doesn't look at its argument, and a bind has no right to the reserve.
+abbrev pub entry_ask : AllocAsk
+entry_ask = record { arg = 0; reserve = false }
 
 -- why a key isn't bound, where the zone gives no entry
 abbrev pub as_bind : AllocRefused → BindRefused
@@ -42,7 +47,7 @@ pub record Binds (zone : ZoneOfEntries) (rows key value : ℕ) (v : View Part) (
   pub room : EntrySeat
   pub after : EntrySeat
   pub handed : LiveEntry
-  pub served : Serves zone 0 room handed after
+  pub served : Serves zone entry_ask room handed after
   pub knows : KnowsBound (record { entry = live_no handed; key = key; value = value }) receipt (known_in v')
   pub counted : SeatLedger
   pub alloc : CountsAlloc (ledger_of old) counted
@@ -52,7 +57,7 @@ pub record Binds (zone : ZoneOfEntries) (rows key value : ℕ) (v : View Part) (
 pub record HandsBack (zone : ZoneOfEntries) (old : EntrySeat) (handed freed : LiveEntry) (new : EntrySeat) : Type 0 where
   pub before : EntrySeat
   pub after : EntrySeat
-  pub served : Serves zone 0 before handed after
+  pub served : Serves zone entry_ask before handed after
   pub ticket : live_ticket freed ≡ live_ticket handed
   pub counted : SeatLedger
   pub alloc : CountsAlloc (ledger_of old) counted

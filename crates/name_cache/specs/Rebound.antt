@@ -13,6 +13,7 @@ use Rattle.name_cache.specs.declared.parts.EntryParts.{EntryParts}
 use Rattle.name_cache.specs.declared.rebound.Rebound.{Rebound}
 use Rattle.name_cache.specs.Types.{ZoneOfEntries, EntrySeat, LiveEntry}
 use Rattle.name_cache.specs.Known.{StillKnows}
+use Rattle.name_cache.specs.Bind.{entry_ask}
 use Rattle.name_cache.specs.LockedRow.{RebindsRow}
 use Rattle.name_cache.specs.Parts.{words_of}
 use Rattle.name_cache.specs.Deferred.{Frees}
@@ -20,7 +21,7 @@ use Rattle.name_cache.specs.Deferred.{Frees}
 -- The zone handed out an item for a request that is counted, and these are its parts.
 pub record HandsOut (zone : ZoneOfEntries) (old : EntrySeat) (parts : EntryParts) (new : EntrySeat) : Type 0 where
   pub handed : LiveEntry
-  pub served : Serves zone 0 old handed new
+  pub served : Serves zone entry_ask old handed new
   pub words : parts.entry.words ≡ words_of handed
   pub ticket : parts.ticket ≡ live_ticket handed
 

@@ -1,11 +1,11 @@
-ghost use Rattle.std.specs.Prelude.{◌≡◌, ◌≤◌, ◌+◌, ◌^◌, ℕ, IfOk, IfErr};
+ghost use Rattle.std.specs.Prelude.{◌≡◌, ◌≤◌, ◌+◌, ◌/◌, ◌^◌, ℕ, IfOk, IfErr, min};
 ghost use Rattle.uma_bucket.specs.Sums.{AreOfAtMost};
 ghost use Rattle.keyed_lock.specs.KeyedLock.{lock_key};
 ghost use Rattle.smr_core.specs.declared.phase.Phase.{Phase};
 ghost use Rattle.smr_clock.specs.Belongs.{IsOf, clock_id, view, holder};
 ghost use Rattle.smr_clock.specs.Sections.{Misses};
 ghost use Rattle.uma_keg.specs.Census.{census_counts, census_table};
-ghost use Rattle.uma_zone.specs.Zone.{zone_cap, zone_reserve};
+ghost use Rattle.uma_zone.specs.Zone.{zone_size, zone_cap, zone_reserve};
 ghost use Rattle.name_cache.specs.Cache.{cache_zone, cache_clock, cache_home, row_count};
 ghost use Rattle.name_cache.specs.Look.{Looks};
 ghost use Rattle.name_cache.specs.RowKey.{key_identity};
@@ -70,6 +70,7 @@ impl NameCache {
         ensures table { IfOk result (λ census. census_table census ≡ (cache_home self.now).book) }
         ensures cap { IfOk result (λ census. (census_counts census).cap ≡ zone_cap (cache_zone self.now)) }
         ensures reserve { IfOk result (λ census. (census_counts census).reserve ≡ zone_reserve (cache_zone self.now)) }
+        ensures per_slab { IfOk result (λ census. (census_counts census).per_slab ≡ min 256 (4096 / zone_size (cache_zone self.now))) }
     {
         match self
             .zone

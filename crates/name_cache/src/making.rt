@@ -3,7 +3,7 @@ ghost use Rattle.keyed_lock.specs.KeyedLock.{lock_key};
 ghost use Rattle.smr_clock.specs.Belongs.{clock_id};
 ghost use Rattle.uma_zone.specs.Making.{AcceptsSet};
 ghost use Rattle.uma_zone.specs.Seat.{IsFresh};
-ghost use Rattle.uma_zone.specs.Zone.{zone_home, zone_bucket, zone_limit, zone_cap, zone_reserve};
+ghost use Rattle.uma_zone.specs.Zone.{zone_home, zone_size, zone_bucket, zone_limit, zone_cap, zone_reserve};
 ghost use Rattle.name_cache.specs.Cache.{cache_zone, cache_clock, cache_domains, IsCacheSeat};
 ghost use Rattle.name_cache.specs.Locks.{AreNamed};
 ghost use Rattle.name_cache.specs.Making.{IsOpened, FitsOpened, RefusesCache, AreFreshRows, IsFreshRow};
@@ -46,6 +46,7 @@ impl NameCache {
         ensures passes { IfOk result (λ (cache, clock, passes). passes.items ≡ opened.passes) }
         ensures of_clock { IfOk result (λ (cache, clock, passes). cache_clock cache ≡ clock_id opened.clock) }
         ensures domains { IfOk result (λ (cache, clock, passes). cache_domains cache ≡ set.domains) }
+        ensures size { IfOk result (λ (cache, clock, passes). zone_size (cache_zone cache) ≡ 64) }
         ensures bucket { IfOk result (λ (cache, clock, passes). zone_bucket (cache_zone cache) ≡ set.bucket) }
         ensures cap { IfOk result (λ (cache, clock, passes). zone_cap (cache_zone cache) ≡ set.slabs) }
         ensures limit { IfOk result (λ (cache, clock, passes). zone_limit (cache_zone cache) ≡ set.limit) }

@@ -15,9 +15,9 @@ use Rattle.zone_stats.specs.LedgerSteps.{CountsFree}
 use Rattle.trace_worker.specs.Items.{CountedSeat, CountedZone, LiveItem}
 
 module _ {H P : Type 0} {h : Ghosts H P} where
-  -- the request got an item of the zone, built by the zone's `ctor` with its argument, or it was refused so
+  -- the request got an item of the zone, with its own right to the reserve where it was fetched, built by the zone's `ctor` with its argument; or it was refused so
   abbrev pub Ends : CountedZone H P h → AllocAsk → CountedSeat H P h → Option LiveItem → CountedSeat H P h → Type 0
-  Ends zone ask old (Some item) new = Serves zone ask.arg old item new × IsHome (zone_home zone) (live_ticket item)
+  Ends zone ask old (Some item) new = Serves zone ask old item new × IsHome (zone_home zone) (live_ticket item)
   Ends zone ask old None new = (refusal : Refusal) × Refuses zone ask old new (Refused refusal)
 
   -- A request. What the seat has freed, and where its spare buckets stand, stays but for what the zone's flush did.

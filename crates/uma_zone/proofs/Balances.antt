@@ -1,5 +1,5 @@
 -- What a request hands out and leaves usable is what was usable and what it brought.
-use Rattle.std.proofs.Common.{◌≡◌, ◌⊎◌, ℕ, true, cond, List, [], ◌∷◌, ◌++◌, map, inl, inr, refl, sym, ap, ◌∙◌, subst}
+use Rattle.std.proofs.Common.{◌≡◌, ◌⊎◌, ℕ, Bool, true, cond, List, [], ◌∷◌, ◌++◌, map, inl, inr, refl, sym, ap, ◌∙◌, subst}
 use Rattle.std.proofs.lemmas.List.{append-nil, map-append}
 use Rattle.uma_life.specs.declared.cached.Cached.{Cached}
 use Rattle.uma_life.specs.declared.ticket.Ticket.{Ticket}
@@ -10,6 +10,8 @@ use Rattle.uma_bucket.specs.declared.freed.Freed.{Freed}
 use Rattle.uma_bucket.specs.Bucket.{items_of}
 use Rattle.uma_bucket.specs.Finished.{AreFinished}
 use Rattle.uma_bucket.specs.Freed.{freed_ticket}
+use Rattle.uma_bucket.specs.Loose.{loose_items, loose_tickets}
+use Rattle.uma_bucket.specs.Ripe.{ripe_bucket}
 use Rattle.uma_seat.specs.declared.seat.SeatCache.{SeatCache}
 use Rattle.uma_seat.specs.Row.{stacks_of}
 use Rattle.uma_seat.specs.Seat.{usable_of}
@@ -40,7 +42,7 @@ usable_kept old new made top plain = λ i. cond (made i).smr [] (stack_at (stack
 
 module _ {T H P : Type 0} {g h : _} where
   -- no item was usable before or is after
-  still_nothing : (old new : SeatCache T H P g h) → usable_of old ≡ [] → usable_of new ≡ [] → (brought : Brought T P g) × Balances (usable_tickets old) brought [] (usable_tickets new)
+  still_nothing : (old new : SeatCache T H P g h) → usable_of old ≡ [] → usable_of new ≡ [] → (brought : Brought T H P g h) × Balances (usable_tickets old) brought [] (usable_tickets new)
   still_nothing old new was is = (Nothing, ap (λ (l : List (Cached T g)). map cached_ticket l ++ []) is ∙ ap (λ (l : List (Cached T g)). map cached_ticket l ++ [] ++ []) (sym was))
 
   pub kept_balances : (old new : SeatCache T H P g h) → KeptBalances old new
@@ -50,24 +52,25 @@ module _ {T H P : Type 0} {g h : _} where
 
 module _ {T K H P : Type 0} {g k h : _} where
   -- where the items come from of which a request takes the last
-  taken : (zone : Zone T K H P g k h) (old new : SeatCache T H P g h) (item : Cached T g) (left : List (Cached T g)) (all : List Ticket) → zone_smr zone ≡ true → Takes zone old item left new → all ≡ map cached_ticket (left ++ item ∷ [])
-      → (brought : Brought T P g) × Balances (usable_tickets old) brought [] all
-  taken zone old new item left all smr takes is = elim takes [
+  taken : (zone : Zone T K H P g k h) (reserve : Bool) (old new : SeatCache T H P g h) (item : Cached T g) (left : List (Cached T g)) (all : List Ticket) → zone_smr zone ≡ true → Takes zone reserve old item left new → all ≡ map cached_ticket (left ++ item ∷ [])
+      → (brought : Brought T H P g h) × Balances (usable_tickets old) brought [] all
+  taken zone reserve old new item left all smr takes is = elim takes [
     | inl own ↦ (Nothing, append-nil all ∙ is ∙ sym (ap (map cached_ticket) own.last) ∙ sym (append-nil (usable_tickets old)) ∙ sym (append-nil (usable_tickets old ++ [])))
     | inr (inl listed) ↦
         let found = listed.reused smr in
-        let same = finished_tickets (k.leaves_dtor zone.hooks) found.freed (left ++ item ∷ []) found.finished in (
-          FromRipe record { freed = found.freed; goal = found.goal; knows = found.knows; expired = found.expired; over = found.over },
-          append-nil all ∙ is ∙ same ∙ sym (append-nil (map freed_ticket found.freed)) ∙ ap (λ (l : List (Cached T g)). map cached_ticket l ++ map freed_ticket found.freed ++ []) (sym listed.empty),
+        let waited = ripe_bucket found.ripe in
+        let same = finished_tickets (k.leaves_dtor zone.hooks) (loose_items waited) (left ++ item ∷ []) found.finished in (
+          FromRipe record { ripe = found.ripe; expired = found.expired; over = found.over },
+          append-nil all ∙ is ∙ same ∙ sym (append-nil (loose_tickets waited)) ∙ ap (λ (l : List (Cached T g)). map cached_ticket l ++ loose_tickets waited ++ []) (sym listed.empty),
         )
     | inr (inr fetched) ↦ (FromKeg all, append-nil all ∙ ap (λ (l : List (Cached T g)). map cached_ticket l ++ [] ++ all) (sym fetched.empty))
   ]
 
   pub served_balances : (zone : Zone T K H P g k h) → ServedBalances zone
-  served_balances zone arg old new live smr serves =
+  served_balances zone ask old new live smr serves =
       let item = serves.item in
       let all = handed_last cached_ticket (usable_of new) item (live_ticket live) serves.built.ticket in
-      let b = taken zone old new item (usable_of new) (usable_tickets new ++ live_ticket live ∷ []) smr serves.takes all in
+      let b = taken zone ask.reserve old new item (usable_of new) (usable_tickets new ++ live_ticket live ∷ []) smr serves.takes all in
       (b.0, sym (append-nil (usable_tickets new ++ live_ticket live ∷ [])) ∙ b.1)
 
   pub refused_balances : (zone : Zone T K H P g k h) → RefusedBalances zone
@@ -75,5 +78,5 @@ module _ {T K H P : Type 0} {g k h : _} where
   refused_balances zone ask old new (Refused (Reserved free reserve)) smr why = still_nothing old new why.empty why.still
   refused_balances zone ask old new (Refused (Full slabs made)) smr why = still_nothing old new why.empty why.still
   refused_balances zone ask old new (Refused (Init code)) smr why = still_nothing old new why.empty why.still
-  refused_balances zone ask old new (Refused (Ctor code)) smr why = taken zone old new why.item why.left (usable_tickets new) smr why.takes (ap (map cached_ticket) why.back)
+  refused_balances zone ask old new (Refused (Ctor code)) smr why = taken zone ask.reserve old new why.item why.left (usable_tickets new) smr why.takes (ap (map cached_ticket) why.back)
   refused_balances zone ask old new Memory smr why = still_nothing old new why.empty why.still

@@ -1,21 +1,23 @@
--- What a refused fetch names are the zone's own numbers.
-use Rattle.std.proofs.Common.{◌≡◌, ℕ, inl, inr, [], ◌∷◌, ◌++◌, refl, Result, Err, IfErr, OnErr, ◌∙◌, subst}
+-- What a fetch of a zone's keg comes to for its seat: the items of one fetch, or a refusal that names the zone's own numbers.
+use Rattle.std.proofs.Common.{◌≡◌, ◌≤◌, ℕ, inl, inr, List, [], ◌∷◌, ◌++◌, length, refl, Result, Ok, Err, IfOk, IfErr, OnErr, ◌∙◌, sym, ap, subst}
+use Rattle.deed_book.specs.FailViews.{cause}
 use Rattle.zone_stats.specs.declared.refusal.Refusal.{Refusal}
 use Rattle.zone_stats.specs.declared.refusal.Refusal.TheVariants.{AtLimit, Reserved, Full, Init, Ctor}
+use Rattle.uma_life.specs.declared.cached.Cached.{Cached}
 use Rattle.uma_keg.specs.declared.keg.Keg.{Keg}
 use Rattle.uma_keg.specs.declared.fetch_ask.FetchAsk.{FetchAsk}
 use Rattle.uma_keg.specs.declared.fetch_refused.FetchRefused.{FetchRefused}
 use Rattle.uma_keg.specs.declared.fetch_refused.FetchRefused.TheVariants.{Refused}
-use Rattle.uma_keg.specs.Keg.{places_in, limit_in, reserve_in, hooks_in}
-use Rattle.uma_keg.specs.Fetched.{NamesWhatItFound}
+use Rattle.uma_keg.specs.Keg.{places_in, table_in, limit_in, reserve_in, hooks_in}
+use Rattle.uma_keg.specs.Fetched.{Fetches, FetchesInto, NamesWhatItFound}
 use Rattle.uma_seat.specs.declared.seat.SeatCache.{SeatCache}
 use Rattle.uma_seat.specs.Fetches.{CountsEnd}
-use Rattle.uma_seat.specs.Seat.{top_of, ledger_of, fetches_of}
+use Rattle.uma_seat.specs.Seat.{seat_domain, top_of, ledger_of, fetches_of, IsSameSeat}
 use Rattle.locked_keg.specs.Ends.{end_of, fetch_cause}
 use Rattle.uma_zone.specs.declared.zone.Zone.{Zone}
-use Rattle.uma_zone.specs.Zone.{zone_hooks, zone_index, zone_limit, zone_cap, zone_reserve}
+use Rattle.uma_zone.specs.Zone.{zone_home, zone_hooks, zone_index, zone_limit, zone_cap, zone_reserve}
 use Rattle.uma_zone.specs.Alloc.{Names}
-use Rattle.uma_zone.specs.Fetch.{FetchTurnsAway}
+use Rattle.uma_zone.specs.Fetch.{HasFetched, FetchTurnsAway}
 
 module _ {T K H P : Type 0} {g k h : _} where
   names_of : (zone : Zone T K H P g k h) (keg : Keg T K g k) (hooks : K) (ask : FetchAsk) (refusal : Refusal) → ask.zone ≡ zone_index zone → hooks ≡ zone_hooks zone → limit_in keg ask.zone ≡ zone_limit zone → reserve_in keg ≡ zone_reserve zone → (places_in keg).cap ≡ zone_cap zone → NamesWhatItFound keg hooks ask (Refused refusal)
@@ -40,3 +42,32 @@ module _ {T K H P : Type 0} {g k h : _} where
     counted = subst (λ (r : Result ℕ FetchRefused). CountsEnd (ledger_of old) (ledger_of new) (end_of r)) is counted;
     names = names_of zone keg hooks ask refusal here ours own kept slabs (subst (λ (r : Result ℕ FetchRefused). IfErr r (NamesWhatItFound keg hooks ask)) is named);
   }
+
+  -- a fetch that gave some was one of the zone's keg, as that stood under its lock
+  pub has_fetched : (zone : Zone T K H P g k h) (old new : SeatCache T H P g h) (was is : Keg T K g k) (ask : FetchAsk) (end : Result ℕ FetchRefused) (count : ℕ)
+      → table_in was ≡ (zone_home zone).book → limit_in was (zone_index zone) ≡ zone_limit zone → reserve_in was ≡ zone_reserve zone
+      → ask.zone ≡ zone_index zone → ask.most ≡ (top_of old).room → (top_of new).room ≡ (top_of old).room → ask.domain ≡ seat_domain old → IsSameSeat old new
+      → IfOk end (λ n. FetchesInto was (zone_hooks zone) ask n [] (top_of new).items is) → fetches_of new ≡ fetches_of old ++ fetch_cause end ∷ [] → CountsEnd (ledger_of old) (ledger_of new) (end_of end) → end ≡ Ok count
+      → HasFetched zone ask.reserve old new
+  has_fetched zone old new was is ask end count book limit kept here most room own same fetched listed counted ended =
+      let into : FetchesInto was (zone_hooks zone) ask count [] (top_of new).items is = subst (λ (r : Result ℕ FetchRefused). IfOk r (λ n. FetchesInto was (zone_hooks zone) ask n [] (top_of new).items is)) ended fetched in
+      let items : List (Cached T g) = (top_of new).items in
+      let all : items ≡ into.items = into.pushed in
+      let asked : ask ≡ record { zone = zone_index zone; most = (top_of new).room; reserve = ask.reserve; domain = seat_domain new } =
+      let many = most ∙ sym room in
+      let near = own ∙ sym (ap (λ (s : _). s.domain) same.0) in
+      λ i. record { zone = here i; most = many i; reserve = ask.reserve; domain = near i } in
+      record {
+        some = subst (λ (l : List (Cached T g)). 1 ≤ length l) (sym all) into.fetches.some;
+        one = record {
+          was = was;
+          is = is;
+          of_zone = book;
+          limit = limit;
+          kept = kept;
+          fetches = subst (λ (a : FetchAsk). Fetches was (zone_hooks zone) a items is) asked (subst (λ (l : List (Cached T g)). Fetches was (zone_hooks zone) ask l is) (sym all) into.fetches);
+        };
+        fetches = subst (λ (r : Result ℕ FetchRefused). fetches_of new ≡ fetches_of old ++ fetch_cause r ∷ []) ended listed
+            ∙ ap (λ (n : ℕ). fetches_of old ++ cause 6 n 0 ∷ []) (sym (ap length all ∙ into.counted));
+        ledger = subst (λ (r : Result ℕ FetchRefused). CountsEnd (ledger_of old) (ledger_of new) (end_of r)) ended counted;
+      }

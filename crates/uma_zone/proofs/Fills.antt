@@ -48,10 +48,10 @@ module _ {T H P : Type 0} {g h : _} where
 
 module _ {T K H P : Type 0} {g k h : _} where
   -- the look found some
-  pub found_some : (zone : Zone T K H P g k h) (old mid new : SeatCache T H P g h) (merged : P → P → P) (v v' : View P) (found : Bool) → found ≡ true → usable_of old ≡ []
+  pub found_some : (zone : Zone T K H P g k h) (reserve : Bool) (old mid new : SeatCache T H P g h) (merged : P → P → P) (v v' : View P) (found : Bool) → found ≡ true → usable_of old ≡ []
       → KeepsCounts old mid → KeepsMisses old mid → KeepsCounts mid new → (found ≡ true → KeepsMisses mid new) → (found ≡ true → 0 < length (top_of new).items)
-      → (zone_smr zone ≡ true → found ≡ true → IsOfRipe merged (k.leaves_dtor (zone_hooks zone)) v (top_bucket new) v') → IsFilled zone old new
-  found_some zone old mid new merged v v' found is none counts misses counts' misses' some ripe =
+      → (zone_smr zone ≡ true → found ≡ true → IsOfRipe zone.domains merged (k.leaves_dtor (zone_hooks zone)) v (top_bucket new) v') → IsFilled zone reserve old new
+  found_some zone reserve old mid new merged v v' found is none counts misses counts' misses' some ripe =
       let kept : new.counts ≡ old.counts = counts' ∙ counts in
       record {
         some = omega (arith, some is);
@@ -59,7 +59,7 @@ module _ {T K H P : Type 0} {g k h : _} where
           empty = none;
           fetches = ap fetches_in kept;
           misses = misses' is ∙ misses;
-          reused = λ smr. let r = ripe smr is in record { freed = r.freed; goal = r.goal; knows = r.knows; finished = r.finished; expired = r.expired; over = r.over };
+          reused = λ smr. let r = ripe smr is in record { ripe = r.ripe; of_clock = r.of_clock; finished = r.finished; expired = r.expired; over = r.over };
         };
         ledger = ap ledger_in kept;
       }

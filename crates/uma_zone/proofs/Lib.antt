@@ -6,6 +6,7 @@ mod FreedWaits
 mod Locked
 mod Made
 mod NewSeats
+mod OneFetch
 mod Prealloc
 mod Rights
 mod Seats

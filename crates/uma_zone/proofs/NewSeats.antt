@@ -26,6 +26,8 @@ pub fresh_seat : {T H P : Type 0} {g h : _} (seat : SeatCache T H P g h) (seatin
 fresh_seat seat seating size domain fails misses own none new = record {
   own = ap (λ (s : Seating _ _). s.domain) new.seated ∙ own;
   top = new.top;
+  plain = new.plain;
+  freed = new.freed;
   usable = ap (λ (l : List _). l ++ (top_of seat).items) (none_ahead (seat_smr seat) (free_bucket seat).items (none_at (plain_of seat) size (seat_domain seat) new.plain)) ∙ ap (λ (s : Stack _). s.items) new.top;
   spares = new.spares;
   shelf = new.shelf;

@@ -1,5 +1,5 @@
 -- How a request that took an item ends.
-use Rattle.std.proofs.Common.{◌≡◌, ℕ, List, Result, Ok, Err, IfOk, IfErr, OnOk, inl, inr, sym, ◌∙◌, subst}
+use Rattle.std.proofs.Common.{◌≡◌, ℕ, Bool, List, [], ◌∷◌, ◌++◌, Result, Ok, Err, IfOk, IfErr, OnOk, inl, inr, sym, ◌∙◌, subst}
 use Rattle.zone_stats.specs.declared.ledger.SeatLedger.{SeatLedger}
 use Rattle.zone_stats.specs.declared.refusal.Refusal.TheVariants.{Ctor}
 use Rattle.zone_stats.specs.LedgerSteps.{CountsAlloc, CountsCtor}
@@ -8,53 +8,56 @@ use Rattle.uma_life.specs.declared.cached.Cached.{Cached}
 use Rattle.uma_life.specs.declared.live.Live.{Live}
 use Rattle.uma_domain.specs.Lists.{IsRaised}
 use Rattle.uma_seat.specs.declared.seat.SeatCache.{SeatCache}
-use Rattle.uma_seat.specs.Seat.{usable_of, ledger_of, fetches_of, misses_of, KeepsMisses}
+use Rattle.uma_seat.specs.Seat.{top_of, usable_of, ledger_of, fetches_of, misses_of, IsSameSeat, KeepsMisses}
 use Rattle.uma_zone.specs.declared.alloc_ask.AllocAsk.{AllocAsk}
 use Rattle.uma_zone.specs.declared.alloc_ask.AllocRefused.{AllocRefused}
 use Rattle.uma_zone.specs.declared.alloc_ask.AllocRefused.TheVariants.{Refused}
 use Rattle.uma_zone.specs.declared.zone.Zone.{Zone}
 use Rattle.uma_zone.specs.Alloc.{Takes, IsBuilt, Serves, PutsBack, Refuses}
+use Rattle.uma_zone.proofs.OneFetch.{one_still}
 
 module _ {T K H P : Type 0} {g k h : _} where
   -- where an item came from stays so, while the seat fetches and looks no more
-  takes_still : (zone : Zone T K H P g k h) (old mid new : SeatCache T H P g h) (item : Cached T g) (left : List (Cached T g)) → fetches_of new ≡ fetches_of mid → KeepsMisses mid new → Takes zone old item left mid → Takes zone old item left new
-  takes_still zone old mid new item left fetches misses takes = elim takes [
+  takes_still : (zone : Zone T K H P g k h) (reserve : Bool) (old mid new : SeatCache T H P g h) (item : Cached T g) (left : List (Cached T g)) → fetches_of new ≡ fetches_of mid → KeepsMisses mid new → (top_of new).room ≡ (top_of mid).room → IsSameSeat mid new
+      → Takes zone reserve old item left mid → Takes zone reserve old item left new
+  takes_still zone reserve old mid new item left fetches misses room same takes = elim takes [
     | inl own ↦ inl record { last = own.last; fetches = fetches ∙ own.fetches; misses = misses ∙ own.misses }
     | inr (inl listed) ↦ inr (inl record { empty = listed.empty; fetches = fetches ∙ listed.fetches; misses = misses ∙ listed.misses; reused = listed.reused })
     | inr (inr fetched) ↦ inr (inr record {
       empty = fetched.empty;
       missed = subst (λ (s : FailShare). IsRaised (misses_of old) s) (sym misses) fetched.missed;
+      one = one_still zone reserve (left ++ item ∷ []) mid new room same fetched.one;
       fetches = fetches ∙ fetched.fetches;
     })
   ]
 
   -- the item that was taken passed `ctor`
-  pub served_by : (zone : Zone T K H P g k h) (arg : ℕ) (old mid new : SeatCache T H P g h) (item : Cached T g) (result : Result (Live T g) AllocRefused) → Takes zone old item (usable_of mid) mid → ledger_of mid ≡ ledger_of old
-      → fetches_of new ≡ fetches_of mid → KeepsMisses mid new → IfOk result (IsBuilt zone arg item) → OnOk result (CountsAlloc (ledger_of mid) (ledger_of new)) → OnOk result (usable_of new ≡ usable_of mid)
-      → IfOk result (λ live. Serves zone arg old live new)
-  served_by zone arg old mid new item (Ok live) takes ledger fetches misses built counted usable = record {
+  pub served_by : (zone : Zone T K H P g k h) (ask : AllocAsk) (old mid new : SeatCache T H P g h) (item : Cached T g) (result : Result (Live T g) AllocRefused) → Takes zone ask.reserve old item (usable_of mid) mid → ledger_of mid ≡ ledger_of old
+      → fetches_of new ≡ fetches_of mid → KeepsMisses mid new → (top_of new).room ≡ (top_of mid).room → IsSameSeat mid new → IfOk result (IsBuilt zone ask.arg item) → OnOk result (CountsAlloc (ledger_of mid) (ledger_of new)) → OnOk result (usable_of new ≡ usable_of mid)
+      → IfOk result (λ live. Serves zone ask old live new)
+  served_by zone ask old mid new item (Ok live) takes ledger fetches misses room same built counted usable = record {
     item = item;
-    takes = subst (λ (l : List (Cached T g)). Takes zone old item l new) (sym usable) (takes_still zone old mid new item (usable_of mid) fetches misses takes);
+    takes = subst (λ (l : List (Cached T g)). Takes zone ask.reserve old item l new) (sym usable) (takes_still zone ask.reserve old mid new item (usable_of mid) fetches misses room same takes);
     built = built;
     counted = subst (λ (l : SeatLedger). CountsAlloc l (ledger_of new)) ledger counted;
   }
-  served_by zone arg old mid new item (Err e) takes ledger fetches misses built counted usable = built
+  served_by zone ask old mid new item (Err e) takes ledger fetches misses room same built counted usable = built
 
   -- `ctor` refused the item that was taken
-  ctor_refused : (zone : Zone T K H P g k h) (ask : AllocAsk) (old mid new : SeatCache T H P g h) (item : Cached T g) (why : AllocRefused) (code : ℕ) → Takes zone old item (usable_of mid) mid → ledger_of mid ≡ ledger_of old
-      → fetches_of new ≡ fetches_of mid → KeepsMisses mid new → why ≡ Refused (Ctor code) → PutsBack zone ask.arg item code mid new → Refuses zone ask old new why
-  ctor_refused zone ask old mid new item why code takes ledger fetches misses is puts = subst (Refuses zone ask old new) (sym is) record {
+  ctor_refused : (zone : Zone T K H P g k h) (ask : AllocAsk) (old mid new : SeatCache T H P g h) (item : Cached T g) (why : AllocRefused) (code : ℕ) → Takes zone ask.reserve old item (usable_of mid) mid → ledger_of mid ≡ ledger_of old
+      → fetches_of new ≡ fetches_of mid → KeepsMisses mid new → (top_of new).room ≡ (top_of mid).room → IsSameSeat mid new → why ≡ Refused (Ctor code) → PutsBack zone ask.arg item code mid new → Refuses zone ask old new why
+  ctor_refused zone ask old mid new item why code takes ledger fetches misses room same is puts = subst (Refuses zone ask old new) (sym is) record {
     item = item;
     left = usable_of mid;
-    takes = takes_still zone old mid new item (usable_of mid) fetches misses takes;
+    takes = takes_still zone ask.reserve old mid new item (usable_of mid) fetches misses room same takes;
     back = puts.back;
     refused = puts.refused;
     is_code = puts.is_code;
     counted = subst (λ (l : SeatLedger). CountsCtor l (ledger_of new) code) ledger puts.counted;
   }
 
-  pub refused_by : (zone : Zone T K H P g k h) (ask : AllocAsk) (old mid new : SeatCache T H P g h) (item : Cached T g) (result : Result (Live T g) AllocRefused) → Takes zone old item (usable_of mid) mid → ledger_of mid ≡ ledger_of old
-      → fetches_of new ≡ fetches_of mid → KeepsMisses mid new → IfErr result (λ why. (code : ℕ) × (why ≡ Refused (Ctor code)) × PutsBack zone ask.arg item code mid new)
+  pub refused_by : (zone : Zone T K H P g k h) (ask : AllocAsk) (old mid new : SeatCache T H P g h) (item : Cached T g) (result : Result (Live T g) AllocRefused) → Takes zone ask.reserve old item (usable_of mid) mid → ledger_of mid ≡ ledger_of old
+      → fetches_of new ≡ fetches_of mid → KeepsMisses mid new → (top_of new).room ≡ (top_of mid).room → IsSameSeat mid new → IfErr result (λ why. (code : ℕ) × (why ≡ Refused (Ctor code)) × PutsBack zone ask.arg item code mid new)
       → IfErr result (Refuses zone ask old new)
-  refused_by zone ask old mid new item (Ok live) takes ledger fetches misses why = why
-  refused_by zone ask old mid new item (Err e) takes ledger fetches misses why = ctor_refused zone ask old mid new item e why.0 takes ledger fetches misses why.1 why.2
+  refused_by zone ask old mid new item (Ok live) takes ledger fetches misses room same why = why
+  refused_by zone ask old mid new item (Err e) takes ledger fetches misses room same why = ctor_refused zone ask old mid new item e why.0 takes ledger fetches misses room same why.1 why.2

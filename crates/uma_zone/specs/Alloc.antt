@@ -9,19 +9,23 @@ use Rattle.uma_life.specs.Hook.{Ctor, after, IsCode}
 use Rattle.zone_stats.specs.declared.refusal.Refusal.{Refusal}
 use Rattle.zone_stats.specs.declared.refusal.Refusal.TheVariants.{AtLimit, Reserved, Full, Init, Ctor as Ctor'}
 use Rattle.zone_stats.specs.LedgerSteps.{CountsAlloc, CountsTurned, CountsCtor}
-use Rattle.smr_clock.specs.declared.view.View.{View}
-use Rattle.uma_bucket.specs.declared.freed.Freed.{Freed}
+use Rattle.smr_clock.specs.Goals.{number_of}
+use Rattle.uma_bucket.specs.declared.ripe.Ripe.{Ripe}
 use Rattle.uma_bucket.specs.Finished.{AreFinished}
-use Rattle.uma_bucket.specs.Ripe.{IsOverFrom}
+use Rattle.uma_bucket.specs.Loose.{loose_items}
+use Rattle.uma_bucket.specs.Ripe.{ripe_bucket, ripe_goal, ripe_knows, IsRipeAt, IsOverFrom}
 use Rattle.uma_domain.specs.Lists.{IsRaised}
+use Rattle.uma_keg.specs.declared.keg.Keg.{Keg}
+use Rattle.uma_keg.specs.Fetched.{Fetches}
+use Rattle.uma_keg.specs.Keg.{table_in, limit_in, reserve_in}
 use Rattle.uma_seat.specs.declared.seat.SeatCache.{SeatCache}
 use Rattle.uma_seat.specs.Fetches.{refusal_cause}
-use Rattle.uma_seat.specs.Seat.{usable_of, top_of, ledger_of, fetches_of, misses_of}
+use Rattle.uma_seat.specs.Seat.{seat_domain, usable_of, top_of, ledger_of, fetches_of, misses_of}
 use Rattle.uma_zone.specs.declared.alloc_ask.AllocAsk.{AllocAsk}
 use Rattle.uma_zone.specs.declared.alloc_ask.AllocRefused.{AllocRefused}
 use Rattle.uma_zone.specs.declared.alloc_ask.AllocRefused.TheVariants.{Refused, Memory}
 use Rattle.uma_zone.specs.declared.zone.Zone.{Zone}
-use Rattle.uma_zone.specs.Zone.{zone_hooks, zone_index, zone_limit, zone_cap, zone_reserve, zone_smr}
+use Rattle.uma_zone.specs.Zone.{zone_home, zone_hooks, zone_index, zone_limit, zone_cap, zone_reserve, zone_smr, zone_clock}
 
 module _ {T H P : Type 0} {g h : _} where
   -- The item was usable on the seat as the request began, the last that was put. Nothing was looked for, and nothing fetched.
@@ -29,12 +33,6 @@ module _ {T H P : Type 0} {g h : _} where
     pub last : usable_of old ≡ left ++ item ∷ []
     pub fetches : fetches_of new ≡ fetches_of old
     pub misses : misses_of new ≡ misses_of old
-
-  -- No item was usable, the look found nothing, and the one fetch of the request gave as many as these.
-  pub record FetchesSome (old : SeatCache T H P g h) (items : List (Cached T g)) (new : SeatCache T H P g h) : Type 0 where
-    pub empty : usable_of old ≡ []
-    pub missed : IsRaised (misses_of old) (misses_of new)
-    pub fetches : fetches_of new ≡ fetches_of old ++ cause 6 (length items) 0 ∷ []
 
   -- Memory was wanting, for the flush, or for the one fetch after a look that found nothing. Nothing is counted, and no item was usable before or is after.
   pub record WantsMemory (old new : SeatCache T H P g h) : Type 0 where
@@ -44,14 +42,29 @@ module _ {T H P : Type 0} {g h : _} where
     pub fetches : ((fetches_of new ≡ fetches_of old) ⊎ (IsRaised (misses_of old) (misses_of new) × (fetches_of new ≡ fetches_of old ++ cause 7 0 0 ∷ [])))
 
 module _ {T K H P : Type 0} {g k h : _} where
-  -- These items were freed, and waited in a bucket with a goal until a poll of it said yes. Each passed `dtor` after that. From the moment on at which a seat of the clock knows what the poll found, no section that was entered before the goal is open.
+  -- These items came by one fetch of the zone's keg, as that stood under its lock: for this zone and by its hooks, of the seat's domain, at most as many as the allocation bucket has room for, and with the right to the keg's reserve or without it.
+  pub record IsOneFetch (zone : Zone T K H P g k h) (reserve : Bool) (items : List (Cached T g)) (new : SeatCache T H P g h) : Type 0 where
+    pub was : Keg T K g k
+    pub is : Keg T K g k
+    pub of_zone : table_in was ≡ (zone_home zone).book
+    pub limit : limit_in was (zone_index zone) ≡ zone_limit zone
+    pub kept : reserve_in was ≡ zone_reserve zone
+    pub fetches : Fetches was (zone_hooks zone) (record { zone = zone_index zone; most = (top_of new).room; reserve = reserve; domain = seat_domain new }) items is
+
+  -- No item was usable, the look found nothing, and the one fetch of the request, with that right to the reserve, gave just these.
+  pub record FetchesSome (zone : Zone T K H P g k h) (reserve : Bool) (old : SeatCache T H P g h) (items : List (Cached T g)) (new : SeatCache T H P g h) : Type 0 where
+    pub empty : usable_of old ≡ []
+    pub missed : IsRaised (misses_of old) (misses_of new)
+    pub one : IsOneFetch zone reserve items new
+    pub fetches : fetches_of new ≡ fetches_of old ++ cause 6 (length items) 0 ∷ []
+
+  -- These items were freed, and waited in a bucket with a goal until a poll of it said yes: in this ripe bucket, whose note is of the zone's clock. Each passed `dtor` after that. The note knows that the bucket's goal is expired, and from the moment on at which a seat of the clock knows as much, no section that was entered before that goal is open.
   pub record AreReused (zone : Zone T K H P g k h) (items : List (Cached T g)) : Type 0 where
-    pub freed : List (Freed T g)
-    pub goal : ℕ
-    pub knows : View P
-    pub finished : AreFinished (k.leaves_dtor (zone_hooks zone)) freed items
-    pub expired : goal ≤ knows.holder.floor
-    pub over : IsOverFrom knows goal
+    pub ripe : Ripe T H P g h
+    pub of_clock : IsRipeAt (zone_clock zone) ripe
+    pub finished : AreFinished (k.leaves_dtor (zone_hooks zone)) (loose_items (ripe_bucket ripe)) items
+    pub expired : number_of (ripe_goal ripe) ≤ (ripe_knows ripe).holder.floor
+    pub over : IsOverFrom (ripe_knows ripe) (number_of (ripe_goal ripe))
 
   -- No item was usable, and the look at the lists of the seat's own domain found some; nothing was fetched. In an SMR zone they waited until no section may see them.
   pub record FindsListed (zone : Zone T K H P g k h) (old : SeatCache T H P g h) (items : List (Cached T g)) (new : SeatCache T H P g h) : Type 0 where
@@ -60,14 +73,14 @@ module _ {T K H P : Type 0} {g k h : _} where
     pub misses : misses_of new ≡ misses_of old
     pub reused : zone_smr zone ≡ true → AreReused zone items
 
-  -- Where the item of a request comes from: the seat itself, or else its domain's lists, or else the keg. These usable items are left behind it, and they are all that came with it.
-  abbrev pub Takes : Zone T K H P g k h → SeatCache T H P g h → Cached T g → List (Cached T g) → SeatCache T H P g h → Type 0
-  Takes zone old item left new = TakesOwn old item left new ⊎ FindsListed zone old (left ++ item ∷ []) new ⊎ FetchesSome old (left ++ item ∷ []) new
+  -- Where the item of a request comes from: the seat itself, or else its domain's lists, or else the keg, by the request's right to the reserve. These usable items are left behind it, and they are all that came with it.
+  abbrev pub Takes : Zone T K H P g k h → Bool → SeatCache T H P g h → Cached T g → List (Cached T g) → SeatCache T H P g h → Type 0
+  Takes zone reserve old item left new = TakesOwn old item left new ⊎ FindsListed zone old (left ++ item ∷ []) new ⊎ FetchesSome zone reserve old (left ++ item ∷ []) new
 
   -- The seat, of which no item was usable, has items in its allocation bucket now: some that its domain listed, or some that one fetch gave.
-  pub record IsFilled (zone : Zone T K H P g k h) (old new : SeatCache T H P g h) : Type 0 where
+  pub record IsFilled (zone : Zone T K H P g k h) (reserve : Bool) (old new : SeatCache T H P g h) : Type 0 where
     pub some : 1 ≤ length (top_of new).items
-    pub from : FindsListed zone old (top_of new).items new ⊎ FetchesSome old (top_of new).items new
+    pub from : FindsListed zone old (top_of new).items new ⊎ FetchesSome zone reserve old (top_of new).items new
     pub ledger : ledger_of new ≡ ledger_of old
 
   -- `ctor` of the zone took the item with this argument, and left the live one.
@@ -78,10 +91,10 @@ module _ {T K H P : Type 0} {g k h : _} where
     pub left : k.leaves_ctor (zone_hooks zone) (cached_body item) (zone_index zone) arg (live_body live)
 
   -- An item was taken, and passed `ctor` in this request. One request and one alloc are counted.
-  pub record Serves (zone : Zone T K H P g k h) (arg : ℕ) (old : SeatCache T H P g h) (live : Live T g) (new : SeatCache T H P g h) : Type 0 where
+  pub record Serves (zone : Zone T K H P g k h) (ask : AllocAsk) (old : SeatCache T H P g h) (live : Live T g) (new : SeatCache T H P g h) : Type 0 where
     pub item : Cached T g
-    pub takes : Takes zone old item (usable_of new) new
-    pub built : IsBuilt zone arg item live
+    pub takes : Takes zone ask.reserve old item (usable_of new) new
+    pub built : IsBuilt zone ask.arg item live
     pub counted : CountsAlloc (ledger_of old) (ledger_of new)
 
   -- `ctor` refused the item with this code. It lies on top of the usable items, and the refusal is counted and kept.
@@ -92,12 +105,12 @@ module _ {T K H P : Type 0} {g k h : _} where
     pub counted : CountsCtor (ledger_of old) (ledger_of new) code
 
   -- The item was taken, and `ctor` refused it with this code. It lies on top of the usable items again, and the refusal is counted and kept.
-  pub record RefusesCtor (zone : Zone T K H P g k h) (arg code : ℕ) (old new : SeatCache T H P g h) : Type 0 where
+  pub record RefusesCtor (zone : Zone T K H P g k h) (ask : AllocAsk) (code : ℕ) (old new : SeatCache T H P g h) : Type 0 where
     pub item : Cached T g
     pub left : List (Cached T g)
-    pub takes : Takes zone old item left new
+    pub takes : Takes zone ask.reserve old item left new
     pub back : usable_of new ≡ left ++ item ∷ []
-    pub refused : k.refuses_ctor (zone_hooks zone) (cached_body item) (zone_index zone) arg ≡ Some code
+    pub refused : k.refuses_ctor (zone_hooks zone) (cached_body item) (zone_index zone) ask.arg ≡ Some code
     pub is_code : IsCode code
     pub counted : CountsCtor (ledger_of old) (ledger_of new) code
 
@@ -131,6 +144,6 @@ module _ {T K H P : Type 0} {g k h : _} where
 
   -- Why a request got no item, and what it did to its seat: `ctor` refused one that was taken, or none was taken.
   abbrev pub Refuses : Zone T K H P g k h → AllocAsk → SeatCache T H P g h → SeatCache T H P g h → AllocRefused → Type 0
-  Refuses zone ask old new (Refused (Ctor' code)) = RefusesCtor zone ask.arg code old new
+  Refuses zone ask old new (Refused (Ctor' code)) = RefusesCtor zone ask code old new
   Refuses zone ask old new (Refused refusal) = TurnsAway zone ask.reserve refusal old new
   Refuses zone ask old new Memory = WantsMemory old new

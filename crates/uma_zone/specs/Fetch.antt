@@ -9,15 +9,9 @@ use Rattle.uma_seat.specs.Seat.{top_of, ledger_of, fetches_of}
 use Rattle.uma_zone.specs.declared.alloc_ask.AllocRefused.{AllocRefused}
 use Rattle.uma_zone.specs.declared.alloc_ask.AllocRefused.TheVariants.{Refused, Memory}
 use Rattle.uma_zone.specs.declared.zone.Zone.{Zone}
-use Rattle.uma_zone.specs.Alloc.{Names}
+use Rattle.uma_zone.specs.Alloc.{Names, IsOneFetch}
 
 module _ {T H P : Type 0} {g h : _} where
-  -- So many items came, and lie in the allocation bucket. The fetch is listed, and nothing is counted yet.
-  pub record HasFetched (old new : SeatCache T H P g h) : Type 0 where
-    pub some : 1 ≤ length (top_of new).items
-    pub fetches : fetches_of new ≡ fetches_of old ++ cause 6 (length (top_of new).items) 0 ∷ []
-    pub ledger : ledger_of new ≡ ledger_of old
-
   -- Memory was wanting. No item came, and nothing is counted; the fetch is listed where it was made.
   pub record FetchWantsMemory (old new : SeatCache T H P g h) : Type 0 where
     pub none : (top_of new).items ≡ []
@@ -25,6 +19,13 @@ module _ {T H P : Type 0} {g h : _} where
     pub ledger : ledger_of new ≡ ledger_of old
 
 module _ {T K H P : Type 0} {g k h : _} where
+  -- So many items came by the fetch, and lie in the allocation bucket. The fetch is listed, and nothing is counted yet.
+  pub record HasFetched (zone : Zone T K H P g k h) (reserve : Bool) (old new : SeatCache T H P g h) : Type 0 where
+    pub some : 1 ≤ length (top_of new).items
+    pub one : IsOneFetch zone reserve (top_of new).items new
+    pub fetches : fetches_of new ≡ fetches_of old ++ cause 6 (length (top_of new).items) 0 ∷ []
+    pub ledger : ledger_of new ≡ ledger_of old
+
   -- The fetch was refused so. No item came; the fetch is listed, and its refusal counted and kept.
   pub record FetchTurnsAway (zone : Zone T K H P g k h) (reserve : Bool) (refusal : Refusal) (old new : SeatCache T H P g h) : Type 0 where
     pub none : (top_of new).items ≡ []

@@ -51,11 +51,12 @@ impl<T: Body, K: Hooks<T>, H: Host> Zone<T, K, H> {
         ensures seen { (holder pass.old).seen ≤ (holder pass.new).seen }
         ensures host { TakesInNote H.merged (view pass.old).host (view pass.new).host }
         ensures home { IfOk result (λ live. IsHome (zone_home self.now) (live_ticket live)) }
-        ensures served { IfOk result (λ live. Serves self.now ask.arg seat.old live seat.new) }
+        ensures served { IfOk result (λ live. Serves self.now ask seat.old live seat.new) }
         ensures refused { IfErr result (Refuses self.now ask seat.old seat.new) }
         ensures spare { length (spares_of seat.old) ≤ length (spares_of seat.new) }
         ensures shelf { HasLastOf (shelf_of seat.old) (shelf_of seat.new) }
         ensures unflushed { usable_of seat.old ≢ [] → KeepsRack seat.old seat.new }
+        ensures unseen { usable_of seat.old ≢ [] → view pass.new ≡ view pass.old }
         ensures plain { plain_of seat.new ≡ plain_ready seat.old }
         ensures freed { KeepsFreed seat.old seat.new }
         ensures same { IsSameSeat seat.old seat.new }
@@ -84,13 +85,14 @@ impl<T: Body, K: Hooks<T>, H: Host> Zone<T, K, H> {
         ensures seen { (holder pass.old).seen ≤ (holder pass.new).seen }
         ensures host { TakesInNote H.merged (view pass.old).host (view pass.new).host }
         ensures home { IfOk result (λ item. IsHome (zone_home self.now) (cached_ticket item)) }
-        ensures takes { IfOk result (λ item. Takes self.now seat.old item (usable_of seat.new) seat.new) }
+        ensures takes { IfOk result (λ item. Takes self.now reserve seat.old item (usable_of seat.new) seat.new) }
         ensures ledger { OnOk result (ledger_of seat.new ≡ ledger_of seat.old) }
         ensures top_room { OnOk result (length (top_of seat.new).items < (top_of seat.new).room) }
         ensures refused { IfErr result (RefusesToTake self.now reserve seat.old seat.new) }
         ensures spare { length (spares_of seat.old) ≤ length (spares_of seat.new) }
         ensures shelf { HasLastOf (shelf_of seat.old) (shelf_of seat.new) }
         ensures unflushed { usable_of seat.old ≢ [] → KeepsRack seat.old seat.new }
+        ensures unseen { usable_of seat.old ≢ [] → view pass.new ≡ view pass.old }
         ensures plain { plain_of seat.new ≡ plain_ready seat.old }
         ensures freed { KeepsFreed seat.old seat.new }
         ensures same { IsSameSeat seat.old seat.new }
@@ -125,7 +127,7 @@ impl<T: Body, K: Hooks<T>, H: Host> Zone<T, K, H> {
         ensures phase { (holder pass.new).phase ≡ (holder pass.old).phase }
         ensures seen { (holder pass.old).seen ≤ (holder pass.new).seen }
         ensures host { TakesInNote H.merged (view pass.old).host (view pass.new).host }
-        ensures filled { OnOk result (IsFilled self.now seat.old seat.new) }
+        ensures filled { OnOk result (IsFilled self.now reserve seat.old seat.new) }
         ensures refused { IfErr result (RefusesToTake self.now reserve seat.old seat.new) }
         ensures spare { length (spares_of seat.old) ≤ length (spares_of seat.new) }
         ensures shelf { HasLastOf (shelf_of seat.old) (shelf_of seat.new) }
@@ -159,6 +161,7 @@ impl<T: Body, K: Hooks<T>, H: Host> Zone<T, K, H> {
         ensures counted { OnOk result (CountsAlloc (ledger_of seat.old) (ledger_of seat.new)) }
         ensures usable { OnOk result (usable_of seat.new ≡ usable_of seat.old) }
         ensures refused { IfErr result (λ why. (code : ℕ) × (why ≡ AllocRefused.Refused (Refusal.Ctor code)) × PutsBack self.now arg item code seat.old seat.new) }
+        ensures kept_room { (top_of seat.new).room ≡ (top_of seat.old).room }
         ensures fetches { fetches_of seat.new ≡ fetches_of seat.old }
         ensures misses { KeepsMisses seat.old seat.new }
         ensures plain { KeepsPlain seat.old seat.new }

@@ -35,7 +35,7 @@ impl<T: Body, K: Hooks<T>, H: Host> Zone<T, K, H> {
         requires empty { (top_of seat.old).items ≡ [] }
         requires room { HasRoom (ledger_of seat.old) }
         ensures seat { IsSeatOf self.now seat.new }
-        ensures fetched { OnOk result (HasFetched seat.old seat.new) }
+        ensures fetched { OnOk result (HasFetched self.now reserve seat.old seat.new) }
         ensures refused { IfErr result (FetchRefuses self.now reserve seat.old seat.new) }
         ensures rest { KeepsAllButTop seat.old seat.new }
     {

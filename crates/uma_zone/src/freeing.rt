@@ -60,6 +60,7 @@ impl<T: Body, K: Hooks<T>, H: Host> Zone<T, K, H> {
         ensures host { (view pass.new).host ≡ (view pass.old).host }
         ensures put { is_filled_by_one (stack_at (freed_of seat.old) (live_domain live)) ≡ false → freed_of seat.new ≡ slice_set (freed_of seat.old) (live_domain live) (with_item (stack_at (freed_of seat.old) (live_domain live)) live) }
         ensures rack { is_filled_by_one (stack_at (freed_of seat.old) (live_domain live)) ≡ false → KeepsRack seat.old seat.new }
+        ensures unseen { is_filled_by_one (stack_at (freed_of seat.old) (live_domain live)) ≡ false → view pass.new ≡ view pass.old }
         ensures full { is_filled_by_one (stack_at (freed_of seat.old) (live_domain live)) ≡ true → ShelvesFreed H.copied (view pass.old) seat.old (live_domain live) (with_item (stack_at (freed_of seat.old) (live_domain live)) live) seat.new (view pass.new) }
         ensures usable { usable_of seat.new ≡ usable_of seat.old }
         ensures ledger { CountsFree (ledger_of seat.old) (ledger_of seat.new) (not (live_domain live == seat_domain seat.old)) }

@@ -19,5 +19,5 @@ pub fn freed_items_wait<T: Body, K: Hooks<T>, H: Host>()
     ensures served { (zone : Zone T K H H.Part T.Body K.Hooks H.Host) → ServedBalances zone }
     ensures refused { (zone : Zone T K H H.Part T.Body K.Hooks H.Host) → RefusedBalances zone }
     ensures kept { (old : SeatCache T H H.Part T.Body H.Host) → (new : SeatCache T H H.Part T.Body H.Host) → KeptBalances old new }
-    ensures sequence { FreedWait T H.Part T.Body }
+    ensures sequence { FreedWait T H H.Part T.Body H.Host }
 {}

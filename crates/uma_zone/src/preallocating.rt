@@ -9,7 +9,7 @@ use uma_life::{Body, Hooks};
 
 impl<T: Body, K: Hooks<T>, H: Host> Zone<T, K, H> {
     ghost use Rattle.uma_zone.specs.Zone.{zone_domains, zone_size};
-    ghost use Rattle.uma_zone.specs.Prealloc.{slabs_for, RefusesPrealloc};
+    ghost use Rattle.uma_zone.specs.Prealloc.{slabs_for, Preallocs, RefusesPrealloc};
 
     /// Brings in the slabs that so many items fill, rounded up, of a memory domain, and answers how many. Waits until it has
     /// the keg's lock.
@@ -27,7 +27,8 @@ impl<T: Body, K: Hooks<T>, H: Host> Zone<T, K, H> {
         requires items { items ≤ 262144 }
         requires domain { domain < zone_domains self.now }
         ensures count { IfOk result (λ slabs. slabs ≡ slabs_for items (min 256 (4096 / zone_size self.now))) }
-        ensures refused { IfErr result (RefusesPrealloc self.now) }
+        ensures brought { IfOk result (Preallocs self.now domain) }
+        ensures refused { IfErr result (RefusesPrealloc self.now items domain) }
     {
         let mut guard = self.lock(rt);
         let KegCounts { per_slab, .. } = guard.value.counts();

@@ -36,7 +36,7 @@ impl<T: Body, H: Host> ZoneDomains<T, H> {
         ensures seen { (holder pass.old).seen ≤ (holder pass.new).seen }
         ensures seat { IsSeatOf self.now seat.new }
         ensures found { result ≡ true → 0 < length (top_of seat.new).items }
-        ensures ripe { domains_smr self.now ≡ true → result ≡ true → IsOfRipe H.merged (K.leaves_dtor hooks.now) (view pass.old) (top_bucket seat.new) (view pass.new) }
+        ensures ripe { domains_smr self.now ≡ true → result ≡ true → IsOfRipe self.now H.merged (K.leaves_dtor hooks.now) (view pass.old) (top_bucket seat.new) (view pass.new) }
         ensures hit { result ≡ true → KeepsMisses seat.old seat.new }
         ensures missed { result ≡ false → IsRaised (misses_of seat.old) (misses_of seat.new) }
         ensures no_top { result ≡ false → KeepsTop seat.old seat.new }
@@ -103,7 +103,7 @@ impl<T: Body, H: Host> ZoneDomains<T, H> {
         ensures seen { (holder pass.old).seen ≤ (holder pass.new).seen }
         ensures seat { IsSeatOf self.now seat.new }
         ensures found { result ≡ true → 0 < length (top_of seat.new).items }
-        ensures ripe { result ≡ true → IsOfRipe H.merged (K.leaves_dtor hooks.now) (view pass.old) (top_bucket seat.new) (view pass.new) }
+        ensures ripe { result ≡ true → IsOfRipe self.now H.merged (K.leaves_dtor hooks.now) (view pass.old) (top_bucket seat.new) (view pass.new) }
         ensures hit { result ≡ true → KeepsMisses seat.old seat.new }
         ensures missed { result ≡ false → IsRaised (misses_of seat.old) (misses_of seat.new) }
         ensures no_top { result ≡ false → KeepsTop seat.old seat.new }

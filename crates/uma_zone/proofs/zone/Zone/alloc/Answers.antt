@@ -5,10 +5,10 @@ pub returns-clause-served : goal.returns-clause-served
 returns-clause-served g c =
     let taken = c.in_ok-item.ensures in
     let build = c.build.ensures in
-    served_by c.args.self.now c.args.ask.arg c.args.seat.now c.take.new.seat c.build.new.seat c.in_ok-item.item c.build.result taken.takes taken.ledger build.fetches build.misses build.built build.counted build.usable
+    served_by c.args.self.now c.args.ask c.args.seat.now c.take.new.seat c.build.new.seat c.in_ok-item.item c.build.result taken.takes taken.ledger build.fetches build.misses build.kept_room build.same build.built build.counted build.usable
 
 pub returns-clause-refused : goal.returns-clause-refused
 returns-clause-refused g c =
     let taken = c.in_ok-item.ensures in
     let build = c.build.ensures in
-    refused_by c.args.self.now c.args.ask c.args.seat.now c.take.new.seat c.build.new.seat c.in_ok-item.item c.build.result taken.takes taken.ledger build.fetches build.misses build.refused
+    refused_by c.args.self.now c.args.ask c.args.seat.now c.take.new.seat c.build.new.seat c.in_ok-item.item c.build.result taken.takes taken.ledger build.fetches build.misses build.kept_room build.same build.refused

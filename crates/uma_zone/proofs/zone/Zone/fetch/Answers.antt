@@ -1,9 +1,10 @@
-use Rattle.std.proofs.Common.{Err, refl, ap, ◌∙◌}
+use Rattle.std.proofs.Common.{Ok, Err, refl, ap, ◌∙◌}
 use Rattle.uma_keg.specs.declared.fetch_ask.FetchAsk.{FetchAsk}
 use Rattle.keyed_lock.specs.KeyedGuard.{guard_key}
+use Rattle.uma_bucket.specs.Bucket.{size_of}
 use Rattle.locked_keg.specs.LockedKeg.{keg_in}
 use Rattle.uma_zone.specs.Zone.{zone_home}
-use Rattle.uma_zone.proofs.Fetches.{turned_away}
+use Rattle.uma_zone.proofs.Fetches.{has_fetched, turned_away}
 use Rattle.uma_zone.proofs.Seats.{lent_of, refilled_of, domain_below, fetches_home}
 use Rattle.uma_zone.proofs.zone.Zone.fetch.Goals as goal
 
@@ -29,36 +30,42 @@ pub returns-in-Ok-clause-seat : goal.returns-in-Ok-clause-seat
 returns-in-Ok-clause-seat g c =
     let zone = c.args.self.now in
     let seat = c.args.seat.now in
-    let ask : FetchAsk = record { zone = zone.index; most = c.size.result; reserve = c.args.reserve; domain = c.domain.result } in
     let done = c.fetch.ensures in
     let locked = c.lock-guard.ensures in
     refilled_of zone seat c.fetch.new.seat done.rest.same done.rest.misses done.fails
-    (done.home (zone_home zone) (fetches_home zone seat (keg_in c.lock-guard.result.value) ask locked.numbers locked.domains (refl {_}) c.domain.ensures c.requires.seat)) c.requires.seat
+    (done.home (zone_home zone) (fetches_home zone seat (keg_in c.lock-guard.result.value) _ locked.numbers locked.domains (refl {_}) c.domain.ensures c.requires.seat)) c.requires.seat
+
+pub returns-in-Ok-clause-fetched : goal.returns-in-Ok-clause-fetched
+returns-in-Ok-clause-fetched g c =
+    let zone = c.args.self.now in
+    let done = c.fetch.ensures in
+    let locked = c.lock-guard.ensures in
+    let lent = ap size_of c.lend_empty.ensures.bucket in
+    has_fetched zone c.args.seat.now c.fetch.new.seat (keg_in c.lock-guard.result.value) (keg_in c.fetch.new.self) _ c.fetch.result c.in-Ok.field-0 locked.numbers (c.is_added_to.ensures.limit c.if-not-is_added_to.false) locked.reserve
+    refl (c.size.ensures.size ∙ lent) (done.top_room ∙ lent) c.domain.ensures done.rest.same done.fetched done.share done.ledger c.in-Ok.is
 
 pub returns-in-Err-Refused-clause-seat : goal.returns-in-Err-Refused-clause-seat
 returns-in-Err-Refused-clause-seat g c =
     let zone = c.args.self.now in
     let seat = c.args.seat.now in
-    let ask : FetchAsk = record { zone = zone.index; most = c.size.result; reserve = c.args.reserve; domain = c.domain.result } in
     let done = c.fetch.ensures in
     let locked = c.lock-guard.ensures in
     refilled_of zone seat c.fetch.new.seat done.rest.same done.rest.misses done.fails
-    (done.home (zone_home zone) (fetches_home zone seat (keg_in c.lock-guard.result.value) ask locked.numbers locked.domains (refl {_}) c.domain.ensures c.requires.seat)) c.requires.seat
+    (done.home (zone_home zone) (fetches_home zone seat (keg_in c.lock-guard.result.value) _ locked.numbers locked.domains (refl {_}) c.domain.ensures c.requires.seat)) c.requires.seat
 
 pub returns-clause-seat : goal.returns-clause-seat
 returns-clause-seat g c =
     let zone = c.args.self.now in
     let seat = c.args.seat.now in
-    let ask : FetchAsk = record { zone = zone.index; most = c.size.result; reserve = c.args.reserve; domain = c.domain.result } in
     let done = c.fetch.ensures in
     let locked = c.lock-guard.ensures in
     refilled_of zone seat c.fetch.new.seat done.rest.same done.rest.misses done.fails
-    (done.home (zone_home zone) (fetches_home zone seat (keg_in c.lock-guard.result.value) ask locked.numbers locked.domains (refl {_}) c.domain.ensures c.requires.seat)) c.requires.seat
+    (done.home (zone_home zone) (fetches_home zone seat (keg_in c.lock-guard.result.value) _ locked.numbers locked.domains (refl {_}) c.domain.ensures c.requires.seat)) c.requires.seat
 
 pub returns-in-Err-Refused-clause-refused : goal.returns-in-Err-Refused-clause-refused
 returns-in-Err-Refused-clause-refused g c =
     let zone = c.args.self.now in
-    let ask : FetchAsk = record { zone = zone.index; most = c.size.result; reserve = c.args.reserve; domain = c.domain.result } in
+    let ask : FetchAsk = record { zone = zone.index; most = c.size.result; reserve = _; domain = c.domain.result } in
     let done = c.fetch.ensures in
     let locked = c.lock-guard.ensures in
     turned_away zone c.args.seat.now c.fetch.new.seat (keg_in c.lock-guard.result.value) zone.hooks ask c.fetch.result c.in-Err-Refused.refusal refl refl (c.is_added_to.ensures.limit c.if-not-is_added_to.false) locked.reserve locked.cap done.none done.share done.ledger done.names (c.in-Err-Refused.is ∙ ap Err c.in-Err-Refused.field-0-is)

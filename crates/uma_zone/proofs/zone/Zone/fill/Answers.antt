@@ -11,7 +11,7 @@ pub returns-then-look-clause-filled : goal.returns-then-look-clause-filled
 returns-then-look-clause-filled g c =
     let flush = c.flush.ensures in
     let look = c.look.ensures in
-    found_some c.args.self.now c.args.seat.now c.flush.new.seat c.look.new.seat g.H.Host.merged (view c.flush.new.pass) (view c.look.new.pass) c.look.result c.if-look.true c.requires.none flush.counts flush.misses look.counts look.hit look.found look.ripe
+    found_some c.args.self.now c.args.reserve c.args.seat.now c.flush.new.seat c.look.new.seat g.H.Host.merged (view c.flush.new.pass) (view c.look.new.pass) c.look.result c.if-look.true c.requires.none flush.counts flush.misses look.counts look.hit look.found look.ripe
 
 pub fetch-requires-clause-empty : goal.fetch-requires-clause-empty
 fetch-requires-clause-empty g c = ap items_of (c.look.ensures.no_top c.if-look.false ∙ c.flush.ensures.top) ∙ top_empty c.args.seat.now c.requires.none

@@ -1,12 +1,14 @@
-use Rattle.std.proofs.Common.{◌≤◌, ◌<◌, ℕ, List, length, ap, sym, subst}
+use Rattle.std.proofs.Common.{◌≡◌, ◌≤◌, ◌<◌, ℕ, List, length, ap, sym, subst}
 use Rattle.smr_clock.specs.declared.note.Note.{Note}
+use Rattle.smr_clock.specs.Belongs.{view}
 use Rattle.smr_clock.specs.Goals.{number_of}
-use Rattle.smr_clock.specs.Notes.{note_knows, note_holder}
+use Rattle.smr_clock.specs.Notes.{note_knows}
+use Rattle.smr_clock.specs.Steps.{joined_view}
 use Rattle.uma_bucket.specs.declared.bucket.Bucket.{Bucket}
 use Rattle.uma_bucket.specs.Bucket.{items_of}
 use Rattle.uma_bucket.specs.Finished.{AreFinished}
 use Rattle.uma_bucket.specs.Loose.{loose_items}
-use Rattle.uma_bucket.specs.Ripe.{ripe_bucket, ripe_goal}
+use Rattle.uma_bucket.specs.Ripe.{ripe_bucket, ripe_goal, IsOverFrom}
 use Rattle.uma_seat.specs.Rack.{spares_in}
 use Rattle.uma_seat.specs.Seat.{top_of, spares_of, shelf_of}
 use Rattle.zone_domains.specs.Domains.{domains_home}
@@ -27,13 +29,12 @@ returns-in-Some-clause-ripe g c _ =
     let ripe = c.in-Some.ripe in
     let made = c.into_cached-bucket.ensures in
     record {
-      freed = loose_items (ripe_bucket ripe);
-      goal = number_of (ripe_goal ripe);
-      knows = note_knows c.into_cached-bucket.result.1;
+      ripe = ripe;
+      of_clock = c.in-Some.ensures.of_clock;
       finished = subst (λ (b : Bucket _ _). AreFinished (g.K.Hooks.leaves_dtor c.args.hooks.now) (loose_items (ripe_bucket ripe)) (items_of b)) (sym c.refill.ensures.top) made.finished;
-      expired = subst (λ (n : Note _ _ _). number_of (ripe_goal ripe) ≤ (note_holder n).floor) (sym made.note) ripe.expired;
-      over = made.over;
-      absorbed = c.absorb.ensures.view;
+      expired = ripe.expired;
+      over = subst (λ (n : Note _ _ _). IsOverFrom (note_knows n) (number_of (ripe_goal ripe))) made.note made.over;
+      absorbed = subst (λ (n : Note _ _ _). view c.absorb.new.pass ≡ joined_view g.H.Host.merged (view c.args.pass.now) (note_knows n)) made.note c.absorb.ensures.view;
     }
 
 pub returns-in-Some-clause-spares : goal.returns-in-Some-clause-spares
