@@ -1,4 +1,3 @@
 pub mod Caches
 pub mod Known
-pub mod Plain
 pub mod Wanting

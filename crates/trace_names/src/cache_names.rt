@@ -38,7 +38,7 @@ impl NameCalls for CacheNames {
     type Seat = SeatCache<RaisedEntry, Names>;
 
     ghost use Rattle.std.specs.Prelude.{refl, true, Some};
-    ghost use Rattle.uma_seat.specs.Seat.{ledger_of};
+    ghost use Rattle.uma_seat.specs.Seat.{ledger_of, seat_domain};
     ghost use Rattle.uma_seat.specs.Sums.{deferred_in_seat, times_in_seat};
     ghost use Rattle.trace_names.specs.Caches.{IsSeatIn, clock_in, plan_for, sizes_in};
     ghost use Rattle.trace_names.specs.Known.{KnowsRecord};
@@ -50,6 +50,8 @@ impl NameCalls for CacheNames {
     ghost sizes_of = { sizes_in };
 
     ghost IsSeat = { IsSeatIn };
+
+    ghost domain_of = { seat_domain };
 
     ghost counted = { λ seat. Some (ledger_of seat) };
 

@@ -5,6 +5,7 @@ ghost use Rattle.trace_text.specs.Valid.{ClockFits, NamesFits};
 ghost use Rattle.trace_worker.specs.Clocks.{ArePasses, setup_for};
 ghost use Rattle.trace_worker.specs.NameSizes.{sizes_for};
 ghost use Rattle.name_cache.specs.Making.{IsOpened};
+ghost use Rattle.name_rows.specs.Opening.{AreOpenRows};
 ghost use Rattle.trace_names.specs.Caches.{clock_in, plan_by, sizes_in};
 ghost use Rattle.trace_names.specs.Wanting.{LacksMemory, lacking};
 
@@ -28,6 +29,7 @@ pub(crate) fn open(alloc: Global, head: &Head, line: &NamesHead) -> Result<Opene
     ensures clock { IfOk result (λ opened. setup_of opened.clock ≡ setup_for (plan_by line.now) head.now) }
     ensures passes { IfOk result (λ opened. ArePasses head.now.workers opened.clock opened.passes) }
     ensures opened { IfOk result IsOpened }
+    ensures rows { IfOk result (λ opened. AreOpenRows opened.clock 0 opened.rows) }
     ensures refused { IfErr result LacksMemory }
 {
     let Some(clock) = head.clock else {

@@ -3,3 +3,4 @@ pub mod Kegs
 pub mod Setting
 pub mod Zones
 pub mod ZonesSoFar
+pub mod Plain

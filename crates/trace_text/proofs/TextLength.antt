@@ -214,19 +214,28 @@ split_few : (entries : List Entry) → entry_count (slice_split is_round entries
 split_few [] = omega arith
 split_few (entry ∷ entries) = split_by (is_round entry) entry (slice_split is_round entries) (length entries) (split_few entries)
 
+no_more : (lines parts entries : ℕ) → lines ≤ parts → parts ≤ entries → lines ≤ entries
+no_more lines parts entries few all = omega arith
+
+-- the rounds that entries make up have no more lines than there are entries
+pub lines_of_entries : (workers : ℕ) (entries : List Entry) → length (lines_of (rounds_in workers (slice_split is_round entries))) ≤ length entries
+lines_of_entries workers entries =
+    let parts = slice_split is_round entries in
+    no_more (length (lines_of (rounds_in workers parts))) (entry_count parts) (length entries) (first_part parts workers) (split_few entries)
+
 -- ---- together
 
-seven : (lines parts entries before spoke spoken all whole bytes : ℕ) → lines ≤ parts → parts ≤ entries → entries ≤ before → before ≤ spoke → spoke ≡ spoken → spoken ≤ all → whole ≡ all + 0 → whole ≤ bytes → lines ≤ bytes
-seven lines parts entries before spoke spoken all whole bytes a b c d e f g h = omega arith
+six : (lines entries before spoke spoken all whole bytes : ℕ) → lines ≤ entries → entries ≤ before → before ≤ spoke → spoke ≡ spoken → spoken ≤ all → whole ≡ all + 0 → whole ≤ bytes → lines ≤ bytes
+six lines entries before spoke spoken all whole bytes a b c d e f g = omega arith
 
 pub traces_are_no_longer : TracesAreNoLonger
 traces_are_no_longer bytes trace text =
     let before : List Said = sayings text.spoke in
     let all = text.right.all in
     let P : Trace → Type 0 = λ t. length (lines_of t.rounds) ≤ length bytes in
-    let cut = first_part (slice_split is_round (entries_of before)) (workers_of before) in
+    let cut = lines_of_entries (workers_of before) (entries_of before) in
     let whole : length (lines bytes) ≡ length all + 0 = ap length text.right.whole ∙ length-after_earlier all [] in
     let spoke : length text.spoke ≡ length (spoken all) = ap length text.right.spoke_is in
     subst P (sym text.trace_is)
-    (seven (length (lines_of (rounds_in (workers_of before) (slice_split is_round (entries_of before))))) (entry_count (slice_split is_round (entries_of before))) (length (entries_of before)) (length before)
-    (length text.spoke) (length (spoken all)) (length all) (length (lines bytes)) (length bytes) cut (split_few (entries_of before)) (entries_few before) (sayings_few text.spoke) spoke (spoken_few all) whole (lines_few bytes))
+    (six (length (lines_of (rounds_in (workers_of before) (slice_split is_round (entries_of before))))) (length (entries_of before)) (length before)
+    (length text.spoke) (length (spoken all)) (length all) (length (lines bytes)) (length bytes) cut (entries_few before) (sayings_few text.spoke) spoke (spoken_few all) whole (lines_few bytes))

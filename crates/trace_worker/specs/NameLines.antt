@@ -40,22 +40,24 @@ module _ {N H C S P : Type 0} (names : NameGhosts N H C S P) where
     pub ledger : IfSome (names.counted naming.seat) HasRoomToBind
 
 module _ {N H C S P : Type 0} {h : Ghosts H P} (names : NameGhosts N H C S P) (cache : C) where
-  -- a `bind` line: one call, which bound the key or didn't
+  -- a `bind` line: one call, which bound the key or didn't; the seat stays in its memory domain
   pub record BindsLine (old : Doing N H C S P h) (key value : ℕ) (new : Doing N H C S P h) : Type 0 where
     pub done : Bool
     pub still : StillKnows names.knows (view old.worker.pass) (view new.worker.pass)
     pub bound : Bound names.knows (names.sizes_of cache).rows key value (view old.worker.pass) done (view new.worker.pass)
     pub ledger : CountedBind (names.sizes_of cache).slabs done (names.counted old.naming.seat) (names.counted new.naming.seat)
+    pub domain : names.domain_of new.naming.seat ≡ names.domain_of old.naming.seat
     pub counts : CountsBind done old.naming.counts new.naming.counts
     pub holds : KeepsHolds old.worker new.worker
     pub section : KeepsSection old.worker new.worker
 
-  -- an `unbind` line: one call, which took the key out or found it unbound
+  -- an `unbind` line: one call, which took the key out or found it unbound; the seat stays in its memory domain
   pub record UnbindsLine (old : Doing N H C S P h) (key : ℕ) (new : Doing N H C S P h) : Type 0 where
     pub done : Bool
     pub still : StillKnows names.knows (view old.worker.pass) (view new.worker.pass)
     pub unbound : Unbound names.knows (names.sizes_of cache).rows key (view old.worker.pass) done (view new.worker.pass)
     pub ledger : CountedUnbind done (names.counted old.naming.seat) (names.counted new.naming.seat)
+    pub domain : names.domain_of new.naming.seat ≡ names.domain_of old.naming.seat
     pub counts : CountsUnbind done old.naming.counts new.naming.counts
     pub holds : KeepsHolds old.worker new.worker
     pub section : KeepsSection old.worker new.worker

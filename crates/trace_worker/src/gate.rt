@@ -9,7 +9,7 @@ pub enum Go {
 }
 
 /// What a worker asks before each of its operations, so that a test can bring about a schedule. Operations are
-/// numbered from 1 in each worker's own list.
+/// numbered from 1 in each worker's own list of a round.
 pub trait Gate {
     // The gate always answers `Go`.
     ghost is_free: { Self → Type 0 };

@@ -53,6 +53,9 @@ pub trait NameCalls {
     // The seat is one of the cache's zone of entries.
     ghost IsSeat: { Self.Cache → Self.Seat → Type 0 };
 
+    // The seat's memory domain, where names are served.
+    ghost domain_of: { Self.Seat → ℕ };
+
     // What the seat counted, where names are served.
     ghost counted: { Self.Seat → Option SeatLedger };
 
@@ -93,6 +96,7 @@ pub trait NameCalls {
     ) -> Result<Self::Seat, Memory>
         requires domain { IsTrue serves → domain < (sizes_of cache.now).domains }
         ensures seat { IfOk result (IsSeat cache.now) }
+        ensures own { IfOk result (λ seat. IsTrue serves → domain_of seat ≡ domain) }
         ensures fresh { IfOk result (λ seat. IfSome (counted seat) IsNew) };
 
     /// Binds a key to a value. False where it is refused for another cause than want of memory. Waits for the locks of the
@@ -115,6 +119,7 @@ pub trait NameCalls {
         requires seat { IsSeat cache.now seat.old }
         requires room { IfSome (counted seat.old) HasRoomToBind }
         ensures seat { IsSeat cache.now seat.new }
+        ensures domain { domain_of seat.new ≡ domain_of seat.old }
         ensures pass { IsOf clock.now pass.new }
         ensures phase { (holder pass.new).phase ≡ (holder pass.old).phase }
         ensures seen { (holder pass.old).seen ≤ (holder pass.new).seen }
@@ -140,6 +145,7 @@ pub trait NameCalls {
         requires seat { IsSeat cache.now seat.old }
         requires room { IfSome (counted seat.old) HasRoom }
         ensures seat { IsSeat cache.now seat.new }
+        ensures domain { domain_of seat.new ≡ domain_of seat.old }
         ensures pass { IsOf clock.now pass.new }
         ensures phase { (holder pass.new).phase ≡ (holder pass.old).phase }
         ensures seen { (holder pass.old).seen ≤ (holder pass.new).seen }

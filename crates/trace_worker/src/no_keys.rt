@@ -30,6 +30,8 @@ impl NameCalls for NoKeys {
 
     ghost IsSeat = { λ _ _. Unit {0} };
 
+    ghost domain_of = { λ _. 0 };
+
     ghost counted = { λ ledger. Some ledger };
 
     ghost passed = { λ _ _. 0 };

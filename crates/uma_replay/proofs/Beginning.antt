@@ -1,5 +1,5 @@
 -- From a trace's setting to its first round, and from its last round to the end.
-use Rattle.std.proofs.Common.{◌≡◌, ℕ, suc, ◌+◌, ◌*◌, ◌<◌, ◌≤◌, ◌^◌, List, [], ◌∷◌, ◌++◌, length, take, drop, Option, None, Some, refl, sym, ap, ◌∙◌, subst, arith, reverse}
+use Rattle.std.proofs.Common.{◌≡◌, ℕ, suc, ◌+◌, ◌*◌, ◌%◌, ◌<◌, ◌≤◌, ◌^◌, List, [], ◌∷◌, ◌++◌, length, take, drop, Option, None, Some, refl, sym, ap, ◌∙◌, subst, arith, reverse}
 use Rattle.std.proofs.lemmas.Bool.{true≢false}
 use Rattle.std.proofs.lemmas.List.{length-map, length-reverse}
 use Rattle.std.proofs.lemmas.List.Sums.{sum_by-cons, count_by-le-length}
@@ -27,7 +27,7 @@ use Rattle.trace_rounds.specs.Rounds.{AllAsked, GaveUpAsBefore, IsBegun, Suits}
 use Rattle.uma_replay.specs.Hall.{AreDone, NamesDone}
 use Rattle.uma_replay.specs.Playing.{AreFirst, gave_ups, namings_of}
 use Rattle.uma_replay.proofs.Playing.{played_of}
-use Rattle.uma_replay.proofs.Runnings.{first_at, named_first, of_both}
+use Rattle.uma_replay.proofs.Runnings.{named_first, of_both}
 
 few_enough : (n : ℕ) → n ≤ 16777216 → n < 2 ^ 31
 few_enough n few = omega arith
@@ -35,7 +35,7 @@ few_enough n few = omega arith
 module _ {N H C S Part : Type 0} {h : Ghosts H Part} (names : NameGhosts N H C S Part) (cache : C) where
   -- the workers before the first round suit the trace
   pub suits_of : (t : Trace) (s : Setting H Part h) (begun : List (Running N H C S Part h)) → IsValid t → names.serves ≡ is_some t.head.names → length (lines_of t.rounds) ≤ 16777216 → IsSetUp t s
-      → (IsTrue names.serves → names.clock_of cache ≡ clock_id s.clock) → AreFirst names cache s.workers.items begun → Suits names cache t s.zones.items s.clock begun
+      → (IsTrue names.serves → names.clock_of cache ≡ clock_id s.clock) → AreFirst names cache t.head.domains s.workers.items begun → Suits names cache t s.zones.items s.clock begun
   suits_of t s begun valid served few is of_clock first = record {
     valid = valid;
     served = served;
@@ -47,22 +47,22 @@ module _ {N H C S Part : Type 0} {h : Ghosts H Part} (names : NameGhosts N H C S
   }
 
   -- and did no line yet
-  pub begun_of : (t : Trace) (s : Setting H Part h) (begun : List (Running N H C S Part h)) → IsSetUp t s → AreFirst names cache s.workers.items begun → IsBegun names cache s.zones.items s.clock begun
+  pub begun_of : (t : Trace) (s : Setting H Part h) (begun : List (Running N H C S Part h)) → IsSetUp t s → AreFirst names cache t.head.domains s.workers.items begun → IsBegun names cache s.zones.items s.clock begun
   begun_of t s begun is first =
       let P : List (Worker H Part h) → Type 0 = λ workers. AllStand s.zones.items s.clock [] workers in
       let Q : List (Worker H Part h) → Type 0 = λ workers. (z : ℕ) → AddsUp z workers in
       record {
         stand = subst P (sym first.are) is.stand;
         adds_up = subst Q (sym first.are) is.adds_up;
-        named = λ n r at. named_first names cache n r.worker.late r (first_at names cache begun n r first.each at);
-        unasked = λ n r at. let one = first_at names cache begun n r first.each at in (one.asked, one.gave_up);
+        named = λ n r at. named_first names cache n r.worker.late (n % t.head.domains) r (first.each n r at);
+        unasked = λ n r at. let one = first.each n r at in (one.asked, one.gave_up);
       }
 
-  pub worker_count : (t : Trace) (s : Setting H Part h) (begun ended : List (Running N H C S Part h)) → IsSetUp t s → AreFirst names cache s.workers.items begun → length ended ≡ length begun → length ended ≡ t.head.workers
+  pub worker_count : (t : Trace) (s : Setting H Part h) (begun ended : List (Running N H C S Part h)) → IsSetUp t s → AreFirst names cache t.head.domains s.workers.items begun → length ended ≡ length begun → length ended ≡ t.head.workers
   worker_count t s begun ended is first count = count ∙ (sym (length-map begun (λ r. r.worker)) ∙ (ap length first.are ∙ is.begin.one_each))
 
   -- the workers when all rounds are done
-  pub done_of : (t : Trace) (s : Setting H Part h) (begun ended : List (Running N H C S Part h)) (workers : List (Worker H Part h)) → IsSetUp t s → AreFirst names cache s.workers.items begun → length ended ≡ length begun
+  pub done_of : (t : Trace) (s : Setting H Part h) (begun ended : List (Running N H C S Part h)) (workers : List (Worker H Part h)) → IsSetUp t s → AreFirst names cache t.head.domains s.workers.items begun → length ended ≡ length begun
       → AllStand s.zones.items s.clock (reverse (lines_of t.rounds)) (crew ended) → ((z : ℕ) → AddsUp z (crew ended)) → workers ≡ crew ended → AreDone t s.zones.items s.clock workers
   done_of t s begun ended workers is first count stand adds_up same =
       let P : List (Worker H Part h) → Type 0 = λ ws. AreDone t s.zones.items s.clock ws in
@@ -75,7 +75,7 @@ module _ {N H C S Part : Type 0} {h : Ghosts H Part} (names : NameGhosts N H C S
       })
 
   -- and what each has of the names
-  pub named_of : (t : Trace) (s : Setting H Part h) (begun ended : List (Running N H C S Part h)) (workers : List (Worker H Part h)) (namings : List (Naming N H C S Part)) → IsSetUp t s → AreFirst names cache s.workers.items begun
+  pub named_of : (t : Trace) (s : Setting H Part h) (begun ended : List (Running N H C S Part h)) (workers : List (Worker H Part h)) (namings : List (Naming N H C S Part)) → IsSetUp t s → AreFirst names cache t.head.domains s.workers.items begun
       → length ended ≡ length begun → names.serves ≡ is_some t.head.names → (IsTrue names.serves → names.clock_of cache ≡ clock_id s.clock) → IfSome t.head.names (λ line. names.sizes_of cache ≡ sizes_for t.head line)
       → AllStand s.zones.items s.clock (reverse (lines_of t.rounds)) (crew ended) → AllNamed names cache (reverse (lines_of t.rounds)) ended → AllPlay names cache s.zones.items t.rounds begun ended
       → workers ≡ crew ended → namings ≡ namings_of ended → NamesDone names t cache s.zones.items s.clock workers namings

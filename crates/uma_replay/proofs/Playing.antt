@@ -20,7 +20,7 @@ use Rattle.trace_rounds.specs.Plays.{AllPlay}
 use Rattle.trace_rounds.proofs.AfterRound.{in_crew}
 use Rattle.trace_rounds.proofs.Lists.{at_other}
 use Rattle.uma_replay.specs.Playing.{AllPlayed, AllStay, AreFirst, Stays, namings_of}
-use Rattle.uma_replay.proofs.Runnings.{first_at, of_both}
+use Rattle.uma_replay.proofs.Runnings.{of_both}
 use Rattle.uma_replay.proofs.Staying.{found_before, stays_chain}
 
 module _ {H Part : Type 0} {h : Ghosts H Part} where
@@ -36,7 +36,7 @@ module _ {N H C S Part : Type 0} {h : Ghosts H Part} (names : NameGhosts N H C S
       subst P same_zones (subst Q same_old plays)
 
   -- when all rounds are done
-  pub played_of : (t : Trace) (s : Setting H Part h) (begun ended : List (Running N H C S Part h)) → IsSetUp t s → AreFirst names cache s.workers.items begun → length ended ≡ length begun
+  pub played_of : (t : Trace) (s : Setting H Part h) (begun ended : List (Running N H C S Part h)) → IsSetUp t s → AreFirst names cache t.head.domains s.workers.items begun → length ended ≡ length begun
       → ((n : ℕ) (w : Worker H Part h) → slice_get (crew ended) n ≡ Some w → IsOf s.clock w.pass) → AllPlay names cache s.zones.items t.rounds begun ended
       → AllPlayed names cache t s.zones.items s.clock (crew ended) (namings_of ended)
   played_of t s begun ended is first count here plays n w naming at at_naming =
@@ -47,7 +47,7 @@ module _ {N H C S Part : Type 0} {h : Ghosts H Part} (names : NameGhosts N H C S
       record {
         begin = began;
         is_new = is.begin.each n began.worker in_list;
-        is_first = first_at names cache begun n began first.each there;
+        is_first = first.each n began there;
         end = doing both.running;
         plays = plays n began both.running there both.at;
         stays = let P : Worker H Part h → Type 0 = λ v. Stays s.clock v w in subst P (sym both.is_worker) (stays_self s.clock w (here n w at));

@@ -1,10 +1,9 @@
 -- Workers between turns, by their numbers.
-use Rattle.std.proofs.Common.{◌≡◌, ℕ, zero, suc, ◌+◌, ◌≤◌, List, [], ◌∷◌, ◌++◌, true, Option, None, Some, refl, sym, ap, ◌∙◌, subst, arith}
+use Rattle.std.proofs.Common.{◌≡◌, ℕ, zero, suc, ◌+◌, ◌%◌, ◌≤◌, List, [], ◌∷◌, ◌++◌, length, true, Option, None, Some, inl, inr, refl, sym, ap, ◌∙◌, subst, arith}
 use Rattle.std.proofs.lemmas.Bool.{false≢true}
 use Rattle.std.proofs.lemmas.List.{map-append}
-use Rattle.std.proofs.lemmas.List.Elements.{All-append, All-cons, All-head, All-nil, All-tail}
 use Rattle.std.proofs.lemmas.Option.{none-some, same_Some}
-use Rattle.std.specs.Prelude.{All, IfSome, IsTrue, slice_get}
+use Rattle.std.specs.Prelude.{IfSome, IsTrue, slice_get}
 use Rattle.smr_clock.specs.declared.host.Host.{Ghosts}
 use Rattle.zone_stats.specs.declared.ledger.SeatLedger.{SeatLedger}
 use Rattle.zone_stats.specs.LedgerSteps.{IsNew}
@@ -20,6 +19,7 @@ use Rattle.trace_worker.specs.Together.{crew}
 use Rattle.trace_worker.proofs.LineCounts.{binds-none, looks-none}
 use Rattle.uma_replay.specs.Names.{first_counts}
 use Rattle.uma_replay.specs.Playing.{AreFirst, IsFirst, namings_of}
+use Rattle.uma_replay.proofs.Pushed.{at_end}
 
 module _ {N H C S Part : Type 0} {h : Ghosts H Part} where
   -- who has this worker, and this of the names
@@ -69,34 +69,36 @@ if_first slabs n refused None new = tt
 if_first slabs n refused (Some ledger) new = ledger_first slabs n refused ledger new
 
 module _ {N H C S Part : Type 0} {h : Ghosts H Part} (names : NameGhosts N H C S Part) (cache : C) where
-  pub named_first : (n late : ℕ) (r : Running N H C S Part h) → IsFirst names cache r → NamesStand names cache n [] late r.naming
-  named_first n late r is = record {
+  pub named_first : (n late domain : ℕ) (r : Running N H C S Part h) → IsFirst names cache domain r → NamesStand names cache n [] late r.naming
+  named_first n late domain r is = record {
     seat = is.seat;
     counts = counts_first n late r.naming.counts is.counts;
     ledger = if_first (names.sizes_of cache).slabs n r.naming.counts.refused (names.counted r.naming.seat) is.fresh;
   }
 
-  pub first_at : (runnings : List (Running N H C S Part h)) (n : ℕ) (r : Running N H C S Part h) → All (IsFirst names cache) runnings → slice_get runnings n ≡ Some r → IsFirst names cache r
-  first_at [] n r all at = absurd (none-some r at)
-  first_at (first ∷ runnings) zero r all at =
-      let P : Running N H C S Part h → Type 0 = λ x. IsFirst names cache x in
-      subst P (same_Some first r at) (All-head (IsFirst names cache) first runnings all)
-  first_at (first ∷ runnings) (suc n) r all at = first_at runnings n r (All-tail (IsFirst names cache) first runnings all) at
-
   -- a worker before its first turn
-  pub first_of : (seat : S) (r : Running N H C S Part h) → names.IsSeat cache seat → IfSome (names.counted seat) IsNew → r.naming.seat ≡ seat → r.naming.counts ≡ no_counts → r.asked ≡ 0 → r.gave_up ≡ 0 → IsFirst names cache r
-  first_of seat r of_cache new same counts asked gave_up =
+  pub first_of : (seat : S) (domain : ℕ) (r : Running N H C S Part h) → names.IsSeat cache seat → (IsTrue names.serves → names.domain_of seat ≡ domain) → IfSome (names.counted seat) IsNew → r.naming.seat ≡ seat
+      → r.naming.counts ≡ no_counts → r.asked ≡ 0 → r.gave_up ≡ 0 → IsFirst names cache domain r
+  first_of seat domain r of_cache own new same counts asked gave_up =
       let P : S → Type 0 = λ s. names.IsSeat cache s in
       let Q : S → Type 0 = λ s. IfSome (names.counted s) IsNew in
-      record { seat = subst P (sym same) of_cache; fresh = subst Q (sym same) new; counts = counts; asked = asked; gave_up = gave_up }
+      record { seat = subst P (sym same) of_cache; own = λ serves. ap names.domain_of same ∙ own serves; fresh = subst Q (sym same) new; counts = counts; asked = asked; gave_up = gave_up }
 
   -- one more
-  pub first_more : (workers : List (Worker H Part h)) (runnings : List (Running N H C S Part h)) (w : Worker H Part h) (r : Running N H C S Part h) → AreFirst names cache workers runnings → IsFirst names cache r → r.worker ≡ w
-      → AreFirst names cache (workers ++ w ∷ []) (runnings ++ r ∷ [])
-  first_more workers runnings w r are first same = record {
-    are = map-append (λ (x : Running N H C S Part h). x.worker) runnings (r ∷ []) ∙ (ap (λ list. list ++ r.worker ∷ []) are.are ∙ ap (λ x. workers ++ x ∷ []) same);
-    each = All-append (IsFirst names cache) runnings (r ∷ []) are.each (All-cons (IsFirst names cache) r [] first (All-nil (IsFirst names cache)));
-  }
+  pub first_more : (domains : ℕ) (workers : List (Worker H Part h)) (runnings all : List (Running N H C S Part h)) (w : Worker H Part h) (r : Running N H C S Part h) → AreFirst names cache domains workers runnings
+      → IsFirst names cache (length runnings % domains) r → r.worker ≡ w → all ≡ runnings ++ r ∷ [] → AreFirst names cache domains (workers ++ w ∷ []) all
+  first_more domains workers runnings all w r are first same pushed =
+      let All : List (Running N H C S Part h) → Type 0 = λ list. AreFirst names cache domains (workers ++ w ∷ []) list in
+      subst All (sym pushed) (record {
+        are = map-append (λ (x : Running N H C S Part h). x.worker) runnings (r ∷ []) ∙ (ap (λ list. list ++ r.worker ∷ []) are.are ∙ ap (λ x. workers ++ x ∷ []) same);
+        each = λ n x at. elim (at_end runnings r n x at) [
+          | inl before ↦ are.each n x before
+          | inr last ↦
+              let P : ℕ → Type 0 = λ i. IsFirst names cache (i % domains) r in
+              let Q : Running N H C S Part h → Type 0 = λ y. IsFirst names cache (n % domains) y in
+              subst Q (sym last.1) (subst P (sym last.0) first)
+        ];
+      })
 
 module _ {N H C S Part : Type 0} (names : NameGhosts N H C S Part) where
   -- names are served where the first seat counts

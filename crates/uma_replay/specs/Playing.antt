@@ -1,5 +1,5 @@
 -- How each worker began, and how it came to what it is when all lines are done (own).
-use Rattle.std.specs.Prelude.{◌≡◌, ◌≤◌, ◌%◌, ℕ, List, All, IfSome, length, map, reverse, Some, slice_get}
+use Rattle.std.specs.Prelude.{◌≡◌, ◌≤◌, ◌%◌, ℕ, List, IfSome, IsTrue, length, map, reverse, Some, slice_get}
 use Rattle.std.specs.List.{sum_by}
 use Rattle.smr_clock.specs.declared.clock.Clock.{Clock}
 use Rattle.smr_clock.specs.declared.host.Host.{Ghosts}
@@ -31,18 +31,19 @@ module _ {N H C S P : Type 0} {h : Ghosts H P} where
   gave_ups runnings = sum_by (λ (r : Running N H C S P h). r.gave_up) runnings
 
 module _ {N H C S P : Type 0} {h : Ghosts H P} (names : NameGhosts N H C S P) (cache : C) where
-  -- It has a seat of the names, counted nothing there, and took no turn.
-  pub record IsFirst (r : Running N H C S P h) : Type 0 where
+  -- It has a seat of the names in this memory domain, counted nothing there, and took no turn.
+  pub record IsFirst (domain : ℕ) (r : Running N H C S P h) : Type 0 where
     pub seat : names.IsSeat cache r.naming.seat
+    pub own : IsTrue names.serves → names.domain_of r.naming.seat ≡ domain
     pub fresh : IfSome (names.counted r.naming.seat) IsNew
     pub counts : r.naming.counts ≡ no_counts
     pub asked : r.asked ≡ 0
     pub gave_up : r.gave_up ≡ 0
 
-  -- these workers, each before its first turn
-  pub record AreFirst (workers : List (Worker H P h)) (runnings : List (Running N H C S P h)) : Type 0 where
+  -- These workers, each before its first turn. Worker n is in domain n mod `domains`.
+  pub record AreFirst (domains : ℕ) (workers : List (Worker H P h)) (runnings : List (Running N H C S P h)) : Type 0 where
     pub are : crew runnings ≡ workers
-    pub each : All IsFirst runnings
+    pub each : (n : ℕ) (r : Running N H C S P h) → slice_get runnings n ≡ Some r → IsFirst (n % domains) r
 
 module _ {N H C S P : Type 0} {h : Ghosts H P} (names : NameGhosts N H C S P) (cache : C) where
   -- The workers when all rounds of the trace are done, as they came to be from those before.
@@ -71,11 +72,11 @@ module _ {H P : Type 0} {h : Ghosts H P} where
     pub each : (n : ℕ) (before after : Worker H P h) → slice_get old n ≡ Some before → slice_get new n ≡ Some after → Stays clock before after
 
 module _ {N H C S P : Type 0} {h : Ghosts H P} (names : NameGhosts N H C S P) (cache : C) where
-  -- Worker `n` and what it has of the names when all lines are done: it began new, with its seats in its domain, it did the rounds one after another, and since then it stays.
+  -- Worker `n` and what it has of the names when all lines are done: it began new, with its seats in its domain, that of the names too, it did the rounds one after another, and since then it stays.
   pub record HasPlayed (t : Trace) (zones : List (CountedZone H P h)) (clock : Clock H P) (n : ℕ) (w : Worker H P h) (naming : Naming N H C S P) : Type 0 where
     pub begin : Running N H C S P h
     pub is_new : IsBeginner zones clock (n % t.head.domains) begin.worker
-    pub is_first : IsFirst names cache begin
+    pub is_first : IsFirst names cache (n % t.head.domains) begin
     pub end : Doing N H C S P h
     pub plays : PlaysRounds names cache zones n (doing begin) t.rounds end
     pub stays : Stays clock end.worker w

@@ -22,6 +22,4 @@ pub use trace_worker::{CountHooks, Counted, FreeGate, Gate, Go, NameCalls, Recla
 pub use zone_stats::Memory;
 
 #[cfg(test)]
-mod no_names;
-#[cfg(test)]
 mod tests;

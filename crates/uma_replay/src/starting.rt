@@ -20,7 +20,7 @@ pub(crate) fn begin<N: NameCalls, R: Wait>(
     requires domains { IsWithin 1 4 domains }
     requires few { length workers.items ≤ 16 }
     requires served { IsTrue N.serves → domains ≤ (N.sizes_of cache.now).domains }
-    ensures { IfOk result (λ runnings. AreFirst N.NameCalls cache.now workers.items runnings.items) }
+    ensures { IfOk result (λ runnings. AreFirst N.NameCalls cache.now domains workers.items runnings.items) }
 {
     let mut runnings = Vec::with_capacity(alloc, workers.len())?;
     for worker in workers {

@@ -5,14 +5,13 @@ ghost use Rattle.trace_text.specs.Valid.{IsValid};
 ghost use Rattle.trace_worker.specs.OwnLines.{own_ops};
 ghost use Rattle.trace_worker.specs.Worker.{AreOfClock};
 
-use crate::no_names::NoNames;
 use crate::{Gate, Go, Memory, ReclaimCalls};
 use smr_clock::{Bare, Clock, Host, Pass};
 use std::alloc::Global;
 use std::sync::Wait;
 use std::sync::atomic::{AtomicBool, Ordering};
 use std::test::Fail;
-use trace_setting::{Setting, set_up};
+use trace_setting::{NoSeat, PlainNames, Setting, set_up};
 use trace_text::{Trace, parse};
 use trace_worker::{CountHooks, Counted, CountedZone, Running, Worker};
 use uma_seat::SeatCache;
@@ -138,9 +137,19 @@ fn first_turn<R: Wait, G: Gate>(
     if !has_turn(trace, number) {
         return Err(Fail::new("no such turn"));
     }
-    let mut running: Running<NoNames> = Running::new(worker, ());
+    let mut running: Running<PlainNames> = Running::new(worker, NoSeat);
     running.turn(
-        rt, alloc, trace, zones, clock, &NoNames, clock, gate, &NoReclaim, 0, number,
+        rt,
+        alloc,
+        trace,
+        zones,
+        clock,
+        &PlainNames,
+        clock,
+        gate,
+        &NoReclaim,
+        0,
+        number,
     );
     Ok((running.asked, running.gave_up))
 }

@@ -6,7 +6,7 @@ use Rattle.trace_text.specs.declared.trace.Trace.{Trace}
 use Rattle.trace_text.specs.Grammar.{IsTraceText, trace_test}
 use Rattle.smr_clock.specs.Belongs.{setup_of}
 use Rattle.trace_names.specs.Caches.{plan_for}
-use Rattle.trace_names.specs.contracts.plain_names.PlainNamesNameCalls.TheImpl.{ghosts as plain_names}
+use Rattle.trace_setting.specs.contracts.plain_names.PlainNamesNameCalls.TheImpl.{ghosts as plain_names}
 use Rattle.trace_names.specs.contracts.cache_names.CacheNamesNameCalls.TheImpl.{ghosts as cache_names}
 use Rattle.uma_replay.specs.Hall.{HallStands}
 use Rattle.uma_replay.specs.Report.{StandsFor}

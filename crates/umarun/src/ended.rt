@@ -1,4 +1,5 @@
-use trace_names::{CacheNames, PlainNames};
+use trace_names::CacheNames;
+use trace_setting::PlainNames;
 use uma_replay::Hall;
 
 /// What the replay of a run leaves behind.

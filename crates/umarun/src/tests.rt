@@ -1,18 +1,12 @@
-//! Tests on `run`, over memory.
+//! Tests on `run`, over memory: a value that it leaves, streams that fail, and a gate that holds. Rows that only print are cases
+//! of the program (`tests/cases`).
 
 ghost use Rattle.std.specs.Prelude.{◌≤◌};
 
-mod bulk;
 mod faults;
+mod gates;
 mod halls;
-mod making;
-mod realistic;
-mod reclaim;
 mod refusals;
-mod rows;
-mod schedules;
-mod usage;
-mod zones;
 
 use crate::ended::Ended;
 use crate::finish::Finish;
@@ -21,12 +15,9 @@ use std::alloc::Global;
 use std::sync::Wait;
 use std::test::Fail;
 use std::thread::Threads;
-use trace_names::PlainNames;
+use trace_setting::PlainNames;
 use uma_io::{MemSink, MemSource};
 use uma_replay::{FreeGate, Gate, Hall};
-
-/// The header of most rows.
-const HEADER: &str = "uma 1\nworkers 1\ndomains 1\n";
 
 /// How a source and a sink behave: how many bytes a read gives, for how many there is room, and which calls fail, from 1.
 #[derive(Drop)]
@@ -38,59 +29,16 @@ struct Outside {
     ghost gives: { 1 ≤ each },
 }
 
-impl Outside {
-    /// Nothing fails.
-    fn fine(alloc: Global) -> Outside {
-        Outside {
-            each: 4096,
-            room: 4096,
-            failing_reads: Vec::new(alloc),
-            failing_writes: Vec::new(alloc),
-        }
-    }
-}
-
-/// Runs with these words on this input, and answers the end and what was written.
-fn end_of<R: AllocGlobal + Threads + Wait + Sync>(
+/// Runs with these words on this input under a gate, and answers the end and how many bytes were written.
+fn end_of<R: AllocGlobal + Threads + Wait + Sync, G: Gate + Sync>(
     rt: &R,
     words: &[&str],
     input: &str,
     outside: Outside,
-) -> Result<(Finish, String), Fail> {
-    let bytes = Vec::from_slice(rt.alloc(), input.as_bytes())?;
-    end_of_bytes(rt, words, bytes, outside)
-}
-
-/// The same on these bytes.
-fn end_of_bytes<R: AllocGlobal + Threads + Wait + Sync>(
-    rt: &R,
-    words: &[&str],
-    bytes: Vec<u8>,
-    outside: Outside,
-) -> Result<(Finish, String), Fail> {
-    ended(rt, words, bytes, outside, &FreeGate)
-}
-
-/// The same under a gate, where nothing of the outside fails.
-fn end_under<R: AllocGlobal + Threads + Wait + Sync, G: Gate + Sync>(
-    rt: &R,
-    words: &[&str],
-    input: &str,
     gate: &G,
-) -> Result<(Finish, String), Fail> {
-    let bytes = Vec::from_slice(rt.alloc(), input.as_bytes())?;
-    ended(rt, words, bytes, Outside::fine(rt.alloc()), gate)
-}
-
-/// Runs with these words on these bytes under a gate, and answers the end and what was written.
-fn ended<R: AllocGlobal + Threads + Wait + Sync, G: Gate + Sync>(
-    rt: &R,
-    words: &[&str],
-    bytes: Vec<u8>,
-    outside: Outside,
-    gate: &G,
-) -> Result<(Finish, String), Fail> {
+) -> Result<(Finish, usize), Fail> {
     let alloc = rt.alloc();
+    let bytes = Vec::from_slice(alloc, input.as_bytes())?;
     let mut owned = Vec::new(alloc);
     for word in words {
         owned.push(String::from_str(alloc, word)?)?;
@@ -98,16 +46,23 @@ fn ended<R: AllocGlobal + Threads + Wait + Sync, G: Gate + Sync>(
     let mut source = MemSource::new(bytes, outside.each, outside.failing_reads);
     let mut sink = MemSink::new(alloc, outside.room, outside.failing_writes)?;
     let finish = run(rt, alloc, &owned, &mut source, &mut sink, gate);
-    let written = String::from_utf8_lossy(alloc, sink.bytes())?;
-    Ok((finish, written))
+    Ok((finish, sink.bytes().len()))
 }
 
-/// Replays this input, where nothing of the outside fails.
-fn replayed<R: AllocGlobal + Threads + Wait + Sync>(
+/// Replays this input under a gate, where nothing of the outside fails.
+fn replayed_under<R: AllocGlobal + Threads + Wait + Sync, G: Gate + Sync>(
     rt: &R,
     input: &str,
-) -> Result<(Finish, String), Fail> {
-    end_of(rt, &["replay"], input, Outside::fine(rt.alloc()))
+    gate: &G,
+) -> Result<Finish, Fail> {
+    let outside = Outside {
+        each: 4096,
+        room: 4096,
+        failing_reads: Vec::new(rt.alloc()),
+        failing_writes: Vec::new(rt.alloc()),
+    };
+    let (finish, _) = end_of(rt, &["replay"], input, outside, gate)?;
+    Ok(finish)
 }
 
 /// What the replay of this input, which has no names, leaves behind, where nothing of the outside fails.
@@ -115,8 +70,7 @@ fn hall_of<R: AllocGlobal + Threads + Wait + Sync>(
     rt: &R,
     input: &str,
 ) -> Result<Hall<PlainNames>, Fail> {
-    let (finish, _) = replayed(rt, input)?;
-    let Finish { hall, .. } = finish;
+    let Finish { hall, .. } = replayed_under(rt, input, &FreeGate)?;
     match hall {
         Some(Ended::Plain { hall }) => Ok(hall),
         _ => Err(Fail::new("no hall without names")),

@@ -2,49 +2,56 @@
 use super::*;
 use zone_stats::Refusal;
 
-/// The lines of a trace of one zone between its header and `end`, and the refusal that its ledger keeps.
-fn refusals() -> [(&'static str, Refusal); 6] {
+/// Traces of one zone, and the refusal that the last worker's ledger keeps.
+fn refusals() -> [(&'static str, Refusal); 7] {
     [
         (
-            "zone box 256 4 4 4 0 plain\nalloc 0 box 0\nalloc 0 box 1\nalloc 0 box 2\nalloc 0 box 3\nalloc 0 box 4\nfree 0 0\nalloc 0 box 5\n",
+            "uma 1\nworkers 1\ndomains 1\nzone box 256 4 4 4 0 plain\nalloc 0 box 0\nalloc 0 box 1\nalloc 0 box 2\nalloc 0 box 3\nalloc 0 box 4\nfree 0 0\nalloc 0 box 5\nend\n",
+            Refusal::AtLimit { out: 4, limit: 4 },
+        ),
+        // A limit counts what is cached on the other worker's seat.
+        (
+            "uma 1\nworkers 2\ndomains 1\nzone box 256 4 4 4 0 plain\nalloc 0 box 0\nround\ngive 0 0 1 0\nalloc 1 box 1\nend\n",
             Refusal::AtLimit { out: 4, limit: 4 },
         ),
         (
-            "zone box 1024 1 4 0 2 plain\nalloc 0 box 0\nalloc 0 box 1\nalloc 0 box 2\n",
+            "uma 1\nworkers 1\ndomains 1\nzone box 1024 1 4 0 2 plain\nalloc 0 box 0\nalloc 0 box 1\nalloc 0 box 2\nend\n",
             Refusal::Reserved {
                 free: 2,
                 reserve: 2,
             },
         ),
         (
-            "zone box 1024 1 4 0 2 plain\nalloc 0 box 0\nalloc 0 box 1\nalloc 0 box 2\nalloc 0 box 3 reserve\nalloc 0 box 4 reserve\nalloc 0 box 5 reserve\n",
+            "uma 1\nworkers 1\ndomains 1\nzone box 1024 1 4 0 2 plain\nalloc 0 box 0\nalloc 0 box 1\nalloc 0 box 2\nalloc 0 box 3 reserve\nalloc 0 box 4 reserve\nalloc 0 box 5 reserve\nend\n",
             Refusal::Full { slabs: 1, made: 1 },
         ),
         (
-            "zone box 4096 1 4 0 0 plain\nalloc 0 box 0\nalloc 0 box 1\n",
+            "uma 1\nworkers 1\ndomains 1\nzone box 4096 1 4 0 0 plain\nalloc 0 box 0\nalloc 0 box 1\nend\n",
             Refusal::Full { slabs: 1, made: 1 },
         ),
         (
-            "zone box 256 4 4 0 0 plain\nalloc 0 box 0 arg 7\n",
+            "uma 1\nworkers 1\ndomains 1\nzone box 256 4 4 0 0 plain\nalloc 0 box 0 arg 7\nend\n",
             Refusal::Ctor { code: 7 },
         ),
         (
-            "zone box 256 4 4 1 0 plain\nalloc 0 box 0\nalloc 0 box 1 arg 7\nfree 0 0\nalloc 0 box 2 arg 254\n",
+            "uma 1\nworkers 1\ndomains 1\nzone box 256 4 4 1 0 plain\nalloc 0 box 0\nalloc 0 box 1 arg 7\nfree 0 0\nalloc 0 box 2 arg 254\nend\n",
             Refusal::Ctor { code: 254 },
         ),
     ]
 }
 
+/// The refusal that the last worker's ledger of the first zone keeps.
+fn kept_by_the_last(finish: &Finish) -> Option<Refusal> {
+    let report = finish.report.as_ref()?;
+    let ledgers = report.ledgers.as_slice().first()?;
+    ledgers.as_slice().last()?.last
+}
+
 #[test]
 fn the_last_refusal_is_kept_with_its_numbers(rt: HostRuntime) -> Result<(), Fail> {
-    for (lines, refusal) in refusals() {
-        let input = format!(in rt.alloc(); "{HEADER}{lines}end\n")?;
-        let (finish, _) = replayed(&rt, input.as_str())?;
-        let report = finish.report.expect(&rt, "a report");
-        assert_eq!(rt; report.ledgers.len(), 1, "{lines}");
-        let ledgers = &report.ledgers.as_slice()[0];
-        assert_eq!(rt; ledgers.len(), 1, "{lines}");
-        assert_eq!(rt; ledgers.as_slice()[0].last, Some(refusal), "{lines}");
+    for (input, refusal) in refusals() {
+        let finish = replayed_under(&rt, input, &FreeGate)?;
+        assert_eq!(rt; kept_by_the_last(&finish), Some(refusal), "{input}");
     }
     Ok(())
 }

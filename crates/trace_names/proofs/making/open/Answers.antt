@@ -18,7 +18,10 @@ returns-in-Ok-clause-opened c =
     let made = c.in-Ok.ensures in
     let clock = c.in-Some.clock in
     let plan : ℕ × ℕ = (c.args.line.now.rows, c.args.line.now.slabs * 64) in
-    is_opened c.in-Ok.opened (setup c.args.head.now.workers clock.start clock.window plan) 0 made.clock made.names made.long made.rows made.root
+    is_opened c.in-Ok.opened (setup c.args.head.now.workers clock.start clock.window plan) _ made.clock made.names made.long made.rows made.root
+
+pub returns-in-Ok-clause-rows : goal.returns-in-Ok-clause-rows
+returns-in-Ok-clause-rows c = c.in-Ok.ensures.rows
 
 pub returns-in-Err-clause-refused : goal.returns-in-Err-clause-refused
 returns-in-Err-clause-refused c =

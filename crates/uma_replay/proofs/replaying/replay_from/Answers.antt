@@ -10,7 +10,6 @@ use Rattle.uma_replay.specs.Playing.{AreEnded, gave_ups}
 use Rattle.uma_replay.specs.Report.{StandsFor}
 use Rattle.uma_replay.proofs.Beginning.{begun_of, done_of, few_workers, gave_ups_few, named_of, none_gave_up, served_domains, suits_of, worker_count}
 use Rattle.uma_replay.proofs.HallOf.{stands_of_hall}
-use Rattle.uma_replay.proofs.Runnings.{first_at}
 use Rattle.uma_replay.proofs.replaying.replay_from.Goals as goal
 
 pub begin-requires-clause-few : goal.begin-requires-clause-few
@@ -81,6 +80,6 @@ pub returns-clause-free : goal.returns-clause-free
 returns-clause-free g c = λ free.
     let first = c.in_ok-first.first.items in
     let none : gave_ups c.in_ok-runnings.runnings.items ≡ 0 =
-    none_gave_up first c.in_ok-runnings.runnings.items (λ n r at. (first_at g.N.NameCalls c.args.cache first n r c.in_ok-first.ensures.each at).gave_up) (c.in_ok-runnings.ensures.free free) in
+    none_gave_up first c.in_ok-runnings.runnings.items (λ n r at. (c.in_ok-first.ensures.each n r at).gave_up) (c.in_ok-runnings.ensures.free free) in
     let all : c.all_gave_up-gave_up.result ≡ 0 = c.all_gave_up-gave_up.ensures ∙ (ap gave_ups c.as_slice.ensures.value ∙ none) in
     IfOk-weaker c.close.result (λ played. played.report.gave_up ≡ c.all_gave_up-gave_up.result) (λ played. played.report.gave_up ≡ 0) (λ played is. is ∙ all) c.close.ensures.gave_up

@@ -6,7 +6,7 @@ use Rattle.smr_clock.proofs.bare.Bare.TheSendSync as bare
 use Rattle.smr_clock.proofs.clock.Clock.TheSendSync as clock_shared
 use Rattle.trace_worker.specs.declared.worker.Worker.{Worker}
 use Rattle.trace_setting.specs.Beginners.{IsBeginner}
-use Rattle.uma_replay.specs.contracts.no_names.NoNamesNameCalls.TheImpl.{ghosts as no_names}
+use Rattle.trace_setting.specs.contracts.plain_names.PlainNamesNameCalls.TheImpl.{ghosts as plain_names}
 use Rattle.uma_replay.proofs.FirstTurn.{ready_first}
 use Rattle.uma_replay.proofs.tests.first_turn.Goals as goal
 
@@ -19,9 +19,9 @@ turn-requires g c =
     let new = c.new-running.ensures in
     let P : Worker _ _ _ → Type 0 = λ w. IsBeginner zones clock (c.args.number % t.head.domains) w in
     let ready =
-    ready_first no_names clock t zones clock (c.args.number % t.head.domains) c.args.number c.new-running.result c.requires.valid (sym (ap is_some c.requires.names)) (λ serves. absurd (false≢true serves))
+    ready_first plain_names clock t zones clock (c.args.number % t.head.domains) c.args.number c.new-running.result c.requires.valid (sym (ap is_some c.requires.names)) (λ serves. absurd (false≢true serves))
     c.requires.zone_count c.requires.of_clock (c.has_turn.ensures.round there) (c.has_turn.ensures.worker there) (c.has_turn.ensures.few there) (subst P (sym new.worker) c.requires.beginner)
-    (record { seat = tt; fresh = tt; counts = new.counts; asked = new.asked; gave_up = new.gave_up }) in (
+    (record { seat = tt; own = λ serves. absurd (false≢true serves); fresh = tt; counts = new.counts; asked = new.asked; gave_up = new.gave_up }) in (
       search (bare.the_send, sendable) depth 20,
       (search sendable, (search (bare.the_sync, sendable) depth 20, (search (clock_shared.the_sync, sendable) depth 20, ready))),
     )

@@ -1,7 +1,7 @@
+use crate::clock::make_clock;
 use smr_clock::{Bare, Clock, Overtaken, Pass};
 use std::alloc::Global;
 use std::sync::Wait;
-use trace_setting::make_clock;
 use trace_text::Trace;
 use trace_worker::{Memory, NameCalls};
 use uma_bucket::Sums;
@@ -26,7 +26,7 @@ impl NameCalls for PlainNames {
 
     ghost use Rattle.std.specs.Prelude.{◌≡◌, refl, false, None};
     ghost use Rattle.smr_clock.specs.Belongs.{clock_id};
-    ghost use Rattle.trace_names.specs.Plain.{no_sizes};
+    ghost use Rattle.trace_setting.specs.Plain.{no_sizes};
 
     ghost serves = { false };
 
@@ -35,6 +35,8 @@ impl NameCalls for PlainNames {
     ghost sizes_of = { λ cache. no_sizes };
 
     ghost IsSeat = { λ cache seat. Unit {0} };
+
+    ghost domain_of = { λ seat. 0 };
 
     ghost counted = { λ seat. None };
 
