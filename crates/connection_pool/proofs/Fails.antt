@@ -1,5 +1,5 @@
 -- What a refused request counts, whichever refusal it is.
-use Rattle.std.proofs.Common.{◌≡◌, ◌+◌, ℕ, ◌∙◌, ap, sym}
+use Rattle.std.proofs.Common.{◌≡◌, ◌+◌, ℕ, Some, refl, ◌∙◌, ap, sym}
 use Rattle.zone_stats.specs.declared.ledger.SeatLedger.{SeatLedger}
 use Rattle.zone_stats.specs.declared.refusal.Refusal.{Refusal}
 use Rattle.zone_stats.specs.declared.refusal.Refusal.TheVariants.{AtLimit, Reserved, Full, Init, Ctor}
@@ -10,8 +10,11 @@ use Rattle.uma_zone.specs.declared.alloc_ask.AllocAsk.{AllocAsk}
 use Rattle.uma_zone.specs.declared.alloc_ask.AllocRefused.{AllocRefused}
 use Rattle.uma_zone.specs.declared.alloc_ask.AllocRefused.TheVariants.{Refused, Memory}
 use Rattle.uma_zone.specs.declared.zone.Zone.{Zone}
+use Rattle.uma_life.specs.Cached.{cached_body}
 use Rattle.uma_zone.specs.Alloc.{Refuses}
-use Rattle.connection_pool.specs.Pool.{CountsFail}
+use Rattle.uma_zone.specs.Zone.{zone_hooks, zone_index}
+use Rattle.connection_pool.specs.Connection.{bars}
+use Rattle.connection_pool.specs.Pool.{CountsFail, IsTurned}
 
 by_turn : (old new : SeatLedger) (refusal : Refusal) → CountsTurned old new refusal → CountsFail old new refusal
 by_turn old new refusal c = record { requests = c.requests; allocs = c.allocs; fails = c.fails; frees = c.frees; last = c.last }
@@ -26,6 +29,15 @@ module _ {T K H P : Type 0} {g k h : _} (zone : Zone T K H P g k h) (ask : Alloc
   fails (Full slabs made) r = by_turn _ _ _ r.counted
   fails (Init code) r = by_turn _ _ _ r.counted
   fails (Ctor code) r = by_ctor _ _ code r.counted
+
+  -- why it was refused, where hooks refuse in `ctor` just what the pool bars
+  pub is_turned_by : (refusal : Refusal) → ((body : T) (code : ℕ) → k.refuses_ctor (zone_hooks zone) body (zone_index zone) ask.arg ≡ Some code → bars ask.arg ≡ Some code) → Refuses zone ask old new (Refused refusal)
+      → IsTurned zone ask.arg refusal
+  is_turned_by (AtLimit out limit) by r = r.names
+  is_turned_by (Reserved free reserve) by r = (r.names.0, r.names.1, r.names.2, refl)
+  is_turned_by (Full slabs made) by r = r.names
+  is_turned_by (Init code) by r = r.names
+  is_turned_by (Ctor code) by r = by (cached_body r.item) code r.refused
 
   -- as many are allocated and not freed as before
   pub still_out : (refused : AllocRefused) (held : ℕ) → Refuses zone ask old new refused → (ledger_of old).allocs ≡ (ledger_of old).frees + held → (ledger_of new).allocs ≡ (ledger_of new).frees + held

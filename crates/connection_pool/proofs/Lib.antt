@@ -1,4 +1,5 @@
 mod Fails
 mod Opened
-mod Places
+pub mod Places
 pub mod Shared
+mod Turned

@@ -1,5 +1,5 @@
 -- The first connection of a session among those that are held, and what is left without it.
-use Rattle.std.proofs.Common.{◌≡◌, ◌<◌, ◌≤◌, ◌+◌, ℕ, List, ◌∷◌, ◌++◌, Bool, true, false, cond, Option, Some, None, All, IfSome, length, take, drop, get_or, nat_lt, sym, subst, refl, ap, ◌∙◌, arith, eqb-true, eq-eqb, ltb-true}
+use Rattle.std.proofs.Common.{◌≡◌, ◌<◌, ◌≤◌, ◌+◌, ℕ, List, [], ◌∷◌, ◌++◌, Bool, true, false, cond, Option, Some, None, All, IfSome, length, take, drop, get_or, nat_lt, sym, subst, refl, ap, ◌∙◌, arith, eqb-true, eq-eqb, ltb-true}
 use Rattle.std.specs.List.{position, position_or_len}
 use Rattle.std.proofs.lemmas.List.{length-take, get_or-take}
 use Rattle.std.proofs.lemmas.List.Elements.{All-append, All-take, All-drop}
@@ -52,6 +52,14 @@ closes session crossed old ready new place x kept first at left counted =
       crossed = crossed;
       counted = subst (λ (l : SeatLedger). CountsFree l (ledger_in new) crossed) kept.ledger counted;
     }
+
+-- where there is a first, there is one
+pub not_none : (session : ℕ) (all : List Held) (place : ℕ) → IsFirstOf session place all → HasNoneOf session all → ⊥
+not_none session [] place first none = omega (arith, first.0)
+not_none session (x ∷ rest) place first none =
+    let all = x ∷ rest in
+    let low : position_or_len (is_of session) all < length all = subst (λ n. n < length all) first.1 first.0 in
+    none (position_or_len (is_of session) all) x low (eqb-true (get_or all (position_or_len (is_of session) all) x).session session (passes_at_first (is_of session) all x low))
 
 -- what holds of all held holds of those that are left
 pub all_left : (P : Held → Type 0) (all left : List Held) (place : ℕ) → left ≡ take place all ++ drop (place + 1) all → All P all → All P left

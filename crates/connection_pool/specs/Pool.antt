@@ -4,7 +4,11 @@ use Rattle.uma_life.specs.Live.{live_no}
 use Rattle.uma_seat.specs.Seat.{ledger_of}
 use Rattle.zone_stats.specs.declared.ledger.SeatLedger.{SeatLedger}
 use Rattle.zone_stats.specs.declared.refusal.Refusal.{Refusal}
+use Rattle.zone_stats.specs.declared.refusal.Refusal.TheVariants.{Ctor}
 use Rattle.zone_stats.specs.LedgerSteps.{HasRoom, CountsAlloc, CountsFree}
+use Rattle.uma_zone.specs.declared.zone.Zone.{Zone}
+use Rattle.uma_zone.specs.Alloc.{Names}
+use Rattle.connection_pool.specs.Connection.{bars}
 use Rattle.connection_pool.specs.declared.connections.Connections.{Connections}
 use Rattle.connection_pool.specs.declared.held.Held.{Held}
 use Rattle.connection_pool.specs.Held.{HasNoneOf}
@@ -36,8 +40,9 @@ pub record CountsFail (old new : SeatLedger) (refusal : Refusal) : Type 0 where
   pub frees : new.frees ≡ old.frees
   pub last : new.last ≡ Some refusal
 
--- Nothing was counted, and the same connections are held.
+-- Nothing was counted, and the same connections of the same pool are held.
 pub record KeepsPool (old new : Connections) : Type 0 where
+  pub pool : new.pool ≡ old.pool
   pub ledger : ledger_in new ≡ ledger_in old
   pub held : held_in new ≡ held_in old
 
@@ -46,11 +51,16 @@ pub record Turns (refusal : Refusal) (old new : Connections) : Type 0 where
   pub counted : CountsFail (ledger_in old) (ledger_in new) refusal
   pub held : held_in new ≡ held_in old
 
--- Why no connection was opened, and what that did: what the pool refused it has counted, and nothing else.
-abbrev pub RefusesOpen : Connections → Connections → PoolRefused → Type 0
-RefusesOpen old new (Turned refusal) = Turns refusal old new
-RefusesOpen old new Counts = KeepsPool old new × (HasRoom (ledger_in old) → ⊥)
-RefusesOpen old new Memory = KeepsPool old new
+-- why a zone of connections turns a request for this peer away: `ctor` refuses the peer, or its one fetch found what the refusal names
+abbrev pub IsTurned : {T K H P : Type 0} {g k h : _} → Zone T K H P g k h → ℕ → Refusal → Type 0
+IsTurned pool peer (Ctor code) = bars peer ≡ Some code
+IsTurned pool peer refusal = Names pool false refusal
+
+-- Why no connection to this peer was opened, and what that did: what the pool refused it has counted, and nothing else.
+abbrev pub RefusesOpen : ℕ → Connections → Connections → PoolRefused → Type 0
+RefusesOpen peer old new (Turned refusal) = Turns refusal old new × IsTurned old.pool.now peer refusal
+RefusesOpen peer old new Counts = KeepsPool old new × (HasRoom (ledger_in old) → ⊥)
+RefusesOpen peer old new Memory = KeepsPool old new
 
 -- the zone turned the request away
 abbrev pub is_turned : PoolRefused → Bool

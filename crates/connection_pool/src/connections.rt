@@ -38,7 +38,7 @@ pub struct Connections<'a> {
 }
 
 impl<'a> Connections<'a> {
-    ghost use Rattle.connection_pool.specs.Pool.{ledger_in, held_in, Opens, RefusesOpen, Closes, HoldsNone, KeepsPool, IsNotReady, is_turned};
+    ghost use Rattle.connection_pool.specs.Pool.{ledger_in, held_in, Opens, RefusesOpen, Closes, HoldsNone, KeepsPool, IsNotReady};
 
     /// No connection, with a seat in the pool's first memory domain.
     pub fn new<R: Wait>(
@@ -54,6 +54,7 @@ impl<'a> Connections<'a> {
         requires domain { 0 < zone_domains pool.now }
         ensures ledger { IfOk result (λ made. IsNew (ledger_in made)) }
         ensures held { IfOk result (λ made. held_in made ≡ []) }
+        ensures refused { IfErr result (λ why. why ≡ PoolRefused.Memory) }
     {
         match pool.seat(rt, alloc, 0) {
             Ok(seat) => Ok(Connections {
@@ -77,7 +78,7 @@ impl<'a> Connections<'a> {
         peer: u64,
     ) -> Result<u32, PoolRefused>
         ensures opened { IfOk result (λ number. Opens session peer number self.old self.new) }
-        ensures refused { IfErr result (RefusesOpen self.old self.new) }
+        ensures refused { IfErr result (RefusesOpen peer self.old self.new) }
     {
         self.make_ready(rt, alloc)?;
         let Ok(()) = self.held.reserve(1) else {
@@ -99,7 +100,12 @@ impl<'a> Connections<'a> {
         Ok(number)
     }
 
-    /// Closes the connection that is held for a session, the first where there are several. Whether there was one.
+    /// Closes the connection that is held for a session, the first where there are several. Answers the peer to which it was open;
+    /// None where there was none.
+    ///
+    /// # Errors
+    ///
+    /// `Counts` where the seat's counts are full, and else `Memory`; never `Turned`. The same connections are held then.
     pub fn close<R: Wait>(
         &mut self,
         rt: &R,
@@ -108,7 +114,7 @@ impl<'a> Connections<'a> {
     ) -> Result<Option<u64>, PoolRefused>
         ensures closed { IfOk result (λ found. IfSome found (λ peer. Closes session peer self.old self.new)) }
         ensures none { IfOk result (λ found. IfNone found (HoldsNone session self.old self.new)) }
-        ensures refused { IfErr result (λ why. KeepsPool self.old self.new × (is_turned why ≡ false)) }
+        ensures refused { IfErr result (λ why. KeepsPool self.old self.new × IsNotReady (ledger_in self.old) why) }
     {
         self.make_ready(rt, alloc)?;
         let Some(place) = place_of(self.held.as_slice(), session) else {

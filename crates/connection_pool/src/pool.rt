@@ -1,7 +1,7 @@
 ghost use Rattle.std.specs.Prelude.{◌≡◌, false, IfOk, IfErr};
 ghost use Rattle.smr_clock.specs.Belongs.{clock_id};
 ghost use Rattle.uma_zone.specs.Making.{RefusesPrimary};
-ghost use Rattle.uma_zone.specs.Zone.{zone_clock, zone_smr, zone_domains, zone_bucket, zone_limit, zone_cap, zone_reserve};
+ghost use Rattle.uma_zone.specs.Zone.{zone_clock, zone_smr, zone_size, zone_domains, zone_bucket, zone_limit, zone_cap, zone_reserve};
 
 use crate::connection::{Connection, ConnectionHooks};
 use smr_clock::{Bare, Clock};
@@ -27,6 +27,7 @@ pub fn new_pool(alloc: Global, clock: &Clock<Bare>, set: ZoneSet) -> Result<Pool
     requires { set.smr ≡ false }
     ensures clock { IfOk result (λ pool. zone_clock pool ≡ clock_id clock.now) }
     ensures plain { IfOk result (λ pool. zone_smr pool ≡ false) }
+    ensures size { IfOk result (λ pool. zone_size pool ≡ 256) }
     ensures domains { IfOk result (λ pool. zone_domains pool ≡ set.domains) }
     ensures bucket { IfOk result (λ pool. zone_bucket pool ≡ set.bucket) }
     ensures limit { IfOk result (λ pool. zone_limit pool ≡ set.limit) }

@@ -1,7 +1,7 @@
 -- A worker's accounts balance after each request as they did before.
-use Rattle.std.proofs.Common.{◌≡◌, ◌+◌, ℕ, List, [], ◌∷◌, ◌++◌, Bool, false, cond, length, sym, subst, ap, ◌∙◌, arith}
+use Rattle.std.proofs.Common.{◌≡◌, ◌+◌, ℕ, List, [], ◌∷◌, ◌++◌, Bool, false, cond, length, refl, sym, subst, ap, ◌∙◌, arith}
 use Rattle.std.proofs.Math.Logic.{∥∥₁_map}
-use Rattle.std.proofs.lemmas.List.{length_push, map-append}
+use Rattle.std.proofs.lemmas.List.{length_push}
 use Rattle.std.proofs.lemmas.List.Elements.{All-push, All-weaker}
 use Rattle.std.proofs.lemmas.List.Sums.{sum_by_push}
 use Rattle.zone_stats.specs.declared.ledger.SeatLedger.{SeatLedger}
@@ -16,13 +16,12 @@ use Rattle.connection_pool.specs.declared.held.Held.{Held}
 use Rattle.connection_pool.specs.declared.pool_refused.PoolRefused.{PoolRefused}
 use Rattle.connection_pool.specs.declared.pool_refused.PoolRefused.TheVariants.{Turned, Counts, Memory}
 use Rattle.sessions.specs.declared.refused.Refused.{Refused as Why}
-use Rattle.sessions.specs.declared.refused.Refused.TheVariants.{Pool}
+use Rattle.sessions.specs.declared.refused.Refused.TheVariants.{Pool, Directory}
 use Rattle.sessions.specs.declared.request.Request.{Request}
 use Rattle.sessions.specs.declared.request.Request.TheVariants.{Open, Close, Look}
 use Rattle.sessions.specs.Accounts.{Balances, IsBound, IsTold, opens, closes, turns}
-use Rattle.sessions.specs.Answers.{Ends, IsRefused, KeepsKnown, is_turned_away}
+use Rattle.sessions.specs.Answers.{Ends, IsNotClosed, IsRefused, KeepsKnown, is_turned_away}
 use Rattle.session_directory.specs.Directory.{WasBound, known_to}
-use Rattle.sessions.specs.Serving.{requests_in}
 use Rattle.connection_pool.specs.Pool.{Opens, Turns, Closes, KeepsPool, RefusesOpen, held_in, ledger_in, is_turned}
 
 abbrev one : Bool → ℕ
@@ -77,26 +76,32 @@ closed session peer old new c =
       fails = c.counted.fails ∙ plus-none _;
     }
 
-refused : (why : PoolRefused) (old new : Connections) → RefusesOpen old new why → Moves old new 0 0 (one (is_turned why))
-refused (Turned why) old new t = turned why old new t
-refused Counts old new k = kept old new k.0
-refused Memory old new k = kept old new k
+refused : (why : PoolRefused) (peer : ℕ) (old new : Connections) → RefusesOpen peer old new why → Moves old new 0 0 (one (is_turned why))
+refused (Turned why) peer old new t = turned why old new t.0
+refused Counts peer old new k = kept old new k.0
+refused Memory peer old new k = kept old new k
 
-refused_so : (why : Why) (old new : Connections) → IsRefused old new why → Moves old new 0 0 (one (is_turned_away why))
-refused_so (Pool why) old new r = refused why old new r
-refused_so why old new r = absurd r
+refused_so : (why : Why) (peer : ℕ) (old new : Connections) → IsRefused peer old new why → Moves old new 0 0 (one (is_turned_away why))
+refused_so (Pool why) peer old new r = refused why peer old new r
+refused_so why peer old new r = absurd r
 
-unasked : (why : Why) (old new : Connections) → KeepsPool old new → is_turned_away why ≡ false → Moves old new 0 0 (one (is_turned_away why))
-unasked why old new k untold = subst (λ b. Moves old new 0 0 (one b)) (sym untold) (kept old new k)
+not_turned : (session : ℕ) (why : Why) (old new : Desk) → IsNotClosed session old new why → is_turned_away why ≡ false
+not_turned session (Directory refused) old new is = refl
+not_turned session (Pool (Turned refusal)) old new is = absurd is.0
+not_turned session (Pool Counts) old new is = refl
+not_turned session (Pool Memory) old new is = refl
+
+not_closed : (session : ℕ) (why : Why) (old new : Desk) → KeepsPool old.connections new.connections → IsNotClosed session old new why → Moves old.connections new.connections 0 0 (one (is_turned_away why))
+not_closed session why old new k is = subst (λ b. Moves old.connections new.connections 0 0 (one b)) (sym (not_turned session why old new is)) (kept old.connections new.connections k)
 
 moves : (request : Request) (answer : Answer) (old new : Desk) → Ends request answer old new
     → Moves old.connections new.connections (one (opens answer)) (one (closes answer)) (one (turns answer))
 moves (Open session peer) (Opened connection) old new e = opened session peer connection old.connections new.connections e.0
-moves (Open session peer) (Unnamed connection why) old new e = opened session peer connection old.connections new.connections e
-moves (Open session peer) (Refused why) old new e = refused_so why old.connections new.connections e
+moves (Open session peer) (Unnamed connection why) old new e = opened session peer connection old.connections new.connections e.0
+moves (Open session peer) (Refused why) old new e = refused_so why peer old.connections new.connections e.0
 moves (Close session) (Closed named) old new e = closed session e.0 old.connections new.connections e.1
-moves (Close session) NotHeld old new e = kept old.connections new.connections e.kept
-moves (Close session) (Refused why) old new e = unasked why old.connections new.connections e.0 e.1
+moves (Close session) NotHeld old new e = kept old.connections new.connections e.0.kept
+moves (Close session) (Refused why) old new e = not_closed session why old new e.0 e.1
 moves (Look session) (Found connection) old new e = kept old.connections new.connections e.0
 moves (Look session) NotFound old new e = kept old.connections new.connections e.0
 moves (Look session) Late old new e = kept old.connections new.connections e.0
@@ -141,6 +146,3 @@ balances request answer old new log b still e =
 -- a list that was given room, and then what was done
 pub logged : (before room all : List Done) (done : Done) → room ≡ before → all ≡ room ++ done ∷ [] → all ≡ before ++ done ∷ []
 logged before room all done same is = is ∙ ap (λ (l : List Done). l ++ done ∷ []) same
-
-pub one_request_more : (before all : List Done) (done : Done) → all ≡ before ++ done ∷ [] → requests_in all ≡ requests_in before ++ done.request ∷ []
-one_request_more before all done is = ap requests_in is ∙ map-append (λ (d : Done). d.request) before (done ∷ [])

@@ -5,7 +5,8 @@ use Rattle.std.specs.Prelude.{All, Result, Ok, OnOk}
 use Rattle.sessions.specs.declared.request.Request.{Request}
 use Rattle.sessions.specs.declared.round.Round.{Round}
 use Rattle.sessions.specs.declared.worker.Worker.{Worker}
-use Rattle.sessions.specs.Serving.{AllBalance, AllServed, AllWorked, HasEnded, HasServed, asked_in, asked_of, requests_in}
+use Rattle.sessions.specs.Serving.{AllBalance, AllServed, AllWorked, HasEnded, HasServed, asked_in, asked_of}
+use Rattle.sessions.proofs.Served.{served_both, served_none}
 
 -- each worker keeps its accounts
 pub all_balance : (workers : List Worker) → AllBalance workers
@@ -27,16 +28,15 @@ asked_more (r ∷ rounds) (suc k) n d below =
     ap (λ l. asked_of r n ++ l) (asked_more rounds k n d (omega arith)) ∙ sym (append_assoc (asked_of r n) (asked_in (take k rounds) n) (asked_of (get_or rounds k d) n))
 
 pub serve_none : (rounds : List Round) (workers : List Worker) → AllServed (take 0 rounds) workers workers
-serve_none rounds workers n d below = sym (append-nil (requests_in (get_or workers n d).log.items))
+serve_none rounds workers n d below = served_none (get_or workers n d)
 
 pub serve_more : (rounds : List Round) (k : ℕ) (e : Round) (old mid new : List Worker) → k < length rounds → length mid ≡ length old → AllServed (take k rounds) old mid → AllWorked (get_or rounds k e) mid new
     → AllServed (take (k + 1) rounds) old new
 serve_more rounds k e old mid new below size served worked n d in' =
-    let before = requests_in (get_or old n d).log.items in
     let on : k + 1 ≡ suc k = omega arith in
-    let P : List Request → Type 0 = λ l. requests_in (get_or new n d).log.items ≡ before ++ l in
+    let P : List Request → Type 0 = λ l. HasServed l (get_or old n d) (get_or new n d) in
     let both : P (asked_in (take k rounds) n ++ asked_of (get_or rounds k e) n) =
-    worked n d (omega (arith, size, in')) ∙ ap (λ l. l ++ asked_of (get_or rounds k e) n) (served n d in') ∙ append_assoc before (asked_in (take k rounds) n) (asked_of (get_or rounds k e) n)
+    served_both (get_or old n d) (get_or mid n d) (get_or new n d) (asked_in (take k rounds) n) (asked_of (get_or rounds k e) n) (served n d in') (worked n d (omega (arith, size, in')))
     in
     subst (λ j. P (asked_in (take j rounds) n)) (sym on) (subst P (sym (asked_more rounds k n e below)) both)
 

@@ -1,11 +1,13 @@
 -- Own: what the workers of a server do in its rounds.
-use Rattle.std.specs.Prelude.{◌≡◌, ◌<◌, ◌++◌, ℕ, List, [], Ok, All, map, flat_map, length, slice_get, slice_index_or}
+use Rattle.std.specs.Prelude.{◌≡◌, ◌<◌, ◌++◌, ◌∷◌, ℕ, List, [], Ok, All, map, flat_map, length, slice_get, slice_index_or}
 use Rattle.std.specs.Option.{option_map_or}
 use Rattle.sessions.specs.declared.answer.Done.{Done}
+use Rattle.sessions.specs.declared.desk.Desk.{Desk}
 use Rattle.sessions.specs.declared.request.Request.{Request}
 use Rattle.sessions.specs.declared.round.Round.{Round}
 use Rattle.sessions.specs.declared.worker.Worker.{Worker}
 use Rattle.sessions.specs.Accounts.{Balances}
+use Rattle.sessions.specs.Answers.{Ends}
 
 -- the requests that were answered, in order
 abbrev pub requests_in : List Done → List Request
@@ -15,9 +17,17 @@ requests_in log = map (λ done. done.request) log
 abbrev pub asked_of : Round → ℕ → List Request
 asked_of round n = option_map_or (λ list. list.items) (slice_get round.lists.items n) []
 
--- the worker did these requests behind those that it had done
-abbrev pub HasServed : List Request → Worker → Worker → Type 0
-HasServed requests old new = requests_in new.log.items ≡ requests_in old.log.items ++ requests
+-- A desk served these requests one after another: each answer is what it gave, and says what was done.
+abbrev pub Ran : Desk → List Done → Desk → Type 0
+Ran old [] new = new ≡ old
+Ran old (done ∷ rest) new = (next : Desk) × Ends done.request done.answer old next × Ran next rest new
+
+-- The worker's desk served these requests, and the worker logged each with its answer, behind those that it had done.
+pub record HasServed (requests : List Request) (old new : Worker) : Type 0 where
+  pub done : List Done
+  pub asked : requests_in done ≡ requests
+  pub log : new.log.items ≡ old.log.items ++ done
+  pub ran : Ran old.desk done new.desk
 
 -- each worker's accounts balance
 abbrev pub AllBalance : List Worker → Type 0

@@ -8,7 +8,7 @@ pub enum Answer {
     Opened { connection: u32 },
     /// The connection is open and held, but the directory bound no name.
     Unnamed { connection: u32, why: Refused },
-    /// Nothing was opened or closed.
+    /// Nothing was opened or closed. Where the pool closed none, the name is out already; a further try finds none to take out.
     Refused { why: Refused },
     /// The connection is closed. `named` where its name was bound still, and hadn't been evicted by another.
     Closed { named: bool },

@@ -21,11 +21,12 @@ pub struct Worker<'a> {
 }
 
 impl Worker<'_> {
-    ghost use Rattle.std.specs.Prelude.{◌++◌, ◌∷◌, [], OnOk, map};
+    ghost use Rattle.std.specs.Prelude.{◌∷◌, [], OnOk};
+    ghost use Rattle.sessions.specs.Serving.{HasServed};
 
     /// Does what these requests ask, one after another.
     pub fn work<R: Wait>(&mut self, rt: &R, alloc: Global, requests: &[Request])
-        ensures { OnOk self.new.ended (map (λ done. done.request) self.new.log.items ≡ map (λ done. done.request) self.old.log.items ++ requests.now) }
+        ensures { OnOk self.new.ended (HasServed requests.now self.old self.new) }
     {
         self.ended = self.serve_all(rt, alloc, requests);
     }
@@ -36,7 +37,7 @@ impl Worker<'_> {
         alloc: Global,
         requests: &[Request],
     ) -> Result<(), AllocError>
-        ensures { OnOk result (map (λ done. done.request) self.new.log.items ≡ map (λ done. done.request) self.old.log.items ++ requests.now) }
+        ensures { OnOk result (HasServed requests.now self.old self.new) }
     {
         for request in requests {
             self.serve(rt, alloc, *request)?;
@@ -46,7 +47,7 @@ impl Worker<'_> {
 
     // Does what a request asks, and logs it. The log has room before anything is done.
     fn serve<R: Wait>(&mut self, rt: &R, alloc: Global, request: Request) -> Result<(), AllocError>
-        ensures { OnOk result (map (λ done. done.request) self.new.log.items ≡ map (λ done. done.request) self.old.log.items ++ request ∷ []) }
+        ensures { OnOk result (HasServed (request ∷ []) self.old self.new) }
     {
         self.log.reserve(1)?;
         let answer = self.desk.serve(rt, alloc, request);

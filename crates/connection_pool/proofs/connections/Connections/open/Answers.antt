@@ -1,3 +1,5 @@
+use Rattle.std.proofs.Common.{refl}
+use Rattle.std.proofs.lemmas.Result.{err_from_is_err_and}
 use Rattle.uma_bucket.specs.Home.{IsHome}
 use Rattle.uma_life.specs.Live.{live_ticket}
 use Rattle.uma_seat.specs.Seat.{ledger_of}
@@ -6,6 +8,7 @@ use Rattle.connection_pool.specs.declared.held.Held.{Held}
 use Rattle.connection_pool.specs.Held.{IsOpen}
 use Rattle.connection_pool.specs.Pool.{held_in}
 use Rattle.connection_pool.proofs.Opened.{all_pushed, one_more_out, opens, pushed}
+use Rattle.connection_pool.proofs.Turned.{refuses_open}
 use Rattle.connection_pool.proofs.connections.Connections.open.Goals as goal
 
 pub invariant_of-self-2-clause-home : goal.invariant_of-self-2-clause-home
@@ -35,3 +38,8 @@ returns-clause-opened g c =
     let held : Held = record { session = c.args.session; peer = c.args.peer; live = c.in_ok-live.live } in
     let is = pushed (held_in ready) c.reserve.new.self.items c.push_reserved.new.self.items held c.reserve.ensures.items c.push_reserved.ensures.items in
     opens c.no-number.result c.args.self.now ready _ held c.in_ok-make_ready.ensures.kept c.no-number.ensures is c.in_ok-live.ensures.served.counted
+
+pub returns-in_err-live-clause-refused : goal.returns-in_err-live-clause-refused
+returns-in_err-live-clause-refused g c =
+    let p = err_from_is_err_and c.from_residual-in_err-live.result c.from_residual-in_err-live.ensures.1 in
+    rw (p.1, p.2) (refuses_open c.args.peer c.args.self.now c.make_ready.new.self _ c.in_err-live.field-0.0 c.in_ok-make_ready.ensures.kept refl c.reserve.ensures.items c.in_err-live.ensures.refused)

@@ -8,8 +8,8 @@ pub returns-in-Ok-clause-ends : goal.returns-in-Ok-clause-ends
 returns-in-Ok-clause-ends c =
     let old = c.args.self.now in
     let new : Desk = record { connections = old.connections; registrar = c.look.new.self } in
-    let kept : KeepsPool old.connections old.connections = record { ledger = refl; held = refl } in
+    let kept : KeepsPool old.connections old.connections = record { pool = refl; ledger = refl; held = refl } in
     look_ends c.args.session c.in-Ok.found c.looked.result old new c.looked.ensures kept c.in-Ok.ensures.told c.in-Ok.ensures.looked
 
 pub returns-in-Err-clause-ends : goal.returns-in-Err-clause-ends
-returns-in-Err-clause-ends c = (record { ledger = refl; held = refl }, (c.in-Err._late, c.in-Err.ensures.late))
+returns-in-Err-clause-ends c = (record { pool = refl; ledger = refl; held = refl }, (c.in-Err._late, c.in-Err.ensures.late))

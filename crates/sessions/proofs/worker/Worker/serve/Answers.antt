@@ -1,7 +1,7 @@
-use Rattle.std.proofs.Common.{List, sym, subst}
+use Rattle.std.proofs.Common.{List, [], ◌∷◌, refl, sym, subst}
 use Rattle.sessions.specs.declared.answer.Done.{Done}
 use Rattle.sessions.specs.Accounts.{Balances}
-use Rattle.sessions.proofs.Balanced.{balances, logged, one_request_more}
+use Rattle.sessions.proofs.Balanced.{balances, logged}
 use Rattle.sessions.proofs.worker.Worker.serve.Goals as goal
 
 pub invariant_of-self-2 : goal.invariant_of-self-2
@@ -15,4 +15,9 @@ pub returns : goal.returns
 returns g c =
     let was = c.args.self.now in
     let done : Done = record { request = c.args.request; answer = c.serve-answer.result } in
-    one_request_more was.log.items c.push_reserved.new.self.items done (logged was.log.items c.reserve.new.self.items c.push_reserved.new.self.items done c.reserve.ensures.items c.push_reserved.ensures.items)
+    record {
+      done = done ∷ [];
+      asked = refl;
+      log = logged was.log.items c.reserve.new.self.items c.push_reserved.new.self.items done c.reserve.ensures.items c.push_reserved.ensures.items;
+      ran = (c.serve-answer.new.self, c.serve-answer.ensures.ends, refl);
+    }
