@@ -28,6 +28,3 @@ pub use fail_rule::shares_add_up_to_their_book;
 pub use fail_share::FailShare;
 pub use origin::Origin;
 pub use refused::{BookRefused, Memory};
-
-#[cfg(test)]
-mod tests;

@@ -10,9 +10,6 @@ ghost use Rattle.std.specs.Prelude.{◌≡◌, [], ◌∷◌, ◌++◌};
 use std::marker::Model;
 use std::snapshot::Snapshot;
 
-#[cfg(test)]
-mod tests;
-
 // The last item, and what was there before it, which has no bytes.
 #[derive(Drop)]
 enum Items<T> {

@@ -20,8 +20,6 @@ mod network;
 mod pair;
 mod row;
 mod station;
-#[cfg(test)]
-mod tests;
 
 pub use high_water::{Gauge, HighWater};
 pub use key::WaterKey;

@@ -17,8 +17,6 @@ mod guard;
 mod lock;
 mod protocol;
 mod rule;
-#[cfg(test)]
-mod tests;
 
 pub use guard::KeyedGuard;
 pub use lock::KeyedLock;

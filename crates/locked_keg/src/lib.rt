@@ -24,6 +24,3 @@ pub use key::KegKey;
 pub use locked_keg::LockedKeg;
 pub use making::KegLock;
 pub use rule::KegRule;
-
-#[cfg(test)]
-mod tests;

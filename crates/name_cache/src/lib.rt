@@ -29,6 +29,3 @@ pub use cache::{EntryZone, NameCache};
 pub use key::RowKey;
 pub use receipt::Receipt;
 pub use uma_life::Memory;
-
-#[cfg(test)]
-mod tests;

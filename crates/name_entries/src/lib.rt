@@ -13,6 +13,3 @@ mod raised_entry;
 pub use entry_hooks::EntryHooks;
 pub use home::{Home, HomeKey, RootLock, RootOfClock};
 pub use raised_entry::RaisedEntry;
-
-#[cfg(test)]
-mod tests;

@@ -46,6 +46,3 @@ pub use row::Row;
 pub use unripe::Unripe;
 pub use words::Words;
 pub use writing::{ripe, stamp, write};
-
-#[cfg(test)]
-mod tests;

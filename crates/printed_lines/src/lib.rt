@@ -48,20 +48,3 @@ pub fn push_field(text: &mut Vec<u8>, field: &[u8]) -> Result<(), AllocError>
     text.push(b' ')?;
     text.extend_from_slice(field)
 }
-
-#[cfg(test)]
-mod tests {
-    use super::*;
-    use std::test::Fail;
-
-    #[test]
-    fn lines_have_one_space_between_two_fields(rt: HostRuntime) -> Result<(), Fail> {
-        let mut text = Vec::new(rt.alloc());
-        push_line(rt.alloc(), &mut text, b"end", &[])?;
-        push_line(rt.alloc(), &mut text, b"names", &[0, 10, u128::MAX])?;
-        push_field(&mut text, b"last")?;
-        let expected = "end\nnames 0 10 340282366920938463463374607431768211455\n last";
-        assert_eq!(rt; text.as_slice(), expected.as_bytes());
-        Ok(())
-    }
-}

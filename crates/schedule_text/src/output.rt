@@ -131,6 +131,3 @@ fn push_word(
     text.push(b'\n')?;
     Ok(())
 }
-
-#[cfg(test)]
-mod tests;

@@ -30,6 +30,3 @@ pub fn one_schedule_reading()
     ensures { (bytes : List ℕ) (schedule other : ScheduleValue)
         → IsScheduleText bytes schedule → IsScheduleText bytes other → schedule ≡ other }
 {}
-
-#[cfg(test)]
-mod tests;

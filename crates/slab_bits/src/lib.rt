@@ -4,8 +4,6 @@
 
 mod bits;
 mod lanes;
-#[cfg(test)]
-mod tests;
 mod wide;
 
 pub use bits::Bits;

@@ -40,6 +40,3 @@ pub use refused::{AdvanceRefused, Overtaken};
 pub use setup::Setup;
 pub use shares::Memory;
 pub use view::{LastPoll, Remembers, View};
-
-#[cfg(test)]
-mod tests;

@@ -37,6 +37,3 @@ pub use step::Step;
 pub use step_refused::StepRefused;
 pub use task::Task;
 pub use turn::Turn;
-
-#[cfg(test)]
-mod tests;

@@ -95,6 +95,3 @@ impl Seq {
         }
     }
 }
-
-#[cfg(test)]
-mod tests;

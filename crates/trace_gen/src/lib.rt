@@ -17,8 +17,6 @@ mod generator;
 mod head;
 mod rounds;
 mod slots;
-#[cfg(test)]
-mod tests;
 
 /// The trace that a seed gives: `ops` steps of `workers` workers, 1 to 16, over the zones `alpha`, `beta` and `gamma` and
 /// the names `dir`. `ops` is 1 to 50,000. `Memory` is the one error.

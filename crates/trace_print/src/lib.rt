@@ -37,6 +37,3 @@ pub fn print(alloc: Global, trace: &Trace) -> Result<Vec<u8>, Memory>
     push_line(alloc, &mut text, b"end", &[])?;
     Ok(text)
 }
-
-#[cfg(test)]
-mod tests;

@@ -20,7 +20,7 @@ use Rattle.trace_worker.specs.declared.worker.Worker.{Worker}
 use Rattle.trace_worker.specs.Items.{counted_life, CountedZone, LiveItem}
 use Rattle.trace_worker.specs.Live.{item_of}
 use Rattle.trace_worker.proofs.Belongs.{some_within}
-use Rattle.trace_census.specs.Lending.{AreFew, TakesCensus, TakesCensusAt, live_times, lent_times, slot_times}
+use Rattle.trace_totals.specs.Lending.{AreFew, TakesCensus, TakesCensusAt, live_times, lent_times, slot_times}
 use Rattle.trace_totals.specs.Taking.{is_of_keg}
 use Rattle.trace_totals.proofs.Indexes.{few_zones}
 use Rattle.trace_totals.proofs.Picks.{kegged, kegged_few, sum_few, sum_filtered}

@@ -22,11 +22,11 @@ use Rattle.uma_zone.specs.Zone.{zone_index}
 use Rattle.trace_worker.specs.declared.worker.Worker.{Worker}
 use Rattle.trace_worker.specs.Items.{CountedZone}
 use Rattle.trace_worker.specs.Together.{all_live}
-use Rattle.trace_setting.specs.Kegs.{index_of, keg_place}
-use Rattle.trace_setting.specs.Zones.{AreZones}
-use Rattle.trace_setting.proofs.Lists.{has_too}
-use Rattle.trace_census.proofs.Placed.{number_below_eight}
-use Rattle.trace_census.specs.Lending.{KeepsWorkers, TakesCensus, lent_times, slot_times}
+use Rattle.trace_play.specs.Kegs.{index_of, keg_place}
+use Rattle.trace_play.specs.Zones.{AreZones}
+use Rattle.trace_play.proofs.Lists.{has_too}
+use Rattle.trace_totals.proofs.Placed.{number_below_eight}
+use Rattle.trace_totals.specs.Lending.{KeepsWorkers, TakesCensus, lent_times, slot_times}
 use Rattle.trace_totals.specs.Closes.{AllClose, KegCloses, keg_times, seat_times, seat_deferred, zone_times}
 use Rattle.trace_totals.specs.Picking.{picked}
 use Rattle.trace_totals.specs.Summing.{SumsUp}

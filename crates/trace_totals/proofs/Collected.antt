@@ -9,8 +9,8 @@ use Rattle.uma_bucket.specs.declared.sums.Sums.{Sums}
 use Rattle.uma_bucket.specs.Sums.{AreOfAtMost}
 use Rattle.trace_worker.specs.declared.worker.Worker.{Worker}
 use Rattle.trace_worker.specs.Items.{CountedZone}
-use Rattle.trace_setting.proofs.Lists.{has_too, pushed}
-use Rattle.trace_census.specs.Lending.{AllFit}
+use Rattle.trace_play.proofs.Lists.{has_too, pushed}
+use Rattle.trace_totals.specs.Lending.{AllFit}
 use Rattle.trace_totals.specs.Summing.{HasSeat, SumsUp}
 use Rattle.trace_totals.specs.Taking.{AllSumUp}
 

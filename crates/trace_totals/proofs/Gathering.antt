@@ -11,7 +11,7 @@ use Rattle.smr_clock.specs.Belongs.{IsOf, setup_of}
 use Rattle.smr_clock.specs.Notes.{note_holder}
 use Rattle.trace_worker.specs.declared.worker.Worker.{Worker}
 use Rattle.trace_worker.specs.Worker.{seen_of}
-use Rattle.trace_setting.proofs.Lists.{has_too, written}
+use Rattle.trace_play.proofs.Lists.{has_too, written}
 use Rattle.trace_totals.specs.Clock.{AllLearn, Gathers, Learns, LearnsAt, LooksAt, PassesOn, ReadsHands, TakesAt, floor_of}
 use Rattle.trace_totals.proofs.Heard.{one_at, first_set, heard, known, below_both, below_one, none_below, le_both, le_same}
 

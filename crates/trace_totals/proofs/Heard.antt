@@ -3,7 +3,7 @@ use Rattle.std.proofs.Common.{◌≡◌, ℕ, ◌+◌, ◌<◌, ◌≤◌, inl, 
 use Rattle.std.proofs.lemmas.Option.{same_Some, none-some, slice_get_within}
 use Rattle.std.proofs.lemmas.List.{length-set}
 use Rattle.std.specs.Prelude.{slice_get, slice_set}
-use Rattle.trace_setting.proofs.Lists.{has_too, written}
+use Rattle.trace_play.proofs.Lists.{has_too, written}
 
 -- plain numbers
 pub below_last : (n k : ℕ) → n < k + 1 → (n ≡ k → ⊥) → n < k

@@ -8,8 +8,8 @@ use Rattle.trace_text.specs.declared.head.Head.{Head}
 use Rattle.trace_text.specs.declared.head.NamesHead.{NamesHead}
 use Rattle.trace_text.specs.declared.head.ZoneHead.{ZoneHead}
 use Rattle.trace_text.specs.Valid.{HeadFits}
-use Rattle.trace_setting.specs.Kegs.{index_of, keg_place}
-use Rattle.trace_census.proofs.Zones.{numbers_differ}
+use Rattle.trace_play.specs.Kegs.{index_of, keg_place}
+use Rattle.trace_totals.proofs.Zones.{numbers_differ}
 
 pub differ : (heads : List ZoneHead) (p z y : ℕ) (a b : ZoneHead) → slice_get heads z ≡ Some a → slice_get heads y ≡ Some b → keg_place z a ≡ p → keg_place y b ≡ p → index_of heads z a ≡ index_of heads y b → z ≡ y
 differ heads p z y a b at_a at_b of_a of_b same = elim (cases_eq z y) [

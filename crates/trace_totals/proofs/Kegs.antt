@@ -11,8 +11,8 @@ use Rattle.uma_life.specs.declared.tally_sum.TallySum.{TallySum}
 use Rattle.uma_bucket.specs.declared.sums.Sums.{Sums}
 use Rattle.trace_worker.specs.declared.worker.Worker.{Worker}
 use Rattle.trace_worker.specs.Items.{CountedZone}
-use Rattle.trace_setting.specs.Kegs.{primaries}
-use Rattle.trace_setting.proofs.Lists.{pushed}
+use Rattle.trace_play.specs.Kegs.{primaries}
+use Rattle.trace_play.proofs.Lists.{pushed}
 use Rattle.trace_totals.specs.Taking.{TakesKeg, TakesKegs}
 
 here : (z : ℕ) → z + 0 ≡ z

@@ -23,9 +23,9 @@ use Rattle.trace_worker.specs.Slots.{slot_at}
 use Rattle.trace_worker.specs.Together.{all_live}
 use Rattle.trace_worker.specs.Worker.{Fits, HasSeats, IsHeld}
 use Rattle.smr_clock.specs.Belongs.{IsOf}
-use Rattle.trace_setting.specs.Kegs.{keg_place}
-use Rattle.trace_setting.proofs.Lists.{has_too}
-use Rattle.trace_census.specs.Lending.{AllFit, AreFew, KeepsWorker, KeepsWorkers, live_times, lent_times, seen_slot, slot_times}
+use Rattle.trace_play.specs.Kegs.{keg_place}
+use Rattle.trace_play.proofs.Lists.{has_too}
+use Rattle.trace_totals.specs.Lending.{AllFit, AreFew, KeepsWorker, KeepsWorkers, live_times, lent_times, seen_slot, slot_times}
 use Rattle.trace_totals.specs.Closes.{seat_times, seat_deferred}
 use Rattle.trace_totals.proofs.Heard.{one_at}
 use Rattle.trace_totals.proofs.Picks.{sum_same, sum_through, sum_filtered}

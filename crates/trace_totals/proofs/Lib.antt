@@ -10,3 +10,10 @@ pub mod Kept
 pub mod Modulo
 pub mod Picks
 pub mod Summed
+pub mod Loops
+pub mod Filled
+pub mod Seen
+pub mod Zones
+pub mod Sums
+pub mod Placed
+pub mod Taken

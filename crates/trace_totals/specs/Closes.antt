@@ -16,8 +16,8 @@ use Rattle.uma_zone.specs.Zone.{zone_index}
 use Rattle.trace_worker.specs.declared.worker.Worker.{Worker}
 use Rattle.trace_worker.specs.Items.{CountedZone}
 use Rattle.trace_worker.specs.Together.{all_live}
-use Rattle.trace_census.specs.Lending.{IsCensusOf, slot_times}
-use Rattle.trace_setting.specs.Kegs.{keg_place, primaries}
+use Rattle.trace_totals.specs.Lending.{IsCensusOf, slot_times}
+use Rattle.trace_play.specs.Kegs.{keg_place, primaries}
 
 module _ {H P : Type 0} {h : Ghosts H P} where
   -- how often the items that the worker's seat of the zone at place `z` caches or defers passed a hook

@@ -10,8 +10,8 @@ use Rattle.uma_life.specs.Sum.{sum_of}
 use Rattle.uma_bucket.specs.declared.sums.Sums.{Sums}
 use Rattle.trace_worker.specs.declared.worker.Worker.{Worker}
 use Rattle.trace_worker.specs.Items.{CountedZone}
-use Rattle.trace_setting.specs.Kegs.{keg_place, primaries}
-use Rattle.trace_census.specs.Lending.{TakesCensusAt}
+use Rattle.trace_play.specs.Kegs.{keg_place, primaries}
+use Rattle.trace_totals.specs.Lending.{TakesCensusAt}
 use Rattle.trace_totals.specs.Picking.{picked}
 use Rattle.trace_totals.specs.Summing.{SumsUp}
 

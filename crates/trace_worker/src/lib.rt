@@ -39,8 +39,3 @@ pub use running::Running;
 pub use slots::Slots;
 pub use worker::Worker;
 pub use zone_stats::Memory;
-
-#[cfg(test)]
-mod no_keys;
-#[cfg(test)]
-mod tests;

@@ -23,6 +23,3 @@ pub use ripe::Ripe;
 pub use sealed::Sealed;
 pub use shelved::Shelved;
 pub use sums::Sums;
-
-#[cfg(test)]
-mod tests;

@@ -26,6 +26,3 @@ pub use lists::Lists;
 pub use rule::ListsOfKey;
 pub use taken::{Taken, TakenBucket};
 pub use working::Working;
-
-#[cfg(test)]
-mod tests;

@@ -17,6 +17,3 @@ pub use item_hooks::ItemHooks;
 pub use lender::Lender;
 pub use stay_counts::StayCounts;
 pub use trail_hooks::{NO_STAYS, TrailHooks};
-
-#[cfg(test)]
-mod tests;

@@ -18,8 +18,6 @@ mod give;
 mod home_items;
 mod keg;
 mod keg_census;
-#[cfg(test)]
-mod keg_tests;
 mod new_items;
 mod outside;
 mod recount;

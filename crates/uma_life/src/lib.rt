@@ -34,6 +34,3 @@ pub use tally::Tally;
 pub use tally_sum::{TallySum, ZoneTallySum};
 pub use ticket::Ticket;
 pub use zone_tally::ZoneTally;
-
-#[cfg(test)]
-mod tests;

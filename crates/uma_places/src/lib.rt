@@ -10,8 +10,6 @@ mod refused;
 mod room;
 mod rooms;
 mod standings;
-#[cfg(test)]
-mod tests;
 
 pub use counts::KegCounts;
 pub use places::Places;

@@ -21,6 +21,3 @@ mod trimming;
 pub use draining::{drain, drain_seat};
 pub use reclaimed::Reclaimed;
 pub use trimming::trim;
-
-#[cfg(test)]
-mod tests;

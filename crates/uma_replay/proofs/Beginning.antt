@@ -19,11 +19,11 @@ use Rattle.trace_worker.specs.declared.worker.Worker.{Worker}
 use Rattle.trace_worker.specs.NameSizes.{NameSizes, sizes_for}
 use Rattle.trace_worker.specs.NamesStand.{NamesStand}
 use Rattle.trace_worker.specs.Together.{AddsUp, AllNamed, AllStand, crew}
-use Rattle.trace_setting.specs.declared.setting.Setting.{Setting}
-use Rattle.trace_setting.specs.Setting.{IsSetUp}
-use Rattle.trace_rounds.specs.DoneBy.{done_by, is_by}
-use Rattle.trace_rounds.specs.Plays.{AllPlay}
-use Rattle.trace_rounds.specs.Rounds.{AllAsked, GaveUpAsBefore, IsBegun, Suits}
+use Rattle.trace_play.specs.declared.setting.Setting.{Setting}
+use Rattle.trace_play.specs.Setting.{IsSetUp}
+use Rattle.trace_play.specs.DoneBy.{done_by, is_by}
+use Rattle.trace_play.specs.Plays.{AllPlay}
+use Rattle.trace_play.specs.Rounds.{AllAsked, GaveUpAsBefore, IsBegun, Suits}
 use Rattle.uma_replay.specs.Hall.{AreDone, NamesDone}
 use Rattle.uma_replay.specs.Playing.{AreFirst, gave_ups, namings_of}
 use Rattle.uma_replay.proofs.Playing.{played_of}

@@ -12,7 +12,7 @@ use Rattle.trace_worker.specs.NamesStand.{NamesOfClock}
 use Rattle.trace_worker.specs.OwnLines.{own_ops, stacked}
 use Rattle.trace_worker.specs.Turn.{IsReady}
 use Rattle.trace_worker.specs.Worker.{AreOfClock}
-use Rattle.trace_setting.specs.Beginners.{IsBeginner}
+use Rattle.trace_play.specs.Beginners.{IsBeginner}
 use Rattle.uma_replay.specs.Playing.{IsFirst}
 use Rattle.uma_replay.proofs.Runnings.{named_first}
 

@@ -23,8 +23,8 @@ use Rattle.trace_worker.specs.NamesStand.{NamesStand}
 use Rattle.trace_worker.specs.Items.{CountedZone}
 use Rattle.trace_worker.specs.Worker.{phase_of}
 use Rattle.trace_worker.specs.Clocks.{start_of, window_of}
-use Rattle.trace_setting.specs.Kegs.{keg_place, index_of, primaries}
-use Rattle.trace_census.specs.Lending.{AllFit, AreFew, KeepsWorkers}
+use Rattle.trace_play.specs.Kegs.{keg_place, index_of, primaries}
+use Rattle.trace_totals.specs.Lending.{AllFit, AreFew, KeepsWorkers}
 use Rattle.trace_totals.specs.Clock.{AllLearn}
 use Rattle.uma_replay.specs.declared.hall.Hall.{Hall}
 use Rattle.uma_replay.specs.Counting.{enter_count, is_done, is_entry, is_look}
@@ -41,7 +41,7 @@ use Rattle.uma_replay.proofs.Primaries.{keg_within}
 use Rattle.uma_replay.proofs.PlainStands.{StandsPlain, some_at}
 use Rattle.uma_replay.proofs.ReportStands.{HasPrimary, has_primary, stands_for}
 use Rattle.uma_replay.proofs.WithNames.{stands_named, stands_unnamed}
-use Rattle.trace_setting.proofs.Lists.{All_there}
+use Rattle.trace_play.proofs.Lists.{All_there}
 use Rattle.uma_replay.proofs.Staying.{all_chain, all_stand, adds_stay, found_before, learn_stay, kept_stay}
 
 -- ---- on numbers

@@ -9,7 +9,7 @@ use Rattle.uma_keg.specs.declared.census.Census.{Census}
 use Rattle.uma_keg.specs.Census.{census_outs}
 use Rattle.uma_life.specs.declared.tally_sum.TallySum.{TallySum}
 use Rattle.zone_stats.specs.declared.report.KegLine.{KegLine}
-use Rattle.trace_setting.specs.Kegs.{primaries}
+use Rattle.trace_play.specs.Kegs.{primaries}
 use Rattle.uma_replay.specs.Reporting.{AreKegs, AreKegsTo, IsKegAt, is_primary, keg_line, keg_number}
 use Rattle.uma_replay.proofs.Primaries.{keg_at, keg_within, number_all}
 use Rattle.uma_replay.proofs.Pushed.{ArePushed, ArePushed-more}

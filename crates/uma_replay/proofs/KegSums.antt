@@ -10,7 +10,7 @@ use Rattle.std.specs.Option.{option_map_or}
 use Rattle.trace_text.specs.declared.head.ZoneHead.{ZoneHead}
 use Rattle.trace_text.specs.Valid.{sharer_count}
 use Rattle.zone_stats.specs.declared.report.ZoneLine.{ZoneLine}
-use Rattle.trace_setting.specs.Kegs.{index_of, rights_after}
+use Rattle.trace_play.specs.Kegs.{index_of, rights_after}
 use Rattle.uma_replay.specs.Report.{items_of_keg}
 use Rattle.uma_replay.proofs.Upto.{upto, upto-none, upto-more, upto-same, upto-zero}
 use Rattle.uma_replay.proofs.ZoneFrees.{sum-upto}

@@ -18,7 +18,7 @@ use Rattle.zone_stats.specs.Ledger.{is_ctor}
 use Rattle.zone_stats.specs.Line.{zone_line, total_allocs, total_frees, used_items}
 use Rattle.uma_life.specs.Trail.{ShowsSame}
 use Rattle.trace_worker.specs.LedgerStands.{LedgerStands, KeptFits}
-use Rattle.trace_setting.specs.Kegs.{per_slab, primaries, index_of, rights_after}
+use Rattle.trace_play.specs.Kegs.{per_slab, primaries, index_of, rights_after}
 use Rattle.uma_replay.specs.Report.{ZoneLedgersFit, LedgerFits, FreesFit, IsLineOf, RefusalFits, ledgers_at, KegAddsUp, UsesAreBuilt, ClockLineFits, line_title, head_title}
 use Rattle.uma_replay.proofs.Filled.{filled_slots}
 use Rattle.uma_replay.proofs.KegSums.{HaveOuts, items, keg_sum}

@@ -14,11 +14,11 @@ use Rattle.trace_worker.specs.Items.{CountedZone}
 use Rattle.trace_worker.specs.NameLines.{doing}
 use Rattle.trace_worker.specs.Together.{crew}
 use Rattle.trace_worker.specs.Worker.{seen_of}
-use Rattle.trace_setting.specs.declared.setting.Setting.{Setting}
-use Rattle.trace_setting.specs.Setting.{IsSetUp}
-use Rattle.trace_rounds.specs.Plays.{AllPlay}
-use Rattle.trace_rounds.proofs.AfterRound.{in_crew}
-use Rattle.trace_rounds.proofs.Lists.{at_other}
+use Rattle.trace_play.specs.declared.setting.Setting.{Setting}
+use Rattle.trace_play.specs.Setting.{IsSetUp}
+use Rattle.trace_play.specs.Plays.{AllPlay}
+use Rattle.trace_play.proofs.AfterRound.{in_crew}
+use Rattle.trace_play.proofs.RoundLists.{at_other}
 use Rattle.uma_replay.specs.Playing.{AllPlayed, AllStay, AreFirst, Stays, namings_of}
 use Rattle.uma_replay.proofs.Runnings.{of_both}
 use Rattle.uma_replay.proofs.Staying.{found_before, stays_chain}

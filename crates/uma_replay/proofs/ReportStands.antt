@@ -39,8 +39,8 @@ use Rattle.trace_worker.specs.Slots.{slot_at}
 use Rattle.trace_worker.specs.Stands.{NamesZone, Stands}
 use Rattle.trace_worker.specs.Worker.{phase_of}
 use Rattle.trace_worker.specs.Together.{AllStand, AddsUp, ledger_at, all_live, all_frees, all_allocs}
-use Rattle.trace_setting.specs.Kegs.{keg_place, index_of, per_slab, primaries}
-use Rattle.trace_setting.specs.Zones.{AreZones, IsZoneOf}
+use Rattle.trace_play.specs.Kegs.{keg_place, index_of, per_slab, primaries}
+use Rattle.trace_play.specs.Zones.{AreZones, IsZoneOf}
 use Rattle.trace_totals.specs.Clock.{ReadsHands}
 use Rattle.trace_totals.specs.Closes.{AllClose, KegCloses}
 use Rattle.uma_replay.specs.Report.{RefusalFits, ClockLineFits}

@@ -15,7 +15,7 @@ use Rattle.zone_stats.specs.declared.report.NamesLine.{NamesLine}
 use Rattle.zone_stats.specs.declared.report.Report.{Report}
 use Rattle.zone_stats.specs.declared.report.ZoneLine.{ZoneLine}
 use Rattle.zone_stats.specs.Line.{total_allocs, total_fails}
-use Rattle.trace_setting.specs.Kegs.{keg_place, primaries}
+use Rattle.trace_play.specs.Kegs.{keg_place, primaries}
 use Rattle.uma_replay.specs.declared.names_part.NamesPart.{NamesPart}
 use Rattle.uma_replay.specs.Counting.{entry_zone, is_bind, is_look, is_unbind, kind_count, report_zones}
 use Rattle.uma_replay.specs.Names.{with_names}

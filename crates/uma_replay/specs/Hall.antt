@@ -14,7 +14,7 @@ use Rattle.trace_worker.specs.Items.{CountedZone}
 use Rattle.trace_worker.specs.NameSizes.{sizes_for}
 use Rattle.trace_worker.specs.NamesStand.{NamesOfClock, NamesStand}
 use Rattle.trace_worker.specs.Together.{AddsUp, AllStand}
-use Rattle.trace_setting.specs.Zones.{AreZones}
+use Rattle.trace_play.specs.Zones.{AreZones}
 use Rattle.trace_totals.specs.Clock.{ReadsHands}
 use Rattle.trace_totals.specs.Closes.{AllClose}
 use Rattle.uma_replay.specs.declared.hall.Hall.{Hall}

@@ -16,10 +16,10 @@ use Rattle.trace_worker.specs.NameLines.{Doing, doing}
 use Rattle.trace_worker.specs.Naming.{no_counts}
 use Rattle.trace_worker.specs.Together.{AddsUp, AllNamed, AllStand, crew}
 use Rattle.trace_worker.specs.Worker.{phase_of, seen_of}
-use Rattle.trace_setting.specs.Beginners.{IsBeginner}
-use Rattle.trace_rounds.specs.Plays.{AllPlay, PlaysRounds}
-use Rattle.trace_rounds.specs.Rounds.{AllAsked}
-use Rattle.trace_census.specs.Lending.{seen_slot}
+use Rattle.trace_play.specs.Beginners.{IsBeginner}
+use Rattle.trace_play.specs.Plays.{AllPlay, PlaysRounds}
+use Rattle.trace_play.specs.Rounds.{AllAsked}
+use Rattle.trace_totals.specs.Lending.{seen_slot}
 
 module _ {N H C S P : Type 0} {h : Ghosts H P} where
   -- what these workers have of the names

@@ -18,7 +18,7 @@ use Rattle.trace_text.specs.declared.head.ZoneHead.{ZoneHead}
 use Rattle.trace_text.specs.declared.trace.Trace.{Trace}
 use Rattle.trace_text.specs.Lines.{lines_of}
 use Rattle.uma_life.specs.Trail.{ShowsSame}
-use Rattle.trace_setting.specs.Kegs.{per_slab, primaries, keg_place}
+use Rattle.trace_play.specs.Kegs.{per_slab, primaries, keg_place}
 use Rattle.uma_replay.specs.Counting.{report_zones, worker_ops, is_alloc_with, is_bind, is_unbind, is_look, kind_count, request_count, arg_count, free_count, enter_count}
 
 -- A kept refusal names what its zone has: the zone's own limit, its keg's reserve and capacity, or a constructor's

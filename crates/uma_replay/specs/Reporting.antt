@@ -19,7 +19,7 @@ use Rattle.zone_stats.specs.declared.report.KegLine.{KegLine}
 use Rattle.zone_stats.specs.declared.report.Report.{Report}
 use Rattle.zone_stats.specs.declared.report.ZoneLine.{ZoneLine}
 use Rattle.zone_stats.specs.Line.{zone_line}
-use Rattle.trace_setting.specs.Kegs.{keg_place, index_of, primaries}
+use Rattle.trace_play.specs.Kegs.{keg_place, index_of, primaries}
 use Rattle.trace_worker.specs.declared.worker.Worker.{Worker}
 use Rattle.trace_worker.specs.Together.{ledger_at}
 

@@ -20,6 +20,3 @@ pub use hall::{CensusList, Hall, Namings, Played, Workers, ZoneList};
 pub use replaying::replay;
 pub use trace_worker::{CountHooks, Counted, FreeGate, Gate, Go, NameCalls, ReclaimCalls};
 pub use zone_stats::Memory;
-
-#[cfg(test)]
-mod tests;

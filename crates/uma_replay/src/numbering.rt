@@ -2,7 +2,7 @@
 ghost use Rattle.std.specs.Prelude.{◌≡◌, ◌<◌, ◌≤◌, ◌==◌, false, length, take};
 ghost use Rattle.std.specs.Option.{option_map_or};
 ghost use Rattle.trace_text.specs.Valid.{sharer_count};
-ghost use Rattle.trace_setting.specs.Kegs.{keg_place, index_of};
+ghost use Rattle.trace_play.specs.Kegs.{keg_place, index_of};
 ghost use Rattle.uma_replay.specs.Reporting.{keg_number};
 
 use trace_text::ZoneHead;

@@ -1,7 +1,7 @@
 ghost use Rattle.std.specs.Prelude.{◌≡◌, ◌≤◌, IfOk, IfSome, IsTrue, is_some, length};
 ghost use Rattle.smr_clock.specs.Belongs.{clock_id, setup_of};
-ghost use Rattle.trace_rounds.specs.Rounds.{GaveUpAsBefore, IsBegun, Suits};
-ghost use Rattle.trace_setting.specs.Setting.{IsSetUp};
+ghost use Rattle.trace_play.specs.Rounds.{GaveUpAsBefore, IsBegun, Suits};
+ghost use Rattle.trace_play.specs.Setting.{IsSetUp};
 ghost use Rattle.trace_text.specs.Lines.{lines_of};
 ghost use Rattle.trace_text.specs.Valid.{IsValid};
 ghost use Rattle.trace_worker.specs.NameSizes.{sizes_for};
@@ -17,8 +17,7 @@ use smr_clock::Clock;
 use std::alloc::Global;
 use std::sync::Wait;
 use std::thread::Threads;
-use trace_rounds::play;
-use trace_setting::{Setting, set_up_with};
+use trace_play::{Setting, play, set_up_with};
 use trace_text::Trace;
 use trace_worker::{CountedZone, Gate, NameCalls, ReclaimCalls, Running};
 

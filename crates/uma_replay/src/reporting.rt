@@ -1,7 +1,7 @@
 //! The report, from the workers' ledgers, the kegs' censuses and the clock's hands.
 ghost use Rattle.std.specs.Prelude.{◌≡◌, ◌<◌, ◌+◌, IfOk, OnOk, length};
 ghost use Rattle.uma_keg.specs.Census.{census_outs};
-ghost use Rattle.trace_setting.specs.Kegs.{primaries};
+ghost use Rattle.trace_play.specs.Kegs.{primaries};
 ghost use Rattle.uma_replay.specs.Reporting.{AreLines, AreHooks, AreKegs, AreKegsTo, HaveKegs, IsLineAt, IsHookWith, keg_line as keg_by};
 
 use crate::Memory;

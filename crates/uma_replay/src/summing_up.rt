@@ -1,7 +1,7 @@
 //! The report as a whole.
 ghost use Rattle.std.specs.Prelude.{◌≡◌, ◌<◌, ◌^◌, ℕ, IfOk, Some, length, slice_get};
 ghost use Rattle.std.specs.List.{sum_by};
-ghost use Rattle.trace_setting.specs.Kegs.{primaries};
+ghost use Rattle.trace_play.specs.Kegs.{primaries};
 ghost use Rattle.trace_worker.specs.declared.worker.Worker.{Worker};
 ghost use Rattle.uma_replay.specs.Reporting.{HaveKegs, IsReportOf};
 

@@ -21,6 +21,3 @@ pub use deferring::try_to_seal;
 pub use fetch_end::FetchEnd;
 pub use seat::SeatCache;
 pub use seating::Seating;
-
-#[cfg(test)]
-mod tests;

@@ -27,6 +27,3 @@ pub use right::{KeptRight, RightKey, RightOfKey};
 pub use zone::Zone;
 pub use zone_refused::ZoneRefused;
 pub use zone_set::{SecondSet, ZoneSet};
-
-#[cfg(test)]
-mod tests;

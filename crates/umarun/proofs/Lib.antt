@@ -2,3 +2,7 @@ mod MadeFew
 mod MadeText
 mod Outcomes
 mod Shown
+mod Counting
+mod Knowing
+mod Ranges
+pub mod Shared

@@ -5,3 +5,6 @@ pub mod Making
 pub mod Replaying
 pub mod Stepping
 pub mod Summary
+pub mod Caches
+pub mod Known
+pub mod Wanting

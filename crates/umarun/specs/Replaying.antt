@@ -5,9 +5,9 @@ use Rattle.text_lines.specs.declared.refused.TraceRefused.{TraceRefused}
 use Rattle.trace_text.specs.declared.trace.Trace.{Trace}
 use Rattle.trace_text.specs.Grammar.{IsTraceText, trace_test}
 use Rattle.smr_clock.specs.Belongs.{setup_of}
-use Rattle.trace_names.specs.Caches.{plan_for}
-use Rattle.trace_setting.specs.contracts.plain_names.PlainNamesNameCalls.TheImpl.{ghosts as plain_names}
-use Rattle.trace_names.specs.contracts.cache_names.CacheNamesNameCalls.TheImpl.{ghosts as cache_names}
+use Rattle.umarun.specs.Caches.{plan_for}
+use Rattle.trace_play.specs.contracts.plain_names.PlainNamesNameCalls.TheImpl.{ghosts as plain_names}
+use Rattle.umarun.specs.contracts.cache_names.CacheNamesNameCalls.TheImpl.{ghosts as cache_names}
 use Rattle.uma_replay.specs.Hall.{HallStands}
 use Rattle.uma_replay.specs.Report.{StandsFor}
 use Rattle.umarun.specs.declared.ended.Ended.{Ended}

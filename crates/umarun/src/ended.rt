@@ -1,5 +1,5 @@
-use trace_names::CacheNames;
-use trace_setting::PlainNames;
+use crate::cache_names::CacheNames;
+use trace_play::PlainNames;
 use uma_replay::Hall;
 
 /// What the replay of a run leaves behind.

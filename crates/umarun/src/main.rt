@@ -8,16 +8,19 @@ ghost use Rattle.std.specs.Process.{exit_status};
 ghost use Rattle.umarun.specs.Ending.{exit_code};
 
 mod bulk;
+mod cache_names;
 mod command;
 mod ended;
 mod fault;
 mod finish;
 mod making;
+mod opening;
 mod reclaim;
 mod replaying;
 mod run;
 mod stepping;
 mod summary;
+mod trace_cache;
 
 use fault::Fault;
 use finish::{Ending, Finish};
@@ -75,6 +78,3 @@ fn words_fault(kind: ErrorKind) -> Fault
         _ => Fault::Memory,
     }
 }
-
-#[cfg(test)]
-mod tests;

@@ -14,6 +14,7 @@ ghost use Rattle.umarun.specs.declared.ended.Ended.{Ended as EndedValue};
 ghost use Rattle.zone_stats.specs.ReportText.{report_text};
 ghost use Rattle.zone_stats.specs.declared.report.Report.{Report as ReportValue};
 
+use crate::cache_names::CacheNames;
 use crate::ended::Ended;
 use crate::fault::Fault;
 use crate::reclaim::Reclaim;
@@ -22,8 +23,7 @@ use std::alloc::Global;
 use std::sync::Wait;
 use std::thread::Threads;
 use text_lines::one_verdict;
-use trace_names::CacheNames;
-use trace_setting::PlainNames;
+use trace_play::PlainNames;
 use trace_text::{ParseRefused, Trace, parse, traces_are_no_longer};
 use uma_io::{Source, read_all};
 use uma_replay::{Gate, Memory, Played};

@@ -12,6 +12,3 @@ mod making;
 mod summing;
 
 pub use domains::ZoneDomains;
-
-#[cfg(test)]
-mod tests;

@@ -1,5 +1,5 @@
 use Rattle.std.proofs.Common.{take}
-use Rattle.trace_census.specs.Lending.{KeepsWorkers}
+use Rattle.trace_totals.specs.Lending.{KeepsWorkers}
 use Rattle.trace_totals.specs.Taking.{TakesKegs}
 use Rattle.trace_totals.proofs.totals.take_kegs.Given as goal
 

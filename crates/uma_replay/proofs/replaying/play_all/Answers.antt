@@ -1,6 +1,6 @@
 use Rattle.std.proofs.Common.{List, length, map, refl, sym, ap, ◌∙◌, subst}
 use Rattle.trace_worker.specs.declared.running.Running.{Running}
-use Rattle.trace_rounds.specs.Rounds.{GaveUpAsBefore, IsBegun, Suits}
+use Rattle.trace_play.specs.Rounds.{GaveUpAsBefore, IsBegun, Suits}
 use Rattle.uma_replay.specs.Playing.{AreEnded}
 use Rattle.uma_replay.proofs.Beginning.{written_back}
 use Rattle.uma_replay.proofs.Playing.{play_as}

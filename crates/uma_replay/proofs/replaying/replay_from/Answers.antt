@@ -4,7 +4,7 @@ use denote.Exit.{yes}
 use denote.Param.Send.{sendable, param_send, arg_send}
 use Rattle.trace_worker.specs.declared.running.Running.{Running}
 use Rattle.trace_worker.specs.Items.{CountedZone}
-use Rattle.trace_rounds.specs.Rounds.{IsBegun, Suits}
+use Rattle.trace_play.specs.Rounds.{IsBegun, Suits}
 use Rattle.uma_replay.specs.Hall.{HallStands}
 use Rattle.uma_replay.specs.Playing.{AreEnded, gave_ups}
 use Rattle.uma_replay.specs.Report.{StandsFor}

@@ -1,5 +1,5 @@
 use denote.Param.Send.{sendable}
-use Rattle.trace_names.proofs.Shared.{trace_cache_sync}
+use Rattle.umarun.proofs.Shared.{trace_cache_sync}
 use Rattle.umarun.proofs.replaying.play.Goals as goal
 
 -- threads share the cache of names

@@ -1,5 +1,0 @@
-use super::*;
-use std::test::Fail;
-
-mod hooking;
-mod racing;

@@ -1,0 +1,75 @@
+use schedule_text::{ScheduleRefused, parse_schedule, schedule_text};
+use smr_core::{Phase, StepRefused, Task};
+use std::alloc::Global;
+use std::test::Fail;
+
+/// What a text of a schedule prints, or why its step is refused.
+fn played(alloc: Global, text: &str) -> Result<Result<Vec<u8>, ScheduleRefused>, Fail> {
+    let schedule = parse_schedule(alloc, text.as_bytes())?;
+    Ok(schedule_text(alloc, &schedule))
+}
+
+#[test]
+fn the_window_is_used_up(rt: HostRuntime) -> Result<(), Fail> {
+    let text = "\
+smr 1
+clock 2 1 4
+enter 0
+advance 1
+advance 1
+advance 1
+exit 0
+end
+";
+    let expected = "\
+hand 1
+done
+in 1 1
+hand 1
+hand 1
+goal 3 moved
+hand 1
+hand 3
+goal 5 moved
+hand 1
+toofar 1 5
+done
+hands 1 5
+";
+    assert_eq!(rt; played(rt.alloc(), text)??.as_slice(), expected.as_bytes());
+    Ok(())
+}
+
+#[test]
+fn a_refused_step_is_named_with_its_line(rt: HostRuntime) -> Result<(), Fail> {
+    let rows = [
+        (
+            "smr 1\nclock 2 1 8\nstore 0\nenter 2\nend",
+            StepRefused::OutOfTurn {
+                seat: 0,
+                phase: Phase::Outside,
+                task: Task::Idle,
+            },
+            "line 3: out of turn",
+        ),
+        (
+            "smr 1\nclock 2 1 8\nload 2\nend\n",
+            StepRefused::NoSeat { seat: 2, seats: 2 },
+            "line 3: no such seat",
+        ),
+    ];
+    for (text, refused, fault) in rows {
+        let step = ScheduleRefused::Step { line: 3, refused };
+        assert_eq!(rt; played(rt.alloc(), text)?.err(), Some(step));
+        assert_eq!(rt; format!(in rt.alloc(); "{step}")?.as_str(), fault);
+    }
+    let crowded = ScheduleRefused::Step {
+        line: 65_538,
+        refused: StepRefused::Crowded { holders: 65_536 },
+    };
+    assert_eq!(rt;
+        format!(in rt.alloc(); "{crowded}")?.as_str(),
+        "line 65538: too many holders"
+    );
+    Ok(())
+}

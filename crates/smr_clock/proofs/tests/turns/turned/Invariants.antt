@@ -1,7 +1,0 @@
-use Rattle.std.proofs.Common.{◌≡◌}
-use Rattle.smr_core.specs.declared.phase.Phase.{Phase}
-use Rattle.smr_clock.specs.Belongs.{IsOf, holder}
-use Rattle.smr_clock.proofs.tests.turns.turned.Given as goal
-
-abbrev pub invariant-loop : goal.invariant-loop
-invariant-loop l = record { here : IsOf l.clock l.pass; outside : (holder l.pass).phase ≡ Phase.Outside }

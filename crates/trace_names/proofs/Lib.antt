@@ -1,4 +1,0 @@
-mod Counting
-mod Knowing
-mod Ranges
-pub mod Shared

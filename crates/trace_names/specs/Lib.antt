@@ -1,3 +1,0 @@
-pub mod Caches
-pub mod Known
-pub mod Wanting

@@ -1,0 +1,160 @@
+-- From one round to the next, and from the first to the last.
+use Rattle.std.proofs.Common.{◌≡◌, ℕ, ◌+◌, ◌<◌, ◌≤◌, List, [], ◌∷◌, Option, inl, inr, refl, sym, ap, ◌∙◌, subst, length, map, get_or, reverse}
+use Rattle.std.proofs.lemmas.List.Elements.{All-nil}
+use Rattle.std.proofs.lemmas.Option.{same_Some, slice_get_cases}
+use Rattle.std.specs.Option.{option_map_or}
+use Rattle.std.specs.Prelude.{All, Result, Ok, Err, OnOk}
+use Rattle.smr_clock.specs.declared.clock.Clock.{Clock}
+use Rattle.smr_clock.specs.declared.host.Host.{Ghosts}
+use Rattle.trace_text.specs.declared.between.Between.{Between}
+use Rattle.trace_text.specs.declared.between.Between.TheVariants.{Give}
+use Rattle.trace_text.specs.declared.head.Head.{Head}
+use Rattle.trace_text.specs.declared.round.Round.{Round}
+use Rattle.trace_text.specs.declared.trace.Trace.{Trace}
+use Rattle.trace_text.specs.Lines.{Line, Moves, lines_of}
+use Rattle.trace_text.specs.Valid.{BetweenFits, RoundFits}
+use Rattle.trace_worker.specs.declared.name_calls.NameCalls.{Ghosts as NameGhosts}
+use Rattle.trace_worker.specs.declared.naming.Naming.{Naming}
+use Rattle.trace_worker.specs.declared.running.Running.{Running}
+use Rattle.trace_worker.specs.Giving.{KeepsRest, with_slots}
+use Rattle.trace_worker.specs.Items.{CountedZone}
+use Rattle.trace_worker.specs.NamesStand.{NamesStand}
+use Rattle.trace_worker.specs.OwnLines.{stacked, lines_before}
+use Rattle.trace_worker.specs.Together.{AllNamed}
+use Rattle.trace_worker.proofs.LineCounts.{binds-more, looks-more, unbinds-more}
+use Rattle.trace_play.specs.DoneBy.{done_by}
+use Rattle.trace_play.specs.Parts.{after_workers, gives_of, IsAmong}
+use Rattle.trace_play.specs.Rounds.{AllAsked, AllMoved, AllWorked, AreAfter, GaveUpAsBefore, HasEnded, IsBegun, Suits}
+use Rattle.trace_play.proofs.AfterRound.{SameNumbers, turns, stand_after, named_after, named_as, asked_after}
+use Rattle.trace_play.proofs.Bounds.{below_as, some_of, none_done, none_asked, none_given_up, done_as, asked_as}
+use Rattle.trace_play.proofs.Items.{adds_after}
+use Rattle.trace_play.proofs.RoundLists.{before, map-same}
+use Rattle.trace_play.proofs.RoundLines.{gives_fit, lines_before-all, lines_before-more, none_before}
+use Rattle.trace_play.proofs.SameFor.{done_by-more, done_by-none, none_counted}
+
+module _ {N H C S Part : Type 0} {h : Ghosts H Part} (names : NameGhosts N H C S Part) (cache : C) where
+  -- there is a worker
+  pub some_workers : (t : Trace) (zones : List (CountedZone H Part h)) (clock : Clock H Part) (workers : List (Running N H C S Part h)) → Suits names cache t zones clock workers → 0 < length workers
+  some_workers t zones clock workers suits = some_of suits.worker_count suits.valid.head.workers.0
+
+  pub suits_still : (t : Trace) (zones : List (CountedZone H Part h)) (clock : Clock H Part) (old new : List (Running N H C S Part h)) → length new ≡ length old → Suits names cache t zones clock old → Suits names cache t zones clock new
+  suits_still t zones clock old new size suits = record {
+    valid = suits.valid;
+    served = suits.served;
+    few = suits.few;
+    zone_count = suits.zone_count;
+    of_clock = suits.of_clock;
+    names_of_clock = suits.names_of_clock;
+    worker_count = size ∙ suits.worker_count;
+  }
+
+-- ---- givers and takers are workers
+
+among : (count : ℕ) (h : Head) (b : Between) → count ≡ h.workers → BetweenFits h b → IsAmong count b
+among count h (Give giver slot taker slot2) same fits = (below_as fits.0 (sym same), below_as fits.2 (sym same), fits.3)
+
+all_of_round : (count : ℕ) (h : Head) (r : Round) → count ≡ h.workers → RoundFits h r → All (IsAmong count) r.between
+all_of_round count h r same fits i d below = among count h (get_or r.between i d) same (fits.between i d below)
+
+module _ {N H C S Part : Type 0} {h : Ghosts H Part} (names : NameGhosts N H C S Part) (cache : C) where
+  pub all_among : (t : Trace) (zones : List (CountedZone H Part h)) (clock : Clock H Part) (k : ℕ) (workers : List (Running N H C S Part h)) → Suits names cache t zones clock workers → All (IsAmong (length workers)) (gives_of t.rounds k)
+  all_among t zones clock k workers suits =
+      let P : List Between → Type 0 = λ list. All (IsAmong (length workers)) list in
+      let between : Option Round → List Between = λ o. option_map_or (λ (r : Round). r.between) o [] in
+      elim (slice_get_cases t.rounds k).1 [
+        | inl w ↦ subst P (ap between (sym w.2)) (all_of_round (length workers) t.head w.0 suits.worker_count (subst (RoundFits t.head) w.3 (suits.valid.rounds k w.0 w.1)))
+        | inr w ↦ subst P (ap between (sym w.1)) (All-nil (IsAmong (length workers)))
+      ]
+
+-- ---- the `give` lines leave the counts as they are
+
+done_by-moves : (n : ℕ) (betweens : List Between) (lines : List Line) → done_by n (stacked (map Moves betweens) lines) ≡ done_by n lines
+unfolding stacked
+done_by-moves n [] lines = refl
+done_by-moves n (b ∷ betweens) lines = done_by-moves n betweens (Moves b ∷ lines) ∙ none_counted (done_by-more n (Moves b) lines) refl
+
+same_numbers-moves : (n : ℕ) (betweens : List Between) (lines : List Line) → SameNumbers n (stacked (map Moves betweens) lines) lines
+unfolding stacked
+same_numbers-moves n [] lines = record { looks_same = refl; binds_same = refl; unbinds_same = refl }
+same_numbers-moves n (b ∷ betweens) lines =
+    let rest = same_numbers-moves n betweens (Moves b ∷ lines) in
+    record {
+      looks_same = rest.looks_same ∙ none_counted (looks-more n (Moves b) lines) refl;
+      binds_same = rest.binds_same ∙ none_counted (binds-more n (Moves b) lines) refl;
+      unbinds_same = rest.unbinds_same ∙ none_counted (unbinds-more n (Moves b) lines) refl;
+    }
+
+module _ {N H C S Part : Type 0} {h : Ghosts H Part} (names : NameGhosts N H C S Part) (cache : C) where
+  named_moved : (betweens : List Between) (lines : List Line) (old new : List (Running N H C S Part h)) → KeepsRest old new → AllNamed names cache lines old → AllNamed names cache (stacked (map Moves betweens) lines) new
+  named_moved betweens lines old new keeps named n r at =
+      let b = before (λ (x : Running N H C S Part h). with_slots x []) old new n r keeps at in
+      let P : ℕ → Type 0 = λ late. NamesStand names cache n (stacked (map Moves betweens) lines) late r.naming in
+      let Q : Naming N H C S Part → Type 0 = λ naming. NamesStand names cache n (stacked (map Moves betweens) lines) b.was.worker.late naming in
+      subst P (sym (ap (λ (x : Running N H C S Part h). x.worker.late) b.same))
+      (subst Q (sym (ap (λ (x : Running N H C S Part h). x.naming) b.same))
+      (named_as names cache n (stacked (map Moves betweens) lines) lines b.was.worker.late b.was.naming (same_numbers-moves n betweens lines) (named n b.was b.at)))
+
+module _ {N H C S Part : Type 0} {h : Ghosts H Part} where
+  asked_moved : (betweens : List Between) (lines : List Line) (old new : List (Running N H C S Part h)) → KeepsRest old new → AllAsked lines old → AllAsked (stacked (map Moves betweens) lines) new
+  asked_moved betweens lines old new keeps asked n r at =
+      let b = before (λ (x : Running N H C S Part h). with_slots x []) old new n r keeps at in
+      let was = asked n b.was b.at in
+      let done = done_by-moves n betweens lines in
+      record {
+        asked_some = done_as done (ap (λ (x : Running N H C S Part h). x.asked) b.same) was.asked_some;
+        asked_few = asked_as (ap (λ (x : Running N H C S Part h). x.asked) b.same) done was.asked_few;
+        gave_up_few = done_as (ap (λ (x : Running N H C S Part h). x.gave_up) b.same) done was.gave_up_few;
+      }
+
+  gave_up_kept : (old new : List (Running N H C S Part h)) → length new ≡ length old → KeepsRest old new → GaveUpAsBefore old new
+  gave_up_kept old new size keeps = map-same (λ (x : Running N H C S Part h). x.gave_up) old new size (λ n was is at now.
+      let b = before (λ (x : Running N H C S Part h). with_slots x []) old new n is keeps now in
+      ap (λ (x : Running N H C S Part h). x.gave_up) b.same ∙ ap (λ (x : Running N H C S Part h). x.gave_up) (same_Some b.was was (sym b.at ∙ at)))
+
+  pub still_free : (old mid new : List (Running N H C S Part h)) → length new ≡ length mid → KeepsRest mid new → GaveUpAsBefore old mid → GaveUpAsBefore old new
+  still_free old mid new size keeps same = gave_up_kept mid new size keeps ∙ same
+
+module _ {N H C S Part : Type 0} {h : Ghosts H Part} (names : NameGhosts N H C S Part) (cache : C) where
+  -- ---- a whole round
+
+  pub after_round : (t : Trace) (zones : List (CountedZone H Part h)) (clock : Clock H Part) (k : ℕ) (old mid new : List (Running N H C S Part h)) → Suits names cache t zones clock old → AreAfter names cache zones clock (lines_before t.rounds k) old
+      → length mid ≡ length old → All HasEnded mid → AllWorked names cache t zones clock k old mid → KeepsRest mid new → AllMoved (gives_of t.rounds k) mid new
+      → AreAfter names cache zones clock (lines_before t.rounds (k + 1)) new
+  after_round t zones clock k old mid new suits after size ended worked keeps moved =
+      let done = turns names cache t zones clock k old mid size ended worked in
+      let now = moved zones clock (after_workers t.rounds k) (gives_fit t.rounds k suits.valid.lines) (stand_after names cache t zones clock k old mid done) in
+      let P : List Line → Type 0 = λ lines. AreAfter names cache zones clock lines new in
+      subst P (sym (lines_before-more t.rounds k)) record {
+        stand = now.stand;
+        adds_up = λ z. now.adds_up z (adds_after names cache t zones clock k old mid done z after.stand (after.adds_up z));
+        named = named_moved names cache (gives_of t.rounds k) (after_workers t.rounds k) mid new keeps (named_after names cache t zones clock k old mid done);
+        asked = asked_moved (gives_of t.rounds k) (after_workers t.rounds k) mid new keeps (asked_after names cache t zones clock k old mid done after.asked);
+      }
+
+  -- ---- the first round and the last
+
+  pub begun : (t : Trace) (zones : List (CountedZone H Part h)) (clock : Clock H Part) (workers : List (Running N H C S Part h)) → IsBegun names cache zones clock workers → AreAfter names cache zones clock (lines_before t.rounds 0) workers
+  begun t zones clock workers ready =
+      let P : List Line → Type 0 = λ lines. AreAfter names cache zones clock lines workers in
+      subst P (sym (none_before t.rounds)) record {
+        stand = ready.stand;
+        adds_up = ready.adds_up;
+        named = ready.named;
+        asked = λ n r at. record {
+          asked_some = none_done (done_by-none n);
+          asked_few = none_asked (done_by n []) (ready.unasked n r at).0;
+          gave_up_few = none_given_up (done_by n []) (ready.unasked n r at).1;
+        };
+      }
+
+  pub ended : (t : Trace) (zones : List (CountedZone H Part h)) (clock : Clock H Part) (k : ℕ) (workers : List (Running N H C S Part h)) → length t.rounds ≤ k → AreAfter names cache zones clock (lines_before t.rounds k) workers
+      → AreAfter names cache zones clock (reverse (lines_of t.rounds)) workers
+  ended t zones clock k workers past after =
+      let P : List Line → Type 0 = λ lines. AreAfter names cache zones clock lines workers in
+      subst P (lines_before-all t.rounds k past) after
+
+-- ---- what holds where a call answers Ok
+
+pub both_ok : {T E : Type 0} (r : Result T E) (P Q W : Type 0) → OnOk r P → OnOk r Q → (P → Q → W) → OnOk r W
+both_ok (Ok x) P Q W p q both = both p q
+both_ok (Err e) P Q W p q both = p

@@ -1,0 +1,10 @@
+use Rattle.std.proofs.Common.{take}
+use Rattle.trace_play.specs.Rounds.{AllMoved}
+use Rattle.trace_worker.specs.Giving.{KeepsRest}
+use Rattle.trace_play.proofs.giving.give_all.Given as goal
+
+abbrev pub invariant-loop-between : goal.invariant-loop-between
+invariant-loop-between g l = record {
+  rest : KeepsRest l.initial.workers l.workers;
+  moved : AllMoved (take l.between-index l.betweens) l.initial.workers l.workers;
+}

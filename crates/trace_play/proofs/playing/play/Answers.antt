@@ -1,0 +1,42 @@
+use Rattle.std.proofs.Common.{◌≡◌, ◌<◌, ◌≤◌, ◌∙◌, length, refl, rules}
+use Rattle.trace_play.proofs.Played.{begun, ended}
+use Rattle.trace_play.proofs.Plays.{play_all, play_more, play_none}
+use Rattle.trace_play.proofs.playing.play.Goals as goal
+
+pub loop-round-init : goal.loop-round-init
+loop-round-init g c = record {
+  after = begun g.N.NameCalls c.args.cache.now c.args.trace.now c.args.zones.now c.args.clock.now c.args.workers.now c.requires.begun;
+  plays = play_none g.N.NameCalls c.args.cache.now c.args.zones.now c.args.trace.now.rounds c.args.workers.now;
+  free = λ free. refl;
+}
+
+pub loop-round-preserved : goal.loop-round-preserved
+loop-round-preserved g c =
+    let below : c.loop-round.round < length c.args.trace.now.rounds = search rules in
+    let size : length c.play_round.new.workers ≡ length c.loop-round.workers = search rules in
+    record {
+      after = c.in_ok-play_round.ensures.after;
+      plays = play_more g.N.NameCalls c.args.cache.now c.args.zones.now c.args.trace.now.rounds c.loop-round.round c.args.workers.now c.loop-round.workers c.play_round.new.workers below size c.loop-round.invariant.plays
+          c.in_ok-play_round.ensures.plays;
+      free = λ free. c.in_ok-play_round.ensures.free free ∙ c.loop-round.invariant.free free;
+    }
+
+pub returns-clause-plays : goal.returns-clause-plays
+returns-clause-plays g c =
+    let past : length c.args.trace.now.rounds ≤ c.loop-round.round = search rules in
+    play_all g.N.NameCalls c.args.cache.now c.args.zones.now c.args.trace.now.rounds c.loop-round.round c.args.workers.now c.loop-round.workers past c.loop-round.invariant.plays
+
+pub returns-clause-stands : goal.returns-clause-stands
+returns-clause-stands g c =
+    let past : length c.args.trace.now.rounds ≤ c.loop-round.round = search rules in
+    (ended g.N.NameCalls c.args.cache.now c.args.trace.now c.args.zones.now c.args.clock.now c.loop-round.round c.loop-round.workers past c.loop-round.invariant.after).stand
+
+pub returns-clause-asked : goal.returns-clause-asked
+returns-clause-asked g c =
+    let past : length c.args.trace.now.rounds ≤ c.loop-round.round = search rules in
+    (ended g.N.NameCalls c.args.cache.now c.args.trace.now c.args.zones.now c.args.clock.now c.loop-round.round c.loop-round.workers past c.loop-round.invariant.after).asked
+
+pub returns-clause-named : goal.returns-clause-named
+returns-clause-named g c =
+    let past : length c.args.trace.now.rounds ≤ c.loop-round.round = search rules in
+    (ended g.N.NameCalls c.args.cache.now c.args.trace.now c.args.zones.now c.args.clock.now c.loop-round.round c.loop-round.workers past c.loop-round.invariant.after).named

@@ -1,0 +1,37 @@
+use Rattle.std.proofs.Common.{◌≡◌, length, rules, subst, List}
+use Rattle.trace_text.specs.declared.between.Between.{Between}
+use Rattle.trace_play.specs.Rounds.{AllMoved}
+use Rattle.trace_play.proofs.AfterRound.{all_ready, gave_up_same}
+use Rattle.trace_play.proofs.Played.{after_round, both_ok, some_workers, still_free}
+use Rattle.trace_play.proofs.Plays.{plays_round}
+use Rattle.trace_play.proofs.playing.play_round.Goals as goal
+
+pub work_round-requires-clause-some : goal.work_round-requires-clause-some
+work_round-requires-clause-some g c κs within = some_workers g.N.NameCalls c.args.cache.now c.args.trace.now c.args.zones.now c.args.clock.now c.args.workers.now c.requires.suits
+
+pub work_round-requires-clause-ready : goal.work_round-requires-clause-ready
+work_round-requires-clause-ready g c κs within =
+    all_ready g.N.NameCalls c.args.cache.now c.args.trace.now c.args.zones.now c.args.clock.now c.args.round c.args.workers.now c.requires.suits c.requires.after c.requires.round
+
+pub returns-clause-after : goal.returns-clause-after
+returns-clause-after g c =
+    let size : length c.work_round.new.workers ≡ length c.args.workers.now = search rules in
+    let P : List Between → Type 0 = λ list. AllMoved list c.work_round.new.workers c.give_all.new.workers in
+    both_ok c.give_all.result _ _ _ c.give_all.ensures.rest c.give_all.ensures.moved (λ keeps moved.
+    after_round g.N.NameCalls c.args.cache.now c.args.trace.now c.args.zones.now c.args.clock.now c.args.round c.args.workers.now c.work_round.new.workers c.give_all.new.workers c.requires.suits c.requires.after
+    size c.in_ok-all_ended.ensures c.work_round.ensures.worked keeps (subst P c.gives_of.ensures moved))
+
+pub returns-clause-plays : goal.returns-clause-plays
+returns-clause-plays g c =
+    let size : length c.work_round.new.workers ≡ length c.args.workers.now = search rules in
+    both_ok c.give_all.result _ _ _ c.give_all.ensures.rest c.give_all.ensures.rest (λ keeps again.
+    plays_round g.N.NameCalls c.args.cache.now c.args.trace.now c.args.zones.now c.args.clock.now c.args.round c.args.workers.now c.work_round.new.workers c.give_all.new.workers
+    size c.in_ok-all_ended.ensures c.work_round.ensures.worked keeps)
+
+pub returns-clause-free : goal.returns-clause-free
+returns-clause-free g c free =
+    let size : length c.work_round.new.workers ≡ length c.args.workers.now = search rules in
+    let more : length c.give_all.new.workers ≡ length c.work_round.new.workers = search rules in
+    both_ok c.give_all.result _ _ _ c.give_all.ensures.rest c.give_all.ensures.rest (λ keeps again.
+    still_free c.args.workers.now c.work_round.new.workers c.give_all.new.workers more keeps
+    (gave_up_same c.args.workers.now c.work_round.new.workers size (c.work_round.ensures.free free)))

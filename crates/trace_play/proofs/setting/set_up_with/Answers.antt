@@ -1,0 +1,22 @@
+use Rattle.std.proofs.Common.{◌≡◌, ◌∙◌, List, length, sym, subst}
+use Rattle.std.specs.Prelude.{All}
+use Rattle.uma_zone.specs.Zone.{zone_domains}
+use Rattle.trace_worker.specs.Items.{CountedZone}
+use Rattle.trace_play.specs.Beginners.{AreBeginners}
+use Rattle.trace_play.proofs.SetUp.{zones_in, set_up_of}
+use Rattle.trace_play.proofs.setting.set_up_with.Goals as goal
+
+pub make_workers-requires-clause-zones : goal.make_workers-requires-clause-zones
+make_workers-requires-clause-zones g c =
+    let head = c.args.trace.now.head in
+    subst (All (λ (zone : CountedZone _ _ _). zone_domains zone ≡ head.domains)) (sym c.as_slice.ensures.value) (zones_in head c.args.clock c.in_ok-zones.zones.items c.in_ok-zones.ensures)
+
+pub returns-clause-set_up : goal.returns-clause-set_up
+returns-clause-set_up g c =
+    let head = c.args.trace.now.head in
+    let clock = c.args.clock in
+    let count = length c.note_beginning-begun.new.passes.items in
+    let workers = c.in_ok-workers.workers.items in
+    set_up_of c.args.trace.now (record { clock = clock; begun = c.note_beginning-begun.result; zones = c.in_ok-zones.zones; workers = c.in_ok-workers.workers }) count c.requires.clock c.note_beginning-begun.ensures.note c.in_ok-zones.ensures
+    (c.note_beginning-begun.ensures.passes.one_each ∙ c.requires.passes.one_each)
+    (subst (λ (zones : List (CountedZone _ _ _)). AreBeginners zones clock head.domains count workers) c.as_slice.ensures.value c.in_ok-workers.ensures)

@@ -1,0 +1,10 @@
+pub mod Beginners
+pub mod Kegs
+pub mod Setting
+pub mod Zones
+pub mod ZonesSoFar
+pub mod Plain
+pub mod DoneBy
+pub mod Parts
+pub mod Plays
+pub mod Rounds

@@ -1,0 +1,21 @@
+-- What a trace begins with (own).
+use Rattle.std.specs.Prelude.{ℕ, []}
+use Rattle.smr_clock.specs.declared.host.Host.{Ghosts}
+use Rattle.trace_text.specs.declared.trace.Trace.{Trace}
+use Rattle.trace_worker.specs.Together.{AllStand, AddsUp}
+use Rattle.trace_play.specs.declared.setting.Setting.{Setting}
+use Rattle.trace_play.specs.Beginners.{AreBeginners}
+use Rattle.trace_worker.specs.Clocks.{IsClockOf, KnowsBeginning}
+use Rattle.trace_play.specs.Zones.{AreZones}
+
+module _ {H P : Type 0} {h : Ghosts H P} where
+  -- The clock, the zones and the workers of this trace before its first line.
+  pub record IsSetUp (t : Trace) (s : Setting H P h) : Type 0 where
+    -- a seat for each worker, and the hands and the window of the clock line, or 1 and 1,024
+    pub clock : IsClockOf t.head s.clock
+    pub begun : KnowsBeginning s.clock s.begun
+    pub zones : AreZones t.head s.clock s.zones.items
+    -- each has its seats in its domain
+    pub begin : AreBeginners s.zones.items s.clock t.head.domains t.head.workers s.workers.items
+    pub stand : AllStand s.zones.items s.clock [] s.workers.items
+    pub adds_up : (z : ℕ) → AddsUp z s.workers.items

@@ -1,4 +1,0 @@
-pub mod DoneBy
-pub mod Parts
-pub mod Plays
-pub mod Rounds

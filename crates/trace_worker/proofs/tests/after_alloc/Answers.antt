@@ -1,8 +1,0 @@
-use Rattle.trace_worker.proofs.NewSeats.{empty_new, rooms_new}
-use Rattle.trace_worker.proofs.tests.after_alloc.Goals as goal
-
-pub alloc-requires-clause-empty : goal.alloc-requires-clause-empty
-alloc-requires-clause-empty g c = empty_new c.args.zones.now c.args.pass 0 c.in_ok-worker.worker 3 c.in_ok-worker.ensures.new
-
-pub alloc-requires-clause-rooms : goal.alloc-requires-clause-rooms
-alloc-requires-clause-rooms g c = rooms_new c.args.zones.now c.args.pass 0 c.in_ok-worker.worker c.in_ok-worker.ensures.new

@@ -1,4 +1,0 @@
-mod body;
-mod clock;
-mod reuse;
-mod stacks;

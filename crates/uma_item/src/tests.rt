@@ -1,4 +1,0 @@
-mod doors;
-mod items;
-mod turns;
-mod turnstile;

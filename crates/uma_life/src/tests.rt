@@ -1,3 +1,0 @@
-mod counted;
-mod items;
-mod words;

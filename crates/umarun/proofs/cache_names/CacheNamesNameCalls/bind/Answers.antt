@@ -1,0 +1,47 @@
+use Rattle.std.specs.Prelude.{Bool, Some}
+use Rattle.smr_clock.specs.Belongs.{view}
+use Rattle.uma_seat.specs.Seat.{ledger_of}
+use Rattle.uma_zone.specs.Zone.{zone_cap}
+use Rattle.name_cache.specs.Cache.{cache_zone, row_count}
+use Rattle.trace_worker.specs.NameCalls.{Bound, CountedBind}
+use Rattle.umarun.specs.Known.{KnowsRecord}
+use Rattle.umarun.proofs.Counting.{bind_counts, refusal_counts, refused_ends, room_in_cache}
+use Rattle.umarun.proofs.Knowing.{binds_of, still_known}
+use Rattle.umarun.proofs.cache_names.CacheNamesNameCalls.bind.Goals as goal
+
+pub bind-requires-clause-room : goal.bind-requires-clause-room
+bind-requires-clause-room g c = room_in_cache (ledger_of c.args.seat.now) c.requires.room
+
+pub returns-in-Ok-clause-still : goal.returns-in-Ok-clause-still
+returns-in-Ok-clause-still g c = still_known (view c.args.pass.now) (view c.bind.new.pass) c.bind.ensures.still
+
+pub returns-in-Err-clause-still : goal.returns-in-Err-clause-still
+returns-in-Err-clause-still g c = still_known (view c.args.pass.now) (view c.bind.new.pass) c.bind.ensures.still
+
+pub returns-in-Ok-clause-binds : goal.returns-in-Ok-clause-binds
+returns-in-Ok-clause-binds g c =
+    let cache = c.args.cache.now.cache in
+    binds_of (row_count cache) c.args.key (view c.args.pass.now) (view c.bind.new.pass) (cache_zone cache) c.args.value c.args.seat.now c.bind.new.seat c.in-Ok.field-0 c.in-Ok.ensures.bound c.in-Ok.ensures.above
+
+pub returns-in-Ok-clause-counts : goal.returns-in-Ok-clause-counts
+returns-in-Ok-clause-counts g c =
+    let cache = c.args.cache.now.cache in
+    bind_counts (cache_zone cache) (row_count cache) c.args.key c.args.value (view c.args.pass.now) (view c.bind.new.pass) c.args.seat.now c.bind.new.seat c.in-Ok.field-0 c.in-Ok.ensures.bound
+
+pub returns-in-Err-clause-binds : goal.returns-in-Err-clause-binds
+returns-in-Err-clause-binds g c =
+    let v = view c.args.pass.now in
+    let v' = view c.bind.new.pass in
+    let rows = row_count c.args.cache.now.cache in
+    let P : Bool → Type 0 = λ done. Bound KnowsRecord rows c.args.key c.args.value v done v' in
+    refused_ends c.turned.result _ P c.turned.ensures.refuses c.turned.ensures.not_memory (λ other. tt)
+
+pub returns-in-Err-clause-counts : goal.returns-in-Err-clause-counts
+returns-in-Err-clause-counts g c =
+    let kept = c.args.cache.now in
+    let zone = cache_zone kept.cache in
+    let old = c.args.seat.now in
+    let new = c.bind.new.seat in
+    let P : Bool → Type 0 = λ done. CountedBind (zone_cap zone) done (Some (ledger_of old)) (Some (ledger_of new)) in
+    refused_ends c.turned.result _ P c.turned.ensures.refuses c.turned.ensures.not_memory
+    (λ other. refusal_counts zone kept.unlimited kept.unreserved (row_count kept.cache) c.args.key (view c.args.pass.now) (view c.bind.new.pass) old new c.in-Err.refused c.in-Err.ensures.refused other)

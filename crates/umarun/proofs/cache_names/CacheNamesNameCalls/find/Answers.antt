@@ -1,0 +1,31 @@
+use Rattle.std.proofs.Common.{ap, subst, sym, ◌∙◌}
+use Rattle.smr_clock.specs.declared.setup.Setup.{Setup}
+use Rattle.smr_clock.specs.Belongs.{TableId, view}
+use Rattle.smr_core.specs.declared.holder.Holder.{Holder}
+use Rattle.name_rows.specs.Belongs.{FitsNames}
+use Rattle.name_cache.specs.Cache.{row_count}
+use Rattle.umarun.proofs.Knowing.{find_holder, find_keeps, finds_of, same_seen, still_known}
+use Rattle.umarun.proofs.cache_names.CacheNamesNameCalls.find.Goals as goal
+
+pub find-requires-clause-names : goal.find-requires-clause-names
+find-requires-clause-names c = subst (λ (id : TableId × Setup). FitsNames id.1 id.0.words) (sym c.requires.clock) c.args._cache.now.cache.names
+
+pub returns-clause-inside : goal.returns-clause-inside
+returns-clause-inside c = ap (λ (h : Holder). h.phase) (find_holder c.args.key (view c.args.pass.now) (view c.find.new.pass) c.find.result c.find.ensures.finds) ∙ c.requires.inside
+
+pub returns-clause-seen : goal.returns-clause-seen
+returns-clause-seen c =
+    let v = view c.args.pass.now in
+    let v' = view c.find.new.pass in
+    same_seen v v' (find_holder c.args.key v v' c.find.result c.find.ensures.finds)
+
+pub returns-clause-still : goal.returns-clause-still
+returns-clause-still c =
+    let v = view c.args.pass.now in
+    let v' = view c.find.new.pass in
+    still_known v v' (find_keeps c.args.key v v' c.find.result c.find.ensures.finds)
+
+pub returns-clause-finds : goal.returns-clause-finds
+returns-clause-finds c =
+    let plan = ap (λ (id : TableId × Setup). id.1.plan.0) (c.requires.pass ∙ c.requires.clock) in
+    finds_of c.args.key (view c.args.pass.now) (view c.find.new.pass) c.find.result c.find.ensures.finds (row_count c.args._cache.now.cache) plan

@@ -1,0 +1,19 @@
+use Rattle.smr_clock.specs.Belongs.{view}
+use Rattle.name_cache.specs.Cache.{row_count}
+use Rattle.umarun.proofs.Counting.{unbind_counts}
+use Rattle.umarun.proofs.Knowing.{still_known, unbind_ends}
+use Rattle.umarun.proofs.cache_names.CacheNamesNameCalls.unbind.Goals as goal
+
+pub returns-in-Ok-clause-unbinds : goal.returns-in-Ok-clause-unbinds
+returns-in-Ok-clause-unbinds g c =
+    unbind_ends (row_count c.args.cache.now.cache) c.args.key (view c.args.pass.now) (view c.unbind.new.pass) c.args.seat.now c.unbind.new.seat c.in-Ok.found c.is_some.result c.is_some.ensures c.in-Ok.ensures.unbound c.in-Ok.ensures.none
+
+pub returns-in-Ok-clause-counts : goal.returns-in-Ok-clause-counts
+returns-in-Ok-clause-counts g c =
+    unbind_counts (row_count c.args.cache.now.cache) c.args.key (view c.args.pass.now) (view c.unbind.new.pass) c.args.seat.now c.unbind.new.seat c.in-Ok.found c.is_some.result c.is_some.ensures c.in-Ok.ensures.unbound c.in-Ok.ensures.none
+
+pub returns-in-Ok-clause-still : goal.returns-in-Ok-clause-still
+returns-in-Ok-clause-still g c = still_known (view c.args.pass.now) (view c.unbind.new.pass) c.unbind.ensures.still
+
+pub returns-in-Err-clause-still : goal.returns-in-Err-clause-still
+returns-in-Err-clause-still g c = still_known (view c.args.pass.now) (view c.unbind.new.pass) c.unbind.ensures.still

@@ -1,0 +1,34 @@
+use Rattle.std.proofs.Common.{◌*◌, ℕ, Option, ap, subst}
+use Rattle.std.specs.Prelude.{IfSome}
+use Rattle.smr_clock.specs.declared.setup.Setup.{Setup}
+use Rattle.smr_clock.specs.Making.{setup}
+use Rattle.trace_text.specs.declared.head.ClockHead.{ClockHead}
+use Rattle.trace_text.specs.Valid.{ClockFits}
+use Rattle.name_cache.proofs.Opening.{is_opened}
+use Rattle.trace_play.proofs.Passes.{passes_of}
+use Rattle.umarun.proofs.Ranges.{in_range, names_lack, plan_fits}
+use Rattle.umarun.proofs.opening.open.Goals as goal
+
+pub returns-in-Ok-clause-passes : goal.returns-in-Ok-clause-passes
+returns-in-Ok-clause-passes c =
+    passes_of c.args.head.now.workers c.in-Ok.opened.clock c.in-Ok.opened.passes (ap (λ (s : Setup). s.about.seats) c.in-Ok.ensures.clock) c.in-Ok.ensures.passes
+
+pub returns-in-Ok-clause-opened : goal.returns-in-Ok-clause-opened
+returns-in-Ok-clause-opened c =
+    let made = c.in-Ok.ensures in
+    let clock = c.in-Some.clock in
+    let plan : ℕ × ℕ = (c.args.line.now.rows, c.args.line.now.slabs * 64) in
+    is_opened c.in-Ok.opened (setup c.args.head.now.workers clock.start clock.window plan) _ made.clock made.names made.long made.rows made.root
+
+pub returns-in-Ok-clause-rows : goal.returns-in-Ok-clause-rows
+returns-in-Ok-clause-rows c = c.in-Ok.ensures.rows
+
+pub returns-in-Err-clause-refused : goal.returns-in-Err-clause-refused
+returns-in-Err-clause-refused c =
+    let clock = c.in-Some.clock in
+    let line = c.args.line.now in
+    let workers = c.args.head.now.workers in
+    let plan : ℕ × ℕ = (line.rows, line.slabs * 64) in
+    let fits = subst (λ (o : Option ClockHead). IfSome o ClockFits) c.in-Some.is c.requires.clock in
+    names_lack (setup workers clock.start clock.window plan).about line.rows (line.slabs * 64) c.in-Err.refused
+    (in_range workers clock plan c.requires.workers fits) (plan_fits c.args.head.now line c.requires.fits) c.in-Err.ensures.refused

@@ -1,0 +1,3 @@
+mod plain_book;
+mod reuse;
+mod stacks;

@@ -1,0 +1,4 @@
+mod doors;
+mod trails;
+mod turns;
+mod turnstile;

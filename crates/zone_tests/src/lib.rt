@@ -1,0 +1,30 @@
+#![tactic(auto)]
+
+//! What no clause of the zones' lower crates says: rows at the edges, and their contracts met at types of a caller's own.
+
+#[cfg(test)]
+mod body;
+#[cfg(test)]
+mod buckets;
+#[cfg(test)]
+mod clock;
+#[cfg(test)]
+mod deeds;
+#[cfg(test)]
+mod items;
+#[cfg(test)]
+mod lists;
+#[cfg(test)]
+mod lives;
+#[cfg(test)]
+mod locks;
+#[cfg(test)]
+mod logs;
+#[cfg(test)]
+mod places_of_slabs;
+#[cfg(test)]
+mod seats;
+#[cfg(test)]
+mod slabs;
+#[cfg(test)]
+mod stations;

@@ -1,0 +1,3 @@
+mod counted;
+mod stays;
+mod words;

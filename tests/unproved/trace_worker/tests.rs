@@ -1,0 +1,179 @@
+ghost use Rattle.std.specs.Prelude.{◌≡◌, ◌<◌, All, IfOk, length};
+ghost use Rattle.smr_clock.specs.Belongs.{IsOf, clock_id};
+ghost use Rattle.uma_zone.specs.Zone.{zone_domains};
+ghost use Rattle.trace_worker.specs.Worker.{AreOfClock};
+
+use crate::{CountHooks, CountedZone, NameCounts, Running, Slots, Worker, move_slot};
+use no_keys::NoKeys;
+use smr_clock::{Bare, Clock, Pass};
+use std::alloc::Global;
+use std::sync::Wait;
+use std::test::Fail;
+use uma_zone::{AllocAsk, Zone, ZoneSet};
+use zone_stats::SeatLedger;
+
+mod gates;
+mod no_keys;
+mod waiting;
+
+/// A clock of two seats, and its passes.
+fn two_passes(alloc: Global) -> Result<(Clock<Bare>, Vec<Pass<Bare>>), Fail>
+    ensures { IfOk result (λ made. All (IsOf made.0) made.1.items) }
+{
+    let (clock, passes) = Clock::<Bare>::new(alloc, 2, 1, 1024)?;
+    Ok((clock, passes))
+}
+
+/// Takes one of the passes of a clock.
+fn take_pass(clock: &Clock<Bare>, passes: &mut Vec<Pass<Bare>>) -> Result<Pass<Bare>, Fail>
+    requires { All (IsOf clock.now) passes.old.items }
+    ensures here { IfOk result (IsOf clock.now) }
+    ensures left { All (IsOf clock.now) passes.new.items }
+{
+    match passes.pop() {
+        Some(pass) => Ok(pass),
+        None => Err(Fail::new("no pass")),
+    }
+}
+
+/// One zone of items of 256 bytes in one domain, without limit and reserve.
+fn one_zone(alloc: Global, clock: &Clock<Bare>) -> Result<Vec<CountedZone<Bare>>, Fail>
+    ensures some { IfOk result (λ zones. 0 < length zones.items) }
+    ensures clock { IfOk result (λ zones. AreOfClock clock.now zones.items) }
+    ensures domains { IfOk result (λ zones. All (λ zone. 0 < zone_domains zone) zones.items) }
+{
+    let set = ZoneSet {
+        slabs: 4,
+        bucket: 4,
+        limit: 0,
+        reserve: 0,
+        domains: 1,
+        smr: false,
+    };
+    let zone = Zone::primary(alloc, clock, 256, set, CountHooks, CountHooks)?;
+    let mut zones: Vec<CountedZone<Bare>> = Vec::new(alloc);
+    zones.push(zone)?;
+    Ok(zones)
+}
+
+/// A worker after one request of the first zone.
+fn after_alloc<R: Wait>(
+    rt: &R,
+    alloc: Global,
+    zones: &[CountedZone<Bare>],
+    clock: &Clock<Bare>,
+    pass: Pass<Bare>,
+    ask: AllocAsk,
+) -> Result<Running<NoKeys>, Fail>
+    requires some { 0 < length zones.now }
+    requires clock { AreOfClock clock.now zones.now }
+    requires domains { All (λ zone. 0 < zone_domains zone) zones.now }
+    requires pass { IsOf clock.now pass }
+{
+    let mut worker = Worker::new(rt, alloc, zones, clock, pass, 0, 8)?;
+    worker.alloc(rt, alloc, zones, clock, 0, 3, ask)?;
+    Ok(Running::new(worker, SeatLedger::new()))
+}
+
+#[test]
+fn an_item_is_given_and_a_refused_request_is_none(rt: HostRuntime) -> Result<(), Fail> {
+    let alloc = rt.alloc();
+    let (clock, mut passes) = two_passes(alloc)?;
+    let first_pass = take_pass(&clock, &mut passes)?;
+    let second_pass = take_pass(&clock, &mut passes)?;
+    let zones = one_zone(alloc, &clock)?;
+    let served = AllocAsk {
+        arg: 0,
+        reserve: false,
+    };
+    let refused = AllocAsk {
+        arg: 7,
+        reserve: false,
+    };
+    let first = after_alloc(&rt, alloc, zones.as_slice(), &clock, first_pass, served)?;
+    let second = after_alloc(&rt, alloc, zones.as_slice(), &clock, second_pass, refused)?;
+    assert!(rt; first.worker.slots.len() == 4 && second.worker.slots.len() == 0);
+    let mut workers = Vec::new(alloc);
+    workers.push(first)?;
+    workers.push(second)?;
+    move_slot(alloc, workers.as_mut_slice(), 0, 3, 1, 5)?;
+    assert!(rt; workers[1].worker.slots.len() == 6);
+    assert!(rt; workers[0].worker.slots.take(3).is_none());
+    let Some(item) = workers[1].worker.slots.take(5) else {
+        return Err(Fail::new("no item"));
+    };
+    assert!(rt; workers[1].worker.slots.take(5).is_none());
+    workers[1].worker.slots.put(alloc, 5, item)?;
+    assert!(rt; workers[1].worker.slots.take(5).is_some());
+    Ok(())
+}
+
+/// How often a new worker of one zone got an item and freed it, after it did each once.
+fn freed_again<R: Wait>(
+    rt: &R,
+    alloc: Global,
+    zones: &[CountedZone<Bare>],
+    clock: &Clock<Bare>,
+    pass: Pass<Bare>,
+) -> Result<(u64, u64), Fail>
+    requires some { 0 < length zones.now }
+    requires clock { AreOfClock clock.now zones.now }
+    requires domains { All (λ zone. 0 < zone_domains zone) zones.now }
+    requires pass { IsOf clock.now pass }
+{
+    let mut worker = Worker::new(rt, alloc, zones, clock, pass, 0, 8)?;
+    let ask = AllocAsk {
+        arg: 0,
+        reserve: false,
+    };
+    worker.alloc(rt, alloc, zones, clock, 0, 3, ask)?;
+    worker.free(rt, alloc, zones, clock, 3)?;
+    match worker.seats.first() {
+        Some(seat) => Ok((seat.ledger().allocs, seat.ledger().frees)),
+        None => Err(Fail::new("no seat")),
+    }
+}
+
+#[test]
+fn an_item_is_freed(rt: HostRuntime) -> Result<(), Fail> {
+    let alloc = rt.alloc();
+    let (clock, mut passes) = two_passes(alloc)?;
+    let pass = take_pass(&clock, &mut passes)?;
+    let zones = one_zone(alloc, &clock)?;
+    assert!(rt; freed_again(&rt, alloc, zones.as_slice(), &clock, pass)? == (1, 1));
+    Ok(())
+}
+
+/// What a worker of no zone counted of a bind, which is refused.
+fn counts_of_bind<R: Wait>(
+    rt: &R,
+    alloc: Global,
+    clock: &Clock<Bare>,
+    cache: &Clock<Bare>,
+    pass: Pass<Bare>,
+) -> Result<NameCounts, Fail>
+    requires clock { clock_id clock.now ≡ clock_id cache.now }
+    requires pass { IsOf clock.now pass }
+{
+    let worker = Worker {
+        pass,
+        seats: Vec::new(alloc),
+        slots: Slots::with_room(alloc, 0)?,
+        entered: 0,
+        late: 0,
+    };
+    let mut running: Running<NoKeys> = Running::new(worker, SeatLedger::new());
+    running.bind(rt, alloc, &NoKeys, cache, clock, 7, 1)?;
+    Ok(running.naming.counts)
+}
+
+#[test]
+fn a_refused_bind_is_no_bind(rt: HostRuntime) -> Result<(), Fail> {
+    let alloc = rt.alloc();
+    let (clock, mut passes) = two_passes(alloc)?;
+    let pass = take_pass(&clock, &mut passes)?;
+    let cache = clock.share(alloc)?;
+    let counts = counts_of_bind(&rt, alloc, &clock, &cache, pass)?;
+    assert!(rt; counts.refused == 1 && counts.binds == 0);
+    Ok(())
+}
