@@ -1,5 +1,7 @@
 mod body;
 mod buckets;
+mod intervals;
+mod sealing;
 mod sharing;
 mod trims;
 mod working_set;

@@ -26,7 +26,18 @@ pub(super) fn two_seats(
     ensures here { IfOk result (λ made. IsOf made.0 made.1 × IsOf made.0 made.2) }
     ensures outside { IfOk result (λ made. ((holder made.1).phase ≡ Phase.Outside) × ((holder made.2).phase ≡ Phase.Outside)) }
 {
-    let (clock, mut passes) = Clock::<Bare>::new(alloc, 2, 1, 16)?;
+    two_seats_within(alloc, 16)
+}
+
+/// The same with this window.
+pub(super) fn two_seats_within(
+    alloc: Global,
+    window: u64,
+) -> Result<(Clock<Bare>, Pass<Bare>, Pass<Bare>), ClockRefused>
+    ensures here { IfOk result (λ made. IsOf made.0 made.1 × IsOf made.0 made.2) }
+    ensures outside { IfOk result (λ made. ((holder made.1).phase ≡ Phase.Outside) × ((holder made.2).phase ≡ Phase.Outside)) }
+{
+    let (clock, mut passes) = Clock::<Bare>::new(alloc, 2, 1, window)?;
     let second = passes.pop();
     let first = passes.pop();
     let (Some(first), Some(second)) = (first, second) else {
@@ -69,6 +80,20 @@ pub(super) fn plain<R: Wait>(
     Ok(bucket)
 }
 
+/// A loose bucket of one freed item.
+fn loose<R: Wait>(rt: &R, alloc: Global, book: &mut Book, no: u32) -> Result<Loose<Plain>, Fail>
+    requires no_origin { (book_table book.old).origin ≡ [] }
+    ensures table { book_table book.new ≡ book_table book.old }
+    ensures at_home { IfOk result (IsLooseOf (home_of (book_table book.old) 0 1)) }
+{
+    let Ok(live) = cached(rt, alloc, book, no)?.build(&hooks(), 0) else {
+        return Err(Fail::new("refused"));
+    };
+    let mut bucket = Loose::make(alloc, 4)?;
+    bucket.push(Freed::of(live));
+    Ok(bucket)
+}
+
 /// A sealed bucket of one freed item.
 fn sealed<R: Wait>(
     rt: &R,
@@ -85,12 +110,7 @@ fn sealed<R: Wait>(
     ensures at_home { IfOk result (λ sealed. IsLooseOf (home_of (book_table book.old) 0 1) (sealed_bucket sealed)) }
     ensures clock { IfOk result (IsSealedAt (clock_id clock.now)) }
 {
-    let Ok(live) = cached(rt, alloc, book, no)?.build(&hooks(), 0) else {
-        return Err(Fail::new("refused"));
-    };
-    let mut loose = Loose::make(alloc, 4)?;
-    loose.push(Freed::of(live));
-    let Ok(sealed) = loose.seal(clock, pass) else {
+    let Ok(sealed) = loose(rt, alloc, book, no)?.seal(clock, pass) else {
         return Err(Fail::new("no room"));
     };
     Ok(sealed)
@@ -110,6 +130,25 @@ pub(super) fn put<R: Wait>(
 {
     let bucket = plain(rt, alloc, book, no)?;
     match domain.put_plain(rt, bucket) {
+        Ok(()) => Ok(()),
+        Err(_) => Err(Fail::new("no memory")),
+    }
+}
+
+/// Puts a loose bucket of one item.
+pub(super) fn put_loose<R: Wait>(
+    rt: &R,
+    alloc: Global,
+    domain: &Domain<Plain, Bare>,
+    book: &mut Book,
+    no: u32,
+) -> Result<(), Fail>
+    requires home { (domain_identity domain.now).home ≡ home_of (book_table book.old) 0 1 }
+    requires no_origin { (book_table book.old).origin ≡ [] }
+    ensures { book_table book.new ≡ book_table book.old }
+{
+    let bucket = loose(rt, alloc, book, no)?;
+    match domain.put_loose(rt, bucket) {
         Ok(()) => Ok(()),
         Err(_) => Err(Fail::new("no memory")),
     }

@@ -13,7 +13,11 @@ use std::test::Fail;
 use uma_life::Body;
 
 /// The number of the item of the bucket that is taken.
-fn take<R: Wait>(rt: &R, domain: &Domain<Plain, Bare>, share: &mut FailShare) -> Option<u32>
+pub(super) fn take<R: Wait>(
+    rt: &R,
+    domain: &Domain<Plain, Bare>,
+    share: &mut FailShare,
+) -> Option<u32>
     requires plain { (domain_identity domain.now).smr ≡ false }
     requires share { share_table share.old ≡ (domain_identity domain.now).misses }
     ensures { share_table share.new ≡ share_table share.old }

@@ -55,6 +55,28 @@ fn a_loose_bucket_stays(rt: HostRuntime) -> Result<(), Fail> {
 }
 
 #[test]
+fn a_trim_behind_a_drain_keeps_what_was_used_before_it(rt: HostRuntime) -> Result<(), Fail> {
+    let (clock, mut passes) = new_clock(rt.alloc(), 2, 8)?;
+    let zone = zone(rt.alloc(), &clock, 512, NODES)?;
+    let pass = take_pass(&clock, &mut passes)?;
+    let mut reader = new_worker(&rt, rt.alloc(), &zone, &clock, pass)?;
+    let pass = take_pass(&clock, &mut passes)?;
+    let mut one = new_worker(&rt, rt.alloc(), &zone, &clock, pass)?;
+    one.request_many(&rt, rt.alloc(), 4)?;
+    reader.enter()?;
+    one.release_many(&rt, rt.alloc(), 4)?;
+    // A reader may see the four, so the drain leaves them. It begins no interval.
+    assert_eq!(rt; one.drain(&rt, rt.alloc())?, (0, 0));
+    reader.exit()?;
+    // All four were in use since the beginning, and none was since the first trim.
+    assert_eq!(rt; one.trim(&rt, rt.alloc())?, (0, 0));
+    assert_eq!(rt; one.deferred(&rt), (4, 0));
+    assert_eq!(rt; one.trim(&rt, rt.alloc())?, (4, 0));
+    assert_eq!(rt; (one.deferred(&rt), keg(&rt, &zone)), ((0, 0), (1, 8)));
+    Ok(())
+}
+
+#[test]
 fn a_trim_polls_what_was_not_used(rt: HostRuntime) -> Result<(), Fail> {
     let (clock, mut passes) = new_clock(rt.alloc(), 2, 8)?;
     let zone = zone(rt.alloc(), &clock, 512, NODES)?;

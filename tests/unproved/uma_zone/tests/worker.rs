@@ -50,7 +50,23 @@ pub(super) fn new_worker<'a, R: Wait>(
     requires pass { IsOf clock.now pass }
     requires domain { 0 < zone_domains zone.now }
 {
-    let seat = zone.seat(rt, alloc, 0)?;
+    new_worker_in(rt, alloc, zone, clock, pass, 0)
+}
+
+/// A worker with a seat in this domain, that holds nothing.
+pub(super) fn new_worker_in<'a, R: Wait>(
+    rt: &R,
+    alloc: Global,
+    zone: &'a TestZone,
+    clock: &'a Clock<Bare>,
+    pass: Pass<Bare>,
+    domain: u8,
+) -> Result<Worker<'a>, Fail>
+    requires clock { clock_id clock.now ≡ zone_clock zone.now }
+    requires pass { IsOf clock.now pass }
+    requires domain { domain < zone_domains zone.now }
+{
+    let seat = zone.seat(rt, alloc, domain)?;
     Ok(Worker {
         zone,
         clock,

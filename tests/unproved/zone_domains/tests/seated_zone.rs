@@ -17,8 +17,9 @@ use std::test::Fail;
 use uma_bucket::{Shelved, Sums};
 use uma_life::{Cached, Stored};
 use uma_seat::SeatCache;
+use zone_stats::SeatLedger;
 
-/// A zone with a seat of domain 0 that has buckets of 4, the seat's own pass, and another pass, of a reader.
+/// A zone with a seat that has buckets of 4, the seat's own pass, and another pass, of a reader.
 #[derive(Drop)]
 pub(super) struct SeatedZone {
     domains: ZoneDomains<Plain, Bare>,
@@ -61,16 +62,31 @@ fn cached<R: Wait>(
 }
 
 impl SeatedZone {
+    /// A zone of so many domains, with a seat of domain 0.
     pub fn new<R: Wait>(rt: &R, alloc: Global, domains: u8, smr: bool) -> Result<SeatedZone, Fail>
         requires some { 1 ≤ domains }
+        requires few { domains ≤ 4 }
+    {
+        SeatedZone::in_domain(rt, alloc, domains, smr, 0)
+    }
+
+    /// A zone of so many domains, with a seat of this one.
+    pub fn in_domain<R: Wait>(
+        rt: &R,
+        alloc: Global,
+        domains: u8,
+        smr: bool,
+        own: u8,
+    ) -> Result<SeatedZone, Fail>
+        requires own { own < domains }
         requires few { domains ≤ 4 }
     {
         let book = Book::new(alloc, 32)?;
         let mut fails = FailBook::new(alloc)?;
         let (clock, reader, pass) = two_seats(alloc, 1)?;
         let domains = ZoneDomains::new(alloc, &clock, &book, 0, domains, smr)?;
-        let misses = domains.open_misses(rt, 0);
-        let seating = domains.seating(&book, 0);
+        let misses = domains.open_misses(rt, own);
+        let seating = domains.seating(&book, own);
         let seat = SeatCache::new(alloc, 4, seating, fails.new_share(), misses)?;
         Ok(SeatedZone {
             domains,
@@ -108,8 +124,19 @@ impl SeatedZone {
 
     /// Frees four new items of domain 0 to the seat, whose numbers begin with this one.
     pub fn free_four<R: Wait>(&mut self, rt: &R, alloc: Global, first: u32) -> Result<(), Fail> {
+        self.free_four_of(rt, alloc, first, 0)
+    }
+
+    /// The same with items of this domain.
+    pub fn free_four_of<R: Wait>(
+        &mut self,
+        rt: &R,
+        alloc: Global,
+        first: u32,
+        domain: u8,
+    ) -> Result<(), Fail> {
         for no in 0..4 {
-            self.free(rt, alloc, first.wrapping_add(no), 0)?;
+            self.free(rt, alloc, first.wrapping_add(no), domain)?;
         }
         Ok(())
     }
@@ -145,6 +172,15 @@ impl SeatedZone {
         self.seat.try_alloc().map(|item| item.no())
     }
 
+    /// The number of the first of four items that are taken.
+    pub fn alloc_four(&mut self) -> Option<u32> {
+        let first = self.alloc()?;
+        for _ in 0..3 {
+            self.alloc()?;
+        }
+        Some(first)
+    }
+
     /// How many spare buckets the seat has.
     pub fn spare(&self) -> u32 {
         self.seat.spare()
@@ -170,8 +206,27 @@ impl SeatedZone {
         }
     }
 
+    /// The least and the greatest count of items that a domain lists, since the beginning.
+    pub fn working<R: Wait>(&self, rt: &R, domain: u8) -> (u64, u64) {
+        if domain < self.domains.count() {
+            self.domains.get(domain).working(rt)
+        } else {
+            (0, 0)
+        }
+    }
+
     pub fn sums<R: Wait>(&self, rt: &R) -> Sums {
         self.domains.sums(rt)
+    }
+
+    /// What the seat counted.
+    pub fn ledger(&self) -> SeatLedger {
+        self.seat.ledger()
+    }
+
+    /// The hands of the clock: read and write.
+    pub fn hands(&mut self) -> (u64, u64) {
+        self.clock.hands(&mut self.pass)
     }
 
     /// The reader enters a section.

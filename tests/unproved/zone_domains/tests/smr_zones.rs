@@ -21,6 +21,53 @@ fn a_look_finds_nothing_while_a_section_is_open(rt: HostRuntime) -> Result<(), F
 }
 
 #[test]
+fn a_flush_puts_each_sealed_bucket_into_the_list_of_its_own_domain(
+    rt: HostRuntime,
+) -> Result<(), Fail> {
+    let mut zone = SeatedZone::new(&rt, rt.alloc(), 3, true)?;
+    zone.free_four_of(&rt, rt.alloc(), 0, 2)?;
+    zone.free_four_of(&rt, rt.alloc(), 4, 1)?;
+    assert_eq!(rt; zone.hands(), (1, 5));
+    zone.flush(&rt)?;
+    assert_eq!(rt;
+        (zone.count(&rt, 0), zone.count(&rt, 1), zone.count(&rt, 2)),
+        (0, 4, 4)
+    );
+    // All that is freed is deferred, and all of it is of other domains than the seat's.
+    let ledger = zone.ledger();
+    assert_eq!(rt;
+        (ledger.frees, ledger.cross, zone.sums(&rt).deferred),
+        (8, 8, 8)
+    );
+    Ok(())
+}
+
+#[test]
+fn a_flush_puts_each_loose_bucket_into_the_list_of_its_own_domain(
+    rt: HostRuntime,
+) -> Result<(), Fail> {
+    let mut zone = SeatedZone::new(&rt, rt.alloc(), 3, true)?;
+    zone.free_four(&rt, rt.alloc(), 0)?;
+    zone.free_four(&rt, rt.alloc(), 4)?;
+    zone.make_room(&rt, rt.alloc())?;
+    // The window is used up, so these two stay loose.
+    zone.free_four_of(&rt, rt.alloc(), 8, 2)?;
+    zone.free_four_of(&rt, rt.alloc(), 12, 1)?;
+    zone.flush(&rt)?;
+    assert_eq!(rt; zone.hands(), (1, 5));
+    assert_eq!(rt;
+        (zone.count(&rt, 0), zone.count(&rt, 1), zone.count(&rt, 2)),
+        (8, 4, 4)
+    );
+    let ledger = zone.ledger();
+    assert_eq!(rt;
+        (ledger.frees, ledger.cross, zone.sums(&rt).deferred),
+        (16, 8, 16)
+    );
+    Ok(())
+}
+
+#[test]
 fn a_later_flush_seals_what_stayed_loose(rt: HostRuntime) -> Result<(), Fail> {
     let mut zone = SeatedZone::new(&rt, rt.alloc(), 1, true)?;
     zone.enter()?;
@@ -33,22 +80,32 @@ fn a_later_flush_seals_what_stayed_loose(rt: HostRuntime) -> Result<(), Fail> {
     assert_eq!(rt; (zone.spare(), zone.count(&rt, 0)), (2, 12));
     zone.exit()?;
     assert!(rt; zone.look(&rt)?);
-    assert_eq!(rt; take_four(&mut zone), Some(3));
+    assert_eq!(rt; zone.alloc_four(), Some(3));
     assert!(rt; zone.look(&rt)?);
-    assert_eq!(rt; take_four(&mut zone), Some(7));
+    assert_eq!(rt; zone.alloc_four(), Some(7));
     assert!(rt; !zone.look(&rt)?);
     // Now there is room in the window again.
     zone.flush(&rt)?;
     assert!(rt; zone.look(&rt)?);
-    assert_eq!(rt; take_four(&mut zone), Some(11));
+    assert_eq!(rt; zone.alloc_four(), Some(11));
     Ok(())
 }
 
-/// Takes four items. The number of the first of them.
-fn take_four(zone: &mut SeatedZone) -> Option<u32> {
-    let first = zone.alloc()?;
-    for _ in 0..3 {
-        zone.alloc()?;
-    }
-    Some(first)
+#[test]
+fn make_room_seals_what_stayed_loose_where_two_spares_are_there(
+    rt: HostRuntime,
+) -> Result<(), Fail> {
+    let mut zone = SeatedZone::new(&rt, rt.alloc(), 1, true)?;
+    zone.free_four(&rt, rt.alloc(), 0)?;
+    zone.free_four(&rt, rt.alloc(), 4)?;
+    zone.make_room(&rt, rt.alloc())?;
+    zone.free_four(&rt, rt.alloc(), 8)?;
+    zone.make_room(&rt, rt.alloc())?;
+    assert_eq!(rt; (zone.spare(), zone.hands()), (2, (1, 5)));
+    // The poll of the look brings the read hand up.
+    assert!(rt; zone.look(&rt)?);
+    assert_eq!(rt; (zone.spare(), zone.hands()), (2, (5, 5)));
+    zone.make_room(&rt, rt.alloc())?;
+    assert_eq!(rt; (zone.spare(), zone.hands()), (2, (5, 7)));
+    Ok(())
 }
