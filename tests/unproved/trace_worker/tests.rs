@@ -15,6 +15,7 @@ use zone_stats::SeatLedger;
 mod gates;
 mod no_keys;
 mod waiting;
+mod watching;
 
 /// A clock of two seats, and its passes.
 fn two_passes(alloc: Global) -> Result<(Clock<Bare>, Vec<Pass<Bare>>), Fail>

@@ -1,4 +1,4 @@
-//! Operations that wait for those of another worker.
+//! Operations that wait: for those of another worker, or to the last.
 use super::*;
 use crate::finish::Status;
 use std::sync::atomic::{AtomicBool, Ordering};
@@ -74,5 +74,36 @@ fn the_workers_of_a_round_run_at_the_same_time_and_each_waits_for_its_gate(
             "{input}"
         );
     }
+    Ok(())
+}
+
+/// Holds each worker's first operation of a round to the last.
+#[derive(Clone, Copy, Debug, PartialEq, Eq)]
+struct FirstHeld;
+
+impl Gate for FirstHeld {
+    ghost is_free = { λ _. ⊥ };
+
+    fn at(&self, _worker: u32, op: u64) -> Go {
+        if op == 1 {
+            return Go::Hold;
+        }
+        Go::Go
+    }
+
+    fn done(&self, _worker: u32, _op: u64) {}
+}
+
+/// Worker 0 has operations in the first round alone, worker 1 in both.
+const TWO_ROUNDS: &str =
+    "uma 1\nworkers 2\ndomains 1\nzone box 256 4 4 0 0 plain\nalloc 0 box 0\nalloc 0 box 1\nalloc 1 box 0\nround\nfree 1 0\nend\n";
+
+/// Worker 0 gives up once, and worker 1 in each of two rounds.
+#[test]
+fn a_report_has_the_givings_up_of_all_workers_in_all_rounds(rt: HostRuntime) -> Result<(), Fail> {
+    let finish = replayed_under(&rt, TWO_ROUNDS, &FirstHeld)?;
+    assert_eq!(rt; finish.status, Status::Good);
+    let report = finish.report.expect(&rt, "a report");
+    assert_eq!(rt; report.gave_up, 3);
     Ok(())
 }
