@@ -2,9 +2,9 @@
 use Rattle.std.proofs.Common.{◌≡◌, ℕ, suc, ◌+◌, ◌*◌, ◌%◌, ◌<◌, ◌≤◌, ◌^◌, List, [], ◌∷◌, ◌++◌, length, take, drop, Option, None, Some, refl, sym, ap, ◌∙◌, subst, arith, reverse}
 use Rattle.std.proofs.lemmas.Bool.{true≢false}
 use Rattle.std.proofs.lemmas.List.{length-map, length-reverse}
-use Rattle.std.proofs.lemmas.List.Sums.{sum_by-cons, count_by-le-length}
-use Rattle.std.proofs.lemmas.Option.{same_Some}
-use Rattle.std.specs.Prelude.{IfSome, IsTrue, is_some, slice_get, sum_by}
+use Rattle.std.proofs.lemmas.List.Sums.{sum_by-cons, count_by-le-length, sum-map}
+use Rattle.std.specs.Prelude.{IfSome, IsTrue, is_some, slice_get, sum, sum_by}
+use Rattle.smr_clock.specs.declared.clock.Clock.{Clock}
 use Rattle.smr_clock.specs.declared.host.Host.{Ghosts}
 use Rattle.smr_clock.specs.Belongs.{clock_id}
 use Rattle.trace_text.specs.declared.head.Head.{Head}
@@ -25,7 +25,7 @@ use Rattle.trace_play.specs.DoneBy.{done_by, is_by}
 use Rattle.trace_play.specs.Plays.{AllPlay}
 use Rattle.trace_play.specs.Rounds.{AllAsked, GaveUpAsBefore, IsBegun, Suits}
 use Rattle.uma_replay.specs.Hall.{AreDone, NamesDone}
-use Rattle.uma_replay.specs.Playing.{AreFirst, gave_ups, namings_of}
+use Rattle.uma_replay.specs.Playing.{AreFirst, HaveEnded, gave_ups_of, namings_of}
 use Rattle.uma_replay.proofs.Playing.{played_of}
 use Rattle.uma_replay.proofs.Runnings.{named_first, of_both}
 
@@ -58,7 +58,7 @@ module _ {N H C S Part : Type 0} {h : Ghosts H Part} (names : NameGhosts N H C S
         unasked = λ n r at. let one = first.each n r at in (one.asked, one.gave_up);
       }
 
-  pub worker_count : (t : Trace) (s : Setting H Part h) (begun ended : List (Running N H C S Part h)) → IsSetUp t s → AreFirst names cache t.head.domains s.workers.items begun → length ended ≡ length begun → length ended ≡ t.head.workers
+  worker_count : (t : Trace) (s : Setting H Part h) (begun ended : List (Running N H C S Part h)) → IsSetUp t s → AreFirst names cache t.head.domains s.workers.items begun → length ended ≡ length begun → length ended ≡ t.head.workers
   worker_count t s begun ended is first count = count ∙ (sym (length-map begun (λ r. r.worker)) ∙ (ap length first.are ∙ is.begin.one_each))
 
   -- the workers when all rounds are done
@@ -125,9 +125,6 @@ one_more all first rest count most e1 e2 e3 = omega arith
 both_none : (all first rest : ℕ) → all ≡ first + rest → first ≡ 0 → rest ≡ 0 → all ≡ 0
 both_none all first rest e1 e2 e3 = omega arith
 
-both_same : (all first rest all' first' rest' : ℕ) → all ≡ first + rest → all' ≡ first' + rest' → first ≡ first' → rest ≡ rest' → all ≡ all'
-both_same all first rest all' first' rest' e1 e2 e3 e4 = omega arith
-
 most_same : (a b c : ℕ) → a ≤ b → b ≡ c → a ≤ c
 most_same a b c most same = omega arith
 
@@ -136,39 +133,28 @@ module _ {N H C S Part : Type 0} {h : Ghosts H Part} where
   sum_most f most [] each = omega arith
   sum_most f most (r ∷ rs) each = one_more _ _ _ _ _ (sum_by-cons f r rs) (each 0 r refl) (sum_most f most rs (λ n. each (suc n)))
 
-few_sum : (sum count workers : ℕ) → sum ≤ count * 16777216 → count ≡ workers → workers ≤ 16 → sum < 2 ^ 64
-few_sum sum count workers most same few = omega arith
+few_sum : (all sum count workers : ℕ) → all ≡ sum → sum ≤ count * 16777216 → count ≡ workers → workers ≤ 16 → all < 2 ^ 64
+few_sum all sum count workers same_sum most same few = omega arith
 
 module _ {N H C S Part : Type 0} {h : Ghosts H Part} where
-  pub gave_ups_few : (t : Trace) (ended : List (Running N H C S Part h)) → IsValid t → length (lines_of t.rounds) ≤ 16777216 → length ended ≡ t.head.workers → AllAsked (reverse (lines_of t.rounds)) ended → gave_ups ended < 2 ^ 64
+  pub gave_ups_few : (t : Trace) (clock : Clock H Part) (workers : List (Worker H Part h)) (namings : List (Naming N H C S Part)) (gave_ups : List ℕ) → IsValid t → length (lines_of t.rounds) ≤ 16777216
+      → length workers ≡ t.head.workers → HaveEnded t clock workers namings gave_ups → sum gave_ups < 2 ^ 64
   unfolding done_by
-  gave_ups_few t ended valid few count asked =
+  gave_ups_few t clock workers namings gave_ups valid few count e =
       let lines = reverse (lines_of t.rounds) in
-      few_sum (gave_ups ended) (length ended) t.head.workers
-      (sum_most (λ (r : Running N H C S Part h). r.gave_up) 16777216 ended (λ n r at.
-      below_all r.gave_up (done_by n lines) (length (lines_of t.rounds)) (asked n r at).gave_up_few (most_same _ _ _ (count_by-le-length (is_by n) lines) (length-reverse (lines_of t.rounds))) few))
-      count valid.head.workers.1
+      let own : Running N H C S Part h → ℕ = λ r. r.gave_up in
+      few_sum (sum gave_ups) (sum_by own e.ended) (length e.ended) t.head.workers (ap sum e.gave_ups_are ∙ sum-map own e.ended)
+      (sum_most own 16777216 e.ended (λ n r at.
+      below_all r.gave_up (done_by n lines) (length (lines_of t.rounds)) (e.asked n r at).gave_up_few (most_same _ _ _ (count_by-le-length (is_by n) lines) (length-reverse (lines_of t.rounds))) few))
+      (sym (length-map e.ended (λ (r : Running N H C S Part h). r.worker)) ∙ (sym e.stay.count ∙ count)) valid.head.workers.1
 
-  none_all : (rs : List (Running N H C S Part h)) → ((n : ℕ) (r : Running N H C S Part h) → slice_get rs n ≡ Some r → r.gave_up ≡ 0) → gave_ups rs ≡ 0
+  none_all : (rs : List (Running N H C S Part h)) → ((n : ℕ) (r : Running N H C S Part h) → slice_get rs n ≡ Some r → r.gave_up ≡ 0) → sum_by (λ (r : Running N H C S Part h). r.gave_up) rs ≡ 0
   none_all [] each = refl
   none_all (r ∷ rs) each = both_none _ _ _ (sum_by-cons (λ (r : Running N H C S Part h). r.gave_up) r rs) (each 0 r refl) (none_all rs (λ n. each (suc n)))
 
-abbrev tail_of : List ℕ → List ℕ
-tail_of [] = []
-tail_of (x ∷ xs) = xs
-
-module _ {N H C S Part : Type 0} {h : Ghosts H Part} where
-  same_sums : (old new : List (Running N H C S Part h)) → GaveUpAsBefore old new → gave_ups new ≡ gave_ups old
-  same_sums [] [] same = refl
-  same_sums [] (r ∷ new) same = absurd (let size = ap length same in omega arith)
-  same_sums (q ∷ old) [] same = absurd (let size = ap length same in omega arith)
-  same_sums (q ∷ old) (r ∷ new) same =
-      both_same _ _ _ _ _ _ (sum_by-cons (λ (r : Running N H C S Part h). r.gave_up) r new) (sum_by-cons (λ (r : Running N H C S Part h). r.gave_up) q old)
-      (same_Some r.gave_up q.gave_up (ap (λ xs. slice_get xs 0) same)) (same_sums old new (ap tail_of same))
-
   -- a free gate's workers never did
-  pub none_gave_up : (begun ended : List (Running N H C S Part h)) → ((n : ℕ) (r : Running N H C S Part h) → slice_get begun n ≡ Some r → r.gave_up ≡ 0) → GaveUpAsBefore begun ended → gave_ups ended ≡ 0
-  none_gave_up begun ended none same = same_sums begun ended same ∙ none_all begun none
+  pub none_gave_up : (begun ended : List (Running N H C S Part h)) → ((n : ℕ) (r : Running N H C S Part h) → slice_get begun n ≡ Some r → r.gave_up ≡ 0) → GaveUpAsBefore begun ended → sum (gave_ups_of ended) ≡ 0
+  none_gave_up begun ended none same = ap sum same ∙ (sum-map (λ (r : Running N H C S Part h). r.gave_up) begun ∙ none_all begun none)
 
 -- ---- a vector whose items were written through a slice of all of them
 

@@ -1,11 +1,13 @@
 -- Each worker did its rounds one after another, and stays.
 use Rattle.std.proofs.Common.{◌≡◌, ℕ, List, Some, refl, ap, ◌∙◌, sym, subst, le_refl, length, get_or}
-use Rattle.std.specs.Prelude.{slice_get}
+use Rattle.std.proofs.lemmas.Option.{same_Some}
+use Rattle.std.specs.Prelude.{reverse, slice_get}
 use Rattle.smr_clock.specs.declared.clock.Clock.{Clock}
 use Rattle.smr_clock.specs.declared.host.Host.{Ghosts}
 use Rattle.smr_clock.specs.Belongs.{IsOf}
 use Rattle.trace_text.specs.declared.round.Round.{Round}
 use Rattle.trace_text.specs.declared.trace.Trace.{Trace}
+use Rattle.trace_text.specs.Lines.{lines_of}
 use Rattle.trace_worker.specs.declared.name_calls.NameCalls.{Ghosts as NameGhosts}
 use Rattle.trace_worker.specs.declared.naming.Naming.{Naming}
 use Rattle.trace_worker.specs.declared.running.Running.{Running}
@@ -17,11 +19,12 @@ use Rattle.trace_worker.specs.Worker.{seen_of}
 use Rattle.trace_play.specs.declared.setting.Setting.{Setting}
 use Rattle.trace_play.specs.Setting.{IsSetUp}
 use Rattle.trace_play.specs.Plays.{AllPlay}
+use Rattle.trace_play.specs.Rounds.{AllAsked}
 use Rattle.trace_play.proofs.AfterRound.{in_crew}
 use Rattle.trace_play.proofs.RoundLists.{at_other}
-use Rattle.uma_replay.specs.Playing.{AllPlayed, AllStay, AreFirst, Stays, namings_of}
+use Rattle.uma_replay.specs.Playing.{AllPlayed, AllStay, AreFirst, HaveEnded, Stays, gave_ups_of, namings_of}
 use Rattle.uma_replay.proofs.Runnings.{of_both}
-use Rattle.uma_replay.proofs.Staying.{found_before, stays_chain}
+use Rattle.uma_replay.proofs.Staying.{all_chain, found_before, stays_chain}
 
 module _ {H Part : Type 0} {h : Ghosts H Part} where
   stays_self : (clock : Clock H Part) (w : Worker H Part h) → IsOf clock w.pass → Stays clock w w
@@ -68,4 +71,39 @@ module _ {N H C S Part : Type 0} {h : Ghosts H Part} (names : NameGhosts N H C S
         plays = p.plays;
         stays = stays_chain clock p.end.worker was.0 w p.stays (stay.each n was.0 w was.1 at);
         naming_stays = p.naming_stays;
+      }
+
+-- ---- how often they gave up
+
+module _ {N H C S Part : Type 0} {h : Ghosts H Part} where
+  -- when all rounds are done
+  pub ended_of : (t : Trace) (clock : Clock H Part) (ended : List (Running N H C S Part h)) (workers : List (Worker H Part h)) (namings : List (Naming N H C S Part)) (gave_ups : List ℕ)
+      → ((n : ℕ) (w : Worker H Part h) → slice_get (crew ended) n ≡ Some w → IsOf clock w.pass) → AllAsked (reverse (lines_of t.rounds)) ended
+      → workers ≡ crew ended → namings ≡ namings_of ended → gave_ups ≡ gave_ups_of ended → HaveEnded t clock workers namings gave_ups
+  ended_of t clock ended workers namings gave_ups here asked same same_namings same_gave_ups =
+      let All : List (Worker H Part h) → Type 0 = λ ws. AllStay clock (crew ended) ws in
+      record {
+        ended = ended;
+        asked = asked;
+        stay = subst All (sym same) (record {
+          count = refl;
+          each = λ n v w at at'.
+              let One : Worker H Part h → Type 0 = λ x. Stays clock v x in
+              subst One (same_Some v w (sym at ∙ at')) (stays_self clock v (here n v at));
+        });
+        namings_are = same_namings;
+        gave_ups_are = same_gave_ups;
+      }
+
+  -- and since then
+  pub ended_stay : (t : Trace) (clock : Clock H Part) (old new workers : List (Worker H Part h)) (before namings : List (Naming N H C S Part)) (counts gave_ups : List ℕ) → AllStay clock old new → workers ≡ new
+      → namings ≡ before → gave_ups ≡ counts → HaveEnded t clock old before counts → HaveEnded t clock workers namings gave_ups
+  ended_stay t clock old new workers before namings counts gave_ups stay same same_namings same_gave_ups e =
+      let All : List (Worker H Part h) → Type 0 = λ ws. AllStay clock (crew e.ended) ws in
+      record {
+        ended = e.ended;
+        asked = e.asked;
+        stay = subst All (sym same) (all_chain clock (crew e.ended) old new e.stay stay);
+        namings_are = same_namings ∙ e.namings_are;
+        gave_ups_are = same_gave_ups ∙ e.gave_ups_are;
       }

@@ -1,5 +1,5 @@
 -- What a replay leaves behind, and what its report has to do with it (own).
-use Rattle.std.specs.Prelude.{◌≡◌, ℕ, List, Some, IfSome, is_some, length, reverse, slice_get}
+use Rattle.std.specs.Prelude.{◌≡◌, ℕ, List, Some, IfSome, is_some, length, reverse, slice_get, sum}
 use Rattle.smr_clock.specs.declared.clock.Clock.{Clock}
 use Rattle.smr_clock.specs.declared.host.Host.{Ghosts}
 use Rattle.trace_text.specs.declared.trace.Trace.{Trace}
@@ -19,7 +19,7 @@ use Rattle.trace_totals.specs.Clock.{ReadsHands}
 use Rattle.trace_totals.specs.Closes.{AllClose}
 use Rattle.uma_replay.specs.declared.hall.Hall.{Hall}
 use Rattle.uma_replay.specs.Names.{IsWhole}
-use Rattle.uma_replay.specs.Playing.{AllPlayed}
+use Rattle.uma_replay.specs.Playing.{AllPlayed, HaveEnded}
 use Rattle.uma_replay.specs.Reporting.{IsReportOf}
 
 module _ {H P : Type 0} {h : Ghosts H P} where
@@ -52,6 +52,9 @@ module _ {N H C S P : Type 0} {h : Ghosts H P} (names : NameGhosts N H C S P) wh
   pub record HallStands (t : Trace) (report : Report) (hall : Hall N H C S P h) : Type 0 where
     pub done : AreDone t hall.zones hall.clock hall.workers
     pub named : NamesDone t hall.names hall.zones hall.clock hall.workers hall.namings
+    -- each worker ended with its count of how often it gave up waiting, and the report has the sum of these counts
+    pub ended : HaveEnded t hall.clock hall.workers hall.namings hall.gave_ups
+    pub gave_up : report.gave_up ≡ sum hall.gave_ups
     pub tallies : List TallySum
     pub deferred : List ℕ
     -- the sums are those of the censuses' items and of the items in slots and seats, and more, which the zones' domains list; so are the counts

@@ -1,6 +1,5 @@
 -- How each worker began, and how it came to what it is when all lines are done (own).
 use Rattle.std.specs.Prelude.{◌≡◌, ◌≤◌, ◌%◌, ℕ, List, IfSome, IsTrue, length, map, reverse, Some, slice_get}
-use Rattle.std.specs.List.{sum_by}
 use Rattle.smr_clock.specs.declared.clock.Clock.{Clock}
 use Rattle.smr_clock.specs.declared.host.Host.{Ghosts}
 use Rattle.smr_clock.specs.Belongs.{IsOf}
@@ -26,9 +25,9 @@ module _ {N H C S P : Type 0} {h : Ghosts H P} where
   abbrev pub namings_of : List (Running N H C S P h) → List (Naming N H C S P)
   namings_of runnings = map (λ (r : Running N H C S P h). r.naming) runnings
 
-  -- how often all of them gave up waiting for their gate
-  abbrev pub gave_ups : List (Running N H C S P h) → ℕ
-  gave_ups runnings = sum_by (λ (r : Running N H C S P h). r.gave_up) runnings
+  -- how often each of them gave up waiting for its gate
+  abbrev pub gave_ups_of : List (Running N H C S P h) → List ℕ
+  gave_ups_of runnings = map (λ (r : Running N H C S P h). r.gave_up) runnings
 
 module _ {N H C S P : Type 0} {h : Ghosts H P} (names : NameGhosts N H C S P) (cache : C) where
   -- It has a seat of the names in this memory domain, counted nothing there, and took no turn.
@@ -70,6 +69,15 @@ module _ {H P : Type 0} {h : Ghosts H P} where
   pub record AllStay (clock : Clock H P) (old new : List (Worker H P h)) : Type 0 where
     pub count : length new ≡ length old
     pub each : (n : ℕ) (before after : Worker H P h) → slice_get old n ≡ Some before → slice_get new n ≡ Some after → Stays clock before after
+
+module _ {N H C S P : Type 0} {h : Ghosts H P} where
+  -- The workers that ended stay since then as these, with this of the names. So often each of them gave up waiting for its gate, by its own count: at most once before each of its operations.
+  pub record HaveEnded (t : Trace) (clock : Clock H P) (workers : List (Worker H P h)) (namings : List (Naming N H C S P)) (gave_ups : List ℕ) : Type 0 where
+    pub ended : List (Running N H C S P h)
+    pub asked : AllAsked (reverse (lines_of t.rounds)) ended
+    pub stay : AllStay clock (crew ended) workers
+    pub namings_are : namings ≡ namings_of ended
+    pub gave_ups_are : gave_ups ≡ gave_ups_of ended
 
 module _ {N H C S P : Type 0} {h : Ghosts H P} (names : NameGhosts N H C S P) (cache : C) where
   -- Worker `n` and what it has of the names when all lines are done: it began new, with its seats in its domain, that of the names too, it did the rounds one after another, and since then it stays.

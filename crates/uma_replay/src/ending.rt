@@ -1,5 +1,5 @@
 //! The end of a replay, when all lines are done.
-ghost use Rattle.std.specs.Prelude.{◌≡◌, ◌≤◌, ◌<◌, ◌^◌, IfOk, OnOk, length};
+ghost use Rattle.std.specs.Prelude.{◌≡◌, ◌≤◌, ◌<◌, ◌^◌, IfOk, OnOk, length, sum};
 ghost use Rattle.smr_clock.specs.Belongs.{setup_of};
 ghost use Rattle.smr_clock.specs.Notes.{IsNoteOf, note_holder};
 ghost use Rattle.trace_worker.specs.Clocks.{window_of as window_for};
@@ -9,10 +9,10 @@ ghost use Rattle.trace_worker.specs.Together.{crew};
 ghost use Rattle.trace_totals.specs.Clock.{ReadsHands};
 ghost use Rattle.trace_totals.specs.Closes.{AllClose};
 ghost use Rattle.uma_replay.specs.Hall.{AreDone, HallStands, NamesDone};
-ghost use Rattle.uma_replay.specs.Playing.{AllStay, gave_ups, namings_of};
+ghost use Rattle.uma_replay.specs.Playing.{AllStay, HaveEnded, gave_ups_of, namings_of};
 
 use crate::Memory;
-use crate::hall::{Hall, Namings, Played, Workers, ZoneList};
+use crate::hall::{GaveUps, Hall, Namings, Played, Workers, ZoneList};
 use crate::summing_up::report_of;
 use crate::whole::whole_report;
 use listed::Listed;
@@ -42,18 +42,19 @@ pub(crate) fn close<N: NameCalls, R: Wait>(
     zones: Vec<CountedZone<N::H>>,
     mut workers: Vec<Worker<N::H>>,
     namings: Vec<Naming<N>>,
+    gave_ups: Vec<u64>,
     begun: Note<N::H>,
-    gave_up: u64,
 ) -> Result<Played<N>, Memory>
     requires valid { IsValid trace.now }
     requires few { length (lines_of trace.now.rounds) ≤ 16777216 }
     requires done { AreDone trace.now zones.items clock workers.items }
     requires named { NamesDone N.NameCalls trace.now cache zones.items clock workers.items namings.items }
+    requires ended { HaveEnded trace.now clock workers.items namings.items gave_ups.items }
     requires begun_here { IsNoteOf clock begun }
     requires begun { (setup_of clock).about.start ≤ (note_holder begun).floor }
     ensures hall { IfOk result (λ played. HallStands N.NameCalls trace.now played.report played.hall) }
     ensures clock { IfOk result (λ played. played.hall.clock ≡ clock) }
-    ensures gave_up { IfOk result (λ played. played.report.gave_up ≡ gave_up) }
+    ensures gave_up { IfOk result (λ played. played.report.gave_up ≡ sum gave_ups.items) }
 {
     let ended = take_stock(
         rt,
@@ -67,8 +68,9 @@ pub(crate) fn close<N: NameCalls, R: Wait>(
     let zones = Listed::from_vec(zones);
     let workers = Listed::from_vec(workers);
     let namings = Listed::from_vec(namings);
+    let gave_ups = Listed::from_vec(gave_ups);
     reported(
-        rt, alloc, trace, names, cache, clock, zones, workers, namings, ended, gave_up,
+        rt, alloc, trace, names, cache, clock, zones, workers, namings, gave_ups, ended,
     )
 }
 
@@ -131,24 +133,26 @@ fn reported<N: NameCalls, R: Wait>(
     zones: ZoneList<N::H>,
     workers: Workers<N::H>,
     namings: Namings<N>,
+    gave_ups: GaveUps,
     ended: Ended,
-    gave_up: u64,
 ) -> Result<Played<N>, Memory>
     requires valid { IsValid trace.now }
     requires few { length (lines_of trace.now.rounds) ≤ 16777216 }
     requires done { AreDone trace.now zones clock workers }
     requires named { NamesDone N.NameCalls trace.now cache zones clock workers namings }
+    requires ended { HaveEnded trace.now clock workers namings gave_ups }
     requires hands { ReadsHands clock workers ended.read ended.write }
     requires closes { AllClose trace.now.head zones workers ended.totals.censuses.items ended.totals.tallies.items ended.totals.deferred.items }
     ensures hall { IfOk result (λ played. HallStands N.NameCalls trace.now played.report played.hall) }
     ensures clock { IfOk result (λ played. played.hall.clock ≡ clock) }
-    ensures gave_up { IfOk result (λ played. played.report.gave_up ≡ gave_up) }
+    ensures gave_up { IfOk result (λ played. played.report.gave_up ≡ sum gave_ups) }
 {
     let Ended {
         read,
         write,
         totals,
     } = ended;
+    let gave_up = all_gave_up(gave_ups.as_slice());
     let first = report_of(
         alloc,
         &trace.head,
@@ -168,6 +172,7 @@ fn reported<N: NameCalls, R: Wait>(
         names: cache,
         workers,
         namings,
+        gave_ups,
         censuses: Listed::from_vec(totals.censuses),
     };
     Ok(Played { report, hall })
@@ -184,31 +189,35 @@ fn window_of(head: Option<ClockHead>) -> u64
 }
 
 /// How often all workers gave up waiting for their gate.
-pub(crate) fn all_gave_up<N: NameCalls>(workers: &[Running<N>]) -> u64
-    requires { gave_ups workers.now < 2 ^ 64 }
-    ensures { result ≡ gave_ups workers.now }
+fn all_gave_up(gave_ups: &[u64]) -> u64
+    requires { sum gave_ups.now < 2 ^ 64 }
+    ensures { result ≡ sum gave_ups.now }
 {
-    let mut total = 0;
-    for number in 0..workers.len() {
-        total += workers[number].gave_up;
-    }
-    total
+    gave_ups.iter().sum()
 }
 
-/// The workers, out of their turns, and what each has of the names.
+/// The workers, out of their turns, what each has of the names, and how often it gave up waiting for its gate.
 pub(crate) fn dismiss<N: NameCalls>(
     alloc: Global,
     runnings: Vec<Running<N>>,
-) -> Result<(Vec<Worker<N::H>>, Vec<Naming<N>>), Memory>
-    ensures workers { IfOk result (λ (workers, namings). workers.items ≡ crew runnings.items) }
-    ensures namings { IfOk result (λ (workers, namings). namings.items ≡ namings_of runnings.items) }
+) -> Result<(Vec<Worker<N::H>>, Vec<Naming<N>>, Vec<u64>), Memory>
+    ensures workers { IfOk result (λ (workers, namings, gave_ups). workers.items ≡ crew runnings.items) }
+    ensures namings { IfOk result (λ (workers, namings, gave_ups). namings.items ≡ namings_of runnings.items) }
+    ensures gave_ups { IfOk result (λ (workers, namings, gave_ups). gave_ups.items ≡ gave_ups_of runnings.items) }
 {
     let mut workers = Vec::with_capacity(alloc, runnings.len())?;
     let mut namings = Vec::with_capacity(alloc, runnings.len())?;
+    let mut gave_ups = Vec::with_capacity(alloc, runnings.len())?;
     for running in runnings {
-        let Running { worker, naming, .. } = running;
+        let Running {
+            worker,
+            naming,
+            gave_up,
+            ..
+        } = running;
         workers.push(worker)?;
         namings.push(naming)?;
+        gave_ups.push(gave_up)?;
     }
-    Ok((workers, namings))
+    Ok((workers, namings, gave_ups))
 }

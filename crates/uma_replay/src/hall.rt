@@ -13,11 +13,15 @@ pub type Workers<H> = Listed<Worker<H>>;
 /// What each worker has of the names, in order of number. Contracts see the list of them.
 pub type Namings<N> = Listed<Naming<N>>;
 
+/// How often each worker gave up waiting for its gate, in order of number. Contracts see the list of them.
+pub type GaveUps = Listed<u64>;
+
 /// A census of each keg, in the order of the primary zones. Contracts see the list of them.
 pub type CensusList = Listed<Census>;
 
 /// All that a replay leaves behind: the zones and their clock, who keeps the names, the workers with their seats, passes and
-/// live items, what each has of the names, and of each keg but that of the names the census from which the report was made.
+/// live items, what each has of the names and how often it gave up waiting, and of each keg but that of the names the census
+/// from which the report was made.
 #[derive(Drop)]
 pub struct Hall<N: NameCalls> {
     pub zones: ZoneList<N::H>,
@@ -25,6 +29,7 @@ pub struct Hall<N: NameCalls> {
     pub names: N::Cache,
     pub workers: Workers<N::H>,
     pub namings: Namings<N>,
+    pub gave_ups: GaveUps,
     pub censuses: CensusList,
 }
 

@@ -16,7 +16,7 @@ mod summing_up;
 mod whole;
 
 pub use collecting::collect;
-pub use hall::{CensusList, Hall, Namings, Played, Workers, ZoneList};
+pub use hall::{CensusList, GaveUps, Hall, Namings, Played, Workers, ZoneList};
 pub use replaying::replay;
 pub use trace_worker::{CountHooks, Counted, FreeGate, Gate, Go, NameCalls, ReclaimCalls};
 pub use zone_stats::Memory;

@@ -10,7 +10,7 @@ ghost use Rattle.uma_replay.specs.Playing.{AreEnded};
 ghost use Rattle.uma_replay.specs.Report.{StandsFor};
 
 use crate::Memory;
-use crate::ending::{all_gave_up, close, dismiss};
+use crate::ending::{close, dismiss};
 use crate::hall::Played;
 use crate::starting::begin;
 use smr_clock::Clock;
@@ -22,7 +22,7 @@ use trace_text::Trace;
 use trace_worker::{CountedZone, Gate, NameCalls, ReclaimCalls, Running};
 
 /// Replays a trace, each worker on a thread of its own, and reports what its ledgers, its kegs, its clock and its names
-/// counted.
+/// counted, and how often its workers gave up waiting.
 ///
 /// The gate is asked before each operation, `names` does the lines of names, which it serves where the trace has a names
 /// line, and `reclaim` the lines of reclaim. When all lines are done, a census of each keg is taken, and the clock's hands
@@ -91,10 +91,9 @@ fn replay_from<
     let runnings = play_all(
         rt, alloc, trace, zone_list, &clock, names, &cache, gate, reclaim, first,
     )?;
-    let gave_up = all_gave_up(runnings.as_slice());
-    let (workers, namings) = dismiss(alloc, runnings)?;
+    let (workers, namings, gave_ups) = dismiss(alloc, runnings)?;
     close(
-        rt, alloc, trace, names, cache, clock, zones, workers, namings, begun, gave_up,
+        rt, alloc, trace, names, cache, clock, zones, workers, namings, gave_ups, begun,
     )
 }
 

@@ -1,4 +1,5 @@
-use Rattle.std.proofs.Common.{List, sym, ◌∙◌, subst}
+use Rattle.std.proofs.Common.{◌≡◌, ℕ, List, sum, sym, ◌∙◌, subst}
+use Rattle.std.specs.Prelude.{IfOk}
 use Rattle.trace_worker.specs.declared.naming.Naming.{Naming}
 use Rattle.trace_worker.specs.declared.worker.Worker.{Worker}
 use Rattle.trace_worker.specs.Items.{CountedZone}
@@ -8,6 +9,7 @@ use Rattle.uma_replay.specs.Hall.{AreDone, NamesDone}
 use Rattle.uma_replay.specs.Playing.{AllStay}
 use Rattle.uma_replay.proofs.Beginning.{written_back}
 use Rattle.uma_replay.proofs.HallOf.{names_stay}
+use Rattle.uma_replay.proofs.Playing.{ended_stay}
 use Rattle.uma_replay.proofs.ending.close.Goals as goal
 
 pub reported-requires-clause-done : goal.reported-requires-clause-done
@@ -56,3 +58,17 @@ reported-requires-clause-named g c κs within =
     let R : List (Naming _ _ _ _ _) → Type 0 = λ gs. NamesDone names t c.args.cache c.from_vec-zones.result c.args.clock c.from_vec-workers.result gs in
     subst R (sym c.from_vec-namings.ensures) (subst Q (sym (c.from_vec-workers.ensures ∙ same)) (subst P (sym c.from_vec-zones.ensures)
     (names_stay names t c.args.cache c.args.zones.items c.args.clock workers.items c.take_stock.new.workers c.args.namings.items stay c.requires.named)))
+
+pub reported-requires-clause-ended : goal.reported-requires-clause-ended
+reported-requires-clause-ended g c κs within =
+    let workers = c.args.workers in
+    let A : List (Worker _ _ _) → Type 0 = λ old. AllStay c.args.clock old c.take_stock.new.workers in
+    let stay = subst A c.as_mut_slice.ensures.value c.in_ok-ended.ensures.stay in
+    let same = written_back c.take_stock.new.workers workers.items workers.len workers.ok.0 stay.count in
+    ended_stay c.args.trace.now c.args.clock workers.items c.take_stock.new.workers c.from_vec-workers.result c.args.namings.items c.from_vec-namings.result c.args.gave_ups.items c.from_vec-gave_ups.result
+    stay (c.from_vec-workers.ensures ∙ same) c.from_vec-namings.ensures c.from_vec-gave_ups.ensures c.requires.ended
+
+pub returns-clause-gave_up : goal.returns-clause-gave_up
+returns-clause-gave_up g c =
+    let P : List ℕ → Type 0 = λ list. IfOk c.reported.result (λ played. played.report.gave_up ≡ sum list) in
+    subst P c.from_vec-gave_ups.ensures c.reported.ensures.gave_up

@@ -1,15 +1,13 @@
-use Rattle.std.proofs.Common.{◌≡◌, ◌<◌, ◌^◌, ◌∙◌, List, sym, ap, subst}
+use Rattle.std.proofs.Common.{◌≡◌, ◌∙◌, List, sum, sym, ap, subst}
 use Rattle.std.proofs.lemmas.Result.{IfOk-weaker}
-use denote.Exit.{yes}
-use denote.Param.Send.{sendable, param_send, arg_send}
-use Rattle.trace_worker.specs.declared.running.Running.{Running}
 use Rattle.trace_worker.specs.Items.{CountedZone}
 use Rattle.trace_play.specs.Rounds.{IsBegun, Suits}
 use Rattle.uma_replay.specs.Hall.{HallStands}
-use Rattle.uma_replay.specs.Playing.{AreEnded, gave_ups}
+use Rattle.uma_replay.specs.Playing.{AreEnded, gave_ups_of}
 use Rattle.uma_replay.specs.Report.{StandsFor}
-use Rattle.uma_replay.proofs.Beginning.{begun_of, done_of, few_workers, gave_ups_few, named_of, none_gave_up, served_domains, suits_of, worker_count}
+use Rattle.uma_replay.proofs.Beginning.{begun_of, done_of, few_workers, named_of, none_gave_up, served_domains, suits_of}
 use Rattle.uma_replay.proofs.HallOf.{stands_of_hall}
+use Rattle.uma_replay.proofs.Playing.{ended_of}
 use Rattle.uma_replay.proofs.replaying.replay_from.Goals as goal
 
 pub begin-requires-clause-few : goal.begin-requires-clause-few
@@ -33,22 +31,6 @@ play_all-requires-clause-begun g c κs within =
     let P : List (CountedZone _ _ _) → Type 0 = λ zones. IsBegun g.N.NameCalls c.args.cache zones s.clock first in
     subst P (sym c.as_slice-zone_list.ensures.value) (begun_of g.N.NameCalls c.args.cache c.args.trace.now s first c.requires.set_up c.in_ok-first.ensures)
 
-pub all_gave_up-gave_up-requires : goal.all_gave_up-gave_up-requires
-all_gave_up-gave_up-requires g c =
-    let t = c.args.trace.now in
-    let all = c.in_ok-runnings.runnings.items in
-    let ended = c.in_ok-runnings.ensures.ended in
-    let P : List (Running _ _ _ _ _ _) → Type 0 = λ list. gave_ups list < 2 ^ 64 in
-    let few : gave_ups c.as_slice.result.now < 2 ^ 64 =
-    subst P (sym c.as_slice.ensures.value) (gave_ups_few t all c.requires.valid c.requires.few
-    (worker_count g.N.NameCalls c.args.cache t c.args.setting c.in_ok-first.first.items all c.requires.set_up c.in_ok-first.ensures ended.count) ended.asked) in (
-      param_send _ _ (arg_send _ yes _ c.type_bounds.send-N-H),
-      (
-        param_send _ _ (arg_send _ yes _ c.type_bounds.send-N-Seat),
-        (search (c.type_bounds.sync-N-H, sendable), (search (c.type_bounds.sync-N-Cache, sendable), few)),
-      ),
-    )
-
 pub close-requires-clause-done : goal.close-requires-clause-done
 close-requires-clause-done g c κs within =
     let t = c.args.trace.now in
@@ -70,6 +52,12 @@ close-requires-clause-named g c κs within =
     named_of g.N.NameCalls c.args.cache t s first all c.in_ok-workers.workers.items c.in_ok-workers.namings.items c.requires.set_up c.in_ok-first.ensures ended.count
     c.requires.serves c.requires.of_clock c.requires.sizes ended.stand ended.named ended.plays c.in_ok-workers.ensures.workers c.in_ok-workers.ensures.namings
 
+pub close-requires-clause-ended : goal.close-requires-clause-ended
+close-requires-clause-ended g c κs within =
+    let ended = c.in_ok-runnings.ensures.ended in
+    ended_of c.args.trace.now c.args.setting.clock c.in_ok-runnings.runnings.items c.in_ok-workers.workers.items c.in_ok-workers.namings.items c.in_ok-workers.gave_ups.items
+    (λ n w at. (ended.stand.fits n w at).pass) ended.asked c.in_ok-workers.ensures.workers c.in_ok-workers.ensures.namings c.in_ok-workers.ensures.gave_ups
+
 pub returns-clause-stands : goal.returns-clause-stands
 returns-clause-stands g c =
     let t = c.args.trace.now in
@@ -79,7 +67,8 @@ returns-clause-stands g c =
 pub returns-clause-free : goal.returns-clause-free
 returns-clause-free g c = λ free.
     let first = c.in_ok-first.first.items in
-    let none : gave_ups c.in_ok-runnings.runnings.items ≡ 0 =
-    none_gave_up first c.in_ok-runnings.runnings.items (λ n r at. (c.in_ok-first.ensures.each n r at).gave_up) (c.in_ok-runnings.ensures.free free) in
-    let all : c.all_gave_up-gave_up.result ≡ 0 = c.all_gave_up-gave_up.ensures ∙ (ap gave_ups c.as_slice.ensures.value ∙ none) in
-    IfOk-weaker c.close.result (λ played. played.report.gave_up ≡ c.all_gave_up-gave_up.result) (λ played. played.report.gave_up ≡ 0) (λ played is. is ∙ all) c.close.ensures.gave_up
+    let all = c.in_ok-runnings.runnings.items in
+    let counts = c.in_ok-workers.gave_ups.items in
+    let none : sum (gave_ups_of all) ≡ 0 = none_gave_up first all (λ n r at. (c.in_ok-first.ensures.each n r at).gave_up) (c.in_ok-runnings.ensures.free free) in
+    let shown : sum counts ≡ 0 = ap sum c.in_ok-workers.ensures.gave_ups ∙ none in
+    IfOk-weaker c.close.result (λ played. played.report.gave_up ≡ sum counts) (λ played. played.report.gave_up ≡ 0) (λ played is. is ∙ shown) c.close.ensures.gave_up
