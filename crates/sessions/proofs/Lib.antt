@@ -2,6 +2,7 @@ mod Balanced
 mod Closing
 mod Crossed
 mod Ended
+mod Hiring
 mod Looks
 mod Passes
 mod Rounds

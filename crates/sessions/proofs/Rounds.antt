@@ -1,11 +1,12 @@
 -- What workers did in rounds, with one round more at the end.
 use Rattle.std.proofs.Common.{◌≡◌, ℕ, zero, suc, ◌+◌, ◌<◌, ◌≤◌, List, [], ◌∷◌, ◌++◌, sym, ap, ◌∙◌, subst, arith, length, take, get_or}
 use Rattle.std.proofs.lemmas.List.{append-nil, append_assoc, take_all}
+use Rattle.std.proofs.lemmas.List.Elements.{All-weaker}
 use Rattle.std.specs.Prelude.{All, Result, Ok, OnOk}
 use Rattle.sessions.specs.declared.request.Request.{Request}
 use Rattle.sessions.specs.declared.round.Round.{Round}
 use Rattle.sessions.specs.declared.worker.Worker.{Worker}
-use Rattle.sessions.specs.Serving.{AllBalance, AllServed, AllWorked, HasEnded, HasServed, asked_in, asked_of}
+use Rattle.sessions.specs.Serving.{AllBalance, AllServed, AllWorked, AsksEach, AsksNoOther, HasEnded, HasServed, asked_in, asked_of}
 use Rattle.sessions.proofs.Served.{served_both, served_none}
 
 -- each worker keeps its accounts
@@ -42,3 +43,7 @@ serve_more rounds k e old mid new below size served worked n d in' =
 
 pub serve_all : (rounds : List Round) (k : ℕ) (old new : List Worker) → length rounds ≤ k → AllServed (take k rounds) old new → AllServed rounds old new
 serve_all rounds k old new past served = subst (λ l. AllServed l old new) (take_all k rounds past) served
+
+-- where each round asks each of the workers and nobody else, there is a worker for each list
+pub no_list_left : (rounds : List Round) (count asked : ℕ) → count ≡ asked → All (AsksEach asked) rounds → All (AsksNoOther count) rounds
+no_list_left rounds count asked is each = All-weaker (AsksEach asked) (AsksNoOther count) (λ (round : Round) (e : length round.lists.items ≡ asked). omega (arith, e, is)) rounds each

@@ -1,5 +1,5 @@
 -- Own: what the workers of a server do in its rounds.
-use Rattle.std.specs.Prelude.{◌≡◌, ◌<◌, ◌++◌, ◌∷◌, ℕ, List, [], Ok, All, map, flat_map, length, slice_get, slice_index_or}
+use Rattle.std.specs.Prelude.{◌≡◌, ◌<◌, ◌≤◌, ◌++◌, ◌∷◌, ℕ, List, [], Ok, All, map, flat_map, length, slice_get, slice_index_or}
 use Rattle.std.specs.Option.{option_map_or}
 use Rattle.sessions.specs.declared.answer.Done.{Done}
 use Rattle.sessions.specs.declared.desk.Desk.{Desk}
@@ -16,6 +16,14 @@ requests_in log = map (λ done. done.request) log
 -- what worker `n` is asked in a round: nothing where the round has no list for it
 abbrev pub asked_of : Round → ℕ → List Request
 asked_of round n = option_map_or (λ list. list.items) (slice_get round.lists.items n) []
+
+-- the round asks each of so many workers, and nobody else
+abbrev pub AsksEach : ℕ → Round → Type 0
+AsksEach count round = length round.lists.items ≡ count
+
+-- the round asks nobody beyond so many workers, so each of its lists has its worker
+abbrev pub AsksNoOther : ℕ → Round → Type 0
+AsksNoOther count round = length round.lists.items ≤ count
 
 -- A desk served these requests one after another: each answer is what it gave, and says what was done.
 abbrev pub Ran : Desk → List Done → Desk → Type 0

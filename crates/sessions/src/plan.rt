@@ -1,4 +1,5 @@
-ghost use Rattle.std.specs.Prelude.{◌≤◌};
+ghost use Rattle.std.specs.Prelude.{◌≤◌, All, IfOk};
+ghost use Rattle.sessions.specs.Serving.{AsksEach};
 
 use crate::request::Request;
 use crate::round::Round;
@@ -12,20 +13,34 @@ pub const ROWS: u32 = 16;
 
 /// Four rounds of twelve requests a worker. What is printed of them doesn't depend on the schedule: each worker opens and closes its
 /// own sessions, whose rows no other worker binds, and takes two whole buckets of connections before the pool is at its limit.
-pub fn plan(alloc: Global) -> Result<Vec<Round>, AllocError> {
+pub fn plan(alloc: Global) -> Result<Vec<Round>, AllocError>
+    ensures { IfOk result (λ rounds. All (AsksEach 4) rounds.items) }
+{
     let mut rounds = Vec::new(alloc);
     for number in 0..4 {
-        let mut lists = Vec::new(alloc);
-        for worker in 0..WORKERS {
-            let mut list = Vec::new(alloc);
-            for place in 0..12 {
-                list.push(request(number, worker, place))?;
-            }
-            lists.push(list)?;
-        }
-        rounds.push(Round { lists })?;
+        rounds.push(round_of(alloc, number)?)?;
     }
     Ok(rounds)
+}
+
+// A list of requests for each worker.
+fn round_of(alloc: Global, number: u32) -> Result<Round, AllocError>
+    ensures { IfOk result (AsksEach 4) }
+{
+    let mut lists = Vec::new(alloc);
+    for worker in 0..WORKERS {
+        lists.push(list_of(alloc, number, worker)?)?;
+    }
+    Ok(Round { lists })
+}
+
+// The requests of a round to a worker.
+fn list_of(alloc: Global, number: u32, worker: u32) -> Result<Vec<Request>, AllocError> {
+    let mut list = Vec::new(alloc);
+    for place in 0..12 {
+        list.push(request(number, worker, place))?;
+    }
+    Ok(list)
 }
 
 // A request: sessions are opened, one of them to nobody; then three more, of which the pool gives one; then some are closed, and those

@@ -1,4 +1,4 @@
-ghost use Rattle.std.specs.Prelude.{◌≡◌, false, All, IfOk};
+ghost use Rattle.std.specs.Prelude.{◌≡◌, false, All, IfOk, length};
 ghost use Rattle.smr_clock.specs.Belongs.{clock_id};
 ghost use Rattle.uma_zone.specs.Zone.{zone_clock, zone_smr, zone_domains};
 ghost use Rattle.sessions.specs.Staff.{IsReady};
@@ -30,6 +30,7 @@ pub fn open_pool(alloc: Global) -> Result<(Pool, Clock<Bare>, Vec<Pass<Bare>>)>
     ensures clock { IfOk result (λ (pool, clock, passes). clock_id clock ≡ zone_clock pool) }
     ensures plain { IfOk result (λ (pool, clock, passes). zone_smr pool ≡ false) }
     ensures domains { IfOk result (λ (pool, clock, passes). zone_domains pool ≡ 1) }
+    ensures count { IfOk result (λ (pool, clock, passes). length passes.items ≡ 4) }
     ensures passes { IfOk result (λ (pool, clock, passes). All (IsReady clock) passes.items) }
 {
     let (clock, passes) = Clock::<Bare>::new(alloc, WORKERS, START, WINDOW)?;

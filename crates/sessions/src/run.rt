@@ -33,6 +33,7 @@ pub fn run<R: Threads + Wait + Print + Sync>(rt: &R, alloc: Global) -> Result<()
         directory_clock: &directory_clock,
     };
     let mut workers = hire_all(rt, alloc, &shared, pool_passes, directory_passes)?;
-    serve(rt, alloc, plan(alloc)?.as_slice(), workers.as_mut_slice())?;
+    let rounds = plan(alloc)?;
+    serve(rt, alloc, rounds.as_slice(), workers.as_mut_slice())?;
     print_report(rt, alloc, &shared, workers.as_slice())
 }

@@ -1,5 +1,5 @@
 ghost use Rattle.std.specs.Prelude.{◌≡◌, All, OnOk, length};
-ghost use Rattle.sessions.specs.Serving.{AllBalance, AllServed, AllWorked, HasEnded, HasServed, asked_of};
+ghost use Rattle.sessions.specs.Serving.{AllBalance, AllServed, AllWorked, AsksNoOther, HasEnded, HasServed, asked_of};
 
 use crate::round::Round;
 use crate::worker::Worker;
@@ -8,7 +8,7 @@ use std::sync::Wait;
 use std::thread::{self, Threads};
 
 /// Serves all rounds, one after another. In each round every worker does its own list, on a thread of its own, and all threads are
-/// joined. Waits where a worker's requests do.
+/// joined. Waits where a worker's requests do. There has to be a worker for each list of a round, so that no request is left over.
 ///
 /// Whatever the threads' schedule, and whether memory was wanting or not, the accounts of each worker balance.
 pub fn serve<R: Threads + Wait + Sync>(
@@ -17,6 +17,7 @@ pub fn serve<R: Threads + Wait + Sync>(
     rounds: &[Round],
     workers: &mut [Worker<'_>],
 ) -> Result<(), AllocError>
+    requires { All (AsksNoOther (length workers.old)) rounds.now }
     ensures accounts { AllBalance workers.new }
     ensures count { length workers.new ≡ length workers.old }
     ensures served { OnOk result (AllServed rounds.now workers.old workers.new) }

@@ -1,19 +1,18 @@
-ghost use Rattle.std.specs.Prelude.{◌≡◌, ◌<◌, [], false, All, IfOk};
+ghost use Rattle.std.specs.Prelude.{◌≡◌, ◌<◌, false, All, IfOk, length, map};
 ghost use Rattle.smr_clock.specs.Belongs.{clock_id};
+ghost use Rattle.smr_clock.specs.Making.{OneForEachSeat};
 ghost use Rattle.uma_zone.specs.Zone.{zone_clock, zone_smr, zone_domains};
 ghost use Rattle.name_cache.specs.Cache.{cache_clock, cache_domains};
-ghost use Rattle.sessions.specs.Staff.{IsReady};
+ghost use Rattle.sessions.specs.Staff.{BeginsAt, IsReady, KnowsNothing, pass_in};
 
 use crate::desk::Desk;
-use crate::plan::WORKERS;
 use crate::worker::Worker;
-use anyhow::{Result, anyhow};
 use connection_pool::{Connections, Pool};
 use name_cache::NameCache;
 use name_rows::Names;
 use session_directory::Registrar;
 use smr_clock::{Bare, Clock, Host, Pass};
-use std::alloc::Global;
+use std::alloc::{AllocError, Global};
 use std::sync::Wait;
 
 /// What the workers share: a pool and a directory, each with its clock.
@@ -30,36 +29,33 @@ pub struct Shared<'a> {
     pub ghost directory_domain: { 0 < cache_domains directory.now },
 }
 
-/// Hires the workers. Each has a pass of either clock, which no other worker has.
+/// Hires a worker for each pass of the pool's clock: the first worker gets the first pass of either clock, and so on. Each begins with
+/// nothing, and no two have one seat of the directory's clock.
 pub fn hire_all<'a, R: Wait>(
     rt: &R,
     alloc: Global,
     shared: &Shared<'a>,
     mut pool_passes: Vec<Pass<Bare>>,
     mut directory_passes: Vec<Pass<Names>>,
-) -> Result<Vec<Worker<'a>>>
+) -> Result<Vec<Worker<'a>>, AllocError>
     requires pool { All (IsReady shared.now.pool_clock.now) pool_passes.items }
     requires directory { All (IsReady shared.now.directory_clock.now) directory_passes.items }
+    requires blank { All KnowsNothing directory_passes.items }
+    requires pairs { length directory_passes.items ≡ length pool_passes.items }
+    requires seats { OneForEachSeat (length directory_passes.items) directory_passes.items }
+    ensures count { IfOk result (λ workers. length workers.items ≡ length pool_passes.items) }
+    ensures begin { IfOk result (λ workers. All (BeginsAt shared.now.directory.now) workers.items) }
+    ensures passes { IfOk result (λ workers. map pass_in workers.items ≡ directory_passes.items) }
+    ensures seats { IfOk result (λ workers. OneForEachSeat (length workers.items) (map pass_in workers.items)) }
 {
     let mut workers = Vec::new(alloc);
-    for _ in 0..WORKERS {
-        let pool_pass = take_pass(shared.pool_clock, &mut pool_passes)?;
-        let directory_pass = take_pass(shared.directory_clock, &mut directory_passes)?;
-        workers.push(hire(rt, alloc, shared, pool_pass, directory_pass)?)?;
+    for _ in 0..pool_passes.len() {
+        let pool_pass = pool_passes.remove(0);
+        let directory_pass = directory_passes.remove(0);
+        let worker = hire(rt, alloc, shared, pool_pass, directory_pass)?;
+        workers.push(worker)?;
     }
     Ok(workers)
-}
-
-// Takes one of the passes of a clock.
-fn take_pass<H: Host>(clock: &Clock<H>, passes: &mut Vec<Pass<H>>) -> Result<Pass<H>>
-    requires { All (IsReady clock.now) passes.old.items }
-    ensures here { IfOk result (IsReady clock.now) }
-    ensures left { All (IsReady clock.now) passes.new.items }
-{
-    match passes.pop() {
-        Some(pass) => Ok(pass),
-        None => Err(anyhow!("too few passes")),
-    }
 }
 
 // A worker that holds no connection, and was asked nothing yet.
@@ -69,14 +65,21 @@ fn hire<'a, R: Wait>(
     shared: &Shared<'a>,
     pool_pass: Pass<Bare>,
     directory_pass: Pass<Names>,
-) -> Result<Worker<'a>>
+) -> Result<Worker<'a>, AllocError>
     requires pool { IsReady shared.now.pool_clock.now pool_pass }
     requires directory { IsReady shared.now.directory_clock.now directory_pass }
-    ensures { IfOk result (λ worker. worker.log.items ≡ []) }
+    requires blank { KnowsNothing directory_pass }
+    ensures begin { IfOk result (BeginsAt shared.now.directory.now) }
+    ensures pass { IfOk result (λ worker. pass_in worker ≡ directory_pass) }
 {
     let (pool, directory) = (shared.pool, shared.directory);
-    let connections = Connections::new(rt, alloc, pool, shared.pool_clock, pool_pass)?;
-    let registrar = Registrar::new(rt, alloc, directory, shared.directory_clock, directory_pass)?;
+    let Ok(connections) = Connections::new(rt, alloc, pool, shared.pool_clock, pool_pass) else {
+        return Err(AllocError);
+    };
+    let Ok(registrar) = Registrar::new(rt, alloc, directory, shared.directory_clock, directory_pass)
+    else {
+        return Err(AllocError);
+    };
     Ok(Worker {
         desk: Desk {
             connections,
