@@ -1,0 +1,14 @@
+pub mod FitOrder
+pub mod FitLists
+pub mod AtNode
+pub mod Bases
+pub mod Spaced
+pub mod Tiling
+pub mod Multiples
+pub mod Merging
+pub mod FreeCounts
+pub mod Taking
+pub mod Giving
+pub mod Adding
+pub mod Keeping
+pub mod Choosing

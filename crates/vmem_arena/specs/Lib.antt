@@ -1,0 +1,14 @@
+pub mod Add
+pub mod ByBase
+pub mod BySize
+pub mod BySizeFalls
+pub mod Fits
+pub mod Give
+pub mod Kept
+pub mod Refused
+pub mod Steps
+pub mod Tag
+pub mod Tags
+pub mod TagsLaw
+pub mod Take
+pub mod TakenBases
