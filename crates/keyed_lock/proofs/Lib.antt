@@ -1,1 +1,2 @@
 pub mod ProtocolSteps
+pub mod RisingSteps

@@ -1,3 +1,10 @@
+pub mod GaugeRow
+pub mod HighWater
 pub mod KeyedGuard
 pub mod KeyedLock
+pub mod Network
 pub mod Protocol
+pub mod Rising
+pub mod RowList
+pub mod Station
+pub mod WaterKey

@@ -16,7 +16,7 @@ use Rattle.uma_seat.specs.Stack.{Stack, stack_at, with_item, is_filled_by_one, e
 use Rattle.name_rows.specs.declared.part.Part.{Part}
 use Rattle.name_rows.specs.Records.{In}
 use Rattle.name_rows.specs.Laws.{in_right}
-use Rattle.name_entries.specs.declared.raised_entry.RaisedEntry.{RaisedEntry}
+use Rattle.name_cache.specs.declared.raised_entry.RaisedEntry.{RaisedEntry}
 use Rattle.name_cache.specs.Types.{EntrySeat, EntryBucket, LiveEntry}
 use Rattle.name_cache.specs.Deferred.{freed_on, IsDeferred, Frees}
 

@@ -22,7 +22,7 @@ use Rattle.name_rows.specs.declared.part.Part.{Part}
 use Rattle.name_rows.specs.declared.words.Words.{Words}
 use Rattle.name_rows.specs.Entries.{IsEntryOf, entry_life, entry_state, state_in, guest_of, guest_with}
 use Rattle.name_rows.specs.Rows.{IsEvicted, IsKeyOf}
-use Rattle.name_entries.specs.Homes.{home_clock}
+use Rattle.name_cache.specs.Homes.{home_clock}
 use Rattle.name_cache.specs.declared.linked_item.LinkedItem.{LinkedItem}
 use Rattle.name_cache.specs.declared.parts.EntryParts.{EntryParts}
 use Rattle.name_cache.specs.LinkedItem.{guest_life, IsLinkedAs, FitsItem}

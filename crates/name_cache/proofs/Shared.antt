@@ -11,12 +11,12 @@ use Rattle.name_rows.specs.contracts.names.NamesHost.TheImpl as host
 use Rattle.name_rows.specs.contracts.part.Part as Part
 use Rattle.name_rows.proofs.names.Names.TheSendSync as names
 use Rattle.name_rows.proofs.row.Row.TheSendSync as row
-use Rattle.name_entries.specs.contracts.entry_hooks.EntryHooks as EntryHooks
-use Rattle.name_entries.specs.contracts.entry_hooks.EntryHooksHooksRaisedEntry.TheImpl as hooks_of
-use Rattle.name_entries.specs.contracts.raised_entry.RaisedEntry as RaisedEntry
-use Rattle.name_entries.specs.contracts.raised_entry.RaisedEntryBody.TheImpl as body
-use Rattle.name_entries.proofs.entry_hooks.EntryHooks.TheSendSync as hooks
-use Rattle.name_entries.proofs.raised_entry.RaisedEntry.TheSendSync as raised
+use Rattle.name_cache.specs.contracts.entry_hooks.EntryHooks as EntryHooks
+use Rattle.name_cache.specs.contracts.entry_hooks.EntryHooksHooksRaisedEntry.TheImpl as hooks_of
+use Rattle.name_cache.specs.contracts.raised_entry.RaisedEntry as RaisedEntry
+use Rattle.name_cache.specs.contracts.raised_entry.RaisedEntryBody.TheImpl as body
+use Rattle.name_cache.proofs.entry_hooks.EntryHooks.TheSendSync as hooks
+use Rattle.name_cache.proofs.raised_entry.RaisedEntry.TheSendSync as raised
 use Rattle.uma_seat.specs.contracts.seat.SeatCache as SeatCache
 use Rattle.uma_zone.specs.contracts.zone.Zone as Zone
 use Rattle.uma_zone.proofs.Shared.{seat_send, zone_sync}

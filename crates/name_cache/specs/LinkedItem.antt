@@ -13,7 +13,7 @@ use Rattle.name_rows.specs.declared.entry.Entry.{Entry}
 use Rattle.name_rows.specs.declared.guest.Guest.{Guest}
 use Rattle.name_rows.specs.declared.words.Words.{Words}
 use Rattle.name_rows.specs.Entries.{entry_life}
-use Rattle.name_entries.specs.Homes.{home_clock, home_origin}
+use Rattle.name_cache.specs.Homes.{home_clock, home_origin}
 use Rattle.name_cache.specs.declared.linked_item.LinkedItem.{LinkedItem}
 
 -- the life of the linked entry

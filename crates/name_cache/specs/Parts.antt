@@ -9,8 +9,8 @@ use Rattle.name_rows.specs.declared.words.Words.{Words}
 use Rattle.name_rows.specs.Entries.{entry_life, entry_state}
 use Rattle.name_rows.specs.declared.entry_state.EntryState.{EntryState}
 use Rattle.name_rows.specs.Roots.{kept_in}
-use Rattle.name_entries.specs.Homes.{home_clock}
-use Rattle.name_entries.specs.Raised.{raised_entry, raised_home}
+use Rattle.name_cache.specs.Homes.{home_clock}
+use Rattle.name_cache.specs.Raised.{raised_entry, raised_home}
 use Rattle.name_cache.specs.declared.parts.EntryParts.{EntryParts}
 use Rattle.name_cache.specs.Types.{LiveEntry}
 

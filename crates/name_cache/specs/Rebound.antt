@@ -5,7 +5,7 @@ use Rattle.zone_stats.specs.declared.ledger.SeatLedger.{SeatLedger}
 use Rattle.uma_life.specs.Live.{live_body, live_ticket}
 use Rattle.uma_zone.specs.Alloc.{Serves, TurnsAway, WantsMemory}
 use Rattle.name_rows.specs.declared.part.Part.{Part}
-use Rattle.name_entries.specs.Raised.{raised_entry}
+use Rattle.name_cache.specs.Raised.{raised_entry}
 use Rattle.name_cache.specs.declared.bind_refused.BindRefused.{BindRefused}
 use Rattle.name_cache.specs.declared.bind_refused.BindRefused.TheVariants.{Zone, Worn, Unripe, Memory}
 use Rattle.name_cache.specs.declared.locked_row.LockedRow.{LockedRow}

@@ -7,10 +7,10 @@ use Rattle.uma_zone.specs.declared.zone.Zone.{Zone}
 use Rattle.name_rows.specs.declared.names.Names.{Names}
 use Rattle.name_rows.specs.declared.part.Part.{Part}
 use Rattle.name_rows.specs.contracts.names.NamesHost.TheImpl.{ghosts as names_host}
-use Rattle.name_entries.specs.declared.raised_entry.RaisedEntry.{RaisedEntry}
-use Rattle.name_entries.specs.declared.entry_hooks.EntryHooks.{EntryHooks}
-use Rattle.name_entries.specs.contracts.raised_entry.RaisedEntryBody.TheImpl.{ghosts as raised_body}
-use Rattle.name_entries.specs.contracts.entry_hooks.EntryHooksHooksRaisedEntry.TheImpl.{ghosts as entry_hooks}
+use Rattle.name_cache.specs.declared.raised_entry.RaisedEntry.{RaisedEntry}
+use Rattle.name_cache.specs.declared.entry_hooks.EntryHooks.{EntryHooks}
+use Rattle.name_cache.specs.contracts.raised_entry.RaisedEntryBody.TheImpl.{ghosts as raised_body}
+use Rattle.name_cache.specs.contracts.entry_hooks.EntryHooksHooksRaisedEntry.TheImpl.{ghosts as entry_hooks}
 
 abbrev pub ZoneOfEntries : Type 0
 ZoneOfEntries = Zone RaisedEntry EntryHooks Names Part raised_body entry_hooks names_host

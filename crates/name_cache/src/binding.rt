@@ -13,6 +13,7 @@ ghost use Rattle.name_cache.specs.Parts.{words_of};
 ghost use Rattle.name_cache.specs.Rebound.{HandsOut, HandsOutNone, HasRebound, FreesParts, FreesEvicted};
 ghost use Rattle.name_cache.specs.RowKey.{identity, key_identity};
 
+use crate::RaisedEntry;
 use crate::bind_refused::BindRefused;
 use crate::cache::NameCache;
 use crate::key::RowKey;
@@ -22,7 +23,6 @@ use crate::rebound::Rebound;
 use crate::receipt::Receipt;
 use crate::rule::RowOfKey;
 use keyed_lock::KeyedGuard;
-use name_entries::RaisedEntry;
 use name_rows::Names;
 use smr_clock::{Clock, Pass};
 use std::alloc::Global;

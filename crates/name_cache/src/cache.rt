@@ -1,11 +1,11 @@
 ghost use Rattle.std.specs.Prelude.{◌≡◌, true, length};
 ghost use Rattle.uma_zone.specs.Zone.{zone_clock, zone_home, zone_index, zone_smr};
 ghost use Rattle.name_rows.specs.Belongs.{FitsNames};
-ghost use Rattle.name_entries.specs.Origins.{clock_numbers};
+ghost use Rattle.name_cache.specs.Origins.{clock_numbers};
 ghost use Rattle.name_cache.specs.Locks.{AreNamed};
 
 use crate::rule::RowLock;
-use name_entries::{EntryHooks, RaisedEntry};
+use crate::{EntryHooks, RaisedEntry};
 use name_rows::Names;
 use uma_zone::Zone;
 

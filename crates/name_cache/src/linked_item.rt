@@ -1,4 +1,4 @@
-use name_entries::Home;
+use crate::Home;
 use std::sync::Arc;
 use uma_life::{Tally, Ticket};
 

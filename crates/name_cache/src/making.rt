@@ -13,7 +13,7 @@ use crate::cache::{EntryZone, NameCache};
 use crate::key::RowKey;
 use crate::locked_row::LockedRow;
 use crate::rule::RowLock;
-use name_entries::{EntryHooks, RaisedEntry};
+use crate::{EntryHooks, RaisedEntry};
 use name_rows::{Names, Opened, Row};
 use smr_clock::{Clock, Pass};
 use std::alloc::Global;

@@ -7,9 +7,9 @@ ghost use Rattle.uma_life.specs.Trail.{IsAt};
 ghost use Rattle.uma_life.specs.declared.body_phase.BodyPhase.TheVariants.{Built};
 ghost use Rattle.name_rows.specs.Entries.{entry_life};
 ghost use Rattle.name_rows.specs.declared.words.Words.{Words};
-ghost use Rattle.name_entries.specs.Homes.{home_clock, home_origin};
+ghost use Rattle.name_cache.specs.Homes.{home_clock, home_origin};
 
-use name_entries::{Home, RaisedEntry};
+use crate::{Home, RaisedEntry};
 use name_rows::{Entry, Names, Unripe, ripe, stamp, write};
 use smr_clock::Clock;
 use std::sync::Arc;
@@ -34,7 +34,7 @@ impl EntryParts {
     ghost use Rattle.name_rows.specs.Ripening.{StampsAt, IsRipe, IsUnripe};
     ghost use Rattle.name_rows.specs.Writing.{Writes};
     ghost use Rattle.name_rows.specs.declared.entry_state.EntryState.{EntryState};
-    ghost use Rattle.name_entries.specs.Raised.{raised_entry, raised_home};
+    ghost use Rattle.name_cache.specs.Raised.{raised_entry, raised_home};
     ghost use Rattle.name_cache.specs.Parts.{parts_clock, IsSameItem};
 
     /// The parts of an item.

@@ -9,10 +9,10 @@ ghost use Rattle.name_cache.specs.LockedRow.{IsItemOf, UnbindsInRow, HasNotKey};
 ghost use Rattle.name_cache.specs.Unbind.{Unbinds, FindsUnbound};
 ghost use Rattle.name_cache.specs.declared.locked_row.LockedRow.{LockedRow};
 
+use crate::RaisedEntry;
 use crate::cache::NameCache;
 use crate::parts::EntryParts;
 use crate::receipt::Receipt;
-use name_entries::RaisedEntry;
 use name_rows::Names;
 use smr_clock::{Clock, Pass};
 use std::alloc::Global;

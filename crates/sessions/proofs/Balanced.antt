@@ -10,19 +10,19 @@ use Rattle.name_rows.specs.Records.{In}
 use Rattle.sessions.specs.declared.answer.Answer.{Answer}
 use Rattle.sessions.specs.declared.answer.Answer.TheVariants.{Opened, Unnamed, Refused, Closed, NotHeld, Found, NotFound, Late}
 use Rattle.sessions.specs.declared.answer.Done.{Done}
-use Rattle.connection_pool.specs.declared.connections.Connections.{Connections}
+use Rattle.sessions.specs.declared.connections.Connections.{Connections}
 use Rattle.sessions.specs.declared.desk.Desk.{Desk}
-use Rattle.connection_pool.specs.declared.held.Held.{Held}
-use Rattle.connection_pool.specs.declared.pool_refused.PoolRefused.{PoolRefused}
-use Rattle.connection_pool.specs.declared.pool_refused.PoolRefused.TheVariants.{Turned, Counts, Memory}
+use Rattle.sessions.specs.declared.held.Held.{Held}
+use Rattle.sessions.specs.declared.pool_refused.PoolRefused.{PoolRefused}
+use Rattle.sessions.specs.declared.pool_refused.PoolRefused.TheVariants.{Turned, Counts, Memory}
 use Rattle.sessions.specs.declared.refused.Refused.{Refused as Why}
 use Rattle.sessions.specs.declared.refused.Refused.TheVariants.{Pool, Directory}
 use Rattle.sessions.specs.declared.request.Request.{Request}
 use Rattle.sessions.specs.declared.request.Request.TheVariants.{Open, Close, Look}
 use Rattle.sessions.specs.Accounts.{Balances, IsBound, IsTold, opens, closes, turns}
 use Rattle.sessions.specs.Answers.{Ends, IsNotClosed, IsRefused, KeepsKnown, is_turned_away}
-use Rattle.session_directory.specs.Directory.{WasBound, known_to}
-use Rattle.connection_pool.specs.Pool.{Opens, Turns, Closes, KeepsPool, RefusesOpen, held_in, ledger_in, is_turned}
+use Rattle.sessions.specs.Directory.{WasBound, known_to}
+use Rattle.sessions.specs.Pool.{Opens, Turns, Closes, KeepsPool, RefusesOpen, held_in, ledger_in, is_turned}
 
 abbrev one : Bool → ℕ
 one b = cond b 1 0

@@ -1,12 +1,12 @@
 -- A close ends as the pool and the directory say.
 use Rattle.std.proofs.Common.{◌≡◌, ℕ, Bool, Option, Some, None, sym, subst}
 use Rattle.std.specs.Prelude.{IfSome, IfNone, is_some}
-use Rattle.connection_pool.specs.declared.connections.Connections.{Connections}
-use Rattle.connection_pool.specs.Held.{IsFirstOf}
-use Rattle.connection_pool.specs.Pool.{Closes, HoldsNone, held_in}
-use Rattle.connection_pool.proofs.Places.{not_none}
-use Rattle.session_directory.specs.declared.registrar.Registrar.{Registrar}
-use Rattle.session_directory.specs.Directory.{FindsNone, TakesOut}
+use Rattle.sessions.specs.declared.connections.Connections.{Connections}
+use Rattle.sessions.specs.Held.{IsFirstOf}
+use Rattle.sessions.specs.Pool.{Closes, HoldsNone, held_in}
+use Rattle.sessions.proofs.Places.{not_none}
+use Rattle.sessions.specs.declared.registrar.Registrar.{Registrar}
+use Rattle.sessions.specs.Directory.{FindsNone, TakesOut}
 use Rattle.sessions.specs.declared.answer.Answer.{Answer}
 use Rattle.sessions.specs.declared.desk.Desk.{Desk}
 use Rattle.sessions.specs.declared.request.Request.TheVariants.{Close}

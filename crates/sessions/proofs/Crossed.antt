@@ -11,8 +11,8 @@ use denote.Struct.Struct.{Struct}
 use denote.Struct.Tuple.{TupleAt, parts, type_at}
 use mir.Syntax.{Lifetime, Sym}
 use Rattle.std.proofs.Common.{List, [], ◌∷◌}
-use Rattle.connection_pool.proofs.Shared.{connections_field_send}
-use Rattle.session_directory.proofs.Shared.{registrar_field_send}
+use Rattle.sessions.proofs.PoolShared.{connections_field_send}
+use Rattle.sessions.proofs.DirectoryShared.{registrar_field_send}
 use Rattle.sessions.proofs.answer.Done.TheSendSync as done
 use Rattle.sessions.specs.contracts.desk.Desk as Desk
 use Rattle.sessions.proofs.round.Round.TheSendSync as round

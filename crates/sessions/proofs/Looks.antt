@@ -1,8 +1,8 @@
 -- A look ends as the directory says.
 use Rattle.std.proofs.Common.{◌≡◌, ℕ, Option, Some, None, sym, subst}
 use Rattle.std.specs.Prelude.{IfSome}
-use Rattle.connection_pool.specs.Pool.{KeepsPool}
-use Rattle.session_directory.specs.Directory.{LooksUp, WasBound, known_to}
+use Rattle.sessions.specs.Pool.{KeepsPool}
+use Rattle.sessions.specs.Directory.{LooksUp, WasBound, known_to}
 use Rattle.sessions.specs.declared.answer.Answer.{Answer}
 use Rattle.sessions.specs.declared.desk.Desk.{Desk}
 use Rattle.sessions.specs.declared.request.Request.TheVariants.{Look}

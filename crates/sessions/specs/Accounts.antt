@@ -7,8 +7,8 @@ use Rattle.sessions.specs.declared.answer.Done.{Done}
 use Rattle.sessions.specs.declared.desk.Desk.{Desk}
 use Rattle.sessions.specs.declared.request.Request.{Request}
 use Rattle.sessions.specs.declared.request.Request.TheVariants.{Look}
-use Rattle.session_directory.specs.Directory.{WasBound, known_to}
-use Rattle.connection_pool.specs.Pool.{held_in, ledger_in}
+use Rattle.sessions.specs.Directory.{WasBound, known_to}
+use Rattle.sessions.specs.Pool.{held_in, ledger_in}
 use Rattle.sessions.specs.Answers.{is_turned_away}
 
 -- a connection was opened

@@ -1,7 +1,7 @@
 -- Own: what each answer to a request says of what was done.
 use Rattle.std.specs.Prelude.{◌≡◌, ℕ, Bool, true, false, Some, None}
 use Rattle.smr_clock.specs.declared.refused.Overtaken.{Overtaken}
-use Rattle.connection_pool.specs.declared.connections.Connections.{Connections}
+use Rattle.sessions.specs.declared.connections.Connections.{Connections}
 use Rattle.sessions.specs.declared.answer.Answer.{Answer}
 use Rattle.sessions.specs.declared.answer.Answer.TheVariants.{Opened, Unnamed, Refused, Closed, NotHeld, Found, NotFound, Late}
 use Rattle.sessions.specs.declared.desk.Desk.{Desk}
@@ -9,9 +9,9 @@ use Rattle.sessions.specs.declared.refused.Refused.{Refused as Why}
 use Rattle.sessions.specs.declared.refused.Refused.TheVariants.{Pool, Directory}
 use Rattle.sessions.specs.declared.request.Request.{Request}
 use Rattle.sessions.specs.declared.request.Request.TheVariants.{Open, Close, Look}
-use Rattle.session_directory.specs.declared.registrar.Registrar.{Registrar}
-use Rattle.session_directory.specs.Directory.{BindsName, FindsNone, IsLate, LooksUp, RefusesBind, RefusesUnbind, StillKnows, TakesOut, WasBound, known_to}
-use Rattle.connection_pool.specs.Pool.{Opens, RefusesOpen, Closes, HoldsNone, IsNotReady, KeepsPool, is_turned, ledger_in}
+use Rattle.sessions.specs.declared.registrar.Registrar.{Registrar}
+use Rattle.sessions.specs.Directory.{BindsName, FindsNone, IsLate, LooksUp, RefusesBind, RefusesUnbind, StillKnows, TakesOut, WasBound, known_to}
+use Rattle.sessions.specs.Pool.{Opens, RefusesOpen, Closes, HoldsNone, IsNotReady, KeepsPool, is_turned, ledger_in}
 
 -- what it knew of the directory it still knows
 abbrev pub KeepsKnown : Desk → Desk → Type 0

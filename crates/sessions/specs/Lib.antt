@@ -1,5 +1,11 @@
-pub mod Looked
-pub mod Answers
 pub mod Accounts
+pub mod Answers
+pub mod Connection
+pub mod Directory
+pub mod DirectoryOpening
+pub mod Held
+pub mod Looked
+pub mod Pool
+pub mod Refused
 pub mod Serving
 pub mod Staff

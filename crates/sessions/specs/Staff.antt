@@ -12,8 +12,8 @@ use Rattle.name_cache.specs.declared.cache.NameCache.{NameCache}
 use Rattle.name_cache.specs.Cache.{cache_zone}
 use Rattle.name_cache.specs.Known.{known_in}
 use Rattle.name_cache.specs.Types.{NamesPass}
-use Rattle.connection_pool.specs.Pool.{held_in, ledger_in}
-use Rattle.session_directory.specs.Directory.{directory_of, known_to, pass_of, seat_of}
+use Rattle.sessions.specs.Pool.{held_in, ledger_in}
+use Rattle.sessions.specs.Directory.{directory_of, known_to, pass_of, seat_of}
 use Rattle.sessions.specs.declared.worker.Worker.{Worker}
 use Rattle.sessions.specs.Serving.{HasEnded}
 

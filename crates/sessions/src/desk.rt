@@ -2,10 +2,11 @@ ghost use Rattle.std.specs.Prelude.{◌≡◌};
 ghost use Rattle.sessions.specs.Looked.{as_closed, as_looked};
 
 use crate::answer::Answer;
+use crate::connections::Connections;
+use crate::pool_refused::PoolRefused;
 use crate::refused::Refused;
+use crate::registrar::Registrar;
 use crate::request::Request;
-use connection_pool::{Connections, PoolRefused};
-use session_directory::Registrar;
 use std::alloc::Global;
 use std::sync::Wait;
 

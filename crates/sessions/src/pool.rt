@@ -3,9 +3,9 @@ ghost use Rattle.smr_clock.specs.Belongs.{clock_id};
 ghost use Rattle.uma_zone.specs.Zone.{zone_clock, zone_smr, zone_domains};
 ghost use Rattle.sessions.specs.Staff.{IsReady};
 
+use crate::connection_pool::{Pool, new_pool};
 use crate::plan::WORKERS;
 use anyhow::Result;
-use connection_pool::{Pool, new_pool};
 use smr_clock::{Bare, Clock, Pass};
 use std::alloc::Global;
 use uma_zone::ZoneSet;

@@ -1,5 +1,5 @@
-use connection_pool::PoolRefused;
-use session_directory::DirectoryRefused;
+use crate::directory_refused::DirectoryRefused;
+use crate::pool_refused::PoolRefused;
 use std::fmt;
 
 /// Why a request was refused.

@@ -1,9 +1,9 @@
 use crate::answer::{Answer, Done};
+use crate::connection_pool::CONNECTION_SIZE;
 use crate::pool::POOL;
 use crate::staff::Shared;
 use crate::worker::Worker;
 use anyhow::{Result, anyhow};
-use connection_pool::CONNECTION_SIZE;
 use std::alloc::Global;
 use std::sync::Wait;
 use uma_keg::Census;

@@ -1,10 +1,10 @@
+use crate::opening::open_directory;
 use crate::plan::{ROWS, WORKERS, plan};
 use crate::pool::open_pool;
 use crate::report::print_report;
 use crate::serving::serve;
 use crate::staff::{Shared, hire_all};
 use anyhow::Result;
-use session_directory::open_directory;
 use std::alloc::Global;
 use std::sync::Wait;
 use std::thread::Threads;

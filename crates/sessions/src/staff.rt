@@ -5,12 +5,13 @@ ghost use Rattle.uma_zone.specs.Zone.{zone_clock, zone_smr, zone_domains};
 ghost use Rattle.name_cache.specs.Cache.{cache_clock, cache_domains};
 ghost use Rattle.sessions.specs.Staff.{BeginsAt, IsReady, KnowsNothing, pass_in};
 
+use crate::connection_pool::Pool;
+use crate::connections::Connections;
 use crate::desk::Desk;
+use crate::registrar::Registrar;
 use crate::worker::Worker;
-use connection_pool::{Connections, Pool};
 use name_cache::NameCache;
 use name_rows::Names;
-use session_directory::Registrar;
 use smr_clock::{Bare, Clock, Host, Pass};
 use std::alloc::{AllocError, Global};
 use std::sync::Wait;

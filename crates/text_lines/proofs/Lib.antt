@@ -3,3 +3,4 @@ pub mod Cutting
 pub mod Following
 pub mod Numbers
 pub mod OneVerdict
+pub mod AppendedLines

@@ -1,4 +1,7 @@
 //! Traces from a number: the same each time, and valid.
+//!
+//! A draw is taken modulo n also where n isn't a power of two, so most counts of workers are drawn with the bias of the
+//! remainder.
 #![tactic(auto)]
 
 ghost use Rattle.std.specs.Prelude.{◌≡◌, IfOk};

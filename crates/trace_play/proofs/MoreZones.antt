@@ -10,7 +10,7 @@ use Rattle.smr_clock.specs.Belongs.{clock_id}
 use Rattle.uma_bucket.specs.Home.{Home}
 use Rattle.locked_keg.specs.declared.key.KegKey.{KegKey}
 use Rattle.locked_keg.specs.Key.{key_numbers}
-use Rattle.zone_domains.specs.Domains.{domains_clock, domains_smr, domain_count}
+use Rattle.uma_zone.specs.Domains.{domains_clock, domains_smr, domain_count}
 use Rattle.trace_text.specs.declared.head.Head.{Head}
 use Rattle.trace_text.specs.declared.head.ZoneHead.{ZoneHead}
 use Rattle.trace_text.specs.Valid.{HeadFits, sharer_count}

@@ -25,7 +25,7 @@ use Rattle.trace_text.specs.declared.op.Op.{Op}
 use Rattle.trace_text.specs.declared.op.Op.TheVariants.{Alloc, Free, Enter, Exit, Bind, Unbind, Look, Trim, Drain, DrainSeat, Prealloc}
 use Rattle.trace_text.specs.declared.round.Round.{Round}
 use Rattle.trace_text.specs.declared.trace.Trace.{Trace}
-use Rattle.printed_lines.specs.CanonicalLine.{line}
+use Rattle.text_lines.specs.CanonicalLine.{line}
 use Rattle.trace_print.specs.CanonicalText.{kind_word, zone_fields, zone_line, clock_text, detail_text, names_text, head_text, arg_fields, reserve_fields, op_fields, op_line, ops_text, between_line, rounds_text, canonical_text}
 use Rattle.trace_text.specs.NamedZones.{zone_name}
 use Rattle.trace_text.specs.Valid.{BetweenFits, ClockFits, HeadFits, IsValid, KegFits, NamesFits, OpFits, RoundFits, ZoneFits}

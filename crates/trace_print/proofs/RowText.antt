@@ -11,7 +11,7 @@ use Rattle.std.proofs.lemmas.List.Splits.{slice_split_none, slice_split_at, leng
 use Rattle.std.proofs.lemmas.List.Sums.{list_all-from_AllPass}
 use Rattle.text_lines.specs.TextLines.{TextLine, Test, IsRightText, AreRight, after_earlier, fields_of, is_allowed, is_blank, is_ended, is_field, is_skipped, spoken, wrong_with}
 use Rattle.text_lines.proofs.Cutting.{lines_of_more}
-use Rattle.printed_lines.specs.CanonicalLine.{line}
+use Rattle.text_lines.specs.CanonicalLine.{line}
 
 -- a word: one byte at least, each from `!` to `~`
 pub record IsWord (word : List ℕ) : Type 0 where

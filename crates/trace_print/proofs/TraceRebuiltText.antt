@@ -18,7 +18,7 @@ use Rattle.trace_text.specs.declared.trace_reading.stage.Stage.TheVariants as st
 use Rattle.trace_text.specs.declared.trace_reading.word.HeadWord.TheVariants as heads
 use Rattle.trace_text.specs.declared.trace_reading.word.Word.{Word}
 use Rattle.trace_text.specs.declared.trace_reading.word.Word.TheVariants as words
-use Rattle.printed_lines.specs.CanonicalLine.{line}
+use Rattle.text_lines.specs.CanonicalLine.{line}
 use Rattle.trace_text.specs.Grammar.{last_stage, workers_of, is_round, rounds_in, sayings, trace_of, trace_test}
 use Rattle.trace_text.specs.Lines.{lines_of}
 use Rattle.trace_print.specs.TextLaws.{ValidTracesHaveTexts}

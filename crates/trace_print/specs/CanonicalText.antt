@@ -3,7 +3,7 @@
 use Rattle.std.specs.Prelude.{ℕ, ◌+◌, List, [], ◌∷◌, ◌++◌, Bool, true, false, Option, Some, None, codes, if◌then◌else◌, ◌==◌}
 use Rattle.std.specs.List.{flat_map}
 use Rattle.std.specs.Fmt.{decimal}
-use Rattle.printed_lines.specs.CanonicalLine.{line}
+use Rattle.text_lines.specs.CanonicalLine.{line}
 use Rattle.trace_text.specs.declared.head.ClockHead.{ClockHead}
 use Rattle.trace_text.specs.declared.head.Head.{Head}
 use Rattle.trace_text.specs.declared.head.NamesHead.{NamesHead}

@@ -1,11 +1,11 @@
 //! The header lines.
 ghost use Rattle.std.specs.Prelude.{◌≡◌, ◌++◌, ◌∷◌, [], OnOk, codes, decimal};
-ghost use Rattle.printed_lines.specs.CanonicalLine.{line};
+ghost use Rattle.text_lines.specs.CanonicalLine.{line};
 ghost use Rattle.trace_print.specs.CanonicalText.{head_text, clock_text, detail_text, names_text};
 
 use crate::zones::push_zones;
-use printed_lines::{push_field, push_line, push_numbers};
 use std::alloc::{AllocError, Global};
+use text_lines::{push_field, push_line, push_numbers};
 use trace_text::{ClockHead, Head, NamesHead};
 
 /// Appends the header lines, in their order.

@@ -1,4 +1,7 @@
 //! The printing of traces: the canonical text of a trace, from which a valid one is read back.
+//!
+//! It stands apart from the reading, since its proof that what it prints is read back is as long as that, and only what
+//! makes traces needs it.
 #![tactic(auto)]
 
 ghost use Rattle.std.specs.Prelude.{◌≡◌, IfOk};
@@ -7,9 +10,9 @@ ghost use Rattle.trace_text.specs.Grammar.{IsTraceText};
 ghost use Rattle.trace_text.specs.Valid.{IsValid};
 
 use head::push_head;
-use printed_lines::push_line;
 use rounds::push_rounds;
 use std::alloc::Global;
+use text_lines::push_line;
 use trace_text::Trace;
 use zone_stats::Memory;
 

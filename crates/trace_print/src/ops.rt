@@ -1,12 +1,12 @@
 //! The lines of operations.
 ghost use Rattle.std.specs.Prelude.{◌≡◌, ◌++◌, ◌∷◌, OnOk, codes, decimal, map};
 ghost use Rattle.std.specs.List.{flat_map};
-ghost use Rattle.printed_lines.specs.CanonicalLine.{line};
+ghost use Rattle.text_lines.specs.CanonicalLine.{line};
 ghost use Rattle.trace_print.specs.CanonicalText.{arg_fields, op_line, ops_text, reserve_fields};
 
 use crate::zones::name_of;
-use printed_lines::{push_field, push_line, push_numbers};
 use std::alloc::{AllocError, Global};
+use text_lines::{push_field, push_line, push_numbers};
 use trace_text::{Op, OpList, ZoneHead};
 
 /// Appends the lines of the workers from worker 0 on, each worker's in their order.

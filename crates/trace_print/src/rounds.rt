@@ -4,8 +4,8 @@ ghost use Rattle.std.specs.List.{flat_map};
 ghost use Rattle.trace_print.specs.CanonicalText.{between_line, rounds_text};
 
 use crate::ops::push_workers;
-use printed_lines::push_line;
 use std::alloc::{AllocError, Global};
+use text_lines::push_line;
 use trace_text::{Between, Round, ZoneHead};
 
 /// Appends the lines of the rounds. A `round` line and what stands between two rounds follow all but the last.

@@ -4,8 +4,8 @@ ghost use Rattle.std.specs.List.{flat_map};
 ghost use Rattle.trace_print.specs.CanonicalText.{kind_word, zone_line};
 ghost use Rattle.trace_text.specs.NamedZones.{zone_name};
 
-use printed_lines::{push_field, push_numbers};
 use std::alloc::{AllocError, Global};
+use text_lines::{push_field, push_numbers};
 use trace_text::{ZoneHead, ZoneKind};
 
 /// Appends the lines of the zones, in their order.

@@ -2,8 +2,24 @@
 //!
 //! A [`Worker`] owns a pass of the clock, a seat of each zone and what its slots hold, and shares the zones and the clock
 //! with the other workers by reference. [`Running::turn`] does a worker's own list of lines in one round, for a thread of
-//! its own; [`move_slot`] moves what a slot holds to another worker, between two rounds. The lines of reclaim are done
-//! through [`ReclaimCalls`], which the replay brings along.
+//! its own; [`move_slot`] moves what a slot holds to another worker, between two rounds. The lines of reclaim and of names
+//! are done through [`ReclaimCalls`] and [`NameCalls`], which the replay brings along: so it stands neither on uma_reclaim
+//! nor on name_cache.
+//!
+//! # Choices
+//!
+//! - That a worker's seats, pass and items belong to the shared zones and clock is an equation of values. Of a pass lines
+//!   use only what each host's clock promises, so all is over any `H: Host`.
+//! - What a worker stands for is said over the lines so far (`Stands`), never over what others do. Lists of lines that read
+//!   alike for a worker are exchanged (`Alike`), so its own list on top of the rounds before gives the whole round.
+//! - [`ReclaimCalls`] says what a call leaves of seat and pass, which is all that a report needs; how much goes back no
+//!   clause of it says. What a look found a trace doesn't say; the value is shown to contracts alone.
+//! - The items, [`Counted`], have all their counts and hooks that refuse no init. Those of uma_item refuse a secondary zone
+//!   where they lack a box, and that the items of a keg have it is no clause of a zone.
+//! - A slot is a box, and the list grows to the greatest that was filled: an empty slot takes 16 bytes. To keep an emptied
+//!   slot's box makes one worker up to a fifth faster and four not at all, and then it takes an item's room.
+//! - What a round lends to a worker's thread has 128 unused bytes (`CachePadded<()>`): workers lie side by side in one
+//!   list, and would write to one cache line.
 #![tactic(auto)]
 
 mod count_hooks;

@@ -1,8 +1,20 @@
 //! Buckets: stacks of items outside their keg, as the caches of a zone keep them.
 //!
-//! A bucket takes the room for all its items when it is made, so that putting an item in takes no memory. Its size is 4
-//! to 64 items. That caches are made of buckets, and that the last item put in is the first taken, is FreeBSD's uma(9);
-//! the range of sizes is own.
+//! A bucket takes the room for all its items when it is made, so that putting an item in takes no memory. Its size is 4 to
+//! 64 items. That caches are made of buckets, and that the last item put in is the first taken, is FreeBSD's uma(9); the
+//! range of sizes is own.
+//!
+//! - `Held`, a cached or a freed item, is what lies in the room of all four kinds of bucket, so that one kind becomes
+//!   another without memory and without moving an item to other room.
+//! - The kind says what a bucket holds, by a ghost field: `Bucket` cached items alone, `Loose` and `Sealed` freed ones,
+//!   still built, `Ripe` freed ones with a note whose floor is at least the goal. A bucket has no model of its own.
+//! - `Sealed::poll` stays in place, and `try_open` is a poll and an `open`: a scan of a list polls each bucket where it
+//!   lies.
+//! - `into_cached` goes round once: the first item is taken out, finished and put behind the last, as often as there are
+//!   items. So each passes `dtor` once, in order.
+//! - The clause `over` stands on the very call by which freed items become cached: from any moment at which the clock has a
+//!   view like the note's, no open section is before the goal, then and later. Its proof is the clock's law.
+//! - Which clock a sealed bucket is of is one equation, of the pair of table and setup.
 #![tactic(auto)]
 
 mod bucket;

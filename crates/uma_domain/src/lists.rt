@@ -8,7 +8,7 @@ ghost use Rattle.uma_domain.specs.Working.{IsBounded};
 use crate::key::DomainKey;
 use crate::working::Working;
 use deed_book::{FailBook, FailShare};
-use ghost_log::Log;
+use listed::Log;
 use smr_clock::Host;
 use std::alloc::Global;
 use std::collections::VecDeque;

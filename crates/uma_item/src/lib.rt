@@ -1,8 +1,15 @@
 //! Items that carry their own trail, so that people write only their data and what each hook does to it.
 //!
 //! `Item<B>` is a body that keeps the user's data `B` with its number, its phase and the counts that can't be derived.
-//! `ItemHooks<B>` is what a user writes: no count and no phase in sight. `TrailHooks` turns any of them into the hooks
-//! of a zone.
+//! `ItemHooks<B>` is what a user writes: no count and no phase in sight. `TrailHooks` turns any of them into the hooks of a
+//! zone.
+//!
+//! - `ItemHooks` has no default bodies: a default body is proved once, for every implementation, so it can't promise what
+//!   an implementation's own ghost members say. These have defaults, by which the data is as before and nothing is refused.
+//! - Data is lent by value (`Lender::lend`, `give_back`): the trail stays with the ticket, so nothing has to be said of
+//!   what is done to the data meanwhile.
+//! - The counts of stays in secondary zones lie in a box that the maker of the hooks chooses. An item without it refuses to
+//!   enter such a zone, with the code 255, which a user's hooks may use too.
 #![tactic(auto)]
 
 mod item;

@@ -9,7 +9,7 @@ ghost use Rattle.uma_keg.specs.Keg.{zones_in, out_in, rights_in, limit_in, fetch
 use crate::fetch_ask::FetchAsk;
 use crate::fetch_refused::FetchRefused;
 use crate::keg::Keg;
-use ghost_log::Log;
+use listed::Log;
 use std::alloc::Global;
 use std::sync::Wait;
 use uma_bucket::Bucket;

@@ -13,7 +13,7 @@ use crate::home_items::HomeItems;
 use crate::outside::Outside;
 use crate::rights::new_rights;
 use deed_book::{Book, Deed, Names, Origin};
-use ghost_log::Log;
+use listed::Log;
 use std::alloc::Global;
 use std::marker::PhantomData;
 use std::snapshot::Snapshot;

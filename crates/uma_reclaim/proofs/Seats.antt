@@ -15,8 +15,8 @@ use Rattle.uma_seat.specs.Row.{stacks_of}
 use Rattle.uma_seat.specs.Seating.{home_of}
 use Rattle.uma_seat.specs.Stack.{Stack, stack_of, stack_at, empty_stack}
 use Rattle.uma_seat.specs.Seat.{seat_home, seat_smr, seat_domain, top_of, top_tickets, plain_of, usable_of, is_exchanged, top_ready, plain_ready, Pops, TakesCross, HasNoCross, IsSameSeat, KeepsTop, KeepsPlain, KeepsCounts, KeepsMisses}
-use Rattle.zone_domains.specs.Domains.{domains_home}
-use Rattle.zone_domains.proofs.Seats.{refilled_seat, still_seat}
+use Rattle.uma_zone.specs.Domains.{domains_home}
+use Rattle.uma_zone.proofs.DomainSeats.{refilled_seat, still_seat}
 use Rattle.uma_zone.specs.declared.zone.Zone.{Zone}
 use Rattle.uma_zone.specs.Zone.{IsSeatOf}
 use Rattle.uma_reclaim.specs.Cached.{cached_in}

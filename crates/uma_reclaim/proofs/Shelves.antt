@@ -2,7 +2,7 @@
 use Rattle.std.proofs.Common.{◌≡◌, List, [], ◌++◌, map, Result, Ok, Err, OnErr, sym, ap, ◌∙◌}
 use Rattle.std.proofs.lemmas.List.{append-nil}
 use Rattle.uma_bucket.specs.declared.shelved.Shelved.{Shelved}
-use Rattle.zone_domains.specs.Flushed.{bound_of, HasLastOf}
+use Rattle.uma_zone.specs.Flushed.{bound_of, HasLastOf}
 
 pub none_stays : {T H P : Type 0} {g h : _} (was is : List (Shelved T H P g h)) → is ≡ [] → HasLastOf was is
 none_stays {T} {H} {P} {g} {h} was is none = record {

@@ -11,7 +11,7 @@ use crate::extent::Extent;
 use crate::giving::give_taken;
 use crate::reclaimed::Reclaimed;
 use deed_book::Memory;
-use ghost_log::Log;
+use listed::Log;
 use smr_clock::{Clock, Host, Pass};
 use std::alloc::Global;
 use std::snapshot::Snapshot;

@@ -1,4 +1,4 @@
-use ghost_log::Log;
+use listed::Log;
 use smr_clock::Host;
 use std::snapshot::Snapshot;
 use uma_domain::Taken;

@@ -1,7 +1,7 @@
 ghost use Rattle.std.specs.Prelude.{◌≡◌, ◌≤◌, [], sum_by, fold, flat_map, IfOk, OnOk, OnErr};
 ghost use Rattle.smr_clock.specs.Belongs.{IsOf, clock_id, view, holder};
 ghost use Rattle.uma_seat.specs.Seat.{spares_of, shelf_of, IsSameSeat, KeepsTop, KeepsPlain, KeepsFreed, KeepsCounts, KeepsMisses};
-ghost use Rattle.zone_domains.specs.Flushed.{HasLastOf};
+ghost use Rattle.uma_zone.specs.Flushed.{HasLastOf};
 ghost use Rattle.uma_zone.specs.Zone.{zone_clock, IsSeatOf};
 ghost use Rattle.uma_reclaim.specs.Given.{items_in, counted};
 ghost use Rattle.uma_reclaim.specs.Told.{notes_in, TakesInNotes};

@@ -24,8 +24,8 @@ use Rattle.trace_worker.specs.Items.{CountedZone}
 use Rattle.trace_worker.specs.Worker.{phase_of}
 use Rattle.trace_worker.specs.Clocks.{start_of, window_of}
 use Rattle.trace_play.specs.Kegs.{keg_place, index_of, primaries}
-use Rattle.trace_totals.specs.Lending.{AllFit, AreFew, KeepsWorkers}
-use Rattle.trace_totals.specs.Clock.{AllLearn}
+use Rattle.trace_play.specs.Lending.{AllFit, AreFew, KeepsWorkers}
+use Rattle.trace_play.specs.Clock.{AllLearn}
 use Rattle.uma_replay.specs.declared.hall.Hall.{Hall}
 use Rattle.uma_replay.specs.Counting.{enter_count, is_done, is_entry, is_look}
 use Rattle.uma_replay.specs.Hall.{AreDone, HallStands, NamesDone}

@@ -15,7 +15,7 @@ use Rattle.uma_life.specs.Sum.{AreBelow, sum_of}
 use Rattle.trace_worker.specs.declared.name_calls.NameCalls.{Ghosts as NameGhosts}
 use Rattle.trace_worker.specs.declared.naming.Naming.{Naming}
 use Rattle.trace_worker.specs.NameSums.{HasLinked}
-use Rattle.trace_totals.proofs.Modulo.{shows_as}
+use Rattle.trace_play.proofs.Modulo.{shows_as}
 use Rattle.uma_replay.specs.Names.{AreNameSums, AreSeatSums, AreSeats, NamesClose, seats_passed, seats_waiting}
 
 -- ---- on numbers

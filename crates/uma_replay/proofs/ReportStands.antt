@@ -41,8 +41,8 @@ use Rattle.trace_worker.specs.Worker.{phase_of}
 use Rattle.trace_worker.specs.Together.{AllStand, AddsUp, ledger_at, all_live, all_frees, all_allocs}
 use Rattle.trace_play.specs.Kegs.{keg_place, index_of, per_slab, primaries}
 use Rattle.trace_play.specs.Zones.{AreZones, IsZoneOf}
-use Rattle.trace_totals.specs.Clock.{ReadsHands}
-use Rattle.trace_totals.specs.Closes.{AllClose, KegCloses}
+use Rattle.trace_play.specs.Clock.{ReadsHands}
+use Rattle.trace_play.specs.Closes.{AllClose, KegCloses}
 use Rattle.uma_replay.specs.Report.{RefusalFits, ClockLineFits}
 use Rattle.uma_replay.specs.Reporting.{IsReportOf, AreLedgersOf, keg_number, hook_line, keg_line, clock_line, shown_free}
 use Rattle.uma_replay.proofs.Entries.{clock_stands, sum-term}

@@ -25,8 +25,8 @@ use Rattle.trace_worker.specs.Slots.{slot_at}
 use Rattle.trace_worker.specs.Stands.{Stands}
 use Rattle.trace_worker.specs.Together.{AllStand, AddsUp, ledger_at, all_live, all_allocs, all_frees}
 use Rattle.trace_worker.specs.Worker.{Fits, HasSeats, IsHeld, phase_of, seen_of}
-use Rattle.trace_totals.specs.Lending.{seen_slot, KeepsWorker, KeepsWorkers}
-use Rattle.trace_totals.specs.Clock.{AllLearn, Learns, ReadsHands, floor_of}
+use Rattle.trace_play.specs.Lending.{seen_slot, KeepsWorker, KeepsWorkers}
+use Rattle.trace_play.specs.Clock.{AllLearn, Learns, ReadsHands, floor_of}
 use Rattle.uma_replay.specs.Playing.{AllStay, Stays}
 use Rattle.uma_replay.proofs.PlainStands.{some_at}
 

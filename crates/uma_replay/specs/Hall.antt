@@ -15,8 +15,8 @@ use Rattle.trace_worker.specs.NameSizes.{sizes_for}
 use Rattle.trace_worker.specs.NamesStand.{NamesOfClock, NamesStand}
 use Rattle.trace_worker.specs.Together.{AddsUp, AllStand}
 use Rattle.trace_play.specs.Zones.{AreZones}
-use Rattle.trace_totals.specs.Clock.{ReadsHands}
-use Rattle.trace_totals.specs.Closes.{AllClose}
+use Rattle.trace_play.specs.Clock.{ReadsHands}
+use Rattle.trace_play.specs.Closes.{AllClose}
 use Rattle.uma_replay.specs.declared.hall.Hall.{Hall}
 use Rattle.uma_replay.specs.Names.{IsWhole}
 use Rattle.uma_replay.specs.Playing.{AllPlayed, HaveEnded}

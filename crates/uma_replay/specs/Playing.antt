@@ -18,7 +18,7 @@ use Rattle.trace_worker.specs.Worker.{phase_of, seen_of}
 use Rattle.trace_play.specs.Beginners.{IsBeginner}
 use Rattle.trace_play.specs.Plays.{AllPlay, PlaysRounds}
 use Rattle.trace_play.specs.Rounds.{AllAsked}
-use Rattle.trace_totals.specs.Lending.{seen_slot}
+use Rattle.trace_play.specs.Lending.{seen_slot}
 
 module _ {N H C S P : Type 0} {h : Ghosts H P} where
   -- what these workers have of the names

@@ -6,8 +6,8 @@ ghost use Rattle.trace_worker.specs.Clocks.{window_of as window_for};
 ghost use Rattle.trace_text.specs.Lines.{lines_of};
 ghost use Rattle.trace_text.specs.Valid.{IsValid};
 ghost use Rattle.trace_worker.specs.Together.{crew};
-ghost use Rattle.trace_totals.specs.Clock.{ReadsHands};
-ghost use Rattle.trace_totals.specs.Closes.{AllClose};
+ghost use Rattle.trace_play.specs.Clock.{ReadsHands};
+ghost use Rattle.trace_play.specs.Closes.{AllClose};
 ghost use Rattle.uma_replay.specs.Hall.{AreDone, HallStands, NamesDone};
 ghost use Rattle.uma_replay.specs.Playing.{AllStay, HaveEnded, gave_ups_of, namings_of};
 
@@ -19,8 +19,8 @@ use listed::Listed;
 use smr_clock::{Clock, Host, Note};
 use std::alloc::Global;
 use std::sync::Wait;
+use trace_play::{Totals, read_hands, take_totals};
 use trace_text::{ClockHead, Trace};
-use trace_totals::{Totals, read_hands, take_totals};
 use trace_worker::{CountedZone, NameCalls, Naming, Running, Worker};
 
 /// What the clock, the zones and the workers come to.

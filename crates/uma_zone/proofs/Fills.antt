@@ -16,8 +16,8 @@ use Rattle.uma_seat.specs.Row.{stacks_of}
 use Rattle.uma_seat.specs.Seat.{seat_domain, seat_smr, free_bucket, top_bucket, top_of, usable_of, ledger_of, fetches_of, misses_of, IsSameSeat, KeepsPlain, KeepsCounts, KeepsMisses}
 use Rattle.uma_seat.specs.Stack.{stack_at}
 use Rattle.locked_keg.specs.Seating.{KeepsAllButTop}
-use Rattle.zone_domains.specs.Looked.{IsOfRipe}
-use Rattle.zone_domains.proofs.Looks.{none_behind}
+use Rattle.uma_zone.specs.Looked.{IsOfRipe}
+use Rattle.uma_zone.proofs.Looks.{none_behind}
 use Rattle.uma_zone.specs.declared.alloc_ask.AllocRefused.{AllocRefused}
 use Rattle.uma_zone.specs.declared.alloc_ask.AllocRefused.TheVariants.{Refused, Memory}
 use Rattle.uma_zone.specs.declared.zone.Zone.{Zone}

@@ -12,4 +12,8 @@ mod Rights
 mod Seats
 mod Serves
 mod Shelves
+pub mod DomainSeats
+pub mod DomainShelves
+pub mod Looks
+pub mod Puts
 pub mod Shared

@@ -10,8 +10,8 @@ use Rattle.uma_seat.specs.Seat.{seat_domain, seat_fails, top_tickets, IsSameSeat
 use Rattle.locked_keg.specs.declared.key.KegKey.{KegKey}
 use Rattle.locked_keg.specs.Rule.{HasDomainsBelow}
 use Rattle.locked_keg.specs.Seating.{FetchesHome}
-use Rattle.zone_domains.specs.Domains.{domain_count}
-use Rattle.zone_domains.proofs.Seats.{still_seat, refilled_seat}
+use Rattle.uma_zone.specs.Domains.{domain_count}
+use Rattle.uma_zone.proofs.DomainSeats.{still_seat, refilled_seat}
 use Rattle.uma_zone.specs.declared.zone.Zone.{Zone}
 use Rattle.uma_zone.specs.Zone.{zone_key, zone_index, zone_home, IsSeatOf}
 

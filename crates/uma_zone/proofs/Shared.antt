@@ -29,10 +29,10 @@ use Rattle.keyed_lock.specs.contracts.lock.KeyedLock as KeyedLock
 use Rattle.uma_keg.proofs.fetch_refused.FetchRefused.TheSendSync as refused
 use Rattle.uma_keg.specs.contracts.fetch_refused.FetchRefused as FetchRefused
 use Rattle.std.specs.contracts.result.Result as Result
-use Rattle.ghost_log.specs.contracts.Log as Log
+use Rattle.listed.specs.contracts.log.Log as Log
 use denote.Builtin.{u32}
 use Rattle.uma_domain.proofs.Shared.{domains_sync}
-use Rattle.zone_domains.specs.contracts.domains.ZoneDomains as ZoneDomains
+use Rattle.uma_zone.specs.contracts.domains.ZoneDomains as ZoneDomains
 use Rattle.uma_zone.proofs.right.KeptRight.TheSendSync as right
 use Rattle.uma_zone.specs.contracts.zone.Zone as Zone
 use Rattle.smr_clock.specs.declared.host.Host as host

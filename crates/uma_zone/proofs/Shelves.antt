@@ -2,7 +2,7 @@
 use Rattle.std.proofs.Common.{◌≡◌, List, [], ◌++◌, map, sym, ap, ◌∙◌}
 use Rattle.std.proofs.lemmas.List.{append-nil}
 use Rattle.uma_bucket.specs.declared.shelved.Shelved.{Shelved}
-use Rattle.zone_domains.specs.Flushed.{bound_of, HasLastOf}
+use Rattle.uma_zone.specs.Flushed.{bound_of, HasLastOf}
 
 module _ {T H P : Type 0} {g h : _} where
   -- nothing is the last of anything

@@ -9,7 +9,7 @@ use Rattle.uma_bucket.specs.Home.{Home}
 use Rattle.uma_seat.specs.declared.seat.SeatCache.{SeatCache}
 use Rattle.uma_seat.specs.Seat.{seat_fails}
 use Rattle.locked_keg.specs.declared.key.KegKey.{KegKey}
-use Rattle.zone_domains.specs.Domains.{domains_home, domains_clock, domains_smr, domain_count, IsSeatOf as IsSeatOfDomains}
+use Rattle.uma_zone.specs.Domains.{domains_home, domains_clock, domains_smr, domain_count, IsSeatOf as IsSeatOfDomains}
 use Rattle.uma_zone.specs.declared.zone.Zone.{Zone}
 use Rattle.uma_zone.specs.Right.{right_no}
 

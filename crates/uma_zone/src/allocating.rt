@@ -16,7 +16,7 @@ impl<T: Body, K: Hooks<T>, H: Host> Zone<T, K, H> {
     ghost use Rattle.uma_life.specs.Cached.{cached_ticket};
     ghost use Rattle.uma_bucket.specs.Home.{IsHome};
     ghost use Rattle.uma_seat.specs.Seat.{top_of, usable_of, spares_of, shelf_of, ledger_of, fetches_of, plain_of, plain_ready, IsSameSeat, KeepsPlain, KeepsFreed, KeepsRack, KeepsMisses};
-    ghost use Rattle.zone_domains.specs.Flushed.{HasLastOf};
+    ghost use Rattle.uma_zone.specs.Flushed.{HasLastOf};
     ghost use Rattle.uma_zone.specs.Zone.{zone_home, zone_clock, IsSeatOf};
     ghost use Rattle.uma_zone.specs.Told.{TakesInNote};
     ghost use Rattle.uma_zone.specs.Alloc.{Serves, Refuses, Takes, IsFilled, IsBuilt, PutsBack, RefusesToTake};

@@ -2,22 +2,55 @@
 //!
 //! A [`Zone`] composes a keg, which has the items at home, the lists of full buckets of each memory domain, and the caches
 //! of its seats. A primary zone and its secondary zones, up to eight in all, share one keg behind one lock. Each refusal of
-//! a request names what was found under that lock by the one fetch of this request, and the seat that asked has it counted.
+//! a request, but one by `ctor`, names what was found under that lock by the one fetch of this request, and the seat that
+//! asked has it counted.
+//!
+//! After FreeBSD's uma(9), each memory domain of a zone keeps full buckets for whoever runs empty. A seat keeps up to two
+//! full buckets on its shelf, since a free waits for nobody. A `ZoneDomains::flush` takes them to the lists of their
+//! domains, and a `ZoneDomains::look` takes one from the list of the seat's own domain.
+//!
+//! # Choices
+//!
+//! - A zone is an `Arc` of its keg's lock, its domains and its hooks. What people need of the keg's numbers they read from
+//!   the lock's key.
+//! - `ZoneDomains` keeps a handle of the clock, one more of those that a clock counts: a snapshot can't be copied, and
+//!   each domain and each seat wants one of its own. So it is handed `&Book` too, and not a snapshot.
+//! - A kept right lies behind a keyed lock (`KeptRight`), since a deed can't be shared by reference and threads share a
+//!   zone so. That a zone was added is shown by a share of its book (`added`), for contracts alone.
+//! - Makings take `clock: &Clock<H>`, as FreeBSD ties a zone to its smr. `secondary` and `seat` need none.
+//! - No clause carries out of the keg's lock which zones there are. So three calls test it there and answer as for want of
+//!   memory, which never happens: `seat` that the zone is in its keg, `alloc` that it is there with its limit, `census`
+//!   that the keg has no zone of a kept right.
+//! - Safe reuse over a zone's calls is stated by tickets (`specs/SafeReuse`): an equation of lists for each call, and a law
+//!   of every sequence of calls. It names the ripe bucket of which the items are, with its goal, and its note, which knows
+//!   the goal to be expired. That a poll of this very call said yes, and that the goal was made after the items were freed,
+//!   is `uma_domain`'s and `uma_bucket`'s: a domain's lock hides which sealed bucket became the ripe one.
+//! - A fetch comes out of the keg's lock with its whole contract (`IsOneFetch`): a keg of the zone's book, limit and
+//!   reserve, and one fetch of it by the request's own right to the reserve. Likewise for `prealloc`. All that it fetched
+//!   is on the seat (`FetchesSome`).
+//! - What a flush put into which list no clause says, since the lists are behind locks; tests show it.
+//! - `primary` makes the keg first, and still tests bucket and domains where memory was wanting for it, so that a number
+//!   out of its range is always named.
 #![tactic(auto)]
 
 mod alloc_ask;
 mod allocating;
+mod domains;
+mod domains_making;
 mod fetching;
+mod flushing;
 mod freeing;
 mod giving;
 pub mod laws;
 mod locking;
+mod looking;
 mod making;
 mod moving;
 mod preallocating;
 mod reading;
 mod right;
 mod seating;
+mod summing;
 mod zone;
 mod zone_refused;
 mod zone_set;

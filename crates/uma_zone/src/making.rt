@@ -8,10 +8,11 @@ ghost use Rattle.uma_domain.specs.Identity.{home_of};
 ghost use Rattle.uma_keg.specs.Keg.{places_in, rights_in, table_in, size_in, reserve_in, fetches_in};
 ghost use Rattle.uma_places.specs.Places.{IsNew};
 ghost use Rattle.locked_keg.specs.Key.{key_rights, key_fails};
-ghost use Rattle.zone_domains.specs.Domains.{domains_home, domains_clock, domains_smr, domain_count};
+ghost use Rattle.uma_zone.specs.Domains.{domains_home, domains_clock, domains_smr, domain_count};
 ghost use Rattle.uma_zone.specs.Making.{IsBucketSize, IsDomainCount};
 ghost use Rattle.uma_zone.specs.Right.{right_table, right_no};
 
+use crate::domains::ZoneDomains;
 use crate::right::KeptRight;
 use crate::zone::Zone;
 use crate::zone_refused::ZoneRefused;
@@ -24,7 +25,6 @@ use std::snapshot::Snapshot;
 use std::sync::{Arc, Wait};
 use uma_keg::{Keg, KegRefused};
 use uma_life::{Body, Hooks};
-use zone_domains::ZoneDomains;
 
 /// The least and the greatest count of items that a bucket can have room for.
 const LEAST_BUCKET: u32 = 4;

@@ -11,7 +11,7 @@ use uma_seat::SeatCache;
 
 impl<T: Body, K: Hooks<T>, H: Host> Zone<T, K, H> {
     ghost use Rattle.uma_seat.specs.Seat.{spares_of, shelf_of, IsSameSeat, KeepsTop, KeepsPlain, KeepsFreed, KeepsCounts, KeepsMisses};
-    ghost use Rattle.zone_domains.specs.Flushed.{HasLastOf};
+    ghost use Rattle.uma_zone.specs.Flushed.{HasLastOf};
     ghost use Rattle.uma_zone.specs.Zone.{zone_clock, IsSeatOf};
 
     /// Takes the buckets of the seat's shelf to the lists of their domains, oldest first. Before that each loose bucket on

@@ -5,7 +5,7 @@ ghost use Rattle.uma_keg.specs.Census.{census_counts, census_out, census_table};
 ghost use Rattle.uma_keg.specs.Keg.{HasZone};
 ghost use Rattle.uma_keg.specs.Lent.{all_seen, lent_of};
 ghost use Rattle.locked_keg.specs.LockedKeg.{keg_in};
-ghost use Rattle.zone_domains.specs.OneDomain.{IsDomainOf};
+ghost use Rattle.uma_zone.specs.OneDomain.{IsDomainOf};
 
 use crate::zone::Zone;
 use locked_keg::LockedKeg;

@@ -5,9 +5,10 @@ ghost use Rattle.deed_book.specs.FailShare.{share_table};
 ghost use Rattle.keyed_lock.specs.KeyedLock.{lock_key};
 ghost use Rattle.locked_keg.specs.Key.{key_numbers, key_rights, key_fails};
 ghost use Rattle.uma_domain.specs.Identity.{home_of};
-ghost use Rattle.zone_domains.specs.Domains.{domains_home};
+ghost use Rattle.uma_zone.specs.Domains.{domains_home};
 ghost use Rattle.uma_zone.specs.Right.{right_table};
 
+use crate::domains::ZoneDomains;
 use crate::right::KeptRight;
 use deed_book::FailShare;
 use locked_keg::KegLock;
@@ -15,7 +16,6 @@ use smr_clock::Host;
 use std::snapshot::Snapshot;
 use std::sync::Arc;
 use uma_life::{Body, Hooks};
-use zone_domains::ZoneDomains;
 
 /// A zone of items, primary or secondary, which threads share by reference. Each of them allocates and frees by a seat of
 /// its own, which [`Zone::seat`] makes.

@@ -3,8 +3,8 @@ ghost use Rattle.std.specs.Prelude.{◌≡◌, ◌++◌, OnOk, flat_map};
 ghost use Rattle.zone_stats.specs.ReportText.{clock_text, detail_text, hook_text, keg_text, names_text};
 
 use crate::{ClockLine, HookLine, KegLine, NamesLine, Report};
-use printed_lines::push_line;
 use std::alloc::{AllocError, Global};
+use text_lines::push_line;
 
 /// Appends the lines of the hooks and then those of the kegs, if the report shows them.
 pub fn push_detail(alloc: Global, text: &mut Vec<u8>, report: &Report) -> Result<(), AllocError>

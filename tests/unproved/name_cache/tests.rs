@@ -1,5 +1,6 @@
 use super::*;
 
+mod entries_racing;
 mod racing;
 mod refusing;
 mod setting;

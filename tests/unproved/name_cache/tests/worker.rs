@@ -8,7 +8,7 @@ ghost use Rattle.name_cache.specs.LockedRow.{IsItemOf};
 use super::setting::take_pass;
 use crate::parts::EntryParts;
 use crate::{BindRefused, NameCache, Receipt};
-use name_entries::RaisedEntry;
+use crate::RaisedEntry;
 use name_rows::Names;
 use smr_clock::{Clock, Pass};
 use smr_core::Phase;

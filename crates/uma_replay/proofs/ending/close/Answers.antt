@@ -3,8 +3,8 @@ use Rattle.std.specs.Prelude.{IfOk}
 use Rattle.trace_worker.specs.declared.naming.Naming.{Naming}
 use Rattle.trace_worker.specs.declared.worker.Worker.{Worker}
 use Rattle.trace_worker.specs.Items.{CountedZone}
-use Rattle.trace_totals.specs.Clock.{ReadsHands}
-use Rattle.trace_totals.specs.Closes.{AllClose}
+use Rattle.trace_play.specs.Clock.{ReadsHands}
+use Rattle.trace_play.specs.Closes.{AllClose}
 use Rattle.uma_replay.specs.Hall.{AreDone, NamesDone}
 use Rattle.uma_replay.specs.Playing.{AllStay}
 use Rattle.uma_replay.proofs.Beginning.{written_back}

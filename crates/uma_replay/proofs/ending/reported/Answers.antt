@@ -2,7 +2,7 @@ use Rattle.std.proofs.Common.{◌≡◌, ◌<◌, ◌^◌, ◌≤◌, ℕ, List,
 use Rattle.uma_keg.specs.declared.census.Census.{Census}
 use Rattle.uma_life.specs.declared.tally_sum.TallySum.{TallySum}
 use Rattle.trace_worker.specs.declared.naming.Naming.{Naming}
-use Rattle.trace_totals.specs.Closes.{AllClose}
+use Rattle.trace_play.specs.Closes.{AllClose}
 use Rattle.uma_replay.specs.Names.{AreSeats, CountsFit, IsWhole}
 use Rattle.uma_replay.specs.Reporting.{IsReportOf}
 use Rattle.uma_replay.proofs.Beginning.{gave_ups_few}

@@ -4,8 +4,8 @@ use Rattle.smr_clock.specs.Belongs.{TableId}
 use Rattle.uma_zone.specs.Zone.{zone_home}
 use Rattle.name_rows.specs.declared.row.Row.{Row}
 use Rattle.name_rows.specs.Belongs.{FitsNames}
-use Rattle.name_entries.specs.Homes.{home_origin}
-use Rattle.name_entries.specs.Origins.{clock_numbers}
+use Rattle.name_cache.specs.Homes.{home_origin}
+use Rattle.name_cache.specs.Origins.{clock_numbers}
 use Rattle.name_cache.specs.Locks.{AreNamed}
 use Rattle.name_cache.specs.Making.{AreFreshRows}
 use Rattle.name_cache.proofs.cache.NameCache.new.Goals as goal

@@ -2,7 +2,7 @@ use Rattle.std.proofs.Common.{sym, ap, subst, ◌∙◌}
 use Rattle.uma_life.specs.declared.ticket.Ticket.{Ticket}
 use Rattle.uma_bucket.specs.Home.{IsHome}
 use Rattle.deed_book.specs.Deed.{BookId}
-use Rattle.name_entries.specs.Origins.{clock_by}
+use Rattle.name_cache.specs.Origins.{clock_by}
 use Rattle.name_cache.specs.Cache.{cache_home}
 use Rattle.name_cache.proofs.cache.NameCache.parts_of.Goals as goal
 

@@ -6,8 +6,8 @@ use Rattle.uma_life.specs.Ticket.{ticket_zone}
 use Rattle.uma_life.specs.Trail.{IsAt}
 use Rattle.uma_life.specs.declared.body_phase.BodyPhase.TheVariants.{Built}
 use Rattle.name_rows.specs.Entries.{entry_life}
-use Rattle.name_entries.specs.Homes.{home_clock, home_origin}
-use Rattle.name_entries.specs.Raised.{raised_home}
+use Rattle.name_cache.specs.Homes.{home_clock, home_origin}
+use Rattle.name_cache.specs.Raised.{raised_home}
 use Rattle.name_cache.proofs.Clocks.{ours_too}
 use Rattle.name_cache.proofs.parts.EntryParts.of.Goals as goal
 

@@ -1,5 +1,5 @@
 use Rattle.std.proofs.Common.{refl}
-use Rattle.connection_pool.specs.Pool.{KeepsPool}
+use Rattle.sessions.specs.Pool.{KeepsPool}
 use Rattle.sessions.specs.declared.desk.Desk.{Desk}
 use Rattle.sessions.proofs.Looks.{look_ends}
 use Rattle.sessions.proofs.desk.Desk.look.Goals as goal

@@ -1,5 +1,0 @@
-mod Fails
-mod Opened
-pub mod Places
-pub mod Shared
-mod Turned

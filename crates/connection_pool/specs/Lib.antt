@@ -1,4 +1,0 @@
-pub mod Connection
-pub mod Held
-pub mod Refused
-pub mod Pool

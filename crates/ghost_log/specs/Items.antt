@@ -1,8 +1,0 @@
--- Own: what a log stands for.
-use Rattle.std.specs.Prelude.{List, [], ◌∷◌, ◌++◌}
-use Rattle.ghost_log.specs.declared.Items.{Items, Nothing, After'}
-
--- all items that were pushed, in order
-abbrev pub listed : {T : Type 0} → Items T → List T
-listed Nothing = []
-listed (After' p before item) = listed before ++ item ∷ []

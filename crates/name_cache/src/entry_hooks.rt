@@ -1,0 +1,112 @@
+ghost use Rattle.std.specs.Prelude.{◌≡◌, None, IfOk};
+ghost use Rattle.smr_clock.specs.Belongs.{clock_id};
+ghost use Rattle.name_rows.specs.Belongs.{IsNamesClock};
+ghost use Rattle.name_rows.specs.Roots.{IsRootOf};
+ghost use Rattle.name_cache.specs.Hooked.{IsAtHome};
+ghost use Rattle.name_cache.specs.Raised.{KeepsWords, refusal_of};
+
+use crate::home::Home;
+use crate::raised_entry::RaisedEntry;
+use name_rows::{Names, Root};
+use smr_clock::Clock;
+use std::alloc::Global;
+use std::sync::{Arc, Wait};
+use uma_life::{Hooks, Memory, Tally};
+
+/// The hooks of entries. `keg_init` refuses, with 255, exactly an entry without words: one whose number the root didn't
+/// have. Nothing else is refused. No hook changes an entry's words.
+#[derive(Drop)]
+pub struct EntryHooks {
+    pub(crate) home: Arc<Home>,
+}
+
+impl EntryHooks {
+    ghost use Rattle.name_cache.specs.Hooked.{hooks_home};
+    ghost use Rattle.name_cache.specs.Homes.{home_clock};
+
+    /// Two with the same root.
+    ///
+    /// # Errors
+    ///
+    /// `Memory` for want of memory, or where there are too many handles. Then the root is dropped.
+    pub fn pair(
+        alloc: Global,
+        clock: &Clock<Names>,
+        root: Root,
+    ) -> Result<(EntryHooks, EntryHooks), Memory>
+        requires here { IsRootOf clock.now root }
+        requires names { IsNamesClock clock.now }
+        ensures clock { IfOk result (λ (one, other). clock_id (home_clock (hooks_home one)) ≡ clock_id clock.now) }
+        ensures same_root { IfOk result (λ (one, other). hooks_home one ≡ hooks_home other) }
+    {
+        let home = Home::new(alloc, clock, root)?;
+        let one = Arc::new(alloc, home).map_err(|_| Memory)?;
+        let other = Arc::try_clone(&one).map_err(|_| Memory)?;
+        Ok((EntryHooks { home: one }, EntryHooks { home: other }))
+    }
+
+    /// The home from which these hooks raise entries.
+    pub fn home(&self) -> &Home
+        ensures { result.now ≡ hooks_home self.now }
+    {
+        &self.home
+    }
+}
+
+impl Hooks<RaisedEntry> for EntryHooks {
+    ghost use Rattle.name_cache.specs.Hooked.{hooks_home};
+    ghost use Rattle.name_cache.specs.Homes.{home_origin};
+
+    ghost origin = { λ hooks. home_origin (hooks_home hooks) };
+
+    ghost refuses_init = { λ hooks body zone. refusal_of zone body.entry.words };
+
+    ghost refuses_ctor = { λ hooks body zone arg. None };
+
+    ghost makes = { λ hooks number body. IsAtHome hooks body };
+
+    ghost leaves_init = { λ hooks body zone left. KeepsWords body left };
+
+    ghost leaves_ctor = { λ hooks body zone arg left. KeepsWords body left };
+
+    ghost leaves_dtor = { λ hooks body zone left. KeepsWords body left };
+
+    ghost leaves_fini = { λ hooks body zone left. KeepsWords body left };
+
+    fn raw<R: Wait>(&self, rt: &R, _alloc: Global, no: u32) -> Result<RaisedEntry, Memory> {
+        let home = Arc::try_clone(&self.home).map_err(|_| Memory)?;
+        let entry = self.home.raise(rt, no);
+        Ok(RaisedEntry { entry, home })
+    }
+
+    fn keg_init(&self, body: &mut RaisedEntry) -> Result<(), u8> {
+        body.entry.keg_init()
+    }
+
+    fn zone_init(&self, zone: u8, body: &mut RaisedEntry) -> Result<(), u8> {
+        body.entry.zone_init(zone);
+        Ok(())
+    }
+
+    fn ctor(&self, zone: u8, body: &mut RaisedEntry, _arg: u64) -> Result<(), u8> {
+        body.entry.ctor(zone);
+        Ok(())
+    }
+
+    fn dtor(&self, zone: u8, body: &mut RaisedEntry) {
+        body.entry.dtor(zone);
+    }
+
+    fn zone_fini(&self, zone: u8, body: &mut RaisedEntry) {
+        body.entry.zone_fini(zone);
+    }
+
+    fn keg_fini(&self, body: &mut RaisedEntry) {
+        body.entry.keg_fini();
+    }
+
+    fn bury<R: Wait>(&self, rt: &R, body: RaisedEntry) -> Tally {
+        let RaisedEntry { entry, home } = body;
+        home.lower(rt, entry)
+    }
+}

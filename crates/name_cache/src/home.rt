@@ -1,0 +1,92 @@
+ghost use Rattle.std.specs.Prelude.{◌≡◌, ◌⊎◌, IfOk};
+ghost use Rattle.keyed_lock.specs.KeyedLock.{lock_key};
+ghost use Rattle.smr_clock.specs.Belongs.{clock_id};
+ghost use Rattle.uma_life.specs.Life.{raw_life};
+ghost use Rattle.uma_life.specs.declared.body_phase.BodyPhase.TheVariants.{Raw, Gone};
+ghost use Rattle.name_rows.specs.Belongs.{IsNamesClock};
+ghost use Rattle.name_rows.specs.Entries.{IsEntryOf, entry_life};
+ghost use Rattle.name_rows.specs.Roots.{IsRootOf};
+
+use keyed_lock::{KeyedLock, LockRule};
+use name_rows::{Entry, Names, Root, lower, raise};
+use smr_clock::Clock;
+use std::alloc::Global;
+use std::snapshot::Snapshot;
+use std::sync::Wait;
+use uma_life::{Memory, Tally};
+
+/// Which clock the root under a lock is of. It is for contracts alone.
+#[derive(Drop)]
+pub struct HomeKey {
+    pub clock: Snapshot<Clock<Names>>,
+}
+
+/// The root is of the key's clock.
+pub struct RootOfClock;
+
+impl LockRule<Root, HomeKey> for RootOfClock {
+    ghost use Rattle.name_rows.specs.Roots.{IsRootOf};
+
+    ghost keeps = { λ key root. IsRootOf key.clock.value root };
+}
+
+pub type RootLock = KeyedLock<Root, HomeKey, RootOfClock>;
+
+/// The entries that aren't raised, under a lock, and a handle of their clock.
+#[derive(Drop)]
+pub struct Home {
+    pub(crate) clock: Clock<Names>,
+    pub(crate) root: RootLock,
+    ghost same_clock: { clock_id (lock_key root).clock.value ≡ clock_id clock },
+    ghost names: { IsNamesClock clock },
+}
+
+impl Home {
+    ghost use Rattle.name_cache.specs.Homes.{home_clock};
+
+    /// A home of this root. The clock gets a handle more.
+    pub fn new(alloc: Global, clock: &Clock<Names>, root: Root) -> Result<Home, Memory>
+        requires here { IsRootOf clock.now root }
+        requires names { IsNamesClock clock.now }
+        ensures { IfOk result (λ home. clock_id (home_clock home) ≡ clock_id clock.now) }
+    {
+        let handle = clock.share(alloc).map_err(|_| Memory)?;
+        let key = HomeKey {
+            clock: Snapshot::of(clock),
+        };
+        let root = RootLock::new(alloc, root, &key).map_err(|_root| Memory)?;
+        Ok(Home {
+            clock: handle,
+            root,
+        })
+    }
+
+    /// The clock of the entries.
+    pub fn clock(&self) -> &Clock<Names>
+        ensures same { result.now ≡ home_clock self.now }
+        ensures names { IsNamesClock result.now }
+    {
+        &self.clock
+    }
+
+    /// An entry of this number that passed no hook. It has words exactly where the root, once this call has the lock, has
+    /// the number. Waits until it has the lock.
+    pub fn raise<R: Wait>(&self, rt: &R, no: u32) -> Entry
+        ensures here { IsEntryOf (home_clock self.now) result }
+        ensures life { entry_life result ≡ raw_life no }
+    {
+        let mut guard = self.root.lock(rt);
+        raise(&self.clock, &mut guard.value, no)
+    }
+
+    /// Ends an entry, and answers its tally. The root has its number again, with the entry's state. Waits until it has
+    /// the lock.
+    pub fn lower<R: Wait>(&self, rt: &R, entry: Entry) -> Tally
+        requires here { IsEntryOf (home_clock self.now) entry }
+        requires over { ((entry_life entry).phase ≡ Raw) ⊎ ((entry_life entry).phase ≡ Gone) }
+        ensures { result ≡ (entry_life entry).tally }
+    {
+        let mut guard = self.root.lock(rt);
+        lower(&self.clock, &mut guard.value, entry)
+    }
+}

@@ -1,4 +1,0 @@
-pub mod Origins
-pub mod Homes
-pub mod Hooked
-pub mod Raised

@@ -1,2 +1,0 @@
-mod Knows
-pub mod Shared

@@ -1,0 +1,12 @@
+use Rattle.std.proofs.Common.{rules}
+use Rattle.std.proofs.lemmas.Iterator.{YieldsList-from_slice}
+use Rattle.std.proofs.lemmas.Iterator.Search.{position_from_yields_List}
+use borrow.Author.Tests.{tests}
+use Rattle.sessions.specs.Held.{is_of}
+use Rattle.sessions.proofs.Places.{first_of}
+use Rattle.sessions.proofs.connections.place_of.Goals as goal
+
+pub returns-clause-there : goal.returns-clause-there
+returns-clause-there c =
+    first_of c.args.session c.args.held.now c.position.result
+    (position_from_yields_List (is_of c.args.session) _ _ c.position.result c.position.ensures.ran (YieldsList-from_slice c.args.held.now cc) (λ x b q k. search (rules, tests)))

@@ -1,0 +1,69 @@
+-- A seat stays one of its zone.
+use Rattle.std.proofs.Common.{◌≡◌, ◌<◌, ◌≤◌, ◌+◌, ℕ, Option, Some, List, [], ◌∷◌, ◌++◌, length, map, sym, ap, ◌∙◌, subst, inl, inr, arith}
+use Rattle.std.proofs.lemmas.Bool.{cases_lt}
+use Rattle.std.proofs.lemmas.List.{length-append, length-map}
+use Rattle.std.proofs.lemmas.List.Elements.{All-nil}
+use Rattle.smr_clock.specs.Belongs.{TableId}
+use Rattle.deed_book.specs.declared.fail_share.FailShare.{FailShare}
+use Rattle.deed_book.specs.FailShare.{share_table}
+use Rattle.uma_life.specs.declared.cached.Cached.{Cached}
+use Rattle.uma_life.specs.Cached.{cached_ticket}
+use Rattle.uma_bucket.specs.declared.bucket.Bucket.{Bucket}
+use Rattle.uma_bucket.specs.declared.loose.Loose.{Loose}
+use Rattle.uma_bucket.specs.Bucket.{items_of, tickets_of}
+use Rattle.uma_bucket.specs.Freed.{freed_ticket}
+use Rattle.uma_bucket.specs.Home.{IsHome, AreHome}
+use Rattle.uma_bucket.specs.Loose.{loose_items, loose_tickets}
+use Rattle.uma_seat.specs.declared.seating.Seating.{Seating}
+use Rattle.uma_seat.specs.declared.seat.SeatCache.{SeatCache}
+use Rattle.uma_seat.specs.Seat.{seat_home, IsNewSeat}
+use Rattle.uma_seat.specs.Stack.{Stack}
+use Rattle.uma_seat.specs.Seating.{home_of, clock_of}
+use Rattle.uma_zone.specs.declared.domains.ZoneDomains.{ZoneDomains}
+use Rattle.uma_zone.specs.Domains.{domain_count, domains_home, domains_clock, domains_smr, misses_at, IsSeatOf}
+
+module _ {T H P : Type 0} {g h : _} where
+  -- one that is made for the same, with such a bucket to allocate from
+  pub refilled_seat : (them : ZoneDomains T H P g h) (old new : SeatCache T H P g h) (bucket : Bucket T g) → new.seating ≡ old.seating → new.misses ≡ old.misses → new.top ≡ bucket → AreHome (domains_home them) (tickets_of bucket) → IsSeatOf them old
+      → IsSeatOf them new
+  refilled_seat them old new bucket made misses top here was =
+      let home : home_of new.seating ≡ domains_home them = ap home_of made ∙ was.same_home in
+      record {
+        same_home = home;
+        same_clock = ap clock_of made ∙ was.same_clock;
+        same_smr = ap (λ (s : Seating H P). s.smr) made ∙ was.same_smr;
+        own = subst (λ (s : Seating H P). s.domain < domain_count them) (sym made) was.own;
+        own_misses = ap (λ (s : Seating H P). misses_at them s.domain) made ∙ was.own_misses ∙ ap (λ (s : FailShare). Some (share_table s)) (sym misses);
+        top_home = subst (λ (b : Bucket T g). AreHome (home_of new.seating) (tickets_of b)) (sym top) (subst (λ (x : _). AreHome x (tickets_of bucket)) (sym home) here);
+      }
+
+  -- a new one, which is made for a domain of the zone with a share of that domain's book of misses
+  pub new_seat : (them : ZoneDomains T H P g h) (seat : SeatCache T H P g h) (seating : Seating H P) (size domain : ℕ) (fails : TableId) (misses : FailShare) → home_of seating ≡ domains_home them → clock_of seating ≡ domains_clock them → seating.smr ≡ domains_smr them
+      → seating.domain ≡ domain → domain < domain_count them → misses_at them domain ≡ Some (share_table misses) → IsNewSeat size seating fails misses seat → IsSeatOf them seat
+  new_seat them seat seating size domain fails misses home clock smr own within book new =
+      let none : items_of seat.top ≡ [] = ap (λ (s : Stack _). s.items) new.top in
+      record {
+        same_home = ap home_of new.seated ∙ home;
+        same_clock = ap clock_of new.seated ∙ clock;
+        same_smr = ap (λ (s : Seating H P). s.smr) new.seated ∙ smr;
+        own = subst (λ (n : ℕ). n < domain_count them) (sym (ap (λ (s : Seating H P). s.domain) new.seated ∙ own)) within;
+        own_misses = ap (λ (n : ℕ). misses_at them n) (ap (λ (s : Seating H P). s.domain) new.seated ∙ own) ∙ book ∙ ap (λ (s : FailShare). Some (share_table s)) (sym new.misses_kept);
+        top_home = subst (λ (l : List (Cached T g)). AreHome (seat_home seat) (map cached_ticket l)) (sym none) (All-nil (IsHome (seat_home seat)));
+      }
+
+  -- one whose allocation bucket is the same
+  pub still_seat : (them : ZoneDomains T H P g h) (old new : SeatCache T H P g h) → new.seating ≡ old.seating → new.misses ≡ old.misses → new.top ≡ old.top → IsSeatOf them old → IsSeatOf them new
+  still_seat them old new made misses top was = refilled_seat them old new old.top made misses top (subst (λ (x : _). AreHome x (tickets_of old.top)) was.same_home was.top_home) was
+
+-- a refill takes no spare
+pub spares_left : (old new : List ℕ) (shelf room : ℕ) → (length old + shelf < 2 → new ≡ old ++ room ∷ []) → (2 ≤ length old + shelf → new ≡ old) → length old ≤ length new
+spares_left old new shelf room place no_place = elim (cases_lt (length old + shelf) 2) [
+  | inl less ↦ let e : length new ≡ length (old ++ room ∷ []) = ap length (place less) in omega (arith, e, length-append old (room ∷ []))
+  | inr more ↦ let e : length new ≡ length old = ap length (no_place more) in omega (arith, e)
+]
+
+-- as many items were finished as there were
+pub finished_some : {T : Type 0} {g : _} (bucket : Bucket T g) (loose : Loose T g) → tickets_of bucket ≡ loose_tickets loose → 0 < length (loose_items loose) → 0 < length (items_of bucket)
+finished_some bucket loose same some =
+    let e : length (tickets_of bucket) ≡ length (loose_tickets loose) = ap length same in
+    omega (arith, e, length-map (items_of bucket) cached_ticket, length-map (loose_items loose) freed_ticket)

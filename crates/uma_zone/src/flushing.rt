@@ -1,0 +1,260 @@
+ghost use Rattle.std.specs.Prelude.{◌≡◌, ◌≤◌, ◌<◌, ◌+◌, ◌∷◌, [], length, map, None, Some, IfSome, IfNone, IfErr, OnOk, OnErr};
+ghost use Rattle.smr_clock.specs.Belongs.{IsOf, clock_id, view, holder};
+ghost use Rattle.uma_seat.specs.Seat.{seat_home, seat_clock, spares_of, shelf_of, IsSameSeat, KeepsTop, KeepsPlain, KeepsFreed, KeepsCounts, KeepsMisses};
+ghost use Rattle.uma_zone.specs.Domains.{domains_home, domains_clock, IsSeatOf};
+ghost use Rattle.uma_zone.specs.Flushed.{bound_of, HasLastOf, TakesTried, in_order, AreLastOf, CanBePut};
+
+use crate::domains::ZoneDomains;
+use deed_book::Memory;
+use smr_clock::{Clock, Host, Pass};
+use std::alloc::Global;
+use std::sync::Wait;
+use uma_bucket::Shelved;
+use uma_life::Body;
+use uma_seat::{SeatCache, try_to_seal};
+
+impl<T: Body, H: Host> ZoneDomains<T, H> {
+    /// Takes the buckets of the seat's shelf to the lists of their domains, oldest first.
+    ///
+    /// Before that each loose bucket on the shelf tries once to be sealed, and in an SMR zone so does each that the seat's
+    /// own domain lists. Where a list has no memory for a bucket, or would hold 2^32 items or more, that bucket and those
+    /// behind it stay on the shelf, and at least one is there then. Waits until it has the lock of each of these domains.
+    pub(crate) fn flush<R: Wait>(
+        &self,
+        rt: &R,
+        clock: &Clock<H>,
+        pass: &mut Pass<H>,
+        seat: &mut SeatCache<T, H>,
+    ) -> Result<(), Memory>
+        requires clock { clock_id clock.now ≡ domains_clock self.now }
+        requires pass { IsOf clock.now pass.old }
+        requires seat { IsSeatOf self.now seat.old }
+        ensures pass { IsOf clock.now pass.new }
+        ensures phase { (holder pass.new).phase ≡ (holder pass.old).phase }
+        ensures seen { (holder pass.old).seen ≤ (holder pass.new).seen }
+        ensures host { (view pass.new).host ≡ (view pass.old).host }
+        ensures seat { IsSeatOf self.now seat.new }
+        ensures flushed { OnOk result (shelf_of seat.new ≡ []) }
+        ensures stay { OnErr result (HasLastOf (shelf_of seat.old) (shelf_of seat.new)) }
+        ensures some_stay { OnErr result (0 < length (shelf_of seat.new)) }
+        ensures spares { spares_of seat.new ≡ spares_of seat.old }
+        ensures same { IsSameSeat seat.old seat.new }
+        ensures top { KeepsTop seat.old seat.new }
+        ensures plain { KeepsPlain seat.old seat.new }
+        ensures freed { KeepsFreed seat.old seat.new }
+        ensures counts { KeepsCounts seat.old seat.new }
+        ensures misses { KeepsMisses seat.old seat.new }
+    {
+        let oldest = take_tried(clock, pass, seat);
+        let newest = take_tried(clock, pass, seat);
+        if self.smr {
+            self.get(seat.domain()).seal_loose(rt, clock, pass);
+        }
+        self.put_in_order(rt, seat, oldest, newest)
+    }
+
+    /// Flushes the seat, and then makes spare buckets until there are two. Waits as a flush does.
+    pub(crate) fn make_room<R: Wait>(
+        &self,
+        rt: &R,
+        alloc: Global,
+        clock: &Clock<H>,
+        pass: &mut Pass<H>,
+        seat: &mut SeatCache<T, H>,
+    ) -> Result<(), Memory>
+        requires clock { clock_id clock.now ≡ domains_clock self.now }
+        requires pass { IsOf clock.now pass.old }
+        requires seat { IsSeatOf self.now seat.old }
+        ensures pass { IsOf clock.now pass.new }
+        ensures phase { (holder pass.new).phase ≡ (holder pass.old).phase }
+        ensures seen { (holder pass.old).seen ≤ (holder pass.new).seen }
+        ensures host { (view pass.new).host ≡ (view pass.old).host }
+        ensures seat { IsSeatOf self.now seat.new }
+        ensures two { OnOk result (length (spares_of seat.new) ≡ 2) }
+        ensures flushed { OnOk result (shelf_of seat.new ≡ []) }
+        ensures spares { length (spares_of seat.old) ≤ length (spares_of seat.new) }
+        ensures stay { OnErr result (HasLastOf (shelf_of seat.old) (shelf_of seat.new)) }
+        ensures same { IsSameSeat seat.old seat.new }
+        ensures top { KeepsTop seat.old seat.new }
+        ensures plain { KeepsPlain seat.old seat.new }
+        ensures freed { KeepsFreed seat.old seat.new }
+        ensures counts { KeepsCounts seat.old seat.new }
+        ensures misses { KeepsMisses seat.old seat.new }
+    {
+        self.flush(rt, clock, pass, seat)?;
+        add_spares(alloc, seat)
+    }
+
+    // Puts the buckets that were on the seat's shelf into the lists of their domains. What isn't put is on the shelf again.
+    fn put_in_order<R: Wait>(
+        &self,
+        rt: &R,
+        seat: &mut SeatCache<T, H>,
+        oldest: Option<Shelved<T, H>>,
+        newest: Option<Shelved<T, H>>,
+    ) -> Result<(), Memory>
+        requires home { seat_home seat.old ≡ domains_home self.now }
+        requires clock { seat_clock seat.old ≡ domains_clock self.now }
+        requires shelf { shelf_of seat.old ≡ [] }
+        requires places { length (spares_of seat.old) + length (in_order oldest newest) ≤ 2 }
+        requires oldest { IfSome oldest (CanBePut (domains_home self.now) (domains_clock self.now)) }
+        requires newest { IfSome newest (CanBePut (domains_home self.now) (domains_clock self.now)) }
+        ensures flushed { OnOk result (shelf_of seat.new ≡ []) }
+        ensures stay { OnErr result (AreLastOf (in_order oldest newest) (shelf_of seat.new)) }
+        ensures some_stay { OnErr result (0 < length (shelf_of seat.new)) }
+        ensures spares { spares_of seat.new ≡ spares_of seat.old }
+        ensures same { IsSameSeat seat.old seat.new }
+        ensures top { KeepsTop seat.old seat.new }
+        ensures plain { KeepsPlain seat.old seat.new }
+        ensures freed { KeepsFreed seat.old seat.new }
+        ensures counts { KeepsCounts seat.old seat.new }
+        ensures misses { KeepsMisses seat.old seat.new }
+    {
+        match self.put_if_some(rt, oldest) {
+            Ok(()) => self.put_newest(rt, seat, newest),
+            Err(oldest) => {
+                put_back(seat, newest);
+                seat.put_shelf(oldest);
+                Err(Memory)
+            }
+        }
+    }
+
+    // Puts the last bucket that was on the seat's shelf into the list of its domain.
+    fn put_newest<R: Wait>(
+        &self,
+        rt: &R,
+        seat: &mut SeatCache<T, H>,
+        newest: Option<Shelved<T, H>>,
+    ) -> Result<(), Memory>
+        requires home { seat_home seat.old ≡ domains_home self.now }
+        requires clock { seat_clock seat.old ≡ domains_clock self.now }
+        requires shelf { shelf_of seat.old ≡ [] }
+        requires places { length (spares_of seat.old) + length (in_order None newest) ≤ 2 }
+        requires newest { IfSome newest (CanBePut (domains_home self.now) (domains_clock self.now)) }
+        ensures flushed { OnOk result (shelf_of seat.new ≡ []) }
+        ensures stay { OnErr result (shelf_of seat.new ≡ in_order None newest) }
+        ensures some_stay { OnErr result (0 < length (shelf_of seat.new)) }
+        ensures spares { spares_of seat.new ≡ spares_of seat.old }
+        ensures same { IsSameSeat seat.old seat.new }
+        ensures top { KeepsTop seat.old seat.new }
+        ensures plain { KeepsPlain seat.old seat.new }
+        ensures freed { KeepsFreed seat.old seat.new }
+        ensures counts { KeepsCounts seat.old seat.new }
+        ensures misses { KeepsMisses seat.old seat.new }
+    {
+        match self.put_if_some(rt, newest) {
+            Ok(()) => Ok(()),
+            Err(newest) => {
+                seat.put_shelf(newest);
+                Err(Memory)
+            }
+        }
+    }
+
+    fn put_if_some<R: Wait>(
+        &self,
+        rt: &R,
+        shelved: Option<Shelved<T, H>>,
+    ) -> Result<(), Shelved<T, H>>
+        requires { IfSome shelved (CanBePut (domains_home self.now) (domains_clock self.now)) }
+        ensures { IfErr result (λ back. shelved ≡ Some back) }
+    {
+        match shelved {
+            Some(shelved) => self.put(rt, shelved),
+            None => Ok(()),
+        }
+    }
+
+    // Puts a bucket into the list of its domain.
+    fn put<R: Wait>(&self, rt: &R, shelved: Shelved<T, H>) -> Result<(), Shelved<T, H>>
+        requires { CanBePut (domains_home self.now) (domains_clock self.now) shelved }
+        ensures { IfErr result (λ back. back ≡ shelved) }
+    {
+        match shelved {
+            Shelved::Plain { domain, bucket } => match self.get(domain).put_plain(rt, bucket) {
+                Ok(()) => Ok(()),
+                Err(bucket) => Err(Shelved::Plain { domain, bucket }),
+            },
+            Shelved::Loose { domain, bucket } => match self.get(domain).put_loose(rt, bucket) {
+                Ok(()) => Ok(()),
+                Err(bucket) => Err(Shelved::Loose { domain, bucket }),
+            },
+            Shelved::Sealed { domain, bucket } => match self.get(domain).put_sealed(rt, bucket) {
+                Ok(()) => Ok(()),
+                Err(bucket) => Err(Shelved::Sealed { domain, bucket }),
+            },
+        }
+    }
+}
+
+// Takes the oldest bucket from the seat's shelf. It tries once to be sealed, where it is loose.
+fn take_tried<T: Body, H: Host>(
+    clock: &Clock<H>,
+    pass: &mut Pass<H>,
+    seat: &mut SeatCache<T, H>,
+) -> Option<Shelved<T, H>>
+    requires clock { clock_id clock.now ≡ seat_clock seat.old }
+    requires pass { IsOf clock.now pass.old }
+    ensures pass { IsOf clock.now pass.new }
+    ensures phase { (holder pass.new).phase ≡ (holder pass.old).phase }
+    ensures seen { (holder pass.old).seen ≤ (holder pass.new).seen }
+    ensures host { (view pass.new).host ≡ (view pass.old).host }
+    ensures tried { IfSome result (λ tried. TakesTried H.copied (view pass.old) (shelf_of seat.old) tried (shelf_of seat.new) (view pass.new)) }
+    ensures bound { IfSome result (λ tried. map bound_of (shelf_of seat.old) ≡ bound_of tried ∷ map bound_of (shelf_of seat.new)) }
+    ensures can { IfSome result (CanBePut (seat_home seat.old) (seat_clock seat.old)) }
+    ensures none { IfNone result (shelf_of seat.old ≡ []) }
+    ensures unchanged { IfNone result (shelf_of seat.new ≡ []) }
+    ensures unseen { IfNone result (view pass.new ≡ view pass.old) }
+    ensures spares { spares_of seat.new ≡ spares_of seat.old }
+    ensures same { IsSameSeat seat.old seat.new }
+    ensures top { KeepsTop seat.old seat.new }
+    ensures plain { KeepsPlain seat.old seat.new }
+    ensures freed { KeepsFreed seat.old seat.new }
+    ensures counts { KeepsCounts seat.old seat.new }
+    ensures misses { KeepsMisses seat.old seat.new }
+{
+    match seat.take_shelf()? {
+        Shelved::Loose { domain, bucket } => Some(try_to_seal(clock, pass, domain, bucket)),
+        whole => Some(whole),
+    }
+}
+
+// Puts a bucket back on the seat's shelf, where there is one.
+fn put_back<T: Body, H: Host>(seat: &mut SeatCache<T, H>, shelved: Option<Shelved<T, H>>)
+    requires places { length (spares_of seat.old) + length (in_order None shelved) ≤ 2 }
+    requires shelf { shelf_of seat.old ≡ [] }
+    requires can { IfSome shelved (CanBePut (seat_home seat.old) (seat_clock seat.old)) }
+    ensures shelf { shelf_of seat.new ≡ in_order None shelved }
+    ensures spares { spares_of seat.new ≡ spares_of seat.old }
+    ensures same { IsSameSeat seat.old seat.new }
+    ensures top { KeepsTop seat.old seat.new }
+    ensures plain { KeepsPlain seat.old seat.new }
+    ensures freed { KeepsFreed seat.old seat.new }
+    ensures counts { KeepsCounts seat.old seat.new }
+    ensures misses { KeepsMisses seat.old seat.new }
+{
+    match shelved {
+        Some(shelved) => seat.put_shelf(shelved),
+        None => {}
+    }
+}
+
+// Makes spare buckets until there are two.
+fn add_spares<T: Body, H: Host>(alloc: Global, seat: &mut SeatCache<T, H>) -> Result<(), Memory>
+    requires { shelf_of seat.old ≡ [] }
+    ensures two { OnOk result (length (spares_of seat.new) ≡ 2) }
+    ensures more { length (spares_of seat.old) ≤ length (spares_of seat.new) }
+    ensures shelf { shelf_of seat.new ≡ [] }
+    ensures same { IsSameSeat seat.old seat.new }
+    ensures top { KeepsTop seat.old seat.new }
+    ensures plain { KeepsPlain seat.old seat.new }
+    ensures freed { KeepsFreed seat.old seat.new }
+    ensures counts { KeepsCounts seat.old seat.new }
+    ensures misses { KeepsMisses seat.old seat.new }
+{
+    for _ in seat.spare()..2 {
+        seat.add_spare(alloc)?;
+    }
+    Ok(())
+}

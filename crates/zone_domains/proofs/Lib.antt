@@ -1,4 +1,0 @@
-pub mod Shelves
-pub mod Looks
-pub mod Puts
-pub mod Seats

@@ -1,4 +1,0 @@
-pub mod OneDomain
-pub mod Domains
-pub mod Flushed
-pub mod Looked

@@ -1,4 +1,0 @@
-use super::*;
-use std::test::Fail;
-
-mod racing;
