@@ -1,14 +1,14 @@
 -- The steps of an entry's seat keep the law of names.
-use Rattle.std.proofs.Common.{◌≡◌, ℕ, ◌+◌, ◌<◌, ◌≤◌, ◌≢◌, List, [], ◌∷◌, map, length, set, slice_index, nat_le, cond, false, Bool, refl, sym, ap, ◌∙◌, subst, arith, length-set, get_or-set_same, get_or-set_other, inl}
+use Rattle.std.proofs.Common.{◌≡◌, ℕ, ◌+◌, ◌<◌, ◌≤◌, ◌≢◌, List, [], ◌∷◌, map, length, set, slice_index, nat_le, cond, false, Bool, refl, sym, ap, ◌∙◌, subst, arith, length-set, get_or-set_same, get_or-set_other, inl, inr}
 use mathlib.Core.Option.{some}
 use lib.ListN.{get_elem?}
-use Rattle.smr_core.specs.ClockState.{place_after_seats, write_hand, read_hand}
+use Rattle.smr_core.specs.ClockState.{write_place, read_place, place_after_seats, write_hand, read_hand}
 use Rattle.smr_clock.specs.declared.setup.Setup.{Setup}
 use Rattle.smr_clock.specs.declared.view.View.{View}
 use Rattle.smr_clock.specs.declared.host_act.HostAct.TheVariants.{Load, Store}
 use Rattle.smr_clock.specs.Views.{hosts_of}
 use Rattle.smr_clock.specs.Clocked.{Clocked}
-use Rattle.smr_clock.specs.HostSteps.{SeatKeeps, with_host, looked}
+use Rattle.smr_clock.specs.HostSteps.{IsHand, SeatKeeps, with_host, looked}
 use Rattle.smr_clock.proofs.HostClocked.{step_clocked, look_clocked}
 use Rattle.smr_clock.proofs.SeatSteps.{looked_else}
 use Rattle.name_rows.specs.declared.records.Hold.{Hold}
@@ -72,8 +72,8 @@ module _ (a : Setup) (id : ℕ) (v : View Part) (own : v.setup ≡ a) (o : Owned
         owns = owns;
         owns_new = owns_after f;
         entry = entry;
-        write_not_lower = let e : slice_index (set ws word value) 0 ≡ slice_index ws 0 = get_or-set_other ws word 0 value 0 (λ e. omega arith) in omega arith;
-        read_not_lower = let e : slice_index (set ws word value) 1 ≡ slice_index ws 1 = get_or-set_other ws word 1 value 0 (λ e. omega arith) in omega arith;
+        write_not_lower = let e : write_hand (set ws word value) ≡ write_hand ws = get_or-set_other ws word write_place value 0 (λ e. omega arith) in omega arith;
+        read_not_lower = let e : read_hand (set ws word value) ≡ read_hand ws = get_or-set_other ws word read_place value 0 (λ e. omega arith) in omega arith;
         as_many = length-set ws word value;
         others = λ i high k n. get_or-set_other ws word i value 0 (apart i k n);
         key = key;
@@ -111,13 +111,13 @@ module _ (a : Setup) (id : ℕ) (v : View Part) (own : v.setup ≡ a) (o : Owned
       )
 
   -- a load of a hand, after which the entry has another state
-  restates : (f : Owned → Owned) (word : ℕ) (ws : List ℕ) (vs : List (View Part)) → Named a ws vs → get_elem? vs id ≡ some v → word < 2 → (f o).entry ≡ o.entry → (f o).key ≡ o.key → (f o).value ≡ o.value
+  restates : (f : Owned → Owned) (word : ℕ) (ws : List ℕ) (vs : List (View Part)) → Named a ws vs → get_elem? vs id ≡ some v → IsHand word → (f o).entry ≡ o.entry → (f o).key ≡ o.key → (f o).value ≡ o.value
       → ((h : Hold) → StillHeld h o.state → h.mark ≤ write_hand ws → read_hand ws ≤ h.mark → StillHeld h (f o).state)
       → Named a (set ws word (slice_index ws word)) (set vs id (with_host (looked v word (slice_index ws word)) (with_owned f v.host)))
-  restates f word ws vs named at below entry key value keeps =
+  restates f word ws vs named at hand entry key value keeps =
       let fits = named.names.owners id o (has_it ws vs at) in
       named_after a (set ws word (slice_index ws word)) vs id (looked v word (slice_index ws word)) (with_owned f v.host)
-      (look_clocked ws vs id v a named.clock at own word (with_owned f v.host) below)
+      (look_clocked ws vs id v a named.clock at own word (with_owned f v.host) hand)
       (subst (λ (l : List ℕ). Held a l (set (hosts_of vs) id (with_owned f v.host))) (sym (word_again ws word))
       (entry_held a ws ws (hosts_of vs) id v.host (with_owned f v.host) o (f o) named.names (host_there vs id v at)
       (record {
@@ -137,16 +137,16 @@ module _ (a : Setup) (id : ℕ) (v : View Part) (own : v.setup ≡ a) (o : Owned
         keeps = λ h still past low. (key, value, keeps h still past low);
       })))
 
-  pub stamp-keeps : o.state ≡ Unlinked → SeatKeeps Named a id v 0 Load stamps
+  pub stamp-keeps : o.state ≡ Unlinked → SeatKeeps Named a id v write_place Load stamps
   stamp-keeps unlinked ws vs named at small = (
-    with_owned (stamped (slice_index ws 0 + 2)) v.host,
+    with_owned (stamped (write_hand ws + 2)) v.host,
     refl,
-    restates (stamped (slice_index ws 0 + 2)) 0 ws vs named at (omega arith) refl refl refl (λ h still past low. omega arith),
+    restates (stamped (write_hand ws + 2)) write_place ws vs named at (inl refl) refl refl refl (λ h still past low. omega arith),
   )
 
-  pub ripe-keeps : SeatKeeps Named a id v 1 Load ripens
+  pub ripe-keeps : SeatKeeps Named a id v read_place Load ripens
   ripe-keeps ws vs named at small = (
-    with_owned (ripened (slice_index ws 1)) v.host,
+    with_owned (ripened (read_hand ws)) v.host,
     refl,
-    restates (ripened (slice_index ws 1)) 1 ws vs named at (omega arith) refl refl refl (λ h still past low. ripe_keeps h (slice_index ws 1) o.state still low),
+    restates (ripened (read_hand ws)) read_place ws vs named at (inr refl) refl refl refl (λ h still past low. ripe_keeps h (read_hand ws) o.state still low),
   )

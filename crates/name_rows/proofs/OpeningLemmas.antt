@@ -4,11 +4,11 @@ use Rattle.std.proofs.lemmas.List.{length-append, length-replicate, get_or-appen
 use Rattle.std.specs.Prelude.{slice_index_or}
 use mathlib.Core.Option.{some-injective, some-ne-none}
 use Rattle.std.proofs.lemmas.Nat.{div-mul-add}
-use Rattle.smr_core.specs.ClockState.{place_after_seats}
+use Rattle.smr_core.specs.ClockState.{place_after_seats, opening_words}
 use Rattle.smr_clock.specs.declared.setup.Setup.{Setup}
 use Rattle.smr_clock.specs.Views.{first_view}
 use Rattle.smr_clock.specs.Making.{first_words, Opens}
-use Rattle.smr_clock.proofs.HostClocked.{opens_clocked}
+use Rattle.smr_clock.proofs.HostClocked.{opening-long, opens_clocked}
 use Rattle.name_rows.specs.declared.records.Record.{Record}
 use Rattle.name_rows.specs.declared.records.RowView.{RowView}
 use Rattle.name_rows.specs.declared.owned.Owned.{Owned}
@@ -81,10 +81,10 @@ module _ (a : Setup) (version : ℕ) where
   names_words = replicate a.plan.0 (version * 2 ^ 20) ++ replicate (2 * a.plan.1) 0
 
   abbrev clock_words : List ℕ
-  clock_words = a.about.start ∷ a.about.start ∷ replicate a.about.seats 0
+  clock_words = opening_words a.about
 
   clock_long : length clock_words ≡ place_after_seats a.about
-  clock_long = let long : length (replicate {A = ℕ} a.about.seats 0) ≡ a.about.seats = length-replicate a.about.seats 0 in omega arith
+  clock_long = opening-long a.about
 
   at_name : (k : ℕ) → slice_index (first_words a names_words) (place_after_seats a.about + k) ≡ get_or names_words k 0
   at_name k =

@@ -1,6 +1,7 @@
 -- The steps of a row's seat keep the law of names.
 use Rattle.std.proofs.Common.{◌≡◌, ℕ, ◌+◌, ◌*◌, ◌%◌, ◌^◌, ◌<◌, List, [], ◌∷◌, map, length, set, slice_index, refl, sym, ap, ◌∙◌, subst, ⊎_elim, inl, inr, arith, Option, Some, None, length-set, get_or-set_same, get_or-set_other}
 use mathlib.Core.Option.{some}
+use Rattle.smr_core.specs.ClockState.{write_place, read_place}
 use lib.ListN.{get_elem?}
 use Rattle.smr_core.proofs.PlaceLemmas.{set_here}
 use Rattle.smr_clock.specs.declared.setup.Setup.{Setup}
@@ -134,8 +135,8 @@ module _ (a : Setup) (id : ℕ) (v : View Part) (own : v.setup ≡ a) (n : ℕ) 
           known = refl;
           hold = refl;
           still = still;
-          write_hand_same = get_or-set_other ws word 0 value 0 (λ e. omega arith);
-          read_hand_same = get_or-set_other ws word 1 value 0 (λ e. omega arith);
+          write_hand_same = get_or-set_other ws word write_place value 0 (λ e. omega arith);
+          read_hand_same = get_or-set_other ws word read_place value 0 (λ e. omega arith);
           as_many = length-set ws word value;
           others = λ i high apart. get_or-set_other ws word i value 0 (λ e. apart (e ∙ place));
           listed = λ q h. inr h;

@@ -6,7 +6,7 @@ ghost use Rattle.name_rows.specs.Records.{row_place, key_place, value_place};
 use crate::names::Names;
 use smr_clock::Clock;
 
-// The place of the first word behind the seats' words.
+// The place of the first word behind the clock's own.
 fn first_place(clock: &Clock<Names>) -> u32
     requires names { IsNamesClock clock.now }
     ensures { result ≡ row_place (setup_of clock.now) 0 }

@@ -12,6 +12,7 @@ use crate::owned::Owned;
 use crate::places::{key_place, value_place};
 use crate::unripe::Unripe;
 use smr_clock::{Clock, HostAct, HostPlay, HostSeat};
+use smr_core::places::{READ_PLACE, WRITE_PLACE};
 
 /// The store of a key word.
 struct WritesKey;
@@ -107,7 +108,7 @@ impl Words {
         ensures entry { self.new.kept.entry ≡ self.old.kept.entry }
         ensures stamped { StampsAt (seat_knows self.old.seat) self.old.kept (seat_knows self.new.seat) self.new.kept }
     {
-        let write = clock.seat_step::<Stamps>(&mut self.seat, 0, HostAct::Load);
+        let write = clock.seat_step::<Stamps>(&mut self.seat, WRITE_PLACE as u32, HostAct::Load);
         self.kept.state = EntryState::Stamped { goal: write + 2 };
     }
 
@@ -131,7 +132,7 @@ impl Words {
         ensures floor { (seat_knows self.new.seat).holder.floor ≡ result }
         ensures kept { self.new.kept ≡ ripened result self.old.kept }
     {
-        let read = clock.seat_step::<Ripens>(&mut self.seat, 1, HostAct::Load);
+        let read = clock.seat_step::<Ripens>(&mut self.seat, READ_PLACE as u32, HostAct::Load);
         self.kept.state = ripe_state(self.kept.state, read);
         read
     }

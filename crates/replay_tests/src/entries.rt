@@ -1,4 +1,4 @@
-use name_entries::{EntryHooks, RaisedEntry};
+use name_cache::{EntryHooks, RaisedEntry};
 use name_rows::{Opened, make};
 use std::alloc::Global;
 use std::sync::Wait;

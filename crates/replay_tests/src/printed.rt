@@ -1,5 +1,5 @@
-use printed_lines::{push_field, push_line};
 use std::test::Fail;
+use text_lines::{push_field, push_line};
 
 #[test]
 fn lines_have_one_space_between_two_fields(rt: HostRuntime) -> Result<(), Fail> {

@@ -41,10 +41,51 @@ hands 1 5
 }
 
 #[test]
+fn a_seat_leaves_and_comes(rt: HostRuntime) -> Result<(), Fail> {
+    let text = "\
+smr 2
+clock 2 1 8
+enter 0
+exit 0
+leave 0
+advance 1
+note 1
+poll 2 3
+come 0
+enter 0
+end
+";
+    let expected = "\
+hand 1
+done
+in 1 1
+done
+done
+hand 1
+hand 1
+goal 3 moved
+holder 2
+hand 1
+hand 3
+present 2
+word 1 0 least 3
+yes 3
+done
+hand 3
+done
+in 3 3
+hands 3 3
+";
+    assert_eq!(rt; played(rt.alloc(), text)??.as_slice(), expected.as_bytes());
+    Ok(())
+}
+
+#[test]
 fn a_refused_step_is_named_with_its_line(rt: HostRuntime) -> Result<(), Fail> {
     let rows = [
         (
             "smr 1\nclock 2 1 8\nstore 0\nenter 2\nend",
+            3,
             StepRefused::OutOfTurn {
                 seat: 0,
                 phase: Phase::Outside,
@@ -54,12 +95,33 @@ fn a_refused_step_is_named_with_its_line(rt: HostRuntime) -> Result<(), Fail> {
         ),
         (
             "smr 1\nclock 2 1 8\nload 2\nend\n",
+            3,
             StepRefused::NoSeat { seat: 2, seats: 2 },
             "line 3: no such seat",
         ),
+        (
+            "smr 2\nclock 2 1 8\nleave 0\nleave 0\nend\n",
+            4,
+            StepRefused::OutOfTurn {
+                seat: 0,
+                phase: Phase::Vacant,
+                task: Task::Idle,
+            },
+            "line 4: out of turn",
+        ),
+        (
+            "smr 2\nclock 2 1 8\nenter 0\nleave 0\nexit 0\nend\n",
+            4,
+            StepRefused::OutOfTurn {
+                seat: 0,
+                phase: Phase::Inside,
+                task: Task::Idle,
+            },
+            "line 4: out of turn",
+        ),
     ];
-    for (text, refused, fault) in rows {
-        let step = ScheduleRefused::Step { line: 3, refused };
+    for (text, line, refused, fault) in rows {
+        let step = ScheduleRefused::Step { line, refused };
         assert_eq!(rt; played(rt.alloc(), text)?.err(), Some(step));
         assert_eq!(rt; format!(in rt.alloc(); "{step}")?.as_str(), fault);
     }

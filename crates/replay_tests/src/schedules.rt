@@ -1,5 +1,7 @@
 use schedule_text::{ParseRefused, TraceKind, TraceRefused, Turn, TurnLine, parse_schedule};
 use smr_core::Step;
+use std::alloc::Global;
+use std::process::Abort;
 use std::test::Fail;
 
 #[test]
@@ -28,9 +30,26 @@ fn a_schedule_is_read_in_every_spelling(rt: HostRuntime) -> Result<(), Fail> {
     Ok(())
 }
 
+fn one(step: Step) -> Turn {
+    Turn::One { step }
+}
+
+/// Each line, in this version, is read as its turn.
+fn reads(rt: &impl Abort, alloc: Global, version: u32, rows: &[(&str, Turn)]) -> Result<(), Fail> {
+    for (line, turn) in rows {
+        let text = format!(in alloc; "smr {version}\nclock 2 1 8\n{line}\nend")?;
+        let schedule = parse_schedule(alloc, text.as_bytes())?;
+        let line = TurnLine {
+            line: 3,
+            turn: *turn,
+        };
+        assert_eq!(rt; schedule.lines.as_slice(), [line].as_slice());
+    }
+    Ok(())
+}
+
 #[test]
 fn each_word_takes_its_step(rt: HostRuntime) -> Result<(), Fail> {
-    let one = |step: Step| Turn::One { step };
     let rows = [
         ("load 1", one(Step::EnterLoad { seat: 1 })),
         ("store 1", one(Step::EnterStore { seat: 1 })),
@@ -40,7 +59,7 @@ fn each_word_takes_its_step(rt: HostRuntime) -> Result<(), Fail> {
         ("aload 1", one(Step::AdvanceLoad { seat: 1 })),
         ("aswap 1", one(Step::AdvanceSwap { seat: 1 })),
         ("pread 1 2", one(Step::PollRead { seat: 1, tag: 2 })),
-        ("pload 1", one(Step::PollLoad { seat: 1 })),
+        ("pload 1", Turn::PollLoads { seat: 1 }),
         ("pscan 1", one(Step::PollScan { seat: 1 })),
         ("pswap 1", one(Step::PollSwap { seat: 1 })),
         ("note 1", one(Step::Note { seat: 1 })),
@@ -49,15 +68,20 @@ fn each_word_takes_its_step(rt: HostRuntime) -> Result<(), Fail> {
         ("advance 1", Turn::Advance { seat: 1 }),
         ("poll 1 2", Turn::Poll { seat: 1, tag: 2 }),
     ];
-    for (line, turn) in rows {
-        let text = format!(in rt.alloc(); "smr 1\nclock 2 1 8\n{line}\nend")?;
-        let schedule = parse_schedule(rt.alloc(), text.as_bytes())?;
-        assert_eq!(rt;
-            schedule.lines.as_slice(),
-            [TurnLine { line: 3, turn }].as_slice()
-        );
-    }
-    Ok(())
+    reads(&rt, rt.alloc(), 1, &rows)
+}
+
+#[test]
+fn version_two_has_words_for_seats_that_leave_and_come(rt: HostRuntime) -> Result<(), Fail> {
+    let rows = [
+        ("leave 1", one(Step::Leave { seat: 1 })),
+        ("come 1", one(Step::Come { seat: 1 })),
+        ("pload 1", one(Step::PollLoad { seat: 1 })),
+        ("ppres 1", one(Step::PollPresent { seat: 1 })),
+        ("pscan 1", one(Step::PollScan { seat: 1 })),
+        ("poll 1 2", Turn::Poll { seat: 1, tag: 2 }),
+    ];
+    reads(&rt, rt.alloc(), 2, &rows)
 }
 
 #[test]

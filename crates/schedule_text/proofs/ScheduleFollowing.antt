@@ -16,7 +16,8 @@ use Rattle.schedule_text.specs.declared.reading.word.PairWord.TheVariants as pai
 use Rattle.schedule_text.specs.declared.reading.word.SeatWord.TheVariants as seats
 use Rattle.schedule_text.specs.declared.reading.word.Word.{Word}
 use Rattle.schedule_text.specs.declared.reading.word.Word.TheVariants as words
-use Rattle.schedule_text.specs.ScheduleGrammar.{word_named, word_or_wrong, fits_place, placed, clock_in, seat_in, two_numbers_in, said_by, says, schedule_test, clock_of, clock_after, seat_turn, pair_turn}
+use Rattle.schedule_text.specs.ScheduleGrammar.{version_of, word_named, word_or_wrong, is_known, known, fits_place, placed, clock_in, seat_in, two_numbers_in, said_by, says, schedule_test, clock_of, clock_after, seat_turn, pair_turn}
+use Rattle.schedule_text.specs.declared.schedule.Version.{Version}
 use Rattle.schedule_text.specs.ScheduleShown.{Shows, Hears, is_last}
 use Rattle.schedule_text.proofs.Steps.{bound, is_some_value, is_true}
 
@@ -46,10 +47,11 @@ word_is_end first word is =
     end_named (is_text (codes "end")) _ word
     (no_end (is_text (codes "smr")) words.Smr _ refl (no_end (is_text (codes "clock")) words.Clock _ refl (no_end (is_text (codes "load")) (words.Seat seats.Load) _ refl
     (no_end (is_text (codes "store")) (words.Seat seats.Store) _ refl (no_end (is_text (codes "check")) (words.Seat seats.Check) _ refl (no_end (is_text (codes "exit")) (words.Seat seats.Exit) _ refl
+    (no_end (is_text (codes "leave")) (words.Seat seats.Leave) _ refl (no_end (is_text (codes "come")) (words.Seat seats.Come) _ refl
     (no_end (is_text (codes "aread")) (words.Seat seats.Aread) _ refl (no_end (is_text (codes "aload")) (words.Seat seats.Aload) _ refl (no_end (is_text (codes "aswap")) (words.Seat seats.Aswap) _ refl
-    (no_end (is_text (codes "pread")) (words.Pair pairs.Pread) _ refl (no_end (is_text (codes "pload")) (words.Seat seats.Pload) _ refl (no_end (is_text (codes "pscan")) (words.Seat seats.Pscan) _ refl
+    (no_end (is_text (codes "pread")) (words.Pair pairs.Pread) _ refl (no_end (is_text (codes "pload")) (words.Seat seats.Pload) _ refl (no_end (is_text (codes "ppres")) (words.Seat seats.Ppres) _ refl (no_end (is_text (codes "pscan")) (words.Seat seats.Pscan) _ refl
     (no_end (is_text (codes "pswap")) (words.Seat seats.Pswap) _ refl (no_end (is_text (codes "note")) (words.Seat seats.Note) _ refl (no_end (is_text (codes "absorb")) (words.Pair pairs.Absorb) _ refl
-    (no_end (is_text (codes "enter")) (words.Seat seats.Enter) _ refl (no_end (is_text (codes "advance")) (words.Seat seats.Advance) _ refl (no_end (is_text (codes "poll")) (words.Pair pairs.Poll) _ refl none_named))))))))))))))))))
+    (no_end (is_text (codes "enter")) (words.Seat seats.Enter) _ refl (no_end (is_text (codes "advance")) (words.Seat seats.Advance) _ refl (no_end (is_text (codes "poll")) (words.Pair pairs.Poll) _ refl none_named)))))))))))))))))))))
     is
 
 -- what is last of a line with this word
@@ -65,32 +67,33 @@ pub not_last : (rest : List (List ℕ)) → false ≡ ends_line false rest
 not_last [] = refl
 not_last (field ∷ rest) = refl
 
-said_last : (word : Word) (rest : List (List ℕ)) (x : Said) → said_by word rest ≡ Ok x → is_last x ≡ ends_line (is_end_word word) rest
-said_last words.Smr rest x e = absurd cc
-said_last words.Clock rest x e = let b = bound (clock_in rest) (λ about. Ok (said.Clock about)) x e in let is : said.Clock b.0 ≡ x = cc in ap is_last (sym is) ∙ not_last rest
-said_last (words.Seat word) rest x e =
-    let b = bound (seat_in rest) (λ seat. Ok (said.Does (seat_turn word seat))) x e in
-    let is : said.Does (seat_turn word b.0) ≡ x = cc in ap is_last (sym is) ∙ not_last rest
-said_last (words.Pair word) rest x e =
+said_last : (version : Version) (word : Word) (rest : List (List ℕ)) (x : Said) → said_by version word rest ≡ Ok x → is_last x ≡ ends_line (is_end_word word) rest
+said_last version words.Smr rest x e = absurd cc
+said_last version words.Clock rest x e = let b = bound (clock_in rest) (λ about. Ok (said.Clock about)) x e in let is : said.Clock b.0 ≡ x = cc in ap is_last (sym is) ∙ not_last rest
+said_last version (words.Seat word) rest x e =
+    let b = bound (seat_in rest) (λ seat. Ok (said.Does (seat_turn version word seat))) x e in
+    let is : said.Does (seat_turn version word b.0) ≡ x = cc in ap is_last (sym is) ∙ not_last rest
+said_last version (words.Pair word) rest x e =
     let b = bound (two_numbers_in rest) (λ (n : ℕ × ℕ). Ok (said.Does (pair_turn word n.0 n.1))) x e in
     let is : said.Does (pair_turn word b.0.0 b.0.1) ≡ x = cc in ap is_last (sym is) ∙ not_last rest
-said_last words.End [] x e = let is : said.End ≡ x = cc in ap is_last (sym is)
-said_last words.End (field ∷ rest) x e = absurd cc
+said_last version words.End [] x e = let is : said.End ≡ x = cc in ap is_last (sym is)
+said_last version words.End (field ∷ rest) x e = absurd cc
 
 -- ---- a line taken in
 
-pub says_parts : (clocked : Bool) (first : List ℕ) (rest : List (List ℕ)) (x : Said) → says clocked (first ∷ rest) ≡ Ok x
-    → (word : Word) × (word_named first ≡ Some word) × (fits_place clocked word ≡ true) × (said_by word rest ≡ Ok x)
-says_parts clocked first rest x e =
-    let a = bound (word_or_wrong (word_named first)) (λ word. placed (fits_place clocked word) >>= λ fits. said_by word rest) x e in
-    let b = bound (placed (fits_place clocked a.0)) (λ fits. said_by a.0 rest) x a.2 in
+pub says_parts : (version : Version) (clocked : Bool) (first : List ℕ) (rest : List (List ℕ)) (x : Said) → says version clocked (first ∷ rest) ≡ Ok x
+    → (word : Word) × (word_named first ≡ Some word) × (fits_place clocked word ≡ true) × (said_by version word rest ≡ Ok x)
+says_parts version clocked first rest x e =
+    let a = bound (word_or_wrong (word_named first)) (λ word. known (is_known version word) >>= λ is. (placed (fits_place clocked word) >>= λ fits. said_by version word rest)) x e in
+    let k = bound (known (is_known version a.0)) (λ is. placed (fits_place clocked a.0) >>= λ fits. said_by version a.0 rest) x a.2 in
+    let b = bound (placed (fits_place clocked a.0)) (λ fits. said_by version a.0 rest) x k.2 in
     (a.0, is_some_value (word_named first) kinds.Word a.0 a.1, (is_true (fits_place clocked a.0) tt b.0 kinds.Place b.1).0, b.2)
 
-says_last : (clocked : Bool) (fields : List (List ℕ)) (x : Said) → says clocked fields ≡ Ok x → (is_end fields ≡ is_last x) × (is_last x ≡ true → clocked ≡ true)
-says_last clocked [] x e = absurd cc
-says_last clocked (first ∷ rest) x e =
-    let p = says_parts clocked first rest x e in
-    let last = said_last p.0 rest x p.3 in (
+says_last : (version : Version) (clocked : Bool) (fields : List (List ℕ)) (x : Said) → says version clocked fields ≡ Ok x → (is_end fields ≡ is_last x) × (is_last x ≡ true → clocked ≡ true)
+says_last version clocked [] x e = absurd cc
+says_last version clocked (first ∷ rest) x e =
+    let p = says_parts version clocked first rest x e in
+    let last = said_last version p.0 rest x p.3 in (
       is_end_by first rest ∙ ap (λ b. ends_line b rest) (sym (word_is_end first p.0 p.1)) ∙ sym last,
       λ yes'. clocked_by p.0 rest clocked (sym last ∙ yes') p.2,
     ) where
@@ -108,20 +111,22 @@ clock_kept (said.Does turn) clock e = absurd cc
 clock_kept said.End clock e = refl
 
 heard : (old new : ScheduleReader) (number : ℕ) (fields : List (List ℕ)) (x : Said)
-    → old.begun ≡ true → old.ended ≡ false → says (is_some old.clock) fields ≡ Ok x → Hears number x old new
+    → old.begun ≡ true → old.ended ≡ false → says old.version (is_some old.clock) fields ≡ Ok x → Hears number x old new
     → Takes schedule_test Shows old number fields (Ok tt) new
 heard old new number fields x begun ended is hears [] shown = absurd (false_not_true (sym shown.begun ∙ begun)) where
   false_not_true : false ≡ true → ⊥
   false_not_true e = cc
 heard old new number fields x begun ended is hears (last ∷ before) shown =
     let line : TextLine = record { number = number; fields = fields } in
-    let says_it : says (is_some (clock_of (last ∷ before))) fields ≡ Ok x = ap (λ c. says (is_some c) fields) (sym shown.clock) ∙ is in
+    let says_it : says (version_of (last ∷ before)) (is_some (clock_of (last ∷ before))) fields ≡ Ok x =
+    sym (ap (λ c. says old.version (is_some c) fields) shown.clock ∙ ap (λ v. says v (is_some (clock_of (last ∷ before))) fields) shown.version) ∙ is in
     let still : is_ended (last ∷ before) ≡ false = sym shown.ended ∙ ended in
-    let ends = says_last (is_some old.clock) fields x is in
+    let ends = says_last old.version (is_some old.clock) fields x is in
     let now_ended : new.ended ≡ is_last x = hears.ended ∙ ap (λ b. b || is_last x) ended in (
       rw (still, says_it) refl,
       record {
         begun = hears.begun ∙ begun;
+        version = hears.version ∙ shown.version;
         clock = hears.clock ∙ rw (says_it, shown.clock) refl;
         turns = hears.turns ∙ rw (says_it, shown.turns) refl;
         ended = now_ended ∙ sym ends.0;
@@ -130,7 +135,7 @@ heard old new number fields x begun ended is hears (last ∷ before) shown =
     )
 
 pub takes : (old new : ScheduleReader) (number : ℕ) (fields : List (List ℕ)) (x : Said) (r : Result (Unit {0}) LineRefused)
-    → old.begun ≡ true → old.ended ≡ false → says (is_some old.clock) fields ≡ Ok x → OnOk r (Hears number x old new) → IfErr r (λ refused. refused ≡ refusals.Memory)
+    → old.begun ≡ true → old.ended ≡ false → says old.version (is_some old.clock) fields ≡ Ok x → OnOk r (Hears number x old new) → IfErr r (λ refused. refused ≡ refusals.Memory)
     → Takes schedule_test Shows old number fields r new
 takes old new number fields x (Ok done) begun ended is hears memory = heard old new number fields x begun ended is hears
 takes old new number fields x (Err refusals.Memory) begun ended is hears memory = tt

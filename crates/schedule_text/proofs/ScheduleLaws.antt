@@ -34,9 +34,9 @@ module _ (determined : TurnIsDetermined) where
       (turns_of schedule.lines) p.prints.sees q.prints.sees p.last q.last
       p.prints.run q.prints.run in
       p.text ∙ ap (λ (l : List ℕ). l ++ hands_line p.last) p.prints.text
-      ∙ ap (λ (sees : List (List Seen)). flat_map (λ (saw : List Seen). flat_map seen_line saw) sees
+      ∙ ap (λ (sees : List (List Seen)). flat_map (λ (saw : List Seen). flat_map (seen_line schedule.version) saw) sees
       ++ hands_line p.last) e.0
-      ∙ ap (λ (s : State). flat_map (λ (saw : List Seen). flat_map seen_line saw) q.prints.sees ++ hands_line s) e.1
+      ∙ ap (λ (s : State). flat_map (λ (saw : List Seen). flat_map (seen_line schedule.version) saw) q.prints.sees ++ hands_line s) e.1
       ∙ ap (λ (l : List ℕ). l ++ hands_line q.last) (sym q.prints.text) ∙ sym q.text
 
   module _ (not_refused : TakenIsNotRefused) where
@@ -67,12 +67,12 @@ module _ (determined : TurnIsDetermined) where
 
 -- all lines print the text before the hands
 pub whole-output : (schedule : Schedule) (n : ℕ) (last : State) (printed text : List ℕ) → length schedule.lines ≤ n
-    → Prints (opening (about_of schedule)) (take n schedule.lines) printed last → text ≡ printed ++ hands_line last
+    → Prints schedule.version (opening (about_of schedule)) (take n schedule.lines) printed last → text ≡ printed ++ hands_line last
     → IsOutput schedule text
 whole-output schedule n last printed text all p e =
     record {
       last = last;
       printed = printed;
-      prints = prints-all (opening (about_of schedule)) last schedule.lines n printed all p;
+      prints = prints-all schedule.version (opening (about_of schedule)) last schedule.lines n printed all p;
       text = e;
     }

@@ -11,6 +11,7 @@ use Rattle.smr_core.specs.CoreState.{State, opening}
 use Rattle.smr_core.specs.Turns.{IsTurn, TurnRun, RefusesTurn}
 use Rattle.schedule_text.specs.declared.schedule.Schedule.{Schedule}
 use Rattle.schedule_text.specs.declared.schedule.TurnLine.{TurnLine}
+use Rattle.schedule_text.specs.declared.schedule.Version.{Version}
 use Rattle.schedule_text.specs.declared.refused.ScheduleRefused.{ScheduleRefused}
 use Rattle.schedule_text.specs.declared.refused.ScheduleRefused.TheVariants as schedule_refused
 use Rattle.schedule_text.specs.ScheduleText.{Prints, PrintsLine, RefusesLine, RefusesTurnLine, RefusesSchedule, RefusedAt, about_of, refused_at, seen_line, turns_of}
@@ -25,48 +26,50 @@ turn_run-push s mid s' (first ∷ turns) (seen ∷ sees) turn saw p q =
 turn_run-push s mid s' [] (seen ∷ sees) turn saw p q = absurd p
 turn_run-push s mid s' (first ∷ turns) [] turn saw p q = absurd p
 
-text_of : List (List Seen) → List ℕ
-text_of sees = flat_map (λ (saw : List Seen). flat_map seen_line saw) sees
+module _ (version : Version) where
+  text_of : List (List Seen) → List ℕ
+  text_of sees = flat_map (λ (saw : List Seen). flat_map (seen_line version) saw) sees
 
-text_of-push : (sees : List (List Seen)) (saw : List Seen)
-    → text_of (sees ++ saw ∷ []) ≡ text_of sees ++ flat_map seen_line saw
-unfolding text_of
-text_of-push [] saw = append-nil (flat_map seen_line saw)
-text_of-push (first ∷ sees) saw =
-    ap (λ (l : List ℕ). flat_map seen_line first ++ l) (text_of-push sees saw)
-    ∙ sym (append_assoc (flat_map seen_line first) (text_of sees) (flat_map seen_line saw))
+  text_of-push : (sees : List (List Seen)) (saw : List Seen)
+      → text_of (sees ++ saw ∷ []) ≡ text_of sees ++ flat_map (seen_line version) saw
+  unfolding text_of
+  text_of-push [] saw = append-nil (flat_map (seen_line version) saw)
+  text_of-push (first ∷ sees) saw =
+      ap (λ (l : List ℕ). flat_map (seen_line version) first ++ l) (text_of-push sees saw)
+      ∙ sym (append_assoc (flat_map (seen_line version) first) (text_of sees) (flat_map (seen_line version) saw))
 
-pub prints-none : (s : State) → Prints s [] [] s
-prints-none s = record { sees = []; run = refl; text = refl }
+module _ (version : Version) where
+  pub prints-none : (s : State) → Prints version s [] [] s
+  prints-none s = record { sees = []; run = refl; text = refl }
 
-pub prints-push : (s mid s' : State) (lines : List TurnLine) (l : TurnLine) (before bytes : List ℕ)
-    → Prints s lines before mid → PrintsLine mid l before bytes s' → Prints s (lines ++ l ∷ []) bytes s'
-unfolding text_of
-prints-push s mid s' lines l before bytes p q =
-    record {
-      sees = p.sees ++ q.saw ∷ [];
-      run =
-          subst (λ (turns : List Turn). TurnRun s turns (p.sees ++ q.saw ∷ []) s')
-          (sym (map-append (λ (x : TurnLine). x.turn) lines (l ∷ [])))
-          (turn_run-push s mid s' (turns_of lines) p.sees l.turn q.saw p.run q.turn);
-      text = q.text ∙ ap (λ (t : List ℕ). t ++ flat_map seen_line q.saw) p.text ∙ sym (text_of-push p.sees q.saw);
-    }
+  pub prints-push : (s mid s' : State) (lines : List TurnLine) (l : TurnLine) (before bytes : List ℕ)
+      → Prints version s lines before mid → PrintsLine version mid l before bytes s' → Prints version s (lines ++ l ∷ []) bytes s'
+  unfolding text_of
+  prints-push s mid s' lines l before bytes p q =
+      record {
+        sees = p.sees ++ q.saw ∷ [];
+        run =
+            subst (λ (turns : List Turn). TurnRun s turns (p.sees ++ q.saw ∷ []) s')
+            (sym (map-append (λ (x : TurnLine). x.turn) lines (l ∷ [])))
+            (turn_run-push s mid s' (turns_of lines) p.sees l.turn q.saw p.run q.turn);
+        text = q.text ∙ ap (λ (t : List ℕ). t ++ flat_map (seen_line version) q.saw) p.text ∙ sym (text_of-push version p.sees q.saw);
+      }
 
--- the first n lines, and then the next
-pub prints-more : (s mid s' : State) (lines : List TurnLine) (n : ℕ) (d : TurnLine) (before bytes : List ℕ)
-    → n < length lines
-    → Prints s (take n lines) before mid → PrintsLine mid (get_or lines n d) before bytes s'
-    → Prints s (take (n + 1) lines) bytes s'
-prints-more s mid s' lines n d before bytes below p q =
-    subst (λ (l : List TurnLine). Prints s l bytes s') (sym (take_more lines n d below))
-    (prints-push s mid s' (take n lines) (get_or lines n d) before bytes p q)
+  -- the first n lines, and then the next
+  pub prints-more : (s mid s' : State) (lines : List TurnLine) (n : ℕ) (d : TurnLine) (before bytes : List ℕ)
+      → n < length lines
+      → Prints version s (take n lines) before mid → PrintsLine version mid (get_or lines n d) before bytes s'
+      → Prints version s (take (n + 1) lines) bytes s'
+  prints-more s mid s' lines n d before bytes below p q =
+      subst (λ (l : List TurnLine). Prints version s l bytes s') (sym (take_more lines n d below))
+      (prints-push s mid s' (take n lines) (get_or lines n d) before bytes p q)
 
-pub prints-all : (s s' : State) (lines : List TurnLine) (n : ℕ) (bytes : List ℕ) → length lines ≤ n
-    → Prints s (take n lines) bytes s' → Prints s lines bytes s'
-prints-all s s' lines n bytes h p = subst (λ (l : List TurnLine). Prints s l bytes s') (take_all n lines h) p
+  pub prints-all : (s s' : State) (lines : List TurnLine) (n : ℕ) (bytes : List ℕ) → length lines ≤ n
+      → Prints version s (take n lines) bytes s' → Prints version s lines bytes s'
+  prints-all s s' lines n bytes h p = subst (λ (l : List TurnLine). Prints version s l bytes s') (take_all n lines h) p
 
 pub refused-here : (schedule : Schedule) (n : ℕ) (d : TurnLine) (mid : State) (printed : List ℕ) (refused : StepRefused) → n < length schedule.lines
-    → Prints (opening (about_of schedule)) (take n schedule.lines) printed mid
+    → Prints schedule.version (opening (about_of schedule)) (take n schedule.lines) printed mid
     → RefusesLine mid (get_or schedule.lines n d) refused
     → RefusedAt schedule n (get_or schedule.lines n d) refused
 refused-here schedule n d mid printed refused below p q =
@@ -88,7 +91,7 @@ refuses_line s l (refusals.Crowded count) r = (refl, record { step = r; not_memo
 
 -- a line that is refused after the lines before it
 pub refuses-schedule : (schedule : Schedule) (n : ℕ) (d : TurnLine) (mid : State) (printed : List ℕ) (refused : ScheduleRefused) → n < length schedule.lines
-    → Prints (opening (about_of schedule)) (take n schedule.lines) printed mid
+    → Prints schedule.version (opening (about_of schedule)) (take n schedule.lines) printed mid
     → RefusesTurnLine mid (get_or schedule.lines n d) refused
     → RefusesSchedule schedule refused
 refuses-schedule schedule n d mid printed (schedule_refused.Step at refused) below p q =

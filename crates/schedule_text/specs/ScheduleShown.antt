@@ -6,7 +6,7 @@ use Rattle.schedule_text.specs.declared.schedule.Schedule.{Schedule}
 use Rattle.schedule_text.specs.declared.reading.reader.ScheduleReader.{ScheduleReader}
 use Rattle.schedule_text.specs.declared.reading.said.Said.{Said}
 use Rattle.schedule_text.specs.declared.reading.said.Said.TheVariants as said
-use Rattle.schedule_text.specs.ScheduleGrammar.{clock_of, turn_lines, clock_after, turns_in}
+use Rattle.schedule_text.specs.ScheduleGrammar.{version_of, clock_of, turn_lines, clock_after, turns_in}
 
 abbrev pub is_begun : List TextLine → Bool
 is_begun [] = false
@@ -15,6 +15,7 @@ is_begun (last ∷ before) = true
 -- the state is the one after these lines, the last one first
 pub record Shows (reader : ScheduleReader) (lines : List TextLine) : Type 0 where
   pub begun : reader.begun ≡ is_begun lines
+  pub version : reader.version ≡ version_of lines
   pub clock : reader.clock ≡ clock_of lines
   pub turns : reader.turns.items ≡ turn_lines lines
   pub ended : reader.ended ≡ is_ended lines
@@ -28,6 +29,7 @@ is_last other = false
 -- behind the first line, the state takes in what a line of this number says
 pub record Hears (number : ℕ) (said : Said) (old new : ScheduleReader) : Type 0 where
   pub begun : new.begun ≡ old.begun
+  pub version : new.version ≡ old.version
   pub clock : new.clock ≡ clock_after (Ok said) old.clock
   pub turns : new.turns.items ≡ old.turns.items ++ turns_in number (Ok said)
   pub ended : new.ended ≡ (old.ended || is_last said)
@@ -35,4 +37,5 @@ pub record Hears (number : ℕ) (said : Said) (old new : ScheduleReader) : Type 
 -- the schedule has the numbers and the lines of the state
 pub record IsOf (schedule : Schedule) (reader : ScheduleReader) : Type 0 where
   pub clock : IfSome reader.clock (λ (about : About). about ≡ record { start = schedule.start; window = schedule.window; seats = schedule.seats })
+  pub version : schedule.version ≡ reader.version
   pub lines : schedule.lines ≡ reader.turns.items

@@ -1,17 +1,17 @@
 //! What a schedule prints.
 ghost use Rattle.std.specs.Prelude.{◌≡◌, ◌++◌, ◌∷◌, [], IfOk, IfErr, OnOk, decimal};
 ghost use Rattle.std.specs.List.{flat_map};
-ghost use Rattle.printed_lines.specs.CanonicalLine.{line};
+ghost use Rattle.text_lines.specs.CanonicalLine.{line};
 ghost use Rattle.smr_core.specs.ClockState.{IsInRange};
 ghost use Rattle.smr_core.specs.CoreState.{opening};
 ghost use Rattle.schedule_text.specs.ScheduleGrammar.{IsValidSchedule};
 ghost use Rattle.schedule_text.specs.ScheduleLaws.{NoneIsRefused};
-ghost use Rattle.schedule_text.specs.ScheduleText.{seen_line, about_of, IsOutput, PrintsLine, RefusesSchedule, RefusesTurnLine, hands_line};
+ghost use Rattle.schedule_text.specs.ScheduleText.{seen_line, present_line, goal_line, word_line, about_of, IsOutput, PrintsLine, RefusesSchedule, RefusesTurnLine, hands_line};
 
-use crate::{Schedule, ScheduleRefused, TurnLine};
-use printed_lines::{push_line, push_numbers};
+use crate::{Schedule, ScheduleRefused, TurnLine, Version};
 use smr_core::{Core, Seen};
 use std::alloc::{AllocError, Global};
+use text_lines::{push_line, push_numbers};
 
 /// What a schedule prints: the line of each step that its lines take, in order, and then the hands.
 /// Where a step is refused nothing is printed, and the first line that is refused is named.
@@ -24,7 +24,7 @@ pub fn schedule_text(alloc: Global, schedule: &Schedule) -> Result<Vec<u8>, Sche
     let mut core = open(alloc, schedule)?;
     let mut text = Vec::new(alloc);
     for line in schedule.lines.as_slice() {
-        print_line(alloc, &mut core, &mut text, line)?;
+        print_line(alloc, schedule.version, &mut core, &mut text, line)?;
     }
     let hands = [u128::from(core.read_hand()), u128::from(core.write_hand())];
     push_line(alloc, &mut text, b"hands", &hands)?;
@@ -47,16 +47,17 @@ fn open(alloc: Global, schedule: &Schedule) -> Result<Core, ScheduleRefused>
 #[tactic(auto, using(crate::proofs::ScheduleLemmas::refuses_line))]
 fn print_line(
     alloc: Global,
+    version: Version,
     core: &mut Core,
     text: &mut Vec<u8>,
     line: &TurnLine,
 ) -> Result<(), ScheduleRefused>
-    ensures printed { OnOk result (PrintsLine core.old line.now text.old.items text.new.items core.new) }
+    ensures printed { OnOk result (PrintsLine version core.old line.now text.old.items text.new.items core.new) }
     ensures refused { IfErr result (RefusesTurnLine core.old line.now) }
 {
     match core.turn(alloc, line.turn) {
         Ok(sees) => {
-            push_sees(alloc, text, sees.as_slice())?;
+            push_sees(alloc, version, text, sees.as_slice())?;
             Ok(())
         }
         Err(refused) => Err(ScheduleRefused::at(line.line, refused)),
@@ -64,18 +65,28 @@ fn print_line(
 }
 
 /// Appends the lines of what steps saw.
-fn push_sees(alloc: Global, text: &mut Vec<u8>, sees: &[Seen]) -> Result<(), AllocError>
-    ensures { OnOk result (text.new.items ≡ text.old.items ++ flat_map seen_line sees.now) }
+fn push_sees(
+    alloc: Global,
+    version: Version,
+    text: &mut Vec<u8>,
+    sees: &[Seen],
+) -> Result<(), AllocError>
+    ensures { OnOk result (text.new.items ≡ text.old.items ++ flat_map (seen_line version) sees.now) }
 {
     for seen in sees {
-        push_seen(alloc, text, *seen)?;
+        push_seen(alloc, version, text, *seen)?;
     }
     Ok(())
 }
 
 /// Appends the line of what a step saw.
-fn push_seen(alloc: Global, text: &mut Vec<u8>, seen: Seen) -> Result<(), AllocError>
-    ensures { OnOk result (text.new.items ≡ text.old.items ++ seen_line seen) }
+fn push_seen(
+    alloc: Global,
+    version: Version,
+    text: &mut Vec<u8>,
+    seen: Seen,
+) -> Result<(), AllocError>
+    ensures { OnOk result (text.new.items ≡ text.old.items ++ seen_line version seen) }
 {
     match seen {
         Seen::Hand { value } => push_line(alloc, text, b"hand", &[u128::from(value)]),
@@ -88,7 +99,23 @@ fn push_seen(alloc: Global, text: &mut Vec<u8>, seen: Seen) -> Result<(), AllocE
         Seen::Yes { read } => push_line(alloc, text, b"yes", &[u128::from(read)]),
         Seen::No { read } => push_line(alloc, text, b"no", &[u128::from(read)]),
         Seen::Word { seat, word, least } => push_word(alloc, text, seat, word, least),
+        Seen::Present { seats } => push_present(alloc, version, text, seats),
         Seen::Holder { number } => push_line(alloc, text, b"holder", &[u128::from(number)]),
+    }
+}
+
+/// Appends the line of a set of seats, of which version 1 tells nothing.
+fn push_present(
+    alloc: Global,
+    version: Version,
+    text: &mut Vec<u8>,
+    seats: u64,
+) -> Result<(), AllocError>
+    ensures { OnOk result (text.new.items ≡ text.old.items ++ present_line version seats) }
+{
+    match version {
+        Version::One => Ok(()),
+        Version::Two => push_line(alloc, text, b"present", &[u128::from(seats)]),
     }
 }
 
@@ -107,7 +134,7 @@ fn push_pair(
 
 /// Appends the line of an advance's goal.
 fn push_goal(alloc: Global, text: &mut Vec<u8>, goal: u64, moved: bool) -> Result<(), AllocError>
-    ensures { OnOk result (text.new.items ≡ text.old.items ++ seen_line (Seen.Goal goal moved)) }
+    ensures { OnOk result (text.new.items ≡ text.old.items ++ goal_line goal moved) }
 {
     text.extend_from_slice(b"goal")?;
     push_numbers(alloc, text, &[u128::from(goal)])?;
@@ -122,7 +149,7 @@ fn push_word(
     word: u32,
     least: u64,
 ) -> Result<(), AllocError>
-    ensures { OnOk result (text.new.items ≡ text.old.items ++ seen_line (Seen.Word seat word least)) }
+    ensures { OnOk result (text.new.items ≡ text.old.items ++ word_line seat word least) }
 {
     text.extend_from_slice(b"word")?;
     push_numbers(alloc, text, &[u128::from(seat), u128::from(word)])?;

@@ -2,7 +2,9 @@
 use Rattle.std.proofs.Common.{◌≡◌, ℕ, suc, ◌<◌, ◌≤◌, List, [], ◌∷◌, refl, ap, ◌∙◌, arith, fold, ⊎_elim}
 use Rattle.smr_seq.specs.Reading.{low}
 use Rattle.smr_seq.proofs.ReadingLemmas.{IsReading-unique, low-IsReading}
+use Rattle.smr_core.specs.declared.found_word.FoundWord.{FoundWord}
 use Rattle.smr_core.specs.ClockStep.{least_after}
+use Rattle.smr_core.specs.Remembered.{words_found}
 use Rattle.smr_clock.specs.declared.refused.AdvanceRefused.TheVariants.{TooFar, Spent}
 use Rattle.smr_clock.specs.Complete.{AdvancesWithRoom, SaysYesOfKnown, NoneEntered, SaysYesOfNoSection}
 
@@ -20,11 +22,11 @@ says_yes_of_known v v' goal seen says_no near known =
     omega arith
 
 -- words of 0 leave the least mark
-least_stays : (read write least : ℕ) (words : List ℕ) → NoneEntered words → fold (λ m word. least_after read write m word) least words ≡ least
+least_stays : (read write least : ℕ) (found : List FoundWord) → NoneEntered found → fold (λ m word. least_after read write m word) least (words_found found) ≡ least
 least_stays read write least [] outside = refl
-least_stays read write least (word ∷ words) outside =
-    ap (λ (w : ℕ). fold (λ m x. least_after read write m x) (least_after read write least w) words) (outside 0 (omega arith))
-    ∙ least_stays read write least words (λ s below. outside (suc s) (omega arith))
+least_stays read write least (f ∷ fs) outside =
+    ap (λ (w : ℕ). fold (λ m x. least_after read write m x) (least_after read write least w) (words_found fs)) (outside 0 f (omega arith))
+    ∙ least_stays read write least fs (λ k d below. outside (suc k) d (omega arith))
 
 pub says_yes_of_no_section : {P : Type 0} → SaysYesOfNoSection P
 says_yes_of_no_section v v' tag says_no outside ended =

@@ -1,10 +1,11 @@
 -- The steps of the tests' host keep its rule.
-use Rattle.std.proofs.Common.{◌≡◌, ℕ, zero, suc, ◌+◌, ◌<◌, ◌≢◌, List, [], ◌∷◌, ◌++◌, length, replicate, set, sym, refl, ap, ◌∙◌, subst, arith, ◌⊎◌, inl, inr, ⊎_elim, Option, Some, None, IsSome, slice_index, length-set, get_or-set_same, get_or-set_other}
+use Rattle.std.proofs.Common.{◌≡◌, ℕ, zero, suc, ◌+◌, ◌≢◌, List, [], ◌∷◌, ◌++◌, length, set, sym, refl, ap, ◌∙◌, subst, arith, ◌⊎◌, inl, inr, ⊎_elim, Option, Some, None, IsSome, slice_index, length-set, get_or-set_same, get_or-set_other}
 use Rattle.std.proofs.Math.Seq.{get_or-append_seam}
-use Rattle.std.proofs.lemmas.List.{length-append, length-replicate, map-append}
+use Rattle.std.proofs.lemmas.List.{length-append, map-append}
 use mathlib.Core.Option.{some, some-injective, some-ne-none}
 use lib.ListN.{get_elem?}
 use Rattle.smr_core.specs.declared.phase.Phase.TheVariants as phase
+use Rattle.smr_core.specs.ClockState.{opening_words}
 use Rattle.smr_core.proofs.PlaceLemmas.{at_set, at_push, at_map, map_set}
 use Rattle.smr_clock.specs.declared.setup.Setup.{Setup}
 use Rattle.smr_clock.specs.declared.view.View.{View}
@@ -14,12 +15,12 @@ use Rattle.smr_clock.specs.Views.{hosts_of, first_view, spent_view}
 use Rattle.smr_clock.specs.Clocked.{Clocked}
 use Rattle.smr_clock.specs.Making.{first_words, Opens}
 use Rattle.smr_clock.specs.Steps.{write_looking, note_view, joined_view}
-use Rattle.smr_clock.specs.HostSteps.{HostKeeps, SeatKeeps, SplitKeeps, JoinKeeps, with_host, word_after, looked}
+use Rattle.smr_clock.specs.HostSteps.{IsHand, HostKeeps, SeatKeeps, SplitKeeps, JoinKeeps, with_host, word_after, looked}
 use Rattle.smr_clock.specs.CountingHost.{count_place, KeepsCount, Counted, counts, reads, either_count}
 use Rattle.smr_clock.proofs.Kept.{hosts_kept}
 use Rattle.smr_clock.proofs.Splits.{hosts_joined, join_clocked}
-use Rattle.smr_clock.proofs.HostClocked.{opens_clocked, step_clocked, look_clocked, split_clocked}
-use Rattle.smr_clock.proofs.SeatSteps.{looked_else}
+use Rattle.smr_clock.proofs.HostClocked.{opening-long, opens_clocked, step_clocked, look_clocked, split_clocked}
+use Rattle.smr_clock.proofs.SeatSteps.{hand_below, looked_else}
 
 abbrev Views : Type 0
 Views = List (View (Option ℕ))
@@ -30,12 +31,9 @@ none_is_some n e = cc
 -- ---- where the clock begins
 
 module _ (a : Setup) (count : ℕ) where
-  abbrev zeros : List ℕ
-  zeros = replicate a.about.seats 0
-
   -- the clock's words, in front of the host's
   abbrev clock_words : List ℕ
-  clock_words = a.about.start ∷ a.about.start ∷ replicate a.about.seats 0
+  clock_words = opening_words a.about
 
   only_keeper : (id n : ℕ) → KeepsCount (first_view a (Some count) ∷ []) id n → (id ≡ 0) × (count ≡ n)
   only_keeper zero n keeps = (refl, let e : Some count ≡ Some n = some-injective (Some count) (Some n) keeps in cc)
@@ -43,15 +41,14 @@ module _ (a : Setup) (count : ℕ) where
 
   pub counting_opens : (more : List ℕ) → more ≡ count ∷ [] → Opens Counted a (Some count) more
   counting_opens more one_word r =
-      let long : length zeros ≡ a.about.seats = length-replicate a.about.seats 0 in
-      let place : count_place a ≡ length clock_words = omega arith in
+      let place : count_place a ≡ length clock_words = sym (opening-long a.about) in
       let at : slice_index (first_words a (count ∷ [])) (count_place a) ≡ count =
       ap (λ (n : ℕ). slice_index (first_words a (count ∷ [])) n) place
       ∙ get_or-append_seam clock_words count [] 0 in
       subst (λ (m : List ℕ). Counted a (first_words a m) (first_view a (Some count) ∷ [])) (sym one_word)
       (record {
         clock = opens_clocked a (Some count) (count ∷ []) r;
-        there = let all : length (clock_words ++ count ∷ []) ≡ length clock_words + 1 = length-append clock_words (count ∷ []) in omega arith;
+        there = let all : length (clock_words ++ count ∷ []) ≡ length clock_words + 1 = length-append clock_words (count ∷ []) in let long = opening-long a.about in omega arith;
         known = λ id n keeps. at ∙ (only_keeper id n keeps).1;
         one = λ id else n m p q. (only_keeper id n p).0 ∙ sym (only_keeper else m q).0;
       })
@@ -184,14 +181,14 @@ module _ (a : Setup) (id : ℕ) (v : View (Option ℕ)) (own : v.setup ≡ a) wh
             (hosts_kept a vs id v (with_host v v.host) at refl),
       ))
 
-  pub hand_keep : (word : ℕ) → word < 2 → SeatKeeps Counted a id v word Load reads
+  pub hand_keep : (word : ℕ) → IsHand word → SeatKeeps Counted a id v word Load reads
   hand_keep word hand ws vs held at small = (
     v.host,
     refl,
     still a ws vs id v held at (set ws word (slice_index ws word)) (set vs id (with_host (looked v word (slice_index ws word)) v.host))
         (look_clocked ws vs id v a held.clock at own word v.host hand)
         (length-set ws word (slice_index ws word))
-        (get_or-set_other ws word (count_place a) (slice_index ws word) 0 (λ e. omega arith))
+        (get_or-set_other ws word (count_place a) (slice_index ws word) 0 (λ e. let below = hand_below a.about word hand in omega arith))
         (hosts_kept a vs id v (with_host (looked v word (slice_index ws word)) v.host) at refl),
   )
 

@@ -12,19 +12,20 @@ use Rattle.smr_core.proofs.Keeps.Looks.{write_look-keeps, read_look-keeps}
 use Rattle.smr_core.proofs.Keeps.EnterLoad.{enter_load-keeps}
 use Rattle.smr_core.proofs.Keeps.EnterCheck.{enter_check-keeps}
 use Rattle.smr_core.proofs.Keeps.Stores.{enter_store-keeps, clear-keeps}
+use Rattle.smr_core.proofs.Keeps.Presences.{leave-keeps, come-keeps}
 use Rattle.smr_core.proofs.Keeps.AdvanceLoads.{advance_read-keeps, advance_load-keeps}
 use Rattle.smr_core.proofs.Keeps.Swaps.{advance_swap-keeps, poll_swap-keeps}
-use Rattle.smr_core.proofs.Keeps.PollLoads.{poll_read-keeps, poll_load-keeps}
+use Rattle.smr_core.proofs.Keeps.PollLoads.{poll_read-keeps, poll_load-keeps, poll_present-keeps}
 use Rattle.smr_core.proofs.Keeps.PollScan.{poll_scan-keeps}
 use Rattle.smr_core.proofs.Keeps.OtherWords.{other_word-keeps}
-use Rattle.smr_core.proofs.Keeps.Memory.{write_look-remembers, read_look-remembers, enter_load-remembers, enter_store-remembers, enter_check-remembers, clear-remembers, advance_read-remembers, advance_load-remembers, advance_swap-remembers, poll_read-remembers, poll_load-remembers, poll_scan-remembers, poll_swap-remembers}
+use Rattle.smr_core.proofs.Keeps.Memory.{write_look-remembers, read_look-remembers, enter_load-remembers, enter_store-remembers, enter_check-remembers, clear-remembers, leave-remembers, come-remembers, advance_read-remembers, advance_load-remembers, advance_swap-remembers, poll_read-remembers, poll_load-remembers, poll_present-remembers, poll_scan-remembers, poll_swap-remembers}
 use Rattle.smr_clock.specs.declared.setup.Setup.{Setup}
 use Rattle.smr_clock.specs.declared.view.View.{View}
 use Rattle.smr_clock.specs.Views.{plain, plain_views, holders_of}
 use Rattle.smr_clock.specs.Clocked.{Clocked}
 use Rattle.smr_clock.specs.Steps.{one_more_made, worker_view}
-use Rattle.smr_clock.specs.HostSteps.{with_host, looked}
-use Rattle.smr_clock.specs.Moments.{Moment, Kind, WriteLook, ReadLook, EnterLoad, EnterStore, EnterCheck, Clear, AdvanceRead, AdvanceLoad, AdvanceSwap, PollRead, PollLoad, PollScan, PollSwap, Needs, place, leaves, view_after, IsStep, acts, host_acts, hand_loads, splits_off, makes_worker, takes_in, NoLower, StepsLowerNoHand}
+use Rattle.smr_clock.specs.HostSteps.{IsHand, with_host, looked}
+use Rattle.smr_clock.specs.Moments.{Moment, Kind, WriteLook, ReadLook, EnterLoad, EnterStore, EnterCheck, Clear, Leave, Come, AdvanceRead, AdvanceLoad, AdvanceSwap, PollRead, PollLoad, PollPresent, PollScan, PollSwap, Needs, place, leaves, view_after, IsStep, acts, host_acts, hand_loads, splits_off, makes_worker, takes_in, NoLower, StepsLowerNoHand}
 use Rattle.smr_clock.proofs.Kept.{SameAside, clocked_after, holder_there, plain_there, law_plain}
 use Rattle.smr_clock.proofs.Steps.{aside, advance_seat}
 use Rattle.smr_clock.proofs.HostClocked.{step_clocked, look_clocked, split_clocked}
@@ -38,11 +39,14 @@ module _ {P : Type 0} (v : View P) where
   same_aside (EnterStore s) found = aside _ _ refl refl refl refl
   same_aside EnterCheck found = aside _ _ refl refl refl refl
   same_aside (Clear s) found = aside _ _ refl refl refl refl
+  same_aside (Leave s) found = aside _ _ refl refl refl refl
+  same_aside (Come s) found = aside _ _ refl refl refl refl
   same_aside AdvanceRead found = aside _ _ refl refl refl refl
   same_aside AdvanceLoad found = aside _ _ refl refl refl (advance_seat v.setup.about v.holder found)
   same_aside AdvanceSwap found = aside _ _ refl refl refl refl
   same_aside PollRead found = aside _ _ refl refl refl refl
   same_aside PollLoad found = aside _ _ refl refl refl refl
+  same_aside PollPresent found = aside _ _ refl refl refl refl
   same_aside PollScan found = aside _ _ refl refl refl refl
   same_aside PollSwap found = aside _ _ refl refl refl refl
 
@@ -51,19 +55,22 @@ module _ {P : Type 0} (ws : List ℕ) (vs : List (View P)) (id : ℕ) (v : View 
   here = holder_there v.setup vs id v v at
 
   later : (kind : Kind) → Needs kind v
-      → Later v.setup.about ws (set ws (place kind v.holder) (leaves kind v.holder (slice_index ws (place kind v.holder))))
-      (set (holders_of vs) id (view_after kind v (slice_index ws (place kind v.holder))).holder)
+      → Later v.setup.about ws (set ws (place kind v.setup.about v.holder) (leaves kind v.holder (slice_index ws (place kind v.setup.about v.holder))))
+      (set (holders_of vs) id (view_after kind v (slice_index ws (place kind v.setup.about v.holder))).holder)
   later WriteLook needs = write_look-keeps v.setup.about id v.holder ws (holders_of vs) c.law here
   later ReadLook needs = read_look-keeps v.setup.about id v.holder ws (holders_of vs) c.law here
   later EnterLoad needs = enter_load-keeps v.setup.about id v.holder needs ws (holders_of vs) c.law here
   later (EnterStore s) needs = enter_store-keeps v.setup.about id v.holder s needs.0 needs.1 ws (holders_of vs) c.law here
   later EnterCheck needs = enter_check-keeps v.setup.about id v.holder needs ws (holders_of vs) c.law here
   later (Clear s) needs = clear-keeps v.setup.about id v.holder s needs.0 needs.1 ws (holders_of vs) c.law here
-  later AdvanceRead needs = advance_read-keeps v.setup.about id v.holder needs ws (holders_of vs) c.law here
+  later (Leave s) needs = leave-keeps v.setup.about id v.holder s needs.0 needs.1 needs.2 ws (holders_of vs) c.law here
+  later (Come s) needs = come-keeps v.setup.about id v.holder s needs.0 needs.1 ws (holders_of vs) c.law here
+  later AdvanceRead needs = advance_read-keeps v.setup.about id v.holder needs.0 needs.1 ws (holders_of vs) c.law here
   later AdvanceLoad needs = advance_load-keeps v.setup.about id v.holder needs ws (holders_of vs) c.law here
   later AdvanceSwap needs = advance_swap-keeps v.setup.about id v.holder needs ws (holders_of vs) c.law here
-  later PollRead needs = poll_read-keeps v.setup.about id v.holder ws (holders_of vs) c.law here
+  later PollRead needs = poll_read-keeps v.setup.about id v.holder needs ws (holders_of vs) c.law here
   later PollLoad needs = poll_load-keeps v.setup.about id v.holder needs ws (holders_of vs) c.law here
+  later PollPresent needs = poll_present-keeps v.setup.about id v.holder needs ws (holders_of vs) c.law here
   later PollScan needs = poll_scan-keeps v.setup.about id v.holder needs.0 needs.1 ws (holders_of vs) c.law here
   later PollSwap needs = poll_swap-keeps v.setup.about id v.holder needs.0 needs.1 ws (holders_of vs) c.law here
 
@@ -73,29 +80,32 @@ module _ {P : Type 0} (ws : List ℕ) (vs : List (View P)) (id : ℕ) (v : View 
   plainly : get_elem? (plain_views vs) id ≡ some (plain v)
   plainly = plain_there v.setup vs id v v at
 
-  remembers : (kind : Kind) → Needs kind v → RememberedLaw v.setup.about (set (plain_views vs) id (plain (view_after kind v (slice_index ws (place kind v.holder)))))
+  remembers : (kind : Kind) → Needs kind v → RememberedLaw v.setup.about (set (plain_views vs) id (plain (view_after kind v (slice_index ws (place kind v.setup.about v.holder)))))
   remembers WriteLook needs = write_look-remembers v.setup.about id (plain v) ws (plain_views vs) law c.memory plainly
   remembers ReadLook needs = read_look-remembers v.setup.about id (plain v) ws (plain_views vs) law c.memory plainly
   remembers EnterLoad needs = enter_load-remembers v.setup.about id (plain v) ws (plain_views vs) law c.memory plainly
   remembers (EnterStore s) needs = enter_store-remembers v.setup.about id s (plain v) needs.1 ws (plain_views vs) law c.memory plainly
   remembers EnterCheck needs = enter_check-remembers v.setup.about id (plain v) needs ws (plain_views vs) law c.memory plainly
   remembers (Clear s) needs = clear-remembers v.setup.about id s (plain v) ws (plain_views vs) law c.memory plainly
+  remembers (Leave s) needs = leave-remembers v.setup.about id (plain v) ws (plain_views vs) law c.memory plainly
+  remembers (Come s) needs = come-remembers v.setup.about id (plain v) ws (plain_views vs) law c.memory plainly
   remembers AdvanceRead needs = advance_read-remembers v.setup.about id (plain v) ws (plain_views vs) law c.memory plainly
   remembers AdvanceLoad needs = advance_load-remembers v.setup.about id (plain v) ws (plain_views vs) law c.memory plainly
   remembers AdvanceSwap needs = advance_swap-remembers v.setup.about id (plain v) ws (plain_views vs) law c.memory plainly
   remembers PollRead needs = poll_read-remembers v.setup.about id (plain v) ws (plain_views vs) law c.memory plainly
   remembers PollLoad needs = poll_load-remembers v.setup.about id (plain v) ws (plain_views vs) law c.memory plainly
+  remembers PollPresent needs = poll_present-remembers v.setup.about id (plain v) ws (plain_views vs) law c.memory plainly
   remembers PollScan needs = poll_scan-remembers v.setup.about id (plain v) needs.0 needs.1 ws (plain_views vs) law c.memory plainly
   remembers PollSwap needs = poll_swap-remembers v.setup.about id (plain v) needs.0 needs.1 ws (plain_views vs) law c.memory plainly
 
   own_acts : (kind : Kind) → Needs kind v
-      → NoLower v.setup (ws, vs) (set ws (place kind v.holder) (leaves kind v.holder (slice_index ws (place kind v.holder))), set vs id (view_after kind v (slice_index ws (place kind v.holder))))
+      → NoLower v.setup (ws, vs) (set ws (place kind v.setup.about v.holder) (leaves kind v.holder (slice_index ws (place kind v.setup.about v.holder))), set vs id (view_after kind v (slice_index ws (place kind v.setup.about v.holder))))
   own_acts kind needs =
-      let found : ℕ = slice_index ws (place kind v.holder) in
+      let found : ℕ = slice_index ws (place kind v.setup.about v.holder) in
       let same = same_aside v kind found in
       let l = later kind needs in
       record {
-        law = clocked_after v.setup vs id v (view_after kind v found) ws (set ws (place kind v.holder) (leaves kind v.holder found)) c at refl same.setup same.made same.seat l.law (remembers kind needs);
+        law = clocked_after v.setup vs id v (view_after kind v found) ws (set ws (place kind v.setup.about v.holder) (leaves kind v.holder found)) c at refl same.setup same.made same.seat l.law (remembers kind needs);
         write_not_lower = l.write_not_lower;
         read_not_lower = l.read_not_lower;
       }
@@ -104,11 +114,11 @@ module _ {P : Type 0} (ws : List ℕ) (vs : List (View P)) (id : ℕ) (v : View 
   list_kept : (word : ℕ) → ws ≡ set ws word (slice_index ws word)
   list_kept word = sym (set-get_or ws word 0)
 
-  own_hand_loads : (word : ℕ) (part : P) → word < 2
+  own_hand_loads : (word : ℕ) (part : P) → IsHand word
       → NoLower v.setup (ws, vs) (set ws word (slice_index ws word), set vs id (with_host (looked v word (slice_index ws word)) part))
-  own_hand_loads word part below =
+  own_hand_loads word part hand =
       record {
-        law = look_clocked ws vs id v v.setup c at refl word part below;
+        law = look_clocked ws vs id v v.setup c at refl word part hand;
         write_not_lower = subst (λ (l : List ℕ). write_hand ws ≤ write_hand l) (list_kept word) (le_refl (write_hand ws));
         read_not_lower = subst (λ (l : List ℕ). read_hand ws ≤ read_hand l) (list_kept word) (le_refl (read_hand ws));
       }

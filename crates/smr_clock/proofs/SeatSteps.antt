@@ -1,11 +1,13 @@
 -- A step of a host's seat, on a word of the host's or on a hand.
-use Rattle.std.proofs.Common.{◌≡◌, ℕ, zero, suc, ◌≤◌, List, refl, sym, subst, arith}
-use Rattle.std.specs.Prelude.{slice_index, slice_set}
+use Rattle.std.proofs.Common.{◌≡◌, ℕ, ◌<◌, List, refl, sym, ap, ◌∙◌, subst, ⊎_elim, arith, Bool, true, false}
+use Rattle.std.specs.Prelude.{◌==◌, slice_index, slice_set}
+use borrow.Author.Tests.{eqb-true, ne_eqb}
 use mathlib.Core.Option.{some}
 use lib.ListN.{get_elem?}
 use Rattle.atomic_table.specs.Table.{State, Me, Allows, keeps}
 use Rattle.smr_core.specs.declared.about.About.{About}
 use Rattle.smr_core.specs.declared.holder.Holder.{Holder}
+use Rattle.smr_core.specs.ClockState.{write_place, read_place, place_after_seats}
 use Rattle.smr_core.specs.ClockLaw.{ClockLaw}
 use Rattle.smr_clock.specs.declared.setup.Setup.{Setup}
 use Rattle.smr_clock.specs.declared.view.View.{View}
@@ -13,33 +15,52 @@ use Rattle.smr_clock.specs.declared.host_act.HostAct.{HostAct}
 use Rattle.smr_clock.specs.declared.host_act.HostAct.TheVariants.{Load}
 use Rattle.smr_clock.specs.Views.{holders_of}
 use Rattle.smr_clock.specs.HostLaws.{Rule, Includes}
-use Rattle.smr_clock.specs.HostSteps.{Change, HostKeeps, HostStepped, SeatKeeps, SeatStepped, FindsHand, looked, with_host, word_after}
+use Rattle.smr_clock.specs.Steps.{IsWriteFound, IsReadFound}
+use Rattle.smr_clock.specs.HostSteps.{Change, HostKeeps, HostStepped, IsHand, SeatKeeps, SeatStepped, FindsAt, FindsHand, looked, looked_at, with_host, word_after}
 use Rattle.smr_clock.proofs.Found.{write_found, read_found}
 use Rattle.smr_clock.proofs.Kept.{holder_there}
 
+by_test : (b : Bool) (Q : Bool → Type 0) → (b ≡ true → Q true) → (b ≡ false → Q false) → Q b
+by_test true Q t f = t refl
+by_test false Q t f = f refl
+
 finds : (a : About) (ws : List ℕ) (hs : List Holder) (id : ℕ) (h : Holder) (word : ℕ) → ClockLaw a ws hs → get_elem? hs id ≡ some h → FindsHand h word (slice_index ws word)
-finds a ws hs id h zero law at = write_found a ws hs id h law at
-finds a ws hs id h (suc zero) law at = read_found a ws hs id h law at
-finds a ws hs id h (suc (suc word)) law at = tt
+finds a ws hs id h word law at =
+    by_test (word == write_place) (λ b. FindsAt b (word == read_place) h (slice_index ws word))
+    (λ e. subst (λ (n : ℕ). IsWriteFound h (slice_index ws n)) (sym (eqb-true word write_place e)) (write_found a ws hs id h law at))
+    (λ e.
+    by_test (word == read_place) (λ b. FindsAt false b h (slice_index ws word))
+    (λ f. subst (λ (n : ℕ). IsReadFound h (slice_index ws n)) (sym (eqb-true word read_place f)) (read_found a ws hs id h law at))
+    (λ f. tt))
+
+-- a hand stands in front of a host's words
+pub hand_below : (a : About) (word : ℕ) → IsHand word → word < place_after_seats a
+hand_below a word hand = ⊎_elim (λ e. omega arith) (λ e. omega arith) hand
+
+-- a word behind the hands is none
+no_write : (word : ℕ) → read_place < word → (word == write_place) ≡ false
+no_write word above = ne_eqb word write_place (λ e. omega arith)
+
+no_read : (word : ℕ) → read_place < word → (word == read_place) ≡ false
+no_read word above = ne_eqb word read_place (λ e. omega arith)
 
 -- a word of the host's teaches nothing of a hand
-pub looked_else : {P : Type 0} (v : View P) (word found : ℕ) → 2 ≤ word → looked v word found ≡ v
-looked_else v zero found above = absurd (omega arith)
-looked_else v (suc zero) found above = absurd (omega arith)
-looked_else v (suc (suc word)) found above = refl
+pub looked_else : {P : Type 0} (v : View P) (word found : ℕ) → read_place < word → looked v word found ≡ v
+looked_else v word found above =
+    ap (λ (b : Bool). looked_at b (word == read_place) v found) (no_write word above) ∙ ap (λ (b : Bool). looked_at false b v found) (no_read word above)
 
-finds_else : (h : Holder) (word found : ℕ) → 2 ≤ word → FindsHand h word found
-finds_else h zero found above = absurd (omega arith)
-finds_else h (suc zero) found above = absurd (omega arith)
-finds_else h (suc (suc word)) found above = tt
+finds_else : (h : Holder) (word found : ℕ) → read_place < word → FindsHand h word found
+finds_else h word found above =
+    subst (λ (b : Bool). FindsAt b (word == read_place) h found) (sym (no_write word above))
+    (subst (λ (b : Bool). FindsAt false b h found) (sym (no_read word above)) tt)
 
 module _ {P : Type 0} (holds : Rule P) where
-  pub host_keeps : (a : Setup) (id : ℕ) (v : View P) (word : ℕ) (act : HostAct) (changes : Change P) → 2 ≤ word → SeatKeeps holds a id v word act changes → HostKeeps holds a id v word act changes
+  pub host_keeps : (a : Setup) (id : ℕ) (v : View P) (word : ℕ) (act : HostAct) (changes : Change P) → read_place < word → SeatKeeps holds a id v word act changes → HostKeeps holds a id v word act changes
   host_keeps a id v word act changes above kept ws vs held at small =
       let t = kept ws vs held at small in
       (t.0, t.1, subst (λ (x : View P). holds a (slice_set ws word (word_after act (slice_index ws word))) (slice_set vs id (with_host x t.0))) (looked_else v word (slice_index ws word) above) t.2)
 
-  pub seat_stepped : (v : View P) (word : ℕ) (act : HostAct) (changes : Change P) (found : ℕ) (v' : View P) → 2 ≤ word → HostStepped v word act changes found v' → SeatStepped v word act changes found v'
+  pub seat_stepped : (v : View P) (word : ℕ) (act : HostAct) (changes : Change P) (found : ℕ) (v' : View P) → read_place < word → HostStepped v word act changes found v' → SeatStepped v word act changes found v'
   seat_stepped v word act changes found v' above s =
       (finds_else v.holder word found above, s.0, s.1, subst (λ (x : View P). v' ≡ with_host x s.0) (sym (looked_else v word found above)) s.2)
 

@@ -8,7 +8,7 @@ use Rattle.smr_core.specs.declared.holder.Holder.{Holder}
 use Rattle.smr_core.specs.declared.phase.Phase.TheVariants as phase
 use Rattle.smr_core.specs.ClockState.{seats_of, spent}
 use Rattle.smr_core.specs.ClockStep as clock
-use Rattle.smr_core.specs.ClockLaw.{ClockLaw, HasNoWorker, Later}
+use Rattle.smr_core.specs.ClockLaw.{ClockLaw, HasNoHolder, Later}
 use Rattle.smr_core.specs.Remembered.{RememberedLaw, nothing_remembered}
 use Rattle.smr_core.specs.Remembered.{View as Plain}
 use Rattle.smr_core.proofs.PlaceLemmas.{at_set, set_again, map_set, at_push, set_else, place_within}
@@ -147,7 +147,7 @@ module _ {P : Type 0} (holds : Rule P) (includes : Includes holds) (copied : P �
       let c = includes a s.words s.views held in
       let k_is : count_made v.made ≡ k = ap count_made made in
       let at0 : get_elem? s.views 0 ≡ some v = ap (λ (n : ℕ). get_elem? s.views n) (sym zeroth) ∙ at in
-      let none : HasNoWorker (seats_in s.views) (count_made v.made) =
+      let none : HasNoHolder (seats_in s.views) (count_made v.made) =
       λ j there. let less = c.makers v k at0 made j (count_made v.made) there in absurd (omega arith) in
       split_kept a s.words s.views id v (one_more_made v) (worker_view copied v) held at own
       (record { holder = refl; memory = refl; setup = refl; new_setup = refl }) refl refl

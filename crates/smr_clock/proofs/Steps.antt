@@ -1,6 +1,7 @@
 -- Each kind of step may be taken, whoever the host is.
-use Rattle.std.proofs.Common.{◌≡◌, ℕ, ◌<◌, ◌≤◌, refl, sym, subst, arith, Bool, true, false, cond, Option, Some, ◌⊎◌, IsSome}
+use Rattle.std.proofs.Common.{◌≡◌, ◌≢◌, ℕ, ◌-◌, ◌^◌, ◌<◌, ◌≤◌, refl, sym, subst, arith, Bool, true, false, cond, Option, Some, ◌⊎◌, IsSome}
 use Rattle.std.specs.Prelude.{◌==◌}
+use Rattle.std.specs.Int.Bits.{bit_and, bit_or}
 use prog.Atomic.{either}
 use Rattle.smr_core.specs.declared.about.About.{About}
 use Rattle.smr_core.specs.ClockLaw.{Keeps}
@@ -8,19 +9,20 @@ use Rattle.atomic_table.specs.Table.{State, Me, Allows}
 use Rattle.smr_core.specs.declared.holder.Holder.{Holder}
 use Rattle.smr_core.specs.declared.phase.Phase.TheVariants as phase
 use Rattle.smr_core.specs.declared.task.Task.TheVariants as task
-use Rattle.smr_core.specs.ClockState.{write_place, read_place, seat_place, IsSeatWord}
+use Rattle.smr_core.specs.ClockState.{write_place, read_place, seat_place, presence_place, IsSeatWord}
 use Rattle.smr_core.specs.ClockStep.{same, stored, exchanged}
 use Rattle.smr_core.specs.ClockStep as clock
 use Rattle.smr_core.proofs.Keeps.Looks.{write_look-keeps, read_look-keeps}
 use Rattle.smr_core.proofs.Keeps.EnterLoad.{enter_load-keeps}
 use Rattle.smr_core.proofs.Keeps.EnterCheck.{enter_check-keeps}
 use Rattle.smr_core.proofs.Keeps.Stores.{enter_store-keeps, clear-keeps}
+use Rattle.smr_core.proofs.Keeps.Presences.{leave-keeps, come-keeps}
 use Rattle.smr_core.proofs.Keeps.AdvanceLoads.{advance_read-keeps, advance_load-keeps}
 use Rattle.smr_core.proofs.Keeps.Swaps.{advance_swap-keeps, poll_swap-keeps}
-use Rattle.smr_core.proofs.Keeps.PollLoads.{poll_read-keeps, poll_load-keeps}
+use Rattle.smr_core.proofs.Keeps.PollLoads.{poll_read-keeps, poll_load-keeps, poll_present-keeps}
 use Rattle.smr_core.proofs.Keeps.PollScan.{poll_scan-keeps}
 use Rattle.smr_core.specs.RememberedMoves.{KeepsMemory}
-use Rattle.smr_core.proofs.Keeps.Memory.{write_look-remembers, read_look-remembers, enter_load-remembers, enter_store-remembers, enter_check-remembers, clear-remembers, advance_read-remembers, advance_load-remembers, advance_swap-remembers, poll_read-remembers, poll_load-remembers, poll_scan-remembers, poll_swap-remembers}
+use Rattle.smr_core.proofs.Keeps.Memory.{write_look-remembers, read_look-remembers, enter_load-remembers, enter_store-remembers, enter_check-remembers, clear-remembers, leave-remembers, come-remembers, advance_read-remembers, advance_load-remembers, advance_swap-remembers, poll_read-remembers, poll_load-remembers, poll_present-remembers, poll_scan-remembers, poll_swap-remembers}
 use Rattle.smr_clock.specs.declared.setup.Setup.{Setup}
 use Rattle.smr_clock.specs.declared.view.View.{View}
 use Rattle.smr_clock.specs.Views.{plain}
@@ -50,45 +52,55 @@ module _ {P : Type 0} (holds : Rule P) (includes : Includes holds) (frame : Fram
   -- a load of the write hand, and one of the read hand
   write_load : (next : ℕ → View P) → ((found : ℕ) → SameAside me.0 (next found)) → Keeps me.0.setup.about id me.0.holder write_place same (λ found. (next found).holder)
       → KeepsMemory me.0.setup.about id (plain me.0) write_place (λ found. plain (next found))
-      → Mine 0 (λ n. n) (λ found after. IsWriteFound me.0.holder found × (after ≡ (next found, me.1)))
+      → Mine write_place (λ n. n) (λ found after. IsWriteFound me.0.holder found × (after ≡ (next found, me.1)))
   write_load next aside lawful remembers =
       allowed holds includes frame a slots id me write_place same next (λ found after. IsWriteFound me.0.holder found × (after ≡ (next found, me.1))) own (omega arith) aside lawful remembers
       (λ ws hs law at. (write_found me.0.setup.about ws hs id me.0.holder law at, refl))
 
   read_load : (next : ℕ → View P) → ((found : ℕ) → SameAside me.0 (next found)) → Keeps me.0.setup.about id me.0.holder read_place same (λ found. (next found).holder)
       → KeepsMemory me.0.setup.about id (plain me.0) read_place (λ found. plain (next found))
-      → Mine 1 (λ n. n) (λ found after. IsReadFound me.0.holder found × (after ≡ (next found, me.1)))
+      → Mine read_place (λ n. n) (λ found after. IsReadFound me.0.holder found × (after ≡ (next found, me.1)))
   read_load next aside lawful remembers =
       allowed holds includes frame a slots id me read_place same next (λ found after. IsReadFound me.0.holder found × (after ≡ (next found, me.1))) own (omega arith) aside lawful remembers
       (λ ws hs law at. (read_found me.0.setup.about ws hs id me.0.holder law at, refl))
 
-  pub write_looks : Mine 0 (λ n. n) (λ found after. IsWriteFound me.0.holder found × (me.0.holder.floor ≤ found) × (after ≡ (step.write_looking me.0 found, me.1)))
+  pub write_looks : Mine write_place (λ n. n) (λ found after. IsWriteFound me.0.holder found × (me.0.holder.floor ≤ found) × (after ≡ (step.write_looking me.0 found, me.1)))
   write_looks =
       allowed holds includes frame a slots id me write_place same (step.write_looking me.0) (λ found after. IsWriteFound me.0.holder found × (me.0.holder.floor ≤ found) × (after ≡ (step.write_looking me.0 found, me.1))) own (omega arith)
       (λ found. aside _ _ refl refl refl refl) (write_look-keeps me.0.setup.about id me.0.holder) (write_look-remembers me.0.setup.about id (plain me.0))
       (λ ws hs law at. (write_found me.0.setup.about ws hs id me.0.holder law at, above_read me.0.setup.about ws hs id me.0.holder law at, refl))
 
-  pub read_looks : Mine 1 (λ n. n) (λ found after. IsReadFound me.0.holder found × (after ≡ (step.read_looking me.0 found, me.1)))
+  pub read_looks : Mine read_place (λ n. n) (λ found after. IsReadFound me.0.holder found × (after ≡ (step.read_looking me.0 found, me.1)))
   read_looks = read_load (step.read_looking me.0) (λ found. aside _ _ refl refl refl refl) (read_look-keeps me.0.setup.about id me.0.holder) (read_look-remembers me.0.setup.about id (plain me.0))
 
-  pub enter_loads : me.0.holder.phase ≡ phase.Outside → Mine 0 (λ n. n) (λ found after. IsWriteFound me.0.holder found × (after ≡ (step.enter_loading me.0 found, me.1)))
+  pub enter_loads : me.0.holder.phase ≡ phase.Outside → Mine write_place (λ n. n) (λ found after. IsWriteFound me.0.holder found × (after ≡ (step.enter_loading me.0 found, me.1)))
   enter_loads outside = write_load (step.enter_loading me.0) (λ found. aside _ _ refl refl refl refl) (enter_load-keeps me.0.setup.about id me.0.holder outside) (enter_load-remembers me.0.setup.about id (plain me.0))
 
-  pub enter_checks : me.0.holder.phase ≡ phase.Stored → Mine 0 (λ n. n) (λ found after. IsWriteFound me.0.holder found × (after ≡ (step.enter_checking me.0 found, me.1)))
+  pub enter_checks : me.0.holder.phase ≡ phase.Stored → Mine write_place (λ n. n) (λ found after. IsWriteFound me.0.holder found × (after ≡ (step.enter_checking me.0 found, me.1)))
   enter_checks stored = write_load (step.enter_checking me.0) (λ found. aside _ _ refl refl refl refl) (enter_check-keeps me.0.setup.about id me.0.holder stored) (enter_check-remembers me.0.setup.about id (plain me.0) stored)
 
-  pub advance_reads : IsSome me.0.holder.seat → Mine 1 (λ n. n) (λ found after. IsReadFound me.0.holder found × (after ≡ (step.advance_reading me.0 found, me.1)))
-  advance_reads worker = read_load (step.advance_reading me.0) (λ found. aside _ _ refl refl refl refl) (advance_read-keeps me.0.setup.about id me.0.holder worker) (advance_read-remembers me.0.setup.about id (plain me.0))
+  pub advance_reads : IsSome me.0.holder.seat → me.0.holder.phase ≢ phase.Vacant → Mine read_place (λ n. n) (λ found after. IsReadFound me.0.holder found × (after ≡ (step.advance_reading me.0 found, me.1)))
+  advance_reads seated worker = read_load (step.advance_reading me.0) (λ found. aside _ _ refl refl refl refl) (advance_read-keeps me.0.setup.about id me.0.holder seated worker) (advance_read-remembers me.0.setup.about id (plain me.0))
 
-  pub advance_loads : me.0.holder.task ≡ task.AdvRead → Mine 0 (λ n. n) (λ found after. IsWriteFound me.0.holder found × (after ≡ (step.advance_loading me.0 found, me.1)))
+  pub advance_loads : me.0.holder.task ≡ task.AdvRead → Mine write_place (λ n. n) (λ found after. IsWriteFound me.0.holder found × (after ≡ (step.advance_loading me.0 found, me.1)))
   advance_loads reads =
       write_load (step.advance_loading me.0) (λ found. aside _ _ refl refl refl (advance_seat me.0.setup.about me.0.holder found)) (advance_load-keeps me.0.setup.about id me.0.holder reads) (advance_load-remembers me.0.setup.about id (plain me.0))
 
-  pub poll_reads : Mine 1 (λ n. n) (λ found after. IsReadFound me.0.holder found × (after ≡ (step.poll_reading me.0 found, me.1)))
-  poll_reads = read_load (step.poll_reading me.0) (λ found. aside _ _ refl refl refl refl) (poll_read-keeps me.0.setup.about id me.0.holder) (poll_read-remembers me.0.setup.about id (plain me.0))
+  pub poll_reads : me.0.holder.phase ≢ phase.Vacant → Mine read_place (λ n. n) (λ found after. IsReadFound me.0.holder found × (after ≡ (step.poll_reading me.0 found, me.1)))
+  poll_reads worker = read_load (step.poll_reading me.0) (λ found. aside _ _ refl refl refl refl) (poll_read-keeps me.0.setup.about id me.0.holder worker) (poll_read-remembers me.0.setup.about id (plain me.0))
 
-  pub poll_loads : me.0.holder.task ≡ task.PollRead → Mine 0 (λ n. n) (λ found after. IsWriteFound me.0.holder found × (after ≡ (step.poll_loading me.0 found, me.1)))
+  pub poll_loads : me.0.holder.task ≡ task.PollRead → Mine write_place (λ n. n) (λ found after. IsWriteFound me.0.holder found × (after ≡ (step.poll_loading me.0 found, me.1)))
   poll_loads reads = write_load (step.poll_loading me.0) (λ found. aside _ _ refl refl refl refl) (poll_load-keeps me.0.setup.about id me.0.holder reads) (poll_load-remembers me.0.setup.about id (plain me.0))
+
+  -- a load of the presence word
+  pub poll_presents : (i : ℕ) → i ≡ presence_place me.0.setup.about → me.0.holder.task ≡ task.PollLoaded
+      → Mine i (λ n. n) (λ found after. (found < 2 ^ me.0.setup.about.seats) × (after ≡ (step.poll_presenting me.0 found, me.1)))
+  poll_presents i place loaded =
+      subst (λ (j : ℕ). Mine j same (λ found after. (found < 2 ^ me.0.setup.about.seats) × (after ≡ (step.poll_presenting me.0 found, me.1)))) (sym place)
+      (allowed holds includes frame a slots id me (presence_place me.0.setup.about) same (step.poll_presenting me.0) (λ found after. (found < 2 ^ me.0.setup.about.seats) × (after ≡ (step.poll_presenting me.0 found, me.1)))
+      own (omega arith)
+      (λ found. aside _ _ refl refl refl refl) (poll_present-keeps me.0.setup.about id me.0.holder loaded) (poll_present-remembers me.0.setup.about id (plain me.0))
+      (λ ws hs law at. (law.presence, refl)))
 
   -- a load of the next seat's word
   pub poll_scans : (i : ℕ) → i ≡ seat_place me.0.holder.scanned → me.0.holder.task ≡ task.Scanning → me.0.holder.scanned < me.0.setup.about.seats
@@ -120,12 +132,36 @@ module _ {P : Type 0} (holds : Rule P) (includes : Includes holds) (frame : Fram
   clears i s place known seat in_or_late =
       own_store i s 0 0 (step.clearing me.0) place refl known (aside _ _ refl refl refl refl) (clear-keeps me.0.setup.about id me.0.holder s seat in_or_late) (clear-remembers me.0.setup.about id s (plain me.0))
 
+  -- the worker takes its bit out of the presence word, and the vacancy puts it in
+  own_bit : (i : ℕ) (f : ℕ → ℕ) (next : View P) → i ≡ presence_place me.0.setup.about → SameAside me.0 next
+      → Keeps me.0.setup.about id me.0.holder (presence_place me.0.setup.about) f (λ found. next.holder)
+      → KeepsMemory me.0.setup.about id (plain me.0) (presence_place me.0.setup.about) (λ found. plain next)
+      → Mine i f (λ found after. after ≡ (next, me.1))
+  own_bit i f next place aside lawful remembers =
+      subst (λ (j : ℕ). Mine j f (λ found after. after ≡ (next, me.1))) (sym place)
+      (allowed holds includes frame a slots id me (presence_place me.0.setup.about) f (λ found. next) (λ found after. after ≡ (next, me.1)) own (omega arith) (λ found. aside) lawful remembers
+      (λ ws hs law at. refl))
+
+  pub leaves : (i s others : ℕ) → i ≡ presence_place me.0.setup.about → others ≡ 2 ^ 64 - 1 - 2 ^ s → me.0.holder.seat ≡ Some s → me.0.holder.phase ≡ phase.Outside → me.0.holder.task ≡ task.Idle
+      → Mine i (λ n. bit_and n others) (λ found after. after ≡ (step.leaving me.0, me.1))
+  leaves i s others place is seat outside idle =
+      subst (λ (k : ℕ). Mine i (λ n. bit_and n k) (λ found after. after ≡ (step.leaving me.0, me.1))) (sym is)
+      (own_bit i (clock.without s) (step.leaving me.0) place (aside _ _ refl refl refl refl)
+      (leave-keeps me.0.setup.about id me.0.holder s seat outside idle) (leave-remembers me.0.setup.about id (plain me.0)))
+
+  pub comes : (i s bit : ℕ) → i ≡ presence_place me.0.setup.about → bit ≡ 2 ^ s → me.0.holder.seat ≡ Some s → me.0.holder.phase ≡ phase.Vacant
+      → Mine i (λ n. bit_or n bit) (λ found after. after ≡ (step.coming me.0, me.1))
+  comes i s bit place is seat vacant =
+      subst (λ (k : ℕ). Mine i (λ n. bit_or n k) (λ found after. after ≡ (step.coming me.0, me.1))) (sym is)
+      (own_bit i (clock.with_seat s) (step.coming me.0) place (aside _ _ refl refl refl refl)
+      (come-keeps me.0.setup.about id me.0.holder s seat vacant) (come-remembers me.0.setup.about id (plain me.0)))
+
   -- the exchange of the write hand
   pub advance_swaps : (old new : ℕ) → old ≡ me.0.holder.write → new ≡ clock.goal_of me.0.holder → me.0.holder.task ≡ task.AdvLoaded
-      → Mine 0 (λ n. either (n == old) new n) (λ found after. IsWriteFound me.0.holder found × (after ≡ (step.advance_swapping me.0 found, me.1)))
+      → Mine write_place (λ n. either (n == old) new n) (λ found after. IsWriteFound me.0.holder found × (after ≡ (step.advance_swapping me.0 found, me.1)))
   advance_swaps old new was is loaded =
-      subst (λ (o : ℕ). Mine 0 (λ n. either (n == o) new n) (λ found after. IsWriteFound me.0.holder found × (after ≡ (step.advance_swapping me.0 found, me.1)))) (sym was)
-      (subst (λ (m : ℕ). Mine 0 (λ n. either (n == me.0.holder.write) m n) (λ found after. IsWriteFound me.0.holder found × (after ≡ (step.advance_swapping me.0 found, me.1)))) (sym is)
+      subst (λ (o : ℕ). Mine write_place (λ n. either (n == o) new n) (λ found after. IsWriteFound me.0.holder found × (after ≡ (step.advance_swapping me.0 found, me.1)))) (sym was)
+      (subst (λ (m : ℕ). Mine write_place (λ n. either (n == me.0.holder.write) m n) (λ found after. IsWriteFound me.0.holder found × (after ≡ (step.advance_swapping me.0 found, me.1)))) (sym is)
       (allowed holds includes frame a slots id me write_place (exchanged me.0.holder.write (clock.goal_of me.0.holder)) (step.advance_swapping me.0)
       (λ found after. IsWriteFound me.0.holder found × (after ≡ (step.advance_swapping me.0 found, me.1))) own (omega arith)
       (λ found. aside _ _ refl refl refl refl) (advance_swap-keeps me.0.setup.about id me.0.holder loaded) (advance_swap-remembers me.0.setup.about id (plain me.0))
@@ -133,10 +169,10 @@ module _ {P : Type 0} (holds : Rule P) (includes : Includes holds) (frame : Fram
 
   -- the exchange of the read hand
   pub poll_swaps : (old new : ℕ) → old ≡ me.0.holder.read → new ≡ me.0.holder.least → me.0.holder.task ≡ task.Scanning → me.0.holder.scanned ≡ me.0.setup.about.seats
-      → Mine 1 (λ n. either (n == old) new n) (λ found after. IsReadFound me.0.holder found × (after ≡ (step.poll_swapping me.0 found, me.1)))
+      → Mine read_place (λ n. either (n == old) new n) (λ found after. IsReadFound me.0.holder found × (after ≡ (step.poll_swapping me.0 found, me.1)))
   poll_swaps old new was is scanning all =
-      subst (λ (o : ℕ). Mine 1 (λ n. either (n == o) new n) (λ found after. IsReadFound me.0.holder found × (after ≡ (step.poll_swapping me.0 found, me.1)))) (sym was)
-      (subst (λ (m : ℕ). Mine 1 (λ n. either (n == me.0.holder.read) m n) (λ found after. IsReadFound me.0.holder found × (after ≡ (step.poll_swapping me.0 found, me.1)))) (sym is)
+      subst (λ (o : ℕ). Mine read_place (λ n. either (n == o) new n) (λ found after. IsReadFound me.0.holder found × (after ≡ (step.poll_swapping me.0 found, me.1)))) (sym was)
+      (subst (λ (m : ℕ). Mine read_place (λ n. either (n == me.0.holder.read) m n) (λ found after. IsReadFound me.0.holder found × (after ≡ (step.poll_swapping me.0 found, me.1)))) (sym is)
       (allowed holds includes frame a slots id me read_place (exchanged me.0.holder.read me.0.holder.least) (step.poll_swapping me.0)
       (λ found after. IsReadFound me.0.holder found × (after ≡ (step.poll_swapping me.0 found, me.1))) own (omega arith)
       (λ found. aside _ _ refl refl refl refl) (poll_swap-keeps me.0.setup.about id me.0.holder scanning all) (poll_swap-remembers me.0.setup.about id (plain me.0) scanning all)

@@ -1,5 +1,6 @@
 -- What an advance comes to.
 use Rattle.std.specs.Prelude.{◌≡◌, ℕ, ◌+◌, ◌-◌, ◌^◌, ◌<◌, ◌≤◌, ◌==◌, if◌then◌else◌}
+use Rattle.smr_core.specs.declared.holder.Holder.{Holder}
 use Rattle.smr_clock.specs.declared.view.View.{View}
 use Rattle.smr_clock.specs.declared.refused.AdvanceRefused.{AdvanceRefused}
 use Rattle.smr_clock.specs.declared.refused.AdvanceRefused.TheVariants.{TooFar, Spent}
@@ -12,6 +13,12 @@ HasRoom v read write = (write + 2 < 2 ^ 63) × (write + 2 - read ≤ v.setup.abo
 -- The view of a pass in an advance that loaded both hands, the read hand first.
 abbrev pub both_loaded : {P : Type 0} → View P → ℕ → ℕ → View P
 both_loaded v read write = advance_loading (advance_reading v read) write
+
+-- the holder has its seat, its phase and the write hand of its last enter still
+pub record SameWorker (h h' : Holder) : Type 0 where
+  pub seat : h'.seat ≡ h.seat
+  pub phase : h'.phase ≡ h.phase
+  pub loaded : h'.loaded ≡ h.loaded
 
 -- both hands were loaded for this advance
 pub record Loads {P : Type 0} (v : View P) (read write : ℕ) : Type 0 where

@@ -2,6 +2,7 @@
 use Rattle.std.specs.Prelude.{◌≡◌}
 use Rattle.std.specs.Arc.{arc_value}
 pub use Rattle.atomic_table.specs.Seated.{TableId}
+use Rattle.atomic_table.specs.declared.shared.Seat.{Seat}
 use Rattle.smr_core.specs.declared.holder.Holder.{Holder}
 use Rattle.smr_clock.specs.declared.setup.Setup.{Setup}
 use Rattle.smr_clock.specs.declared.view.View.{View}
@@ -20,6 +21,14 @@ module _ {H P : Type 0} where
   -- which clock it is, and what it was made with
   abbrev pub clock_id : Clock H P → TableId × Setup
   clock_id clock = (table_of clock, setup_of clock)
+
+-- what a seat of a clock's table knows
+abbrev pub knows : {P : Type 0} → Seat (Unit {0}) (View P) → View P
+knows seat = seat.me.0
+
+-- which clock the seat is of, and the numbers that it has
+abbrev pub seat_clock : {P : Type 0} → Seat (Unit {0}) (View P) → TableId × Setup
+seat_clock seat = (seat.table_id, seat.me.0.setup)
 
 module _ {H P : Type 0} {g : Ghosts H P} where
   -- what the pass knows

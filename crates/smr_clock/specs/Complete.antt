@@ -1,6 +1,7 @@
 -- When an advance may not be refused, and when a poll may not say no. Each follows from what a refusal, or a no, tells.
-use Rattle.std.specs.Prelude.{◌≡◌, ℕ, ◌+◌, ◌-◌, ◌^◌, ◌<◌, ◌≤◌, ◌⊎◌, List, length, slice_index}
+use Rattle.std.specs.Prelude.{◌≡◌, ℕ, ◌+◌, ◌-◌, ◌^◌, ◌<◌, ◌≤◌, ◌⊎◌, List, All}
 use Rattle.smr_seq.specs.Reading.{low}
+use Rattle.smr_core.specs.declared.found_word.FoundWord.{FoundWord}
 use Rattle.smr_clock.specs.declared.view.View.{View}
 use Rattle.smr_clock.specs.declared.refused.AdvanceRefused.{AdvanceRefused}
 use Rattle.smr_clock.specs.declared.refused.AdvanceRefused.TheVariants.{TooFar, Spent}
@@ -24,8 +25,8 @@ SaysYesOfKnown P =
     (v v' : View P) (goal : ℕ) → goal ≤ v.holder.seen → SaysNo v (low goal) v' → v'.memory.last.write - goal < 2 ^ 31 → goal ≤ v.holder.floor → ⊥
 
 -- no word is that of an enter
-abbrev pub NoneEntered : List ℕ → Type 0
-NoneEntered words = (s : ℕ) → s < length words → slice_index words s ≡ 0
+abbrev pub NoneEntered : List FoundWord → Type 0
+NoneEntered found = All (λ f. f.word ≡ 0) found
 
 -- No poll says no that found no word of an enter, and whose exchange moved the read hand to its least mark, or found it at the write hand that the poll had loaded.
 abbrev pub SaysYesOfNoSection : Type 0 → Type 0

@@ -1,10 +1,10 @@
 -- A step of a host's own: what it does to the word that it acts on, what it makes of the view of the seat that takes it, and when a host's rule allows it.
-use Rattle.std.specs.Prelude.{◌≡◌, ℕ, zero, suc, ◌+◌, ◌-◌, ◌%◌, ◌^◌, ◌<◌, ◌≤◌, ◌==◌, ◌⊎◌, List, [], ◌∷◌, ◌++◌, slice_index, slice_set}
+use Rattle.std.specs.Prelude.{◌≡◌, ℕ, ◌+◌, ◌-◌, ◌%◌, ◌^◌, ◌<◌, ◌≤◌, ◌==◌, ◌⊎◌, Bool, true, false, List, [], ◌∷◌, ◌++◌, slice_index, slice_set}
 use mathlib.Core.Option.{some}
 use lib.ListN.{get_elem?}
 use prog.Atomic.{either}
 use Rattle.smr_core.specs.declared.holder.Holder.{Holder}
-use Rattle.smr_core.specs.ClockState.{place_after_seats}
+use Rattle.smr_core.specs.ClockState.{write_place, read_place, place_after_seats}
 use Rattle.smr_clock.specs.declared.setup.Setup.{Setup}
 use Rattle.smr_clock.specs.declared.view.View.{View}
 use Rattle.smr_clock.specs.declared.host_act.HostAct.{HostAct}
@@ -63,21 +63,32 @@ pub record HostSplits {P : Type 0} (left right : P → P) (v v' other : View P) 
 
 -- ---- a step of a host's seat, which may also load a hand
 
--- A load of a hand teaches the seat what every load of that hand does: the write hand is the word 0, the read hand the word 1.
+-- the place of the write hand or of the read hand
+abbrev pub IsHand : ℕ → Type 0
+IsHand word = (word ≡ write_place) ⊎ (word ≡ read_place)
+
+-- by whether the word is the write hand, and whether it is the read hand
+abbrev pub looked_at : {P : Type 0} → Bool → Bool → View P → ℕ → View P
+looked_at true _ v found = write_looking v found
+looked_at false true v found = read_looking v found
+looked_at false false v found = v
+
+-- A load of a hand teaches the seat what every load of that hand does.
 abbrev pub looked : {P : Type 0} → View P → ℕ → ℕ → View P
-looked v zero found = write_looking v found
-looked v (suc zero) found = read_looking v found
-looked v (suc (suc word)) found = v
+looked v word found = looked_at (word == write_place) (word == read_place) v found
+
+abbrev pub FindsAt : Bool → Bool → Holder → ℕ → Type 0
+FindsAt true _ h found = IsWriteFound h found
+FindsAt false true h found = IsReadFound h found
+FindsAt false false h found = Unit {0}
 
 -- what is so of a hand that was found
 abbrev pub FindsHand : Holder → ℕ → ℕ → Type 0
-FindsHand h zero found = IsWriteFound h found
-FindsHand h (suc zero) found = IsReadFound h found
-FindsHand h (suc (suc word)) found = Unit {0}
+FindsHand h word found = FindsAt (word == write_place) (word == read_place) h found
 
 -- the step acts on a word of the host's, or loads a hand
 abbrev pub MaySeatStep : Setup → ℕ → ℕ → HostAct → Type 0
-MaySeatStep a words word act = ((place_after_seats a.about ≤ word) × (word < words)) ⊎ ((word < 2) × (act ≡ Load))
+MaySeatStep a words word act = ((place_after_seats a.about ≤ word) × (word < words)) ⊎ (IsHand word × (act ≡ Load))
 
 -- From every state in which the rule holds and the seat id has this view, the host part may change so, and the rule holds after the step.
 abbrev pub SeatKeeps : {P : Type 0} → Rule P → Setup → ℕ → View P → ℕ → HostAct → Change P → Type 0

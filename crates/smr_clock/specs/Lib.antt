@@ -7,6 +7,7 @@ pub mod Goals
 pub mod Sections
 pub mod Advances
 pub mod Notes
+pub mod Vacancies
 pub mod Making
 pub mod Polls
 pub mod Moments

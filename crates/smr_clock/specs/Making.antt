@@ -1,9 +1,9 @@
 -- How a clock begins.
-use Rattle.std.specs.Prelude.{◌≡◌, ℕ, ◌<◌, List, [], ◌∷◌, ◌++◌, replicate, length, Some}
+use Rattle.std.specs.Prelude.{◌≡◌, ℕ, ◌<◌, List, [], ◌∷◌, ◌++◌, length, Some}
 use mathlib.Core.Option.{some}
 use lib.ListN.{get_elem?}
 use Rattle.atomic_table.specs.Seated.{TableId}
-use Rattle.smr_core.specs.ClockState.{IsInRange}
+use Rattle.smr_core.specs.ClockState.{IsInRange, opening_words}
 use Rattle.smr_clock.specs.declared.setup.Setup.{Setup}
 use Rattle.smr_clock.specs.declared.view.View.{View}
 use Rattle.smr_clock.specs.declared.host.Host.{Ghosts}
@@ -17,9 +17,9 @@ use Rattle.smr_clock.specs.HostLaws.{Rule}
 abbrev pub setup : ℕ → ℕ → ℕ → ℕ × ℕ → Setup
 setup seats start window plan = record { about = record { start = start; window = window; seats = seats }; plan = plan }
 
--- both hands at the start, every seat's word 0, and the host's words
+-- both hands at the start, every seat's word 0, all seats present, and the host's words
 abbrev pub first_words : Setup → List ℕ → List ℕ
-first_words a more = a.about.start ∷ a.about.start ∷ (replicate a.about.seats 0 ++ more)
+first_words a more = opening_words a.about ++ more
 
 -- the host's rule holds where the clock begins, with one view
 abbrev pub Opens : {P : Type 0} → Rule P → Setup → P → List ℕ → Type 0

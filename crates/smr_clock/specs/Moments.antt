@@ -1,18 +1,19 @@
 -- The moments of a clock's table, and the steps that lead from one to the next. A call of a clock takes steps of these kinds alone, one after another: each load, store, exchange, split and join that it makes is one.
-use Rattle.std.specs.Prelude.{◌≡◌, ℕ, ◌<◌, ◌≤◌, ◌⊎◌, List, [], ◌∷◌, ◌++◌, slice_index, slice_set, Some, IsSome}
+use Rattle.std.specs.Prelude.{◌≡◌, ◌≢◌, ℕ, ◌<◌, ◌≤◌, ◌⊎◌, List, [], ◌∷◌, ◌++◌, slice_index, slice_set, Some, IsSome}
 use mathlib.Core.Option.{some}
 use lib.ListN.{get_elem?}
+use Rattle.smr_core.specs.declared.about.About.{About}
 use Rattle.smr_core.specs.declared.holder.Holder.{Holder}
 use Rattle.smr_core.specs.declared.phase.Phase.TheVariants as phase
 use Rattle.smr_core.specs.declared.task.Task.TheVariants as task
-use Rattle.smr_core.specs.ClockState.{write_place, read_place, seat_place, place_after_seats, write_hand, read_hand}
-use Rattle.smr_core.specs.ClockStep.{same, stored, exchanged, entry_word, goal_of}
+use Rattle.smr_core.specs.ClockState.{write_place, read_place, seat_place, presence_place, place_after_seats, write_hand, read_hand}
+use Rattle.smr_core.specs.ClockStep.{same, stored, exchanged, without, with_seat, entry_word, goal_of}
 use Rattle.smr_clock.specs.declared.setup.Setup.{Setup}
 use Rattle.smr_clock.specs.declared.view.View.{View}
 use Rattle.smr_clock.specs.Views.{spent_view}
 use Rattle.smr_clock.specs.Clocked.{Clocked}
 use Rattle.smr_clock.specs.Steps as step
-use Rattle.smr_clock.specs.HostSteps.{with_host, looked}
+use Rattle.smr_clock.specs.HostSteps.{IsHand, with_host, looked}
 
 -- the words and the views of a clock's table at a moment
 abbrev pub Moment : Type 0 → Type 0
@@ -20,7 +21,7 @@ Moment P = List ℕ × List (View P)
 
 -- ---- the clock's own steps on a word
 
--- which step it is; a store names its seat
+-- which step it is; a store names its seat, and so do leave and come
 pub data Kind : Type 0 where
   WriteLook : Kind
   ReadLook : Kind
@@ -28,11 +29,14 @@ pub data Kind : Type 0 where
   EnterStore : ℕ → Kind
   EnterCheck : Kind
   Clear : ℕ → Kind
+  Leave : ℕ → Kind
+  Come : ℕ → Kind
   AdvanceRead : Kind
   AdvanceLoad : Kind
   AdvanceSwap : Kind
   PollRead : Kind
   PollLoad : Kind
+  PollPresent : Kind
   PollScan : Kind
   PollSwap : Kind
 
@@ -44,29 +48,35 @@ Needs EnterLoad v = v.holder.phase ≡ phase.Outside
 Needs (EnterStore s) v = (v.holder.seat ≡ Some s) × (v.holder.phase ≡ phase.Loaded)
 Needs EnterCheck v = v.holder.phase ≡ phase.Stored
 Needs (Clear s) v = (v.holder.seat ≡ Some s) × ((v.holder.phase ≡ phase.Inside) ⊎ (v.holder.phase ≡ phase.Late))
-Needs AdvanceRead v = IsSome v.holder.seat
+Needs (Leave s) v = (v.holder.seat ≡ Some s) × (v.holder.phase ≡ phase.Outside) × (v.holder.task ≡ task.Idle)
+Needs (Come s) v = (v.holder.seat ≡ Some s) × (v.holder.phase ≡ phase.Vacant)
+Needs AdvanceRead v = IsSome v.holder.seat × (v.holder.phase ≢ phase.Vacant)
 Needs AdvanceLoad v = v.holder.task ≡ task.AdvRead
 Needs AdvanceSwap v = v.holder.task ≡ task.AdvLoaded
-Needs PollRead v = Unit {0}
+Needs PollRead v = v.holder.phase ≢ phase.Vacant
 Needs PollLoad v = v.holder.task ≡ task.PollRead
+Needs PollPresent v = v.holder.task ≡ task.PollLoaded
 Needs PollScan v = (v.holder.task ≡ task.Scanning) × (v.holder.scanned < v.setup.about.seats)
 Needs PollSwap v = (v.holder.task ≡ task.Scanning) × (v.holder.scanned ≡ v.setup.about.seats)
 
 -- the place of the word that it acts on
-abbrev pub place : Kind → Holder → ℕ
-place WriteLook h = write_place
-place ReadLook h = read_place
-place EnterLoad h = write_place
-place (EnterStore s) h = seat_place s
-place EnterCheck h = write_place
-place (Clear s) h = seat_place s
-place AdvanceRead h = read_place
-place AdvanceLoad h = write_place
-place AdvanceSwap h = write_place
-place PollRead h = read_place
-place PollLoad h = write_place
-place PollScan h = seat_place h.scanned
-place PollSwap h = read_place
+abbrev pub place : Kind → About → Holder → ℕ
+place WriteLook a h = write_place
+place ReadLook a h = read_place
+place EnterLoad a h = write_place
+place (EnterStore s) a h = seat_place s
+place EnterCheck a h = write_place
+place (Clear s) a h = seat_place s
+place (Leave s) a h = presence_place a
+place (Come s) a h = presence_place a
+place AdvanceRead a h = read_place
+place AdvanceLoad a h = write_place
+place AdvanceSwap a h = write_place
+place PollRead a h = read_place
+place PollLoad a h = write_place
+place PollPresent a h = presence_place a
+place PollScan a h = seat_place h.scanned
+place PollSwap a h = read_place
 
 -- what it leaves in that word, of what it finds there
 abbrev pub leaves : Kind → Holder → ℕ → ℕ
@@ -76,11 +86,14 @@ leaves EnterLoad h = same
 leaves (EnterStore s) h = stored (entry_word h)
 leaves EnterCheck h = same
 leaves (Clear s) h = stored 0
+leaves (Leave s) h = without s
+leaves (Come s) h = with_seat s
 leaves AdvanceRead h = same
 leaves AdvanceLoad h = same
 leaves AdvanceSwap h = exchanged h.write (goal_of h)
 leaves PollRead h = same
 leaves PollLoad h = same
+leaves PollPresent h = same
 leaves PollScan h = same
 leaves PollSwap h = exchanged h.read h.least
 
@@ -92,11 +105,14 @@ view_after EnterLoad v found = step.enter_loading v found
 view_after (EnterStore s) v found = step.enter_storing v
 view_after EnterCheck v found = step.enter_checking v found
 view_after (Clear s) v found = step.clearing v
+view_after (Leave s) v found = step.leaving v
+view_after (Come s) v found = step.coming v
 view_after AdvanceRead v found = step.advance_reading v found
 view_after AdvanceLoad v found = step.advance_loading v found
 view_after AdvanceSwap v found = step.advance_swapping v found
 view_after PollRead v found = step.poll_reading v found
 view_after PollLoad v found = step.poll_loading v found
+view_after PollPresent v found = step.poll_presenting v found
 view_after PollScan v found = step.poll_scanning v found
 view_after PollSwap v found = step.poll_swapping v found
 
@@ -109,8 +125,9 @@ pub record Acts {P : Type 0} (a : Setup) (now next : Moment P) : Type 0 where
   pub own : v.setup ≡ a
   pub needs : Needs kind v
   pub after :
-      let found = slice_index now.0 (place kind v.holder) in
-      next ≡ (slice_set now.0 (place kind v.holder) (leaves kind v.holder found), slice_set now.1 id (view_after kind v found))
+      let word = place kind v.setup.about v.holder in
+      let found = slice_index now.0 word in
+      next ≡ (slice_set now.0 word (leaves kind v.holder found), slice_set now.1 id (view_after kind v found))
 
 -- ---- a host's steps on a word
 
@@ -134,7 +151,7 @@ pub record HandLoads {P : Type 0} (a : Setup) (now next : Moment P) : Type 0 whe
   pub part : P
   pub there : get_elem? now.1 id ≡ some v
   pub own : v.setup ≡ a
-  pub of_hand : word < 2
+  pub of_hand : IsHand word
   pub after : next ≡ (slice_set now.0 word (slice_index now.0 word), slice_set now.1 id (with_host (looked v word (slice_index now.0 word)) part))
 
 -- ---- splits and joins, whatever becomes of host parts

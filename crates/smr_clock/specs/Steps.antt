@@ -51,6 +51,12 @@ enter_checking v found = moving v (clock.enter_checked v.setup.about v.holder fo
 abbrev pub clearing : {P : Type 0} → View P → View P
 clearing v = moving v (clock.cleared v.holder)
 
+abbrev pub leaving : {P : Type 0} → View P → View P
+leaving v = moving v (clock.left v.holder)
+
+abbrev pub coming : {P : Type 0} → View P → View P
+coming v = moving v (clock.came v.holder)
+
 abbrev pub advance_reading : {P : Type 0} → View P → ℕ → View P
 advance_reading v found = moving v (clock.advance_read v.holder found)
 
@@ -63,12 +69,16 @@ advance_swapping v found = moving v (clock.advance_swapped v.holder found)
 abbrev pub poll_reading : {P : Type 0} → View P → ℕ → View P
 poll_reading v found = moving v (clock.poll_read v.holder found)
 
--- no word of this poll is found yet
 abbrev pub poll_loading : {P : Type 0} → View P → ℕ → View P
-poll_loading v found = record v { holder = clock.poll_loaded v.setup.about v.holder found; memory = memory_of (none_found (remembered v.memory)) }
+poll_loading v found = moving v (clock.poll_loaded v.setup.about v.holder found)
+
+-- no word of this poll is found yet
+abbrev pub poll_presenting : {P : Type 0} → View P → ℕ → View P
+poll_presenting v found = record v { holder = clock.poll_present v.setup.about v.holder found; memory = memory_of (none_found (remembered v.memory)) }
 
 abbrev pub poll_scanning : {P : Type 0} → View P → ℕ → View P
-poll_scanning v word = record v { holder = clock.poll_scanned v.holder word; memory = memory_of (found_too (remembered v.memory) word) }
+poll_scanning v word =
+    record v { holder = clock.poll_scanned v.setup.about v.holder word; memory = memory_of (found_too (remembered v.memory) v.holder word) }
 
 -- the poll is remembered
 abbrev pub poll_swapping : {P : Type 0} → View P → ℕ → View P

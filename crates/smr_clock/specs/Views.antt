@@ -14,7 +14,7 @@ remembered m =
     record {
       stored = m.stored;
       found = m.found;
-      last = record { read = m.last.read; write = m.last.write; found = m.last.found; least = m.last.least; value = m.last.value };
+      last = record { read = m.last.read; write = m.last.write; present = m.last.present; found = m.last.found; least = m.last.least; value = m.last.value };
       polls = m.polls;
     }
 
@@ -23,7 +23,7 @@ memory_of r =
     record {
       stored = r.stored;
       found = r.found;
-      last = record { read = r.last.read; write = r.last.write; found = r.last.found; least = r.last.least; value = r.last.value };
+      last = record { read = r.last.read; write = r.last.write; present = r.last.present; found = r.last.found; least = r.last.least; value = r.last.value };
       polls = r.polls;
     }
 

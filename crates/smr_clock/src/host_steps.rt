@@ -3,7 +3,7 @@ ghost use Rattle.smr_core.specs.ClockState.{place_after_seats};
 ghost use Rattle.smr_clock.specs.declared.host_act.HostAct.{HostAct};
 ghost use Rattle.smr_clock.specs.Belongs.{IsOf, view, table_of, setup_of};
 ghost use Rattle.smr_clock.specs.Notes.{IsSeatOf, seat_knows};
-ghost use Rattle.smr_clock.specs.HostSteps.{HostKeeps, HostStepped, MaySeatStep, SeatKeeps, SeatStepped};
+ghost use Rattle.smr_clock.specs.HostSteps.{HostKeeps, HostStepped, IsHand, MaySeatStep, SeatKeeps, SeatStepped};
 
 use crate::clock::Clock;
 use crate::host::Host;
@@ -37,7 +37,7 @@ impl<H: Host> Clock<H> {
         ensures here { IsSeatOf self.now seat.new }
         ensures stepped { SeatStepped (seat_knows seat.old) word act M.changes result (seat_knows seat.new) }
     {
-        if word < 2 {
+        if word < self.host_place() {
             self.load_hand::<M>(seat, word)
         } else {
             self.step::<M>(&mut seat.seat, word, act)
@@ -46,7 +46,7 @@ impl<H: Host> Clock<H> {
 
     fn load_hand<M: HostPlay<H>>(&self, seat: &mut HostSeat<H>, word: u32) -> u64
         requires here { IsSeatOf self.now seat.old }
-        requires word { word < 2 }
+        requires word { IsHand word }
         requires keeps { SeatKeeps H.holds (setup_of self.now) seat.old.seat.id (seat_knows seat.old) word HostAct.Load M.changes }
         ensures here { IsSeatOf self.now seat.new }
         ensures stepped { SeatStepped (seat_knows seat.old) word HostAct.Load M.changes result (seat_knows seat.new) }

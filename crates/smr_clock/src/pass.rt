@@ -1,4 +1,6 @@
-ghost use Rattle.std.specs.Prelude.{◌≡◌, ◌<◌, Some};
+ghost use Rattle.std.specs.Prelude.{◌≡◌, ◌≢◌, ◌<◌, Some};
+ghost use Rattle.smr_core.specs.declared.phase.Phase.{Phase};
+ghost use Rattle.smr_core.specs.declared.task.Task.{Task};
 
 use crate::host::Host;
 use crate::view::View;
@@ -16,6 +18,8 @@ pub struct Pass<H: Host> {
     ghost numbered: { seat.me.0.holder.seat ≡ Some number },
     ghost known: { number < seat.me.0.setup.about.seats },
     ghost in_phase: { seat.me.0.holder.phase ≡ phase },
+    ghost worker: { seat.me.0.holder.phase ≢ Phase.Vacant },
+    ghost idle: { seat.me.0.holder.task ≡ Task.Idle },
     ghost has_loaded: { seat.me.0.holder.loaded ≡ loaded },
 }
 

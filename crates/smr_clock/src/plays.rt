@@ -64,6 +64,26 @@ impl<P> Play<(), View<P>> for Clears {
     ghost then = { λ _ before _ after. after ≡ (clearing before.0, before.1) };
 }
 
+/// The worker of a seat leaves.
+pub(crate) struct Leaves;
+
+impl<P> Play<(), View<P>> for Leaves {
+    ghost use Rattle.std.specs.Prelude.{◌≡◌};
+    ghost use Rattle.smr_clock.specs.Steps.{leaving};
+
+    ghost then = { λ _ before _ after. after ≡ (leaving before.0, before.1) };
+}
+
+/// The worker of a vacant seat comes.
+pub(crate) struct Comes;
+
+impl<P> Play<(), View<P>> for Comes {
+    ghost use Rattle.std.specs.Prelude.{◌≡◌};
+    ghost use Rattle.smr_clock.specs.Steps.{coming};
+
+    ghost then = { λ _ before _ after. after ≡ (coming before.0, before.1) };
+}
+
 /// An advance's load of the read hand.
 pub(crate) struct AdvanceReads;
 
@@ -152,6 +172,16 @@ impl<P> Play<(), View<P>> for PollLoads {
     ghost use Rattle.smr_clock.specs.Steps.{IsWriteFound, poll_loading};
 
     ghost then = { λ _ before found after. IsWriteFound before.0.holder found × (after ≡ (poll_loading before.0 found, before.1)) };
+}
+
+/// A poll's load of the presence word.
+pub(crate) struct PollPresents;
+
+impl<P> Play<(), View<P>> for PollPresents {
+    ghost use Rattle.std.specs.Prelude.{◌≡◌, ◌^◌, ◌<◌};
+    ghost use Rattle.smr_clock.specs.Steps.{poll_presenting};
+
+    ghost then = { λ _ before found after. (found < 2 ^ before.0.setup.about.seats) × (after ≡ (poll_presenting before.0 found, before.1)) };
 }
 
 /// A poll's load of the next seat's word.

@@ -1,19 +1,20 @@
-ghost use Rattle.std.specs.Prelude.{◌≡◌, ◌≤◌, ◌<◌, ℕ, List, [], length, true, false};
-ghost use Rattle.smr_core.specs.ClockState.{IsSeatWord};
-ghost use Rattle.smr_core.specs.ClockStep as clock;
+ghost use Rattle.std.specs.Prelude.{◌≡◌, ◌≤◌, ◌<◌, ◌^◌, List, [], true, false};
+ghost use Rattle.smr_core.specs.ClockState.{IsSeatWord, next_present};
+ghost use Rattle.smr_core.specs.declared.found_word.FoundWord.{FoundWord};
 ghost use Rattle.smr_core.specs.declared.task.Task.{Task};
 ghost use Rattle.smr_clock.specs.Goals.{number_of, tag_of};
 ghost use Rattle.smr_clock.specs.Notes.{IsNoteOf, note_knows, note_holder};
-ghost use Rattle.smr_clock.specs.Polls.{scanned_view, Polls, SaysNo};
-ghost use Rattle.smr_clock.specs.Steps.{IsReadFound, IsWriteFound, poll_reading, poll_loading, poll_scanning, poll_swapping};
+ghost use Rattle.smr_clock.specs.Polls.{scanned_view, Moves, OneWordEach, Polls, SaysNo};
+ghost use Rattle.smr_clock.specs.Steps.{IsReadFound, IsWriteFound, poll_reading, poll_loading, poll_presenting, poll_scanning, poll_swapping};
 
 use crate::clock::Clock;
 use crate::goal::Goal;
 use crate::host::Host;
 use crate::note::Note;
-use crate::plays::{PollLoads, PollReads, PollScans, PollSwaps};
+use crate::plays::{PollLoads, PollPresents, PollReads, PollScans, PollSwaps};
 use smr_core::hands::{exchanged, least_after};
-use smr_core::places::{READ_PLACE, WRITE_PLACE, seat_place};
+use smr_core::places::{READ_PLACE, WRITE_PLACE, presence_place, seat_place};
+use smr_core::presence::next_present;
 
 /// Polls: a note asks whether a goal is expired, and moves the read hand on where it may.
 impl<H: Host> Clock<H> {
@@ -58,38 +59,52 @@ impl<H: Host> Clock<H> {
             .load::<PollLoads>(&mut note.seat, WRITE_PLACE)
     }
 
-    // Scans the seats, and moves the read hand to the least mark. Answers the read hand last found.
+    // Scans the present seats, and moves the read hand to the least mark. Answers the read hand last found.
     fn move_read_hand(&self, note: &mut Note<H>, read: u64, write: u64) -> u64
         requires here { IsNoteOf self.now note.old }
-        requires scanning { (note_holder note.old).task ≡ Task.Scanning }
+        requires loaded { (note_holder note.old).task ≡ Task.PollLoaded }
         requires hands { ((note_holder note.old).read ≡ read) × ((note_holder note.old).write ≡ write) }
-        requires fresh { note_knows note.old ≡ scanned_view (note_knows note.old) [] }
         ensures here { IsNoteOf self.now note.new }
-        ensures moved { (words : List ℕ) × (found : ℕ) × (length words ≡ self.now.setup.about.seats)
-            × IsReadFound (scanned_view (note_knows note.old) words).holder found
-            × (result ≡ clock.last_found (scanned_view (note_knows note.old) words).holder found)
-            × (note_knows note.new ≡ poll_swapping (scanned_view (note_knows note.old) words) found) }
+        ensures moves { Moves (note_knows note.old) result (note_knows note.new) }
     {
-        let least = self.scan(note, read, write);
+        let present = self.load_present(note);
+        let least = self.scan(note, read, write, present);
         let found = self.exchange_read_hand(note, read, least);
         exchanged(read, least, found)
     }
 
-    // Loads each seat's word in order, and answers the least mark.
-    fn scan(&self, note: &mut Note<H>, read: u64, write: u64) -> u64
+    fn load_present(&self, note: &mut Note<H>) -> u64
+        requires here { IsNoteOf self.now note.old }
+        requires loaded { (note_holder note.old).task ≡ Task.PollLoaded }
+        ensures here { IsNoteOf self.now note.new }
+        ensures found { result < 2 ^ self.now.setup.about.seats }
+        ensures view { note_knows note.new ≡ poll_presenting (note_knows note.old) result }
+    {
+        let place = presence_place(self.setup.about);
+        self.table
+            .shared
+            .load::<PollPresents>(&mut note.seat, place)
+    }
+
+    // Loads the word of each seat of the set in order, and answers the least mark.
+    fn scan(&self, note: &mut Note<H>, read: u64, write: u64, present: u64) -> u64
         requires here { IsNoteOf self.now note.old }
         requires scanning { (note_holder note.old).task ≡ Task.Scanning }
         requires hands { ((note_holder note.old).read ≡ read) × ((note_holder note.old).write ≡ write) }
-        requires fresh { note_knows note.old ≡ scanned_view (note_knows note.old) [] }
+        requires set { (note_holder note.old).present ≡ present }
+        requires fresh { note_knows note.old ≡ scanned_view (note_knows note.old) [] (next_present self.now.setup.about present 0) }
         ensures here { IsNoteOf self.now note.new }
-        ensures scanned { (words : List ℕ) × (length words ≡ self.now.setup.about.seats)
-            × (note_knows note.new ≡ scanned_view (note_knows note.old) words) }
+        ensures scanned { (words : List FoundWord) × OneWordEach self.now.setup.about.seats present words
+            × (note_knows note.new ≡ scanned_view (note_knows note.old) words self.now.setup.about.seats) }
         ensures least { result ≡ (note_holder note.new).least }
     {
+        let about = self.setup.about;
         let mut least = write;
-        for seat in 0..self.setup.about.seats {
+        let mut seat = next_present(about, present, 0);
+        while seat < about.seats {
             let word = self.load_word(note, seat);
             least = least_after(read, write, least, word as u32);
+            seat = next_present(about, present, seat + 1);
         }
         least
     }

@@ -4,6 +4,7 @@ ghost use Rattle.smr_clock.specs.Belongs.{setup_of, clock_id};
 
 use crate::clock::Clock;
 use crate::host::Host;
+use smr_core::places::place_after_seats;
 use std::alloc::{AllocError, Global};
 use std::error::Error;
 use std::fmt;
@@ -48,11 +49,11 @@ impl<H: Host> Clock<H> {
         self.setup.about.seats
     }
 
-    /// The place of the host's first word, behind the hands and the seats' words.
+    /// The place of the host's first word, behind the clock's own.
     pub fn host_place(&self) -> u32
         ensures { result ≡ place_after_seats (setup_of self.now).about }
     {
-        2 + self.setup.about.seats
+        place_after_seats(self.setup.about) as u32
     }
 
     /// The host's two numbers.

@@ -8,9 +8,9 @@ use Rattle.smr_core.specs.declared.actor.Actor.{Actor}
 use Rattle.smr_core.specs.declared.holder.Holder.{Holder}
 use Rattle.smr_core.specs.declared.phase.Phase.TheVariants as phase
 use Rattle.smr_core.specs.declared.step.Step.{Step}
-use Rattle.smr_core.specs.declared.step.Step.TheVariants.{EnterLoad, EnterStore, EnterCheck, Clear, AdvanceRead, AdvanceLoad, AdvanceSwap, PollRead, PollLoad, PollScan, PollSwap, Note, Absorb}
+use Rattle.smr_core.specs.declared.step.Step.TheVariants.{EnterLoad, EnterStore, EnterCheck, Clear, Leave, Come, AdvanceRead, AdvanceLoad, AdvanceSwap, PollRead, PollLoad, PollPresent, PollScan, PollSwap, Note, Absorb}
 use Rattle.smr_core.specs.declared.seen.Seen.{Seen}
-use Rattle.smr_core.specs.ClockState.{write_hand, read_hand, seat_word, spent}
+use Rattle.smr_core.specs.ClockState.{write_hand, read_hand, seat_word, presence_word, spent}
 use Rattle.smr_core.specs.ClockStep as clock
 use Rattle.smr_core.specs.CoreState.{State, IsActor}
 use Rattle.smr_core.specs.CoreStep.{IsStep, Moves, MakesNote, TakesIn, Needs, taker, poll_goes_on}
@@ -22,12 +22,15 @@ Becomes s (EnterLoad n) x y = record x { holder = clock.enter_loaded s.about x.h
 Becomes s (EnterStore n) x y = record x { holder = clock.enter_stored x.holder } ≡ y
 Becomes s (EnterCheck n) x y = record x { holder = clock.enter_checked s.about x.holder (write_hand s.words) } ≡ y
 Becomes s (Clear n) x y = record x { holder = clock.cleared x.holder } ≡ y
+Becomes s (Leave n) x y = record x { holder = clock.left x.holder } ≡ y
+Becomes s (Come n) x y = record x { holder = clock.came x.holder } ≡ y
 Becomes s (AdvanceRead n) x y = record x { holder = clock.advance_read x.holder (read_hand s.words) } ≡ y
 Becomes s (AdvanceLoad n) x y = record x { holder = clock.advance_loaded s.about x.holder (write_hand s.words) } ≡ y
 Becomes s (AdvanceSwap n) x y = record x { holder = clock.advance_swapped x.holder (write_hand s.words) } ≡ y
 Becomes s (PollRead n tag) x y = record x { holder = clock.poll_read x.holder (read_hand s.words); tag = tag } ≡ y
 Becomes s (PollLoad n) x y = poll_goes_on s.about x (write_hand s.words) (reading x.tag (write_hand s.words)) ≡ y
-Becomes s (PollScan n) x y = record x { holder = clock.poll_scanned x.holder (seat_word s.words x.holder.scanned) } ≡ y
+Becomes s (PollPresent n) x y = record x { holder = clock.poll_present s.about x.holder (presence_word s.about s.words) } ≡ y
+Becomes s (PollScan n) x y = record x { holder = clock.poll_scanned s.about x.holder (seat_word s.words x.holder.scanned) } ≡ y
 Becomes s (PollSwap n) x y = record x { holder = clock.poll_swapped x.holder (read_hand s.words) } ≡ y
 Becomes s (Note n) x y = record x { holder = clock.write_loaded s.about x.holder (write_hand s.words) } ≡ y
 Becomes s (Absorb n note) x y = (other : Actor) × (record x { holder = clock.joined x.holder other.holder } ≡ y)
@@ -132,11 +135,14 @@ actor_after s (EnterLoad k) saw s' n x m at = moves_actor s (EnterLoad k) _ _ _ 
 actor_after s (EnterStore k) saw s' n x m at = moves_actor s (EnterStore k) _ _ _ _ saw s' n x m at (λ y e. e)
 actor_after s (EnterCheck k) saw s' n x m at = moves_actor s (EnterCheck k) _ _ _ _ saw s' n x m at (λ y e. e)
 actor_after s (Clear k) saw s' n x m at = moves_actor s (Clear k) _ _ _ _ saw s' n x m at (λ y e. e)
+actor_after s (Leave k) saw s' n x m at = moves_actor s (Leave k) _ _ _ _ saw s' n x m at (λ y e. e)
+actor_after s (Come k) saw s' n x m at = moves_actor s (Come k) _ _ _ _ saw s' n x m at (λ y e. e)
 actor_after s (AdvanceRead k) saw s' n x m at = moves_actor s (AdvanceRead k) _ _ _ _ saw s' n x m at (λ y e. e)
 actor_after s (AdvanceLoad k) saw s' n x m at = moves_actor s (AdvanceLoad k) _ _ _ _ saw s' n x m at (λ y e. e)
 actor_after s (AdvanceSwap k) saw s' n x m at = moves_actor s (AdvanceSwap k) _ _ _ _ saw s' n x m at (λ y e. e)
 actor_after s (PollRead k tag) saw s' n x m at = moves_actor s (PollRead k tag) _ _ _ _ saw s' n x m at (λ y e. e)
 actor_after s (PollLoad k) saw s' n x m at = moves_actor s (PollLoad k) _ _ _ _ saw s' n x m at (λ y e. e)
+actor_after s (PollPresent k) saw s' n x m at = moves_actor s (PollPresent k) _ _ _ _ saw s' n x m at (λ y e. e)
 actor_after s (PollScan k) saw s' n x m at = moves_actor s (PollScan k) _ _ _ _ saw s' n x m at (λ y e. e)
 actor_after s (PollSwap k) saw s' n x m at = moves_actor s (PollSwap k) _ _ _ _ saw s' n x m at (λ y e. e)
 actor_after s (Note k) saw s' n x m at = note_actor s k saw s' n x m at

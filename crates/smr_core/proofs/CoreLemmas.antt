@@ -1,5 +1,5 @@
 -- Each step of the core keeps the core's law, and neither hand is lower after it.
-use Rattle.std.proofs.Common.{◌≡◌, ℕ, ◌+◌, ◌<◌, ◌≤◌, List, [], ◌∷◌, ◌++◌, length, set, sym, refl, ap, ◌∙◌, subst, ⊎_elim, arith, Bool, true, false, cond, leb, ltb, Option, Some, None, IsSome, slice_index, slice_set, length-set, Result, Ok, Err, IfOk, OnErr}
+use Rattle.std.proofs.Common.{◌≡◌, ℕ, ◌+◌, ◌<◌, ◌≤◌, List, [], ◌∷◌, ◌++◌, length, set, sym, refl, ap, ◌∙◌, subst, ⊎_elim, inl, arith, Bool, true, false, cond, leb, ltb, Option, Some, None, IsSome, slice_index, slice_set, length-set, Result, Ok, Err, IfOk, OnErr}
 use borrow.Author.Tests.{leb-false, le-ltb}
 use Rattle.std.proofs.lemmas.List.{map-append, length_push, set-get_or}
 use mathlib.Core.Option.{some}
@@ -13,10 +13,10 @@ use Rattle.smr_core.specs.declared.phase.Phase.{Phase}
 use Rattle.smr_core.specs.declared.phase.Phase.TheVariants as phase
 use Rattle.smr_core.specs.declared.task.Task.TheVariants as task
 use Rattle.smr_core.specs.declared.step.Step.{Step}
-use Rattle.smr_core.specs.declared.step.Step.TheVariants.{EnterLoad, EnterStore, EnterCheck, Clear, AdvanceRead, AdvanceLoad, AdvanceSwap, PollRead, PollLoad, PollScan, PollSwap, Note, Absorb}
+use Rattle.smr_core.specs.declared.step.Step.TheVariants.{EnterLoad, EnterStore, EnterCheck, Clear, Leave, Come, AdvanceRead, AdvanceLoad, AdvanceSwap, PollRead, PollLoad, PollPresent, PollScan, PollSwap, Note, Absorb}
 use Rattle.smr_core.specs.declared.seen.Seen.{Seen}
 use Rattle.smr_core.specs.declared.step_refused.StepRefused.{StepRefused}
-use Rattle.smr_core.specs.ClockState.{write_hand, read_hand, seat_place, write_place, read_place, spent}
+use Rattle.smr_core.specs.ClockState.{write_hand, read_hand, seat_place, write_place, read_place, presence_place, spent}
 use Rattle.smr_core.specs.ClockStep as clock
 use Rattle.smr_core.specs.ClockLaw.{HolderFits, ClockLaw, Later, Keeps, SeatFits}
 use Rattle.smr_core.specs.CoreState.{State, IsActor, CoreLaw, AimFits, holder_of, holders_of, most_holders, seat_at}
@@ -28,7 +28,8 @@ use Rattle.smr_core.proofs.Keeps.EnterLoad.{enter_load-keeps}
 use Rattle.smr_core.proofs.Keeps.EnterCheck.{enter_check-keeps}
 use Rattle.smr_core.proofs.Keeps.Stores.{enter_store-keeps, clear-keeps}
 use Rattle.smr_core.proofs.Keeps.AdvanceLoads.{advance_read-keeps, advance_load-keeps}
-use Rattle.smr_core.proofs.Keeps.PollLoads.{poll_read-keeps, poll_load-keeps, poll_end-keeps}
+use Rattle.smr_core.proofs.Keeps.PollLoads.{poll_read-keeps, poll_load-keeps, poll_present-keeps, poll_end-keeps}
+use Rattle.smr_core.proofs.Keeps.Presences.{leave-keeps, come-keeps}
 use Rattle.smr_core.proofs.Keeps.PollScan.{poll_scan-keeps}
 use Rattle.smr_core.proofs.Keeps.Swaps.{advance_swap-keeps, poll_swap-keeps}
 use Rattle.smr_core.proofs.Keeps.Splits.{note-keeps}
@@ -107,6 +108,10 @@ seat_in s n x law at worker = seat_of_worker s.about n x.holder.seat (law.seats 
 fits : (s : State) (n : ℕ) (x : Actor) → CoreLaw s → IsActor s n x → HolderFits s.about s.words x.holder
 fits s n x law at = law.clock.holders n x.holder (holder_there s n x at)
 
+-- a holder that is in no poll, or only at its first load, is after nothing
+no_aim : (x : Actor) → (x.holder.task ≡ task.PollLoaded → ⊥) → (x.holder.task ≡ task.Scanning → ⊥) → AimFits x
+no_aim x loaded scanning = λ polling. absurd (⊎_elim loaded scanning polling)
+
 -- ---- a poll's load of the write hand, which goes on or ends
 
 module _ (a : About) (id : ℕ) (x : Actor) (ws : List ℕ) (hs : List Holder) where
@@ -129,12 +134,12 @@ poll_go-seat a x found (Some goal) =
     (λ _. refl) (λ _. refl)
 
 poll_go-aim : (a : About) (x : Actor) (found : ℕ) (o : Option ℕ) → reading x.tag found ≡ o → AimFits (poll_goes_on a x found o)
-poll_go-aim a x found None e = λ scanning. cc
+poll_go-aim a x found None e = no_aim (record x { holder = clock.poll_ended a x.holder found }) (λ t. cc) (λ t. cc)
 poll_go-aim a x found (Some goal) e =
     by_test (leb goal x.holder.read)
     (λ b. AimFits (cond b (record x { holder = clock.poll_ended a x.holder found }) (record x { holder = clock.poll_loaded a x.holder found; reading = goal })))
-    (λ _ scanning. cc)
-    (λ above scanning. (IsReading-reading x.tag found goal e, leb-false goal x.holder.read above))
+    (λ _. no_aim (record x { holder = clock.poll_ended a x.holder found }) (λ t. cc) (λ t. cc))
+    (λ above polling. (IsReading-reading x.tag found goal e, leb-false goal x.holder.read above))
 
 -- ---- an advance's load of the write hand
 
@@ -153,9 +158,9 @@ advance_load-seat a x found false false = refl
 
 advance_load-aim : (a : About) (x : Actor) (found : ℕ) (b c : Bool) → AimFits (advance_load-as a x found b c)
 unfolding advance_load-as
-advance_load-aim a x found true c = λ scanning. cc
-advance_load-aim a x found false true = λ scanning. cc
-advance_load-aim a x found false false = λ scanning. cc
+advance_load-aim a x found true c = no_aim (advance_load-as a x found true c) (λ t. cc) (λ t. cc)
+advance_load-aim a x found false true = no_aim (advance_load-as a x found false true) (λ t. cc) (λ t. cc)
+advance_load-aim a x found false false = no_aim (advance_load-as a x found false false) (λ t. cc) (λ t. cc)
 
 -- ---- a note
 
@@ -208,7 +213,7 @@ module _ (s : State) (id : ℕ) (x : Actor) where
           aims = λ n z g.
               ⊎_elim
               (λ t. look.law.aims n z t)
-              (λ t. subst (λ (a : Actor). AimFits a) t.1 (λ scanning. cc))
+              (λ t. subst (λ (a : Actor). AimFits a) t.1 (no_aim note (λ e. cc) (λ e. cc)))
               (at_push looked.actors note z n g);
         };
         about = refl;
@@ -262,7 +267,7 @@ module _ (s : State) (id at : ℕ) (x y : Actor) where
               (at_set (set s.actors id taker_after) at n note_after z g);
           aims = λ n z g.
               ⊎_elim
-              (λ t. subst (λ (a : Actor). AimFits a) t.1 (λ scanning. cc))
+              (λ t. subst (λ (a : Actor). AimFits a) t.1 (no_aim note_after (λ e. cc) (λ e. cc)))
               (λ t. ⊎_elim
               (λ u. subst (λ (a : Actor). AimFits a) u.1 (law.aims id x here))
               (λ u. law.aims n z u.1)
@@ -296,6 +301,20 @@ module _ (s s' : State) (saw : Seen) (law : CoreLaw s) where
       core_moved s (Clear n) (λ h. seat_place n) (λ h. clock.stored 0) (λ x found. record x { holder = clock.cleared x.holder }) _ saw s' law m
       (clear-keeps s.about n m.actor.holder n mine m.needs) (λ found. refl) (λ found. law.aims n m.actor m.there)
 
+  leave_kept : (n : ℕ) → IsStep s (Leave n) saw s' → CoreLater s s'
+  leave_kept n m =
+      let f = fits s n m.actor law m.there in
+      let mine : m.actor.holder.seat ≡ Some n = seat_in s n m.actor law m.there (seat_of_phase m.actor.holder.phase phase.Outside m.actor.holder.seat f.seat m.needs.0) in
+      core_moved s (Leave n) (λ h. presence_place s.about) (λ h. clock.without n) (λ x found. record x { holder = clock.left x.holder }) _ saw s' law m
+      (leave-keeps s.about n m.actor.holder n mine m.needs.0 m.needs.1) (λ found. refl) (λ found. law.aims n m.actor m.there)
+
+  come_kept : (n : ℕ) → IsStep s (Come n) saw s' → CoreLater s s'
+  come_kept n m =
+      let f = fits s n m.actor law m.there in
+      let mine : m.actor.holder.seat ≡ Some n = seat_in s n m.actor law m.there (seat_of_phase m.actor.holder.phase phase.Vacant m.actor.holder.seat f.seat m.needs) in
+      core_moved s (Come n) (λ h. presence_place s.about) (λ h. clock.with_seat n) (λ x found. record x { holder = clock.came x.holder }) _ saw s' law m
+      (come-keeps s.about n m.actor.holder n mine m.needs) (λ found. refl) (λ found. law.aims n m.actor m.there)
+
   enter_load_kept : (n : ℕ) → IsStep s (EnterLoad n) saw s' → CoreLater s s'
   enter_load_kept n m =
       core_moved s (EnterLoad n) (λ h. write_place) (λ h. clock.same) (λ x found. record x { holder = clock.enter_loaded s.about x.holder found }) _ saw s' law m
@@ -309,7 +328,8 @@ module _ (s s' : State) (saw : Seen) (law : CoreLaw s) where
   advance_read_kept : (n : ℕ) → IsStep s (AdvanceRead n) saw s' → CoreLater s s'
   advance_read_kept n m =
       core_moved s (AdvanceRead n) (λ h. read_place) (λ h. clock.same) (λ x found. record x { holder = clock.advance_read x.holder found }) _ saw s' law m
-      (advance_read-keeps s.about n m.actor.holder m.needs.0) (λ found. refl) (λ found scanning. cc)
+      (advance_read-keeps s.about n m.actor.holder m.needs.0.0 m.needs.0.1) (λ found. refl)
+      (λ found. no_aim (record m.actor { holder = clock.advance_read m.actor.holder found }) (λ e. cc) (λ e. cc))
 
   advance_load_kept : (n : ℕ) → IsStep s (AdvanceLoad n) saw s' → CoreLater s s'
   unfolding advance_load-as
@@ -322,12 +342,14 @@ module _ (s s' : State) (saw : Seen) (law : CoreLaw s) where
   advance_swap_kept : (n : ℕ) → IsStep s (AdvanceSwap n) saw s' → CoreLater s s'
   advance_swap_kept n m =
       core_moved s (AdvanceSwap n) (λ h. write_place) (λ h. clock.exchanged h.write (clock.goal_of h)) (λ x found. record x { holder = clock.advance_swapped x.holder found }) _ saw s' law m
-      (advance_swap-keeps s.about n m.actor.holder m.needs) (λ found. refl) (λ found scanning. cc)
+      (advance_swap-keeps s.about n m.actor.holder m.needs) (λ found. refl)
+      (λ found. no_aim (record m.actor { holder = clock.advance_swapped m.actor.holder found }) (λ e. cc) (λ e. cc))
 
   poll_read_kept : (n tag : ℕ) → IsStep s (PollRead n tag) saw s' → CoreLater s s'
   poll_read_kept n tag m =
       core_moved s (PollRead n tag) (λ h. read_place) (λ h. clock.same) (λ x found. record x { holder = clock.poll_read x.holder found; tag = tag }) _ saw s' law m
-      (poll_read-keeps s.about n m.actor.holder) (λ found. refl) (λ found scanning. cc)
+      (poll_read-keeps s.about n m.actor.holder (⊎_elim (λ w. w.1) (λ note vacant. absurd (cc)) m.needs.0)) (λ found. refl)
+      (λ found. no_aim (record m.actor { holder = clock.poll_read m.actor.holder found; tag = tag }) (λ e. cc) (λ e. cc))
 
   poll_load_kept : (n : ℕ) → IsStep s (PollLoad n) saw s' → CoreLater s s'
   poll_load_kept n m =
@@ -336,15 +358,21 @@ module _ (s s' : State) (saw : Seen) (law : CoreLaw s) where
       (λ found. poll_go-seat s.about m.actor found (reading m.actor.tag found))
       (λ found. poll_go-aim s.about m.actor found (reading m.actor.tag found) refl)
 
+  poll_present_kept : (n : ℕ) → IsStep s (PollPresent n) saw s' → CoreLater s s'
+  poll_present_kept n m =
+      core_moved s (PollPresent n) (λ h. presence_place s.about) (λ h. clock.same) (λ x found. record x { holder = clock.poll_present s.about x.holder found }) _ saw s' law m
+      (poll_present-keeps s.about n m.actor.holder m.needs) (λ found. refl) (λ found polling. law.aims n m.actor m.there (inl m.needs))
+
   poll_scan_kept : (n : ℕ) → IsStep s (PollScan n) saw s' → CoreLater s s'
   poll_scan_kept n m =
-      core_moved s (PollScan n) (λ h. seat_place h.scanned) (λ h. clock.same) (λ x found. record x { holder = clock.poll_scanned x.holder found }) _ saw s' law m
+      core_moved s (PollScan n) (λ h. seat_place h.scanned) (λ h. clock.same) (λ x found. record x { holder = clock.poll_scanned s.about x.holder found }) _ saw s' law m
       (poll_scan-keeps s.about n m.actor.holder m.needs.0 m.needs.1) (λ found. refl) (λ found. law.aims n m.actor m.there)
 
   poll_swap_kept : (n : ℕ) → IsStep s (PollSwap n) saw s' → CoreLater s s'
   poll_swap_kept n m =
       core_moved s (PollSwap n) (λ h. read_place) (λ h. clock.exchanged h.read h.least) (λ x found. record x { holder = clock.poll_swapped x.holder found }) _ saw s' law m
-      (poll_swap-keeps s.about n m.actor.holder m.needs.0 m.needs.1) (λ found. refl) (λ found scanning. cc)
+      (poll_swap-keeps s.about n m.actor.holder m.needs.0 m.needs.1) (λ found. refl)
+      (λ found. no_aim (record m.actor { holder = clock.poll_swapped m.actor.holder found }) (λ e. cc) (λ e. cc))
 
   note_kept : (n : ℕ) → IsStep s (Note n) saw s' → CoreLater s s'
   unfolding worker note noted
@@ -356,7 +384,7 @@ module _ (s s' : State) (saw : Seen) (law : CoreLaw s) where
       let none : m.note.holder.seat ≡ None = seat_in_phase s.about s.words m.note.holder phase.Note (fits s other m.note law m.note_there) m.note_needs.0 in
       subst (λ (t : State). CoreLater s t) (sym m.after)
       (after_join s n other m.actor m.note law m.there m.note_there
-      (λ e. not_some (subst IsSome (law.seats n m.actor m.there ∙ ap (λ (k : ℕ). seat_at s.about k) (sym e) ∙ sym (law.seats other m.note m.note_there) ∙ none) m.needs.0))
+      (λ e. not_some (subst IsSome (law.seats n m.actor m.there ∙ ap (λ (k : ℕ). seat_at s.about k) (sym e) ∙ sym (law.seats other m.note m.note_there) ∙ none) m.needs.0.0))
       m.note_needs.0)
 
 -- Each step keeps the core's law, from every state in which it holds.
@@ -365,11 +393,14 @@ core_keeps s (EnterLoad n) saw s' law m = enter_load_kept s s' saw law n m
 core_keeps s (EnterStore n) saw s' law m = enter_store_kept s s' saw law n m
 core_keeps s (EnterCheck n) saw s' law m = enter_check_kept s s' saw law n m
 core_keeps s (Clear n) saw s' law m = clear_kept s s' saw law n m
+core_keeps s (Leave n) saw s' law m = leave_kept s s' saw law n m
+core_keeps s (Come n) saw s' law m = come_kept s s' saw law n m
 core_keeps s (AdvanceRead n) saw s' law m = advance_read_kept s s' saw law n m
 core_keeps s (AdvanceLoad n) saw s' law m = advance_load_kept s s' saw law n m
 core_keeps s (AdvanceSwap n) saw s' law m = advance_swap_kept s s' saw law n m
 core_keeps s (PollRead n tag) saw s' law m = poll_read_kept s s' saw law n tag m
 core_keeps s (PollLoad n) saw s' law m = poll_load_kept s s' saw law n m
+core_keeps s (PollPresent n) saw s' law m = poll_present_kept s s' saw law n m
 core_keeps s (PollScan n) saw s' law m = poll_scan_kept s s' saw law n m
 core_keeps s (PollSwap n) saw s' law m = poll_swap_kept s s' saw law n m
 core_keeps s (Note n) saw s' law m = note_kept s s' saw law n m

@@ -3,6 +3,7 @@ pub mod Looks
 pub mod EnterLoad
 pub mod EnterCheck
 pub mod PollScan
+pub mod Presences
 pub mod AdvanceLoads
 pub mod PollLoads
 pub mod Stores

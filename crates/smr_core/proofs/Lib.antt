@@ -1,4 +1,5 @@
 pub mod PlaceLemmas
+pub mod PresenceLemmas
 pub mod MoveLemmas
 pub mod KindLemmas
 pub mod RememberedLemmas

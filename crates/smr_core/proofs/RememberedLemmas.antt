@@ -1,19 +1,18 @@
 -- What is remembered, over lists of views: a worker still remembers what it has stored where its list grows, and a word that a poll scans is 0 or one that the worker of its seat remembers.
-use Rattle.std.proofs.Common.{◌≡◌, ℕ, zero, suc, ◌+◌, ◌<◌, List, [], ◌∷◌, ◌++◌, length, set, sym, refl, ap, ◌∙◌, subst, arith, ◌⊎◌, inl, inr, ⊎_elim, Bool, true, false, eqb, Option, Some, None}
-use Rattle.std.specs.Prelude.{Contains, slice_index}
-use Rattle.std.proofs.Math.ListN.{get_or-append}
-use Rattle.std.proofs.Math.Seq.{get_or-append_seam}
-use Rattle.std.proofs.lemmas.List.{length_push}
+use Rattle.std.proofs.Common.{◌≡◌, ℕ, zero, suc, ◌<◌, List, [], ◌∷◌, ◌++◌, set, sym, refl, ap, ◌∙◌, subst, arith, ◌⊎◌, inl, inr, ⊎_elim, Bool, true, false, eqb, Option, Some, None}
+use Rattle.std.specs.Prelude.{Contains}
+use Rattle.std.proofs.lemmas.List.Elements.{Contains-append_cases}
 use borrow.Author.Tests.{eqb-true, eqb-false}
 use mathlib.Core.Option.{some, some-injective, some-ne-none}
 use lib.ListN.{get_elem?}
 use Rattle.smr_seq.specs.Reading.{low}
 use Rattle.smr_core.specs.declared.about.About.{About}
+use Rattle.smr_core.specs.declared.found_word.FoundWord.{FoundWord}
 use Rattle.smr_core.specs.declared.holder.Holder.{Holder}
 use Rattle.smr_core.specs.declared.phase.Phase.{Phase}
 use Rattle.smr_core.specs.declared.phase.Phase.TheVariants as phase
 use Rattle.smr_core.specs.ClockState.{seat_word, word_of, seats_of}
-use Rattle.smr_core.specs.ClockLaw.{PhaseFits, SeatFits, HolderFits, HasNoWorker, ClockLaw}
+use Rattle.smr_core.specs.ClockLaw.{PhaseFits, SeatFits, HolderFits, HasNoHolder, ClockLaw}
 use Rattle.smr_core.specs.Remembered.{View, Remembered, StoredFits, HasStored, WordsWereStored, RememberedFits, RememberedLaw}
 use Rattle.smr_core.specs.RememberedMoves.{holders_in}
 use Rattle.smr_core.proofs.PlaceLemmas.{at_set, set_here, same_place, at_map, at_push, at_longer}
@@ -64,8 +63,8 @@ pub stored_pushed : (vs : List View) (new : View) → StillStored vs (vs ++ new 
 stored_pushed vs new s entered h =
     record { id = h.id; worker = h.worker; there = at_longer vs (new ∷ []) h.id h.worker h.there; seat = h.seat; remembers = h.remembers }
 
-words_still : (vs vs' : List View) (found : List ℕ) → StillStored vs vs' → WordsWereStored vs found → WordsWereStored vs' found
-words_still vs vs' found still w s below = ⊎_elim (λ t. inl t) (λ t. inr (t.0, still s t.0 t.1, t.2)) (w s below)
+words_still : (vs vs' : List View) (found : List FoundWord) → StillStored vs vs' → WordsWereStored vs found → WordsWereStored vs' found
+words_still vs vs' found still w f in_it = ⊎_elim (λ t. inl t) (λ t. inr (t.0, still f.seat t.0 t.1, t.2)) (w f in_it)
 
 pub remembers_still : (a : About) (vs vs' : List View) (v : View) → StillStored vs vs' → RememberedFits a vs v → RememberedFits a vs' v
 remembers_still a vs vs' v still f =
@@ -124,8 +123,8 @@ record Worker (vs : List View) (s : ℕ) : Type 0 where
   there : get_elem? vs id ≡ some view
   seat : view.0.seat ≡ Some s
 
--- a seat has a worker, or it has none
-seek : (vs : List View) (s : ℕ) → Worker vs s ⊎ HasNoWorker (seats_of (holders_in vs)) s
+-- a seat has a worker or a vacancy, or it has none
+seek : (vs : List View) (s : ℕ) → Worker vs s ⊎ HasNoHolder (seats_of (holders_in vs)) s
 seek [] s = inr (λ i e. absurd (some-ne-none (Some s) (sym e)))
 seek (v ∷ vs) s =
     ⊎_elim
@@ -136,7 +135,7 @@ seek (v ∷ vs) s =
     (seek vs s))
     (is_seat v.0.seat s)
   where
-    no_worker : (v.0.seat ≡ Some s → ⊥) → HasNoWorker (seats_of (holders_in vs)) s → HasNoWorker (seats_of (holders_in (v ∷ vs))) s
+    no_worker : (v.0.seat ≡ Some s → ⊥) → HasNoHolder (seats_of (holders_in vs)) s → HasNoHolder (seats_of (holders_in (v ∷ vs))) s
     no_worker n none zero e = n (some-injective v.0.seat (Some s) e)
     no_worker n none (suc i) e = none i e
 
@@ -148,6 +147,7 @@ in_front a ws h r s phase.Loaded e k f m = inl f.0
 in_front a ws h r s phase.Stored e k f m = inr (f.0, m)
 in_front a ws h r s phase.Inside e k f m = inr (f.0, m)
 in_front a ws h r s phase.Late e k f m = inr (f.0, m)
+in_front a ws h r s phase.Vacant e k f m = inl f.0
 in_front a ws h r s phase.Note e k f m = let both : None ≡ Some s = sym k ∙ e in absurd (cc)
 in_front a ws h r s phase.Absorbed e k f m = let both : None ≡ Some s = sym k ∙ e in absurd (cc)
 
@@ -163,24 +163,18 @@ word_was_stored a ws vs law memory s known =
     (λ t. inl (sym own ∙ t))
     (λ t. inr (w.view.0.loaded, record { id = w.id; worker = w.view; there = w.there; seat = w.seat; remembers = t.1 }, sym own ∙ t.0))
     (in_front a ws w.view.0 w.view.1 s w.view.0.phase w.seat fits.seat fits.phase (memory w.id w.view w.there).stored))
-    (λ none. inl (law.vacant s known none))
+    (λ none. inl (law.unmade s known none).0)
     (seek vs s)
 
 -- one word more
-pub words_more : (vs : List View) (found : List ℕ) (word : ℕ) → WordsWereStored vs found
-    → (word ≡ 0) ⊎ ((entered : ℕ) × HasStored vs (length found) entered × (word ≡ low entered)) → WordsWereStored vs (found ++ word ∷ [])
-words_more vs found word before new s below =
+pub words_more : (vs : List View) (found : List FoundWord) (new : FoundWord) → WordsWereStored vs found
+    → (new.word ≡ 0) ⊎ ((entered : ℕ) × HasStored vs new.seat entered × (new.word ≡ low entered)) → WordsWereStored vs (found ++ new ∷ [])
+words_more vs found new before now f in_it =
     ⊎_elim
-    (λ (here : s ≡ length found).
-    let at : slice_index (found ++ word ∷ []) s ≡ word = ap (λ (n : ℕ). slice_index (found ++ word ∷ []) n) here ∙ get_or-append_seam found word [] 0 in
-    ⊎_elim
-    (λ t. inl (at ∙ t))
-    (λ t. inr (t.0, subst (λ (n : ℕ). HasStored vs n t.0) (sym here) t.1, at ∙ t.2))
-    new)
-    (λ (else : s < length found).
-    let at : slice_index (found ++ word ∷ []) s ≡ slice_index found s = get_or-append found (word ∷ []) 0 s else in
-    ⊎_elim (λ t. inl (at ∙ t)) (λ t. inr (t.0, t.1, at ∙ t.2)) (before s else))
-    (last_or_before s (length found) (let count : length (found ++ word ∷ []) ≡ length found + 1 = length_push found word in omega arith))
+    (λ t. before f t)
+    (λ t. subst (λ (x : FoundWord). (x.word ≡ 0) ⊎ ((entered : ℕ) × HasStored vs x.seat entered × (x.word ≡ low entered))) (only new f t) now)
+    (Contains-append_cases found (new ∷ []) f in_it)
   where
-    last_or_before : (m n : ℕ) → m < n + 1 → (m ≡ n) ⊎ (m < n)
-    last_or_before m n h = by_test (eqb m n) ((m ≡ n) ⊎ (m < n)) (λ e. inl (eqb-true m n e)) (λ e. inr (let other = eqb-false m n e in omega arith))
+    only : (x y : FoundWord) → Contains (x ∷ []) y → x ≡ y
+    only x y (zero, below, e) = e
+    only x y (suc k, below, e) = absurd (omega arith)

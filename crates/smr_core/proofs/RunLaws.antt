@@ -14,7 +14,7 @@ use Rattle.smr_core.specs.declared.phase.Phase.TheVariants as phase
 use Rattle.smr_core.specs.declared.task.Task.{Task}
 use Rattle.smr_core.specs.declared.task.Task.TheVariants as task
 use Rattle.smr_core.specs.declared.step.Step.{Step}
-use Rattle.smr_core.specs.declared.step.Step.TheVariants.{EnterLoad, EnterStore, EnterCheck, Clear, AdvanceRead, AdvanceLoad, AdvanceSwap, PollRead, PollLoad, PollScan, PollSwap, Note, Absorb}
+use Rattle.smr_core.specs.declared.step.Step.TheVariants.{EnterLoad, EnterStore, EnterCheck, Clear, Leave, Come, AdvanceRead, AdvanceLoad, AdvanceSwap, PollRead, PollLoad, PollPresent, PollScan, PollSwap, Note, Absorb}
 use Rattle.smr_core.specs.declared.seen.Seen.{Seen}
 use Rattle.smr_core.specs.declared.seen.Seen.TheVariants as seen
 use Rattle.smr_core.specs.ClockState.{write_hand, read_hand, write_place, read_place, place_after_seats, IsInSection, IsExpired}
@@ -145,20 +145,39 @@ loaded_inside e = cc
 stored_inside : phase.Stored ≡ phase.Inside → ⊥
 stored_inside e = cc
 
+vacant_inside : phase.Vacant ≡ phase.Inside → ⊥
+vacant_inside e = cc
+
 note_inside : phase.Note ≡ phase.Inside → ⊥
 note_inside e = cc
 
-both_tasks : (t : Task) → t ≡ task.PollRead → t ≡ task.Scanning → ⊥
-both_tasks t p q = cc
+-- a poll that has its write hand
+abbrev HasHand : Task → Type 0
+HasHand t = (t ≡ task.PollLoaded) ⊎ (t ≡ task.Scanning)
 
--- ---- a poll that scans goes on scanning, until it is in no poll
+both_tasks : (t : Task) → t ≡ task.PollRead → HasHand t → ⊥
+both_tasks t p q = ⊎_elim (λ l. let both : task.PollRead ≡ task.PollLoaded = sym p ∙ l in cc) (λ l. let both : task.PollRead ≡ task.Scanning = sym p ∙ l in cc) q
+
+abbrev IsNoPoll : Task → Type 0
+IsNoPoll t = (t ≡ task.PollRead → ⊥) × (HasHand t → ⊥)
+
+idle : IsNoPoll task.Idle
+idle = ((λ h. cc), (λ h. ⊎_elim (λ l. cc) (λ l. cc) h))
+
+adv_read : IsNoPoll task.AdvRead
+adv_read = ((λ h. cc), (λ h. ⊎_elim (λ l. cc) (λ l. cc) h))
+
+adv_loaded : IsNoPoll task.AdvLoaded
+adv_loaded = ((λ h. cc), (λ h. ⊎_elim (λ l. cc) (λ l. cc) h))
+
+-- ---- a poll that has its write hand goes on with it, until it is in no poll
 
 module _ (tag hand goal : ℕ) where
-  -- the actor scans for this tag, with this hand and this reading, or it is in no poll
+  -- the actor polls for this tag, with this hand and this reading, or it is in no poll
   abbrev SamePoll : Actor → Type 0
   SamePoll x =
-      ((x.holder.task ≡ task.Scanning) × (x.tag ≡ tag) × (x.holder.write ≡ hand) × (x.reading ≡ goal))
-      ⊎ ((x.holder.task ≡ task.PollRead → ⊥) × (x.holder.task ≡ task.Scanning → ⊥))
+      (HasHand x.holder.task × (x.tag ≡ tag) × (x.holder.write ≡ hand) × (x.reading ≡ goal))
+      ⊎ IsNoPoll x.holder.task
 
   same_poll_acts : (n : ℕ) (s : State) (step : Step) (x y : Actor) → ((t : ℕ) → step ≡ PollRead n t → ⊥) → taker step ≡ n → Needs s.about step x.holder → Becomes s step x y
       → SamePoll x → SamePoll y
@@ -166,21 +185,24 @@ module _ (tag hand goal : ℕ) where
   same_poll_acts n s (EnterStore k) x y ok e needs b p = subst SamePoll b p
   same_poll_acts n s (EnterCheck k) x y ok e needs b p = subst SamePoll b p
   same_poll_acts n s (Clear k) x y ok e needs b p = subst SamePoll b p
-  same_poll_acts n s (AdvanceRead k) x y ok e needs b p = subst SamePoll b (inr ((λ h. cc), (λ h. cc)))
+  same_poll_acts n s (Leave k) x y ok e needs b p = subst SamePoll b p
+  same_poll_acts n s (Come k) x y ok e needs b p = subst SamePoll b p
+  same_poll_acts n s (AdvanceRead k) x y ok e needs b p = subst SamePoll b (inr adv_read)
   same_poll_acts n s (AdvanceLoad k) x y ok e needs b p =
-      subst SamePoll b (advance_load_cases s.about x (write_hand s.words) SamePoll (inr ((λ h. cc), (λ h. cc))) (inr ((λ h. cc), (λ h. cc))))
-  same_poll_acts n s (AdvanceSwap k) x y ok e needs b p = subst SamePoll b (inr ((λ h. cc), (λ h. cc)))
+      subst SamePoll b (advance_load_cases s.about x (write_hand s.words) SamePoll (inr idle) (inr adv_loaded))
+  same_poll_acts n s (AdvanceSwap k) x y ok e needs b p = subst SamePoll b (inr idle)
   same_poll_acts n s (PollRead k t) x y ok e needs b p = absurd (ok t (ap (λ (j : ℕ). PollRead j t) e))
-  same_poll_acts n s (PollLoad k) x y ok e needs b p = ⊎_elim (λ q. let scanning = q.0 in absurd (both_tasks x.holder.task needs scanning)) (λ q. absurd (q.0 needs)) p
+  same_poll_acts n s (PollLoad k) x y ok e needs b p = ⊎_elim (λ q. absurd (both_tasks x.holder.task needs q.0)) (λ q. absurd (q.0 needs)) p
+  same_poll_acts n s (PollPresent k) x y ok e needs b p = ⊎_elim (λ q. subst SamePoll b (inl (inr refl, q.1, q.2, q.3))) (λ q. absurd (q.1 (inl needs))) p
   same_poll_acts n s (PollScan k) x y ok e needs b p = subst SamePoll b p
-  same_poll_acts n s (PollSwap k) x y ok e needs b p = subst SamePoll b (inr ((λ h. cc), (λ h. cc)))
+  same_poll_acts n s (PollSwap k) x y ok e needs b p = subst SamePoll b (inr idle)
   same_poll_acts n s (Note k) x y ok e needs b p = subst SamePoll b p
   same_poll_acts n s (Absorb k m) x y ok e needs b p = subst SamePoll b.1 p
 
   same_poll_kept : (n : ℕ) (s : State) (step : Step) (x y : Actor) → ((t : ℕ) → step ≡ PollRead n t → ⊥) → Change s step n x y → SamePoll x → SamePoll y
   same_poll_kept n s step x y ok (stays e) p = subst SamePoll e p
   same_poll_kept n s step x y ok (acts e needs b) p = same_poll_acts n s step x y ok e needs b p
-  same_poll_kept n s step x y ok (taken note e) p = subst SamePoll e (inr ((λ h. cc), (λ h. cc)))
+  same_poll_kept n s step x y ok (taken note e) p = subst SamePoll e (inr idle)
 
 -- ---- the load of a poll that goes on, and its yes
 
@@ -236,7 +258,7 @@ module _ (s after : State) (n tag g : ℕ) (law : CoreLaw s) (p : IsPolling s n 
 
   -- ---- yes, at the exchange
 
-  -- after a load that goes on, the poll scans with this tag, this hand and the reading
+  -- after a load that goes on, the poll has this tag, this hand and the reading
   after_load : (y : YesAtSwap s n after)
       → (goal : ℕ) × (actor : Actor) × IsActor y.loaded n actor × IsReading tag (write_hand s.words) goal × SamePoll tag (write_hand s.words) goal actor
   after_load y =
@@ -250,7 +272,7 @@ module _ (s after : State) (n tag g : ℕ) (law : CoreLaw s) (p : IsPolling s n 
       subst (λ (t : State). IsActor t n (record m.actor { holder = clock.poll_loaded s.about m.actor.holder (write_hand s.words); reading = on.0 })) (sym m.after)
       (subst (λ (x : Actor). get_elem? (set s.actors n (poll_goes_on s.about m.actor (write_hand s.words) (reading m.actor.tag (write_hand s.words)))) n ≡ some x) on.2
       (set_here s.actors n (poll_goes_on s.about m.actor (write_hand s.words) (reading m.actor.tag (write_hand s.words))) m.actor m.there)) in
-      (on.0, record m.actor { holder = clock.poll_loaded s.about m.actor.holder (write_hand s.words); reading = on.0 }, there, reads, inl (refl, of_tag, refl, refl))
+      (on.0, record m.actor { holder = clock.poll_loaded s.about m.actor.holder (write_hand s.words); reading = on.0 }, there, reads, inl (inl refl, of_tag, refl, refl))
 
   expired_at_swap : YesAtSwap s n after → IsExpired after.words g
   expired_at_swap y =
@@ -263,7 +285,7 @@ module _ (s after : State) (n tag g : ℕ) (law : CoreLaw s) (p : IsPolling s n 
       let m = y.swap in
       let me : kept.0 ≡ m.actor = same_place y.scanned.actors n kept.0 m.actor kept.1 m.there in
       let mine : SamePoll tag (write_hand s.words) begun.0 m.actor = subst (λ (x : Actor). SamePoll tag (write_hand s.words) begun.0 x) me kept.2 in
-      let aim : m.actor.reading ≡ begun.0 = ⊎_elim (λ q. q.3) (λ q. absurd (q.1 m.needs.0)) mine in
+      let aim : m.actor.reading ≡ begun.0 = ⊎_elim (λ q. q.3) (λ q. absurd (q.1 (inr m.needs.0))) mine in
       let answer = swap_with_yes m.actor (read_hand y.scanned.words) y.read m.saw_it in
       let last = core_keeps y.scanned (PollSwap n) (seen.Yes y.read) after scanned.law m in
       let places : length y.scanned.words ≡ place_after_seats y.scanned.about = scanned.law.words in
@@ -362,12 +384,15 @@ module _ (tag : ℕ) where
   of_tag_acts n s (EnterStore k) x y ok e b p = subst OfTag b p
   of_tag_acts n s (EnterCheck k) x y ok e b p = subst OfTag b p
   of_tag_acts n s (Clear k) x y ok e b p = subst OfTag b p
+  of_tag_acts n s (Leave k) x y ok e b p = subst OfTag b p
+  of_tag_acts n s (Come k) x y ok e b p = subst OfTag b p
   of_tag_acts n s (AdvanceRead k) x y ok e b p = subst OfTag b (λ h. cc)
   of_tag_acts n s (AdvanceLoad k) x y ok e b p = subst OfTag b (advance_load_cases s.about x (write_hand s.words) OfTag (λ h. cc) (λ h. cc))
   of_tag_acts n s (AdvanceSwap k) x y ok e b p = subst OfTag b (λ h. cc)
   of_tag_acts n s (PollRead k t) x y ok e b p = absurd (ok t (ap (λ (j : ℕ). PollRead j t) e))
   of_tag_acts n s (PollLoad k) x y ok e b p =
       subst OfTag b (poll_load_cases s.about x (write_hand s.words) OfTag (λ h. cc) (λ goal h. cc) (reading x.tag (write_hand s.words)))
+  of_tag_acts n s (PollPresent k) x y ok e b p = subst OfTag b (λ h. cc)
   of_tag_acts n s (PollScan k) x y ok e b p = subst OfTag b p
   of_tag_acts n s (PollSwap k) x y ok e b p = subst OfTag b (λ h. cc)
   of_tag_acts n s (Note k) x y ok e b p = subst OfTag b p
@@ -406,12 +431,15 @@ module _ (loaded found : ℕ) where
   same_section_acts n s (EnterStore k) x y ok e needs b p = let r = both_phases x.holder.phase phase.Loaded phase.Inside needs p.0 in absurd (loaded_inside r)
   same_section_acts n s (EnterCheck k) x y ok e needs b p = let r = both_phases x.holder.phase phase.Stored phase.Inside needs p.0 in absurd (stored_inside r)
   same_section_acts n s (Clear k) x y ok e needs b p = absurd (ok (ap Clear e))
+  same_section_acts n s (Leave k) x y ok e needs b p = let r = both_phases x.holder.phase phase.Outside phase.Inside needs.0 p.0 in absurd (outside_inside r)
+  same_section_acts n s (Come k) x y ok e needs b p = let r = both_phases x.holder.phase phase.Vacant phase.Inside needs p.0 in absurd (vacant_inside r)
   same_section_acts n s (AdvanceRead k) x y ok e needs b p = subst InSameSection b p
   same_section_acts n s (AdvanceLoad k) x y ok e needs b p = subst InSameSection b (advance_load_cases s.about x (write_hand s.words) InSameSection p p)
   same_section_acts n s (AdvanceSwap k) x y ok e needs b p = subst InSameSection b p
   same_section_acts n s (PollRead k t) x y ok e needs b p = subst InSameSection b p
   same_section_acts n s (PollLoad k) x y ok e needs b p =
       subst InSameSection b (poll_load_cases s.about x (write_hand s.words) InSameSection p (λ goal. p) (reading x.tag (write_hand s.words)))
+  same_section_acts n s (PollPresent k) x y ok e needs b p = subst InSameSection b p
   same_section_acts n s (PollScan k) x y ok e needs b p = subst InSameSection b p
   same_section_acts n s (PollSwap k) x y ok e needs b p = subst InSameSection b p
   same_section_acts n s (Note k) x y ok e needs b p = subst InSameSection b p

@@ -1,18 +1,19 @@
 -- A step, a run and a turn are determined by the state, and what is taken isn't refused.
-use Rattle.std.proofs.Common.{◌≡◌, ◌≢◌, ℕ, ◌<◌, ◌≤◌, List, [], ◌∷◌, ◌++◌, length, replicate, slice_index, slice_set, refl, sym, ap, ◌∙◌, subst, arith, Bool, cond, ⊎_elim}
+use Rattle.std.proofs.Common.{◌≡◌, ◌≢◌, ℕ, ◌<◌, ◌≤◌, List, [], ◌∷◌, ◌++◌, length, map, slice_get, slice_index, slice_set, refl, sym, ap, ◌∙◌, subst, arith, Bool, true, false, cond, ⊎_elim}
+use Rattle.std.specs.Option.{option_map_or}
 use Rattle.smr_core.specs.declared.actor.Actor.{Actor}
 use Rattle.smr_core.specs.declared.holder.Holder.{Holder}
 use Rattle.smr_core.specs.declared.step.Step.{Step}
-use Rattle.smr_core.specs.declared.step.Step.TheVariants.{EnterLoad, EnterStore, EnterCheck, Clear, AdvanceRead, AdvanceLoad, AdvanceSwap, PollRead, PollLoad, PollScan, PollSwap, Note, Absorb}
+use Rattle.smr_core.specs.declared.step.Step.TheVariants.{EnterLoad, EnterStore, EnterCheck, Clear, Leave, Come, AdvanceRead, AdvanceLoad, AdvanceSwap, PollRead, PollLoad, PollPresent, PollScan, PollSwap, Note, Absorb}
 use Rattle.smr_core.specs.declared.seen.Seen.{Seen}
 use Rattle.smr_core.specs.declared.step_refused.StepRefused.{StepRefused}
 use Rattle.smr_core.specs.declared.step_refused.StepRefused.TheVariants.{NoSeat, OutOfTurn, Crowded, Memory}
-use Rattle.smr_core.specs.declared.turn.Turn.TheVariants.{One, Enter, Advance, Poll}
-use Rattle.smr_core.specs.ClockState.{write_place, spent}
+use Rattle.smr_core.specs.declared.turn.Turn.TheVariants.{One, Enter, Advance, PollLoads, Poll}
+use Rattle.smr_core.specs.ClockState.{write_place, seats_below, spent}
 use Rattle.smr_core.specs.ClockStep as clock
 use Rattle.smr_core.specs.CoreState.{State, IsActor, most_holders}
 use Rattle.smr_core.specs.CoreStep.{IsStep, Moves, MakesNote, TakesIn, Needs, Refuses, Run, IsIdleNote, taker}
-use Rattle.smr_core.specs.Turns.{is_hand, is_late, saw_at, turn_steps}
+use Rattle.smr_core.specs.Turns.{is_hand, is_late, saw_at, set_in, set_at, turn_steps}
 use Rattle.smr_core.specs.TurnLaws.{TurnIsDetermined, TakenIsNotRefused}
 use Rattle.smr_core.proofs.PlaceLemmas.{same_place, place_within}
 use Rattle.smr_core.proofs.TurnLemmas.{sure_by}
@@ -73,11 +74,14 @@ step-one s (EnterLoad n) x y m t p q = moves-one s (EnterLoad n) _ _ _ _ x y m t
 step-one s (EnterStore n) x y m t p q = moves-one s (EnterStore n) _ _ _ _ x y m t p q
 step-one s (EnterCheck n) x y m t p q = moves-one s (EnterCheck n) _ _ _ _ x y m t p q
 step-one s (Clear n) x y m t p q = moves-one s (Clear n) _ _ _ _ x y m t p q
+step-one s (Leave n) x y m t p q = moves-one s (Leave n) _ _ _ _ x y m t p q
+step-one s (Come n) x y m t p q = moves-one s (Come n) _ _ _ _ x y m t p q
 step-one s (AdvanceRead n) x y m t p q = moves-one s (AdvanceRead n) _ _ _ _ x y m t p q
 step-one s (AdvanceLoad n) x y m t p q = moves-one s (AdvanceLoad n) _ _ _ _ x y m t p q
 step-one s (AdvanceSwap n) x y m t p q = moves-one s (AdvanceSwap n) _ _ _ _ x y m t p q
 step-one s (PollRead n tag) x y m t p q = moves-one s (PollRead n tag) _ _ _ _ x y m t p q
 step-one s (PollLoad n) x y m t p q = moves-one s (PollLoad n) _ _ _ _ x y m t p q
+step-one s (PollPresent n) x y m t p q = moves-one s (PollPresent n) _ _ _ _ x y m t p q
 step-one s (PollScan n) x y m t p q = moves-one s (PollScan n) _ _ _ _ x y m t p q
 step-one s (PollSwap n) x y m t p q = moves-one s (PollSwap n) _ _ _ _ x y m t p q
 step-one s (Note n) x y m t p q = note-one s n x y m t p q
@@ -96,39 +100,69 @@ run-one s [] (x ∷ xs) ys m t p q = absurd p
 run-one s (step ∷ steps) [] ys m t p q = absurd p
 run-one s (step ∷ steps) (x ∷ xs) [] m t p q = absurd q
 
--- two runs that begin with the same steps see the same there, however they go on
-second-one : (s : State) (a b : Step) (more other : List Step) (passes : Seen → Bool) (xs ys : List Seen) (m t : State)
-    → Run s (a ∷ b ∷ more) xs m → Run s (a ∷ b ∷ other) ys t → saw_at 1 passes xs ≡ saw_at 1 passes ys
-second-one s a b more other passes (x ∷ x2 ∷ xs) (y ∷ y2 ∷ ys) m t p q =
-    let e = step-one s a x y p.0 q.0 p.1 q.1 in
-    ap passes (step-one p.0 b x2 y2 p.2.0 q.2.0 p.2.1 (subst (λ (z : State). IsStep z b y2 q.2.0) (sym e.1) q.2.1)).0
-second-one s a b more other passes [] ys m t p q = absurd p
-second-one s a b more other passes (x ∷ []) ys m t p q = absurd p.2
-second-one s a b more other passes (x ∷ x2 ∷ xs) [] m t p q = absurd q
-second-one s a b more other passes (x ∷ x2 ∷ xs) (y ∷ []) m t p q = absurd q.2
+-- Two runs that begin with the same steps see the same there, however they go on. What is asked of what is seen may be anything.
+module _ {X : Type 0} (f : Seen → X) (d : X) where
+  asked : ℕ → List Seen → X
+  asked n sees = option_map_or f (slice_get sees n) d
 
-third-one : (s : State) (a b c : Step) (more other : List Step) (passes : Seen → Bool) (xs ys : List Seen) (m t : State)
-    → Run s (a ∷ b ∷ c ∷ more) xs m → Run s (a ∷ b ∷ c ∷ other) ys t → saw_at 2 passes xs ≡ saw_at 2 passes ys
-third-one s a b c more other passes (x ∷ xs) (y ∷ ys) m t p q =
-    let e = step-one s a x y p.0 q.0 p.1 q.1 in
-    second-one p.0 b c more other passes xs ys m t p.2 (subst (λ (z : State). Run z (b ∷ c ∷ other) ys t) (sym e.1) q.2)
-third-one s a b c more other passes [] ys m t p q = absurd p
-third-one s a b c more other passes (x ∷ xs) [] m t p q = absurd q
+  first-one : (s : State) (a : Step) (more other : List Step) (xs ys : List Seen) (m t : State)
+      → Run s (a ∷ more) xs m → Run s (a ∷ other) ys t → asked 0 xs ≡ asked 0 ys
+  unfolding asked
+  first-one s a more other (x ∷ xs) (y ∷ ys) m t p q = ap f (step-one s a x y p.0 q.0 p.1 q.1).0
+  first-one s a more other [] ys m t p q = absurd p
+  first-one s a more other (x ∷ xs) [] m t p q = absurd q
+
+  second-one : (s : State) (a b : Step) (more other : List Step) (xs ys : List Seen) (m t : State)
+      → Run s (a ∷ b ∷ more) xs m → Run s (a ∷ b ∷ other) ys t → asked 1 xs ≡ asked 1 ys
+  unfolding asked
+  second-one s a b more other (x ∷ xs) (y ∷ ys) m t p q =
+      let e = step-one s a x y p.0 q.0 p.1 q.1 in
+      first-one p.0 b more other xs ys m t p.2 (subst (λ (z : State). Run z (b ∷ other) ys t) (sym e.1) q.2)
+  second-one s a b more other [] ys m t p q = absurd p
+  second-one s a b more other (x ∷ xs) [] m t p q = absurd q
+
+  third-one : (s : State) (a b c : Step) (more other : List Step) (xs ys : List Seen) (m t : State)
+      → Run s (a ∷ b ∷ c ∷ more) xs m → Run s (a ∷ b ∷ c ∷ other) ys t → asked 2 xs ≡ asked 2 ys
+  unfolding asked
+  third-one s a b c more other (x ∷ xs) (y ∷ ys) m t p q =
+      let e = step-one s a x y p.0 q.0 p.1 q.1 in
+      second-one p.0 b c more other xs ys m t p.2 (subst (λ (z : State). Run z (b ∷ c ∷ other) ys t) (sym e.1) q.2)
+  third-one s a b c more other [] ys m t p q = absurd p
+  third-one s a b c more other (x ∷ xs) [] m t p q = absurd q
+
+-- the steps of a poll, by whether it goes on and by its set
+poll_by : State → ℕ → ℕ → Bool → ℕ → List Step
+poll_by s n tag goes set =
+    PollRead n tag ∷ PollLoad n ∷ cond goes (PollPresent n ∷ (map (λ seat. PollScan n) (seats_below set s.about.seats) ++ PollSwap n ∷ [])) []
+
+poll-one : (s m t : State) (n tag : ℕ) (goes : Bool) (xs ys : List Seen) → Run s (poll_by s n tag goes (set_at 2 xs)) xs m → Run s (poll_by s n tag goes (set_at 2 ys)) ys t
+    → (xs ≡ ys) × (m ≡ t)
+unfolding poll_by asked
+poll-one s m t n tag false xs ys p q = run-one s (PollRead n tag ∷ PollLoad n ∷ []) xs ys m t p q
+poll-one s m t n tag true xs ys p q =
+    run-one s (poll_by s n tag true (set_at 2 ys)) xs ys m t
+    (subst (λ (set : ℕ). Run s (poll_by s n tag true set) xs m)
+    (third-one set_in 0 s (PollRead n tag) (PollLoad n) (PollPresent n) _ _ xs ys m t p q) p) q
 
 pub turn-is-determined : TurnIsDetermined
+unfolding asked poll_by
 turn-is-determined s m t (One step) xs ys p q = run-one s (step ∷ []) xs ys m t p q
 turn-is-determined s m t (Enter n) xs ys p q =
     run-one s (turn_steps s.about (Enter n) ys) xs ys m t
     (subst (λ (c : Bool). Run s (EnterLoad n ∷ EnterStore n ∷ EnterCheck n ∷ cond c (Clear n ∷ []) []) xs m)
-    (third-one s (EnterLoad n) (EnterStore n) (EnterCheck n) _ _ is_late xs ys m t p q) p) q
+    (third-one is_late false s (EnterLoad n) (EnterStore n) (EnterCheck n) _ _ xs ys m t p q) p) q
 turn-is-determined s m t (Advance n) xs ys p q =
     run-one s (turn_steps s.about (Advance n) ys) xs ys m t
     (subst (λ (c : Bool). Run s (AdvanceRead n ∷ AdvanceLoad n ∷ cond c (AdvanceSwap n ∷ []) []) xs m)
-    (second-one s (AdvanceRead n) (AdvanceLoad n) _ _ is_hand xs ys m t p q) p) q
+    (second-one is_hand false s (AdvanceRead n) (AdvanceLoad n) _ _ xs ys m t p q) p) q
+turn-is-determined s m t (PollLoads n) xs ys p q =
+    run-one s (turn_steps s.about (PollLoads n) ys) xs ys m t
+    (subst (λ (c : Bool). Run s (PollLoad n ∷ cond c (PollPresent n ∷ []) []) xs m)
+    (first-one is_hand false s (PollLoad n) _ _ xs ys m t p q) p) q
 turn-is-determined s m t (Poll n tag) xs ys p q =
-    run-one s (turn_steps s.about (Poll n tag) ys) xs ys m t
-    (subst (λ (c : Bool). Run s (PollRead n tag ∷ PollLoad n ∷ cond c (replicate s.about.seats (PollScan n) ++ PollSwap n ∷ []) []) xs m)
-    (second-one s (PollRead n tag) (PollLoad n) _ _ is_hand xs ys m t p q) p) q
+    poll-one s m t n tag (saw_at 1 is_hand ys) xs ys
+    (subst (λ (c : Bool). Run s (poll_by s n tag c (set_at 2 xs)) xs m)
+    (second-one is_hand false s (PollRead n tag) (PollLoad n) _ _ xs ys m t p q) p) q
 
 -- ---- what is taken isn't refused
 
@@ -169,11 +203,14 @@ step-taken s (EnterLoad n) x m p refused no_memory r = sure_by s (EnterLoad n) p
 step-taken s (EnterStore n) x m p refused no_memory r = sure_by s (EnterStore n) p.actor p.there p.needs (λ _ h. h) (λ _ _ z. z) (λ z. z) refused r
 step-taken s (EnterCheck n) x m p refused no_memory r = sure_by s (EnterCheck n) p.actor p.there p.needs (λ _ h. h) (λ _ _ z. z) (λ z. z) refused r
 step-taken s (Clear n) x m p refused no_memory r = sure_by s (Clear n) p.actor p.there p.needs (λ _ h. h) (λ _ _ z. z) (λ z. z) refused r
+step-taken s (Leave n) x m p refused no_memory r = sure_by s (Leave n) p.actor p.there p.needs (λ _ h. h) (λ _ _ z. z) (λ z. z) refused r
+step-taken s (Come n) x m p refused no_memory r = sure_by s (Come n) p.actor p.there p.needs (λ _ h. h) (λ _ _ z. z) (λ z. z) refused r
 step-taken s (AdvanceRead n) x m p refused no_memory r = sure_by s (AdvanceRead n) p.actor p.there p.needs (λ _ h. h) (λ _ _ z. z) (λ z. z) refused r
 step-taken s (AdvanceLoad n) x m p refused no_memory r = sure_by s (AdvanceLoad n) p.actor p.there p.needs (λ _ h. h) (λ _ _ z. z) (λ z. z) refused r
 step-taken s (AdvanceSwap n) x m p refused no_memory r = sure_by s (AdvanceSwap n) p.actor p.there p.needs (λ _ h. h) (λ _ _ z. z) (λ z. z) refused r
 step-taken s (PollRead n tag) x m p refused no_memory r = sure_by s (PollRead n tag) p.actor p.there p.needs (λ _ h. h) (λ _ _ z. z) (λ z. z) refused r
 step-taken s (PollLoad n) x m p refused no_memory r = sure_by s (PollLoad n) p.actor p.there p.needs (λ _ h. h) (λ _ _ z. z) (λ z. z) refused r
+step-taken s (PollPresent n) x m p refused no_memory r = sure_by s (PollPresent n) p.actor p.there p.needs (λ _ h. h) (λ _ _ z. z) (λ z. z) refused r
 step-taken s (PollScan n) x m p refused no_memory r = sure_by s (PollScan n) p.actor p.there p.needs (λ _ h. h) (λ _ _ z. z) (λ z. z) refused r
 step-taken s (PollSwap n) x m p refused no_memory r = sure_by s (PollSwap n) p.actor p.there p.needs (λ _ h. h) (λ _ _ z. z) (λ z. z) refused r
 step-taken s (Note n) x m p refused no_memory r = note-taken s n x m p refused no_memory r
@@ -188,4 +225,8 @@ pub taken-is-not-refused : TakenIsNotRefused
 taken-is-not-refused s m (One step) sees refused p no_memory r = run-taken s step [] sees m refused p no_memory r
 taken-is-not-refused s m (Enter n) sees refused p no_memory r = run-taken s (EnterLoad n) (EnterStore n ∷ EnterCheck n ∷ cond (saw_at 2 is_late sees) (Clear n ∷ []) []) sees m refused p no_memory r
 taken-is-not-refused s m (Advance n) sees refused p no_memory r = run-taken s (AdvanceRead n) (AdvanceLoad n ∷ cond (saw_at 1 is_hand sees) (AdvanceSwap n ∷ []) []) sees m refused p no_memory r
-taken-is-not-refused s m (Poll n tag) sees refused p no_memory r = run-taken s (PollRead n tag) (PollLoad n ∷ cond (saw_at 1 is_hand sees) (replicate s.about.seats (PollScan n) ++ PollSwap n ∷ []) []) sees m refused p no_memory r
+taken-is-not-refused s m (PollLoads n) sees refused p no_memory r = run-taken s (PollLoad n) (cond (saw_at 0 is_hand sees) (PollPresent n ∷ []) []) sees m refused p no_memory r
+taken-is-not-refused s m (Poll n tag) sees refused p no_memory r =
+    run-taken s (PollRead n tag)
+    (PollLoad n ∷ cond (saw_at 1 is_hand sees) (PollPresent n ∷ (map (λ seat. PollScan n) (seats_below (set_at 2 sees) s.about.seats) ++ PollSwap n ∷ [])) [])
+    sees m refused p no_memory r

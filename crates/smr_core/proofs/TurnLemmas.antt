@@ -1,7 +1,7 @@
 -- Within an operation each step but the first is sure: what it needs is what the step before it left.
-use Rattle.std.proofs.Common.{◌≡◌, ℕ, ◌+◌, ◌<◌, ◌≤◌, ◌⊎◌, zero, suc, List, [], ◌∷◌, ◌++◌, length, replicate, slice_index, refl, sym, ap, ◌∙◌, subst, arith, Bool, true, false, cond, leb, Option, Some, None, inl, inr}
+use Rattle.std.proofs.Common.{◌≡◌, ℕ, ◌+◌, ◌<◌, ◌≤◌, ◌⊎◌, List, [], ◌∷◌, ◌++◌, length, map, slice_index, refl, sym, ap, ◌∙◌, subst, arith, Bool, true, false, cond, leb, Option, Some, None, inl, inr}
 use Rattle.std.proofs.lemmas.Bool.{false≢true}
-use Rattle.std.proofs.lemmas.List.{replicate-append-replicate}
+use Rattle.std.proofs.lemmas.List.{map-append}
 use Rattle.smr_seq.specs.Reading.{reading}
 use Rattle.smr_core.specs.declared.about.About.{About}
 use Rattle.smr_core.specs.declared.actor.Actor.{Actor}
@@ -9,18 +9,18 @@ use Rattle.smr_core.specs.declared.holder.Holder.{Holder}
 use Rattle.smr_core.specs.declared.phase.Phase.TheVariants as phase
 use Rattle.smr_core.specs.declared.task.Task.TheVariants as task
 use Rattle.smr_core.specs.declared.step.Step.{Step}
-use Rattle.smr_core.specs.declared.step.Step.TheVariants.{EnterLoad, EnterStore, EnterCheck, Clear, AdvanceRead, AdvanceLoad, AdvanceSwap, PollRead, PollLoad, PollScan, PollSwap}
+use Rattle.smr_core.specs.declared.step.Step.TheVariants.{EnterLoad, EnterStore, EnterCheck, Clear, AdvanceRead, AdvanceLoad, AdvanceSwap, PollRead, PollLoad, PollPresent, PollScan, PollSwap}
 use Rattle.smr_core.specs.declared.seen.Seen.{Seen}
 use Rattle.smr_core.specs.declared.seen.Seen.TheVariants as seen
 use Rattle.smr_core.specs.declared.step_refused.StepRefused.{StepRefused}
 use Rattle.smr_core.specs.declared.step_refused.StepRefused.TheVariants.{NoSeat, OutOfTurn, Crowded, Memory}
 use Rattle.smr_core.specs.declared.turn.Turn.{Turn}
-use Rattle.smr_core.specs.declared.turn.Turn.TheVariants.{Enter, Poll}
-use Rattle.smr_core.specs.ClockState.{write_place}
+use Rattle.smr_core.specs.declared.turn.Turn.TheVariants.{Enter, PollLoads, Poll}
+use Rattle.smr_core.specs.ClockState.{write_place, presence_place, seat_place, next_present, seats_below}
 use Rattle.smr_core.specs.ClockStep as clock
 use Rattle.smr_core.specs.CoreState.{State, IsActor}
 use Rattle.smr_core.specs.CoreStep.{IsStep, Moves, Needs, Refuses, Run, IsMissing, IsOutOfTurn, MayMakeNote, taker, poll_goes_on, poll_sees, load_sees}
-use Rattle.smr_core.specs.Turns.{IsSure, IsTurn, RefusesTurn, Scans, first_step, is_hand, is_late, saw_at}
+use Rattle.smr_core.specs.Turns.{IsSure, IsTurn, RefusesTurn, Scans, first_step, is_hand, is_late, saw_at, set_in, set_at}
 use Rattle.smr_core.proofs.PlaceLemmas.{set_here, same_place, place_within}
 use Rattle.smr_core.proofs.RunLemmas.{run-push}
 
@@ -104,44 +104,52 @@ pub poll_load-sure : (s : State) (n tag : ℕ) (saw : Seen) (mid : State) → Is
 poll_load-sure s n tag saw mid m =
     sure_by mid (PollLoad n) _ (moved_there s (PollRead n tag) _ _ _ _ saw mid m) refl (λ _ h. h) (λ _ _ z. z) (λ z. z)
 
-poll_goes : (a : About) (x : Actor) (found : ℕ) (o : Option ℕ) → is_hand (poll_sees x found o) ≡ true
-    → ((poll_goes_on a x found o).holder.task ≡ task.Scanning) × ((poll_goes_on a x found o).holder.scanned ≡ 0)
+poll_goes : (a : About) (x : Actor) (found : ℕ) (o : Option ℕ) → is_hand (poll_sees x found o) ≡ true → (poll_goes_on a x found o).holder.task ≡ task.PollLoaded
 poll_goes a x found None = λ e. absurd (false≢true e)
 poll_goes a x found (Some goal) =
     by_test (leb goal x.holder.read)
     (λ b. is_hand (cond b (seen.Yes x.holder.read) (seen.Hand found)) ≡ true
-    → ((cond b (record x { holder = clock.poll_ended a x.holder found }) (record x { holder = clock.poll_loaded a x.holder found; reading = goal })).holder.task ≡ task.Scanning)
-    × ((cond b (record x { holder = clock.poll_ended a x.holder found }) (record x { holder = clock.poll_loaded a x.holder found; reading = goal })).holder.scanned ≡ 0))
+    → (cond b (record x { holder = clock.poll_ended a x.holder found }) (record x { holder = clock.poll_loaded a x.holder found; reading = goal })).holder.task ≡ task.PollLoaded)
     (λ e. absurd (false≢true e))
-    (λ _. (refl, refl))
+    (λ _. refl)
 
-pub scans-first : (s : State) (n : ℕ) (saw : Seen) (mid : State) → IsStep s (PollLoad n) saw mid → is_hand saw ≡ true → Scans mid n 0
-scans-first s n saw mid m hand =
-    let goes = poll_goes s.about m.actor (slice_index s.words write_place) (reading m.actor.tag (slice_index s.words write_place))
-    (subst (λ (z : Seen). is_hand z ≡ true) m.saw_it hand) in
+pub present-sure : (s : State) (n : ℕ) (saw : Seen) (mid : State) → IsStep s (PollLoad n) saw mid → is_hand saw ≡ true → IsSure mid (PollPresent n)
+present-sure s n saw mid m hand =
+    sure_by mid (PollPresent n) _ (moved_there s (PollLoad n) _ _ _ _ saw mid m)
+    (poll_goes s.about m.actor (slice_index s.words write_place) (reading m.actor.tag (slice_index s.words write_place)) (subst (λ (z : Seen). is_hand z ≡ true) m.saw_it hand))
+    (λ _ h. h) (λ _ _ z. z) (λ z. z)
+
+pub scans-first : (s : State) (n : ℕ) (saw : Seen) (mid : State) → IsStep s (PollPresent n) saw mid → Scans mid n (set_in saw) (next_present s.about (set_in saw) 0)
+scans-first s n saw mid m =
+    let found : ℕ = slice_index s.words (presence_place s.about) in
+    let same : slice_index s.words (presence_place s.about) ≡ set_in saw = sym (ap set_in m.saw_it) in
     record {
-      actor = poll_goes_on s.about m.actor (slice_index s.words write_place) (reading m.actor.tag (slice_index s.words write_place));
-      there = moved_there s (PollLoad n) _ _ _ _ saw mid m;
-      scanning = goes.0;
-      scanned = goes.1;
+      actor = record m.actor { holder = clock.poll_present s.about m.actor.holder (slice_index s.words (presence_place s.about)) };
+      there = moved_there s (PollPresent n) _ _ _ _ saw mid m;
+      scanning = refl;
+      of_set = same;
+      scanned = ap (λ (z : ℕ). next_present s.about z 0) same;
     }
 
-pub scans-next : (s : State) (n k : ℕ) (saw : Seen) (mid : State) → Scans s n k → IsStep s (PollScan n) saw mid → Scans mid n (k + 1)
-scans-next s n k saw mid sc m =
+pub scans-next : (s : State) (n set k : ℕ) (saw : Seen) (mid : State) → Scans s n set k → IsStep s (PollScan n) saw mid → Scans mid n set (next_present s.about set (k + 1))
+scans-next s n set k saw mid sc m =
     let same : sc.actor ≡ m.actor = same_place s.actors n sc.actor m.actor sc.there m.there in
+    let of_set : m.actor.holder.present ≡ set = ap (λ (z : Actor). z.holder.present) (sym same) ∙ sc.of_set in
+    let at : m.actor.holder.scanned ≡ k = ap (λ (z : Actor). z.holder.scanned) (sym same) ∙ sc.scanned in
     record {
-      actor = record m.actor { holder = clock.poll_scanned m.actor.holder (slice_index s.words (2 + m.actor.holder.scanned)) };
+      actor = record m.actor { holder = clock.poll_scanned s.about m.actor.holder (slice_index s.words (seat_place m.actor.holder.scanned)) };
       there = moved_there s (PollScan n) _ _ _ _ saw mid m;
       scanning = m.needs.0;
-      scanned = ap (λ (z : ℕ). z + 1) (ap (λ (z : Actor). z.holder.scanned) (sym same) ∙ sc.scanned);
+      of_set = of_set;
+      scanned = λ i. next_present s.about (of_set i) (at i + 1);
     }
 
-pub scan-sure : (s : State) (n k : ℕ) → Scans s n k → k < s.about.seats → IsSure s (PollScan n)
-scan-sure s n k sc below =
+pub scan-sure : (s : State) (n set k : ℕ) → Scans s n set k → k < s.about.seats → IsSure s (PollScan n)
+scan-sure s n set k sc below =
     sure_by s (PollScan n) sc.actor sc.there (sc.scanning, subst (λ (z : ℕ). z < s.about.seats) (sym sc.scanned) below) (λ _ h. h) (λ _ _ z. z) (λ z. z)
 
-pub swap-sure : (s : State) (n k : ℕ) → Scans s n k → k ≡ s.about.seats → IsSure s (PollSwap n)
-swap-sure s n k sc all =
+pub swap-sure : (s : State) (n set k : ℕ) → Scans s n set k → k ≡ s.about.seats → IsSure s (PollSwap n)
+swap-sure s n set k sc all =
     sure_by s (PollSwap n) sc.actor sc.there (sc.scanning, sc.scanned ∙ all) (λ _ h. h) (λ _ _ z. z) (λ z. z)
 
 -- a step leaves the numbers that the clock was made with
@@ -150,31 +158,57 @@ scan-about s n saw mid m = ap (λ (t : State). t.about) m.after
 
 -- ---- whole turns
 
--- what a step of this place saw stays when more is seen
-saw_at-more : (n : ℕ) (passes : Seen → Bool) (sees : List Seen) (saw : Seen) → saw_at n passes sees ≡ true → saw_at n passes (sees ++ saw ∷ []) ≡ true
-saw_at-more zero passes [] saw e = absurd (false≢true e)
-saw_at-more (suc n) passes [] saw e = absurd (false≢true e)
-saw_at-more zero passes (x ∷ sees) saw e = e
-saw_at-more (suc n) passes (x ∷ sees) saw e = saw_at-more n passes sees saw e
+-- a poll has seen the write hand and this set of seats
+abbrev pub HasBegun : ℕ → List Seen → Type 0
+HasBegun set (x ∷ y ∷ z ∷ sees) = (is_hand y ≡ true) × (set_in z ≡ set)
+HasBegun set _ = ⊥
 
-replicate-more : (n : ℕ) (step : Step) → replicate (n + 1) step ≡ replicate n step ++ step ∷ []
-replicate-more n step = sym (replicate-append-replicate n 1 step)
+pub begun-stays : (set : ℕ) (sees : List Seen) (saw : Seen) → HasBegun set sees → HasBegun set (sees ++ saw ∷ [])
+begun-stays set [] saw b = absurd b
+begun-stays set (x ∷ []) saw b = absurd b
+begun-stays set (x ∷ y ∷ []) saw b = absurd b
+begun-stays set (x ∷ y ∷ z ∷ sees) saw b = b
 
-pub run-scans : (s mid s' : State) (n tag k : ℕ) (sees : List Seen) (saw : Seen) → Run s (PollRead n tag ∷ PollLoad n ∷ replicate k (PollScan n)) sees mid
-    → IsStep mid (PollScan n) saw s' → Run s (PollRead n tag ∷ PollLoad n ∷ replicate (k + 1) (PollScan n)) (sees ++ saw ∷ []) s'
-run-scans s mid s' n tag k sees saw run step =
-    subst (λ (l : List Step). Run s (PollRead n tag ∷ PollLoad n ∷ l) (sees ++ saw ∷ []) s') (sym (replicate-more k (PollScan n)))
-    (run-push s mid s' (PollRead n tag ∷ PollLoad n ∷ replicate k (PollScan n)) sees (PollScan n) saw run step)
+begun-hand : (set : ℕ) (sees : List Seen) → HasBegun set sees → saw_at 1 is_hand sees ≡ true
+begun-hand set [] b = absurd b
+begun-hand set (x ∷ []) b = absurd b
+begun-hand set (x ∷ y ∷ []) b = absurd b
+begun-hand set (x ∷ y ∷ z ∷ sees) b = b.0
 
-pub hand-stays : (sees : List Seen) (saw : Seen) → saw_at 1 is_hand sees ≡ true → saw_at 1 is_hand (sees ++ saw ∷ []) ≡ true
-hand-stays sees saw e = saw_at-more 1 is_hand sees saw e
+begun-set : (set : ℕ) (sees : List Seen) → HasBegun set sees → set_at 2 sees ≡ set
+begun-set set [] b = absurd b
+begun-set set (x ∷ []) b = absurd b
+begun-set set (x ∷ y ∷ []) b = absurd b
+begun-set set (x ∷ y ∷ z ∷ sees) b = b.1
 
-pub poll-whole : (s mid s' : State) (n tag k : ℕ) (sees : List Seen) (saw : Seen) → Run s (PollRead n tag ∷ PollLoad n ∷ replicate k (PollScan n)) sees mid
-    → k ≡ s.about.seats → saw_at 1 is_hand sees ≡ true → IsStep mid (PollSwap n) saw s' → IsTurn s (Poll n tag) (sees ++ saw ∷ []) s'
-poll-whole s mid s' n tag k sees saw run all hand step =
-    subst (λ (b : Bool). Run s (PollRead n tag ∷ PollLoad n ∷ cond b (replicate s.about.seats (PollScan n) ++ PollSwap n ∷ []) []) (sees ++ saw ∷ []) s') (sym (hand-stays sees saw hand))
-    (subst (λ (j : ℕ). Run s (PollRead n tag ∷ PollLoad n ∷ (replicate j (PollScan n) ++ PollSwap n ∷ [])) (sees ++ saw ∷ []) s') all
-    (run-push s mid s' (PollRead n tag ∷ PollLoad n ∷ replicate k (PollScan n)) sees (PollSwap n) saw run step))
+-- the steps of a poll that has loaded the words of these seats
+abbrev pub poll_so_far : ℕ → ℕ → List ℕ → List Step
+poll_so_far n tag seats = PollRead n tag ∷ PollLoad n ∷ PollPresent n ∷ map (λ seat. PollScan n) seats
+
+pub run-scan : (s mid s' : State) (n tag k : ℕ) (seats : List ℕ) (sees : List Seen) (saw : Seen) → Run s (poll_so_far n tag seats) sees mid
+    → IsStep mid (PollScan n) saw s' → Run s (poll_so_far n tag (seats ++ k ∷ [])) (sees ++ saw ∷ []) s'
+run-scan s mid s' n tag k seats sees saw run step =
+    subst (λ (l : List Step). Run s (PollRead n tag ∷ PollLoad n ∷ PollPresent n ∷ l) (sees ++ saw ∷ []) s') (sym (map-append (λ (seat : ℕ). PollScan n) seats (k ∷ [])))
+    (run-push s mid s' (poll_so_far n tag seats) sees (PollScan n) saw run step)
+
+pub poll-whole : (s mid s' : State) (n tag set k : ℕ) (sees : List Seen) (saw : Seen) → Run s (poll_so_far n tag (seats_below set k)) sees mid
+    → k ≡ s.about.seats → HasBegun set sees → IsStep mid (PollSwap n) saw s' → IsTurn s (Poll n tag) (sees ++ saw ∷ []) s'
+poll-whole s mid s' n tag set k sees saw run all begun step =
+    let more = begun-stays set sees saw begun in
+    subst (λ (b : Bool). Run s (PollRead n tag ∷ PollLoad n
+    ∷ cond b (PollPresent n ∷ (map (λ seat. PollScan n) (seats_below (set_at 2 (sees ++ saw ∷ [])) s.about.seats) ++ PollSwap n ∷ [])) []) (sees ++ saw ∷ []) s')
+    (sym (begun-hand set (sees ++ saw ∷ []) more))
+    (subst (λ (p : ℕ). Run s (PollRead n tag ∷ PollLoad n ∷ PollPresent n ∷ (map (λ seat. PollScan n) (seats_below p s.about.seats) ++ PollSwap n ∷ [])) (sees ++ saw ∷ []) s')
+    (sym (begun-set set (sees ++ saw ∷ []) more))
+    (subst (λ (j : ℕ). Run s (PollRead n tag ∷ PollLoad n ∷ PollPresent n ∷ (map (λ seat. PollScan n) (seats_below set j) ++ PollSwap n ∷ [])) (sees ++ saw ∷ []) s') all
+    (run-push s mid s' (poll_so_far n tag (seats_below set k)) sees (PollSwap n) saw run step)))
+
+-- a poll's load of the write hand that goes on, with that of the presence word
+pub poll-loads-whole : (s mid s' : State) (n : ℕ) (x y : Seen) (sees : List Seen) → sees ≡ x ∷ y ∷ [] → IsStep s (PollLoad n) x mid → is_hand x ≡ true
+    → IsStep mid (PollPresent n) y s' → IsTurn s (PollLoads n) sees s'
+poll-loads-whole s mid s' n x y sees e p hand q =
+    subst (λ (l : List Seen). IsTurn s (PollLoads n) l s') (sym e)
+    (subst (λ (b : Bool). Run s (PollLoad n ∷ cond b (PollPresent n ∷ []) []) (x ∷ y ∷ []) s') (sym hand) (mid, p, (s', q, refl)))
 
 -- two steps
 pub run-two : (s mid s' : State) (a b : Step) (x y : Seen) → IsStep s a x mid → IsStep mid b y s' → Run s (a ∷ b ∷ []) (x ∷ y ∷ []) s'

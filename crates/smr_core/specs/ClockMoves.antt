@@ -1,22 +1,22 @@
 -- That each kind of step keeps the clock's law, from every state in which it holds, and that it holds where a clock begins.
-use Rattle.std.specs.Prelude.{◌≡◌, ℕ, ◌<◌, ◌≤◌, ◌⊎◌, List, [], ◌∷◌, ◌++◌, replicate, Some, IsSome, slice_set}
+use Rattle.std.specs.Prelude.{◌≡◌, ◌≢◌, ℕ, ◌<◌, ◌≤◌, ◌⊎◌, List, [], ◌∷◌, ◌++◌, Some, IsSome, slice_set}
 use mathlib.Core.Option.{some}
 use lib.ListN.{get_elem?}
 use Rattle.smr_core.specs.declared.about.About.{About}
 use Rattle.smr_core.specs.declared.holder.Holder.{Holder}
 use Rattle.smr_core.specs.declared.phase.Phase.TheVariants as phase
 use Rattle.smr_core.specs.declared.task.Task.TheVariants as task
-use Rattle.smr_core.specs.ClockState.{IsInRange, place_after_seats, write_place, read_place, seat_place, seats_of, first_holder}
+use Rattle.smr_core.specs.ClockState.{IsInRange, place_after_seats, write_place, read_place, seat_place, presence_place, opening_words, seats_of, first_holder}
 use Rattle.smr_core.specs.ClockStep as clock
-use Rattle.smr_core.specs.ClockStep.{same, stored, exchanged}
-use Rattle.smr_core.specs.ClockLaw.{ClockLaw, HasNoWorker, Later, Keeps, KeepsSplit, KeepsJoin}
+use Rattle.smr_core.specs.ClockStep.{same, stored, exchanged, without, with_seat}
+use Rattle.smr_core.specs.ClockLaw.{ClockLaw, HasNoHolder, Later, Keeps, KeepsSplit, KeepsJoin}
 
--- A clock begins with both hands at the start, every seat's word 0 and one holder, which is no worker. Behind its words there may be others.
+-- A clock begins with both hands at the start, every seat's word 0, all seats present and one holder, which is no worker. Behind its words there may be others.
 abbrev pub BeginsLawful : Type 0
 BeginsLawful =
-    (a : About) (more : List ℕ) → IsInRange a → ClockLaw a (a.start ∷ a.start ∷ (replicate a.seats 0 ++ more)) (first_holder a ∷ [])
+    (a : About) (more : List ℕ) → IsInRange a → ClockLaw a (opening_words a ++ more) (first_holder a ∷ [])
 
--- a word behind the seats' words may change as it likes
+-- a word behind the clock's own may change as it likes
 abbrev pub OtherWordKeeps : Type 0
 OtherWordKeeps =
     (a : About) (i v : ℕ) (ws : List ℕ) (hs : List Holder) → place_after_seats a ≤ i → ClockLaw a ws hs → Later a ws (slice_set ws i v) hs
@@ -47,10 +47,23 @@ ClearKeeps =
     (a : About) (id : ℕ) (h : Holder) (s : ℕ) → h.seat ≡ Some s → (h.phase ≡ phase.Inside) ⊎ (h.phase ≡ phase.Late)
     → Keeps a id h (seat_place s) (stored 0) (λ found. clock.cleared h)
 
+-- ---- leave and come
+
+-- A worker leaves outside a section, and in no advance or poll.
+abbrev pub LeaveKeeps : Type 0
+LeaveKeeps =
+    (a : About) (id : ℕ) (h : Holder) (s : ℕ) → h.seat ≡ Some s → h.phase ≡ phase.Outside → h.task ≡ task.Idle
+    → Keeps a id h (presence_place a) (without s) (λ found. clock.left h)
+
+abbrev pub ComeKeeps : Type 0
+ComeKeeps =
+    (a : About) (id : ℕ) (h : Holder) (s : ℕ) → h.seat ≡ Some s → h.phase ≡ phase.Vacant
+    → Keeps a id h (presence_place a) (with_seat s) (λ found. clock.came h)
+
 -- ---- advance
 
 abbrev pub AdvanceReadKeeps : Type 0
-AdvanceReadKeeps = (a : About) (id : ℕ) (h : Holder) → IsSome h.seat → Keeps a id h read_place same (clock.advance_read h)
+AdvanceReadKeeps = (a : About) (id : ℕ) (h : Holder) → IsSome h.seat → h.phase ≢ phase.Vacant → Keeps a id h read_place same (clock.advance_read h)
 
 abbrev pub AdvanceLoadKeeps : Type 0
 AdvanceLoadKeeps = (a : About) (id : ℕ) (h : Holder) → h.task ≡ task.AdvRead → Keeps a id h write_place same (clock.advance_loaded a h)
@@ -62,7 +75,7 @@ AdvanceSwapKeeps =
 -- ---- poll
 
 abbrev pub PollReadKeeps : Type 0
-PollReadKeeps = (a : About) (id : ℕ) (h : Holder) → Keeps a id h read_place same (clock.poll_read h)
+PollReadKeeps = (a : About) (id : ℕ) (h : Holder) → h.phase ≢ phase.Vacant → Keeps a id h read_place same (clock.poll_read h)
 
 abbrev pub PollLoadKeeps : Type 0
 PollLoadKeeps = (a : About) (id : ℕ) (h : Holder) → h.task ≡ task.PollRead → Keeps a id h write_place same (clock.poll_loaded a h)
@@ -70,9 +83,12 @@ PollLoadKeeps = (a : About) (id : ℕ) (h : Holder) → h.task ≡ task.PollRead
 abbrev pub PollEndKeeps : Type 0
 PollEndKeeps = (a : About) (id : ℕ) (h : Holder) → Keeps a id h write_place same (clock.poll_ended a h)
 
+abbrev pub PollPresentKeeps : Type 0
+PollPresentKeeps = (a : About) (id : ℕ) (h : Holder) → h.task ≡ task.PollLoaded → Keeps a id h (presence_place a) same (clock.poll_present a h)
+
 abbrev pub PollScanKeeps : Type 0
 PollScanKeeps =
-    (a : About) (id : ℕ) (h : Holder) → h.task ≡ task.Scanning → h.scanned < a.seats → Keeps a id h (seat_place h.scanned) same (clock.poll_scanned h)
+    (a : About) (id : ℕ) (h : Holder) → h.task ≡ task.Scanning → h.scanned < a.seats → Keeps a id h (seat_place h.scanned) same (clock.poll_scanned a h)
 
 abbrev pub PollSwapKeeps : Type 0
 PollSwapKeeps =
@@ -84,11 +100,11 @@ PollSwapKeeps =
 abbrev pub NoteKeeps : Type 0
 NoteKeeps = (a : About) (id : ℕ) (h : Holder) → KeepsSplit a id h (clock.note_of h)
 
--- the worker of a seat that has none yet
+-- the worker of a seat that has no holder yet
 abbrev pub WorkerKeeps : Type 0
 WorkerKeeps =
     (a : About) (id s : ℕ) (h : Holder) (ws : List ℕ) (hs : List Holder) → ClockLaw a ws hs → get_elem? hs id ≡ some h
-    → s < a.seats → HasNoWorker (seats_of hs) s → Later a ws ws (hs ++ clock.worker_of s h ∷ [])
+    → s < a.seats → HasNoHolder (seats_of hs) s → Later a ws ws (hs ++ clock.worker_of s h ∷ [])
 
 -- The holder that is taken in has no seat. It may be in a poll, which nobody goes on with.
 abbrev pub JoinKeeps : Type 0

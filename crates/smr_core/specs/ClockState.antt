@@ -1,6 +1,7 @@
 -- The state of the reclamation clock: the numbers it is made with, its words, and its holders.
--- The hands and the seats' words are those of FreeBSD's smr(9), with whole hands of 64 bits in place of wrapping ones (own). What a holder knows is own.
-use Rattle.std.specs.Prelude.{◌≡◌, ℕ, ◌+◌, ◌%◌, ◌^◌, ◌<◌, ◌≤◌, List, map, slice_index, Option, Some, None}
+-- The hands and the seats' words are those of FreeBSD's smr(9), with whole hands of 64 bits in place of wrapping ones (own). The presence word, and what a holder knows, are own.
+use Rattle.std.specs.Prelude.{◌≡◌, ℕ, zero, suc, ◌+◌, ◌-◌, ◌*◌, ◌%◌, ◌^◌, ◌<◌, ◌≤◌, ◌==◌, List, [], ◌∷◌, ◌++◌, map, replicate, slice_index, slice_set, Bool, if◌then◌else◌, Option, Some, None}
+use Rattle.std.specs.Int.{bit_at}
 use Rattle.smr_core.specs.declared.about.About.{About}
 use Rattle.smr_core.specs.declared.holder.Holder.{Holder}
 use Rattle.smr_core.specs.declared.phase.Phase.TheVariants as phase
@@ -20,20 +21,27 @@ pub record IsInRange (a : About) : Type 0 where
   pub least_window : 4 ≤ a.window
   pub greatest_window : a.window ≤ 2 ^ 30
 
--- ---- the words: the write hand, the read hand, the word of each seat, and behind them words of which the clock knows nothing
+-- ---- the words: the write hand, the read hand, the word of each seat, the presence word, and behind them words of which the clock knows nothing
+
+-- The word k stands at the place 8 k, so that each has a cache line of its own: 64 bytes are eight words. The words between are unused and 0.
+abbrev pub line : ℕ → ℕ
+line k = 8 * k
 
 abbrev pub write_place : ℕ
 write_place = 0
 
 abbrev pub read_place : ℕ
-read_place = 1
+read_place = 8
 
 abbrev pub seat_place : ℕ → ℕ
-seat_place s = 2 + s
+seat_place s = line (2 + s)
 
--- the place of the first word after the seats' words
+abbrev pub presence_place : About → ℕ
+presence_place a = line (2 + a.seats)
+
+-- the place of the first word after the clock's own, which begins a line too
 abbrev pub place_after_seats : About → ℕ
-place_after_seats a = 2 + a.seats
+place_after_seats a = line (3 + a.seats)
 
 abbrev pub write_hand : List ℕ → ℕ
 write_hand ws = slice_index ws write_place
@@ -54,6 +62,44 @@ pub record IsSeatWord (word : ℕ) : Type 0 where
   pub narrow : word < 2 ^ 32
   pub odd : 1 ≤ word → IsOdd word
 
+-- ---- sets of seats, as the bits of a word: bit s is that of the seat s
+
+abbrev pub presence_word : About → List ℕ → ℕ
+presence_word a ws = slice_index ws (presence_place a)
+
+-- The seat is in the set, or it isn't. In the presence word are the seats that have a worker.
+abbrev pub IsPresent : ℕ → ℕ → Type 0
+IsPresent seats s = bit_at seats s ≡ 1
+
+abbrev pub IsAbsent : ℕ → ℕ → Type 0
+IsAbsent seats s = bit_at seats s ≡ 0
+
+abbrev pub is_present : ℕ → ℕ → Bool
+is_present seats s = bit_at seats s == 1
+
+-- the set of all seats of a clock
+abbrev pub all_seats : About → ℕ
+all_seats a = 2 ^ a.seats - 1
+
+-- the least of the n numbers from k on that is in the set, and k + n where none is
+abbrev pub first_of : ℕ → ℕ → ℕ → ℕ
+first_of seats k zero = k
+first_of seats k (suc n) = if is_present seats k then k else first_of seats (suc k) n
+
+-- the least seat from k on that is in the set, and the count of seats where none is
+abbrev pub next_present : About → ℕ → ℕ → ℕ
+next_present a seats k = first_of seats k (a.seats - k)
+
+-- the numbers below n that are in the set, in order
+abbrev pub seats_below : ℕ → ℕ → List ℕ
+seats_below seats zero = []
+seats_below seats (suc n) = if is_present seats n then seats_below seats n ++ n ∷ [] else seats_below seats n
+
+-- the words before any step: both hands at the start, every seat's word 0, and all seats present
+abbrev pub opening_words : About → List ℕ
+opening_words a =
+    slice_set (slice_set (slice_set (replicate (place_after_seats a) 0) write_place a.start) read_place a.start) (presence_place a) (all_seats a)
+
 -- ---- the holders
 
 -- the seat of each holder, in their order
@@ -71,6 +117,7 @@ spent =
       task = task.Idle;
       read = 0;
       write = 0;
+      present = 0;
       scanned = 0;
       least = 0;
       seen = 0;

@@ -1,11 +1,13 @@
 -- What each step of the clock does to the word that it acts on and to the holder that takes it, as functions of the value that the step finds in that word.
--- Enter, exit, advance and poll are those of FreeBSD's smr(9). The second load of an enter, the window and the one exchange of an advance are own.
+-- Enter, exit, advance and poll are those of FreeBSD's smr(9). The second load of an enter, the window, the one exchange of an advance, and that seats leave and come are own.
 use Rattle.std.specs.Prelude.{ℕ, ◌+◌, ◌-◌, ◌^◌, ◌==◌, nat_lt, nat_le, min, max, if◌then◌else◌, Bool, Option, Some, None}
 use Rattle.smr_seq.specs.Reading.{low, reading}
+use Rattle.std.specs.Int.Bits.{bit_and, bit_or}
 use Rattle.smr_core.specs.declared.about.About.{About}
 use Rattle.smr_core.specs.declared.holder.Holder.{Holder}
 use Rattle.smr_core.specs.declared.phase.Phase.TheVariants as phase
 use Rattle.smr_core.specs.declared.task.Task.TheVariants as task
+use Rattle.smr_core.specs.ClockState.{next_present}
 
 -- ---- what a word becomes of what was found in it
 
@@ -20,6 +22,14 @@ stored value found = value
 -- a compare-exchange from old to new writes only where it finds old
 abbrev pub exchanged : ℕ → ℕ → ℕ → ℕ
 exchanged old new found = if found == old then new else found
+
+-- a fetch-and takes the seat s out of a set of seats
+abbrev pub without : ℕ → ℕ → ℕ
+without s found = bit_and found (2 ^ 64 - 1 - 2 ^ s)
+
+-- a fetch-or puts it in
+abbrev pub with_seat : ℕ → ℕ → ℕ
+with_seat s found = bit_or found (2 ^ s)
 
 -- ---- what every load of a hand teaches
 
@@ -59,6 +69,16 @@ enter_checked a h found =
 -- exit, a store of 0 in one's own word
 abbrev pub cleared : Holder → Holder
 cleared h = record h { phase = phase.Outside }
+
+-- ---- leave and come
+
+-- The worker takes its own bit out of the presence word, and its seat is vacant.
+abbrev pub left : Holder → Holder
+left h = record h { phase = phase.Vacant }
+
+-- The vacancy puts its bit in, and is the worker of its seat again. It knows of the hands what it knew.
+abbrev pub came : Holder → Holder
+came h = record h { phase = phase.Outside }
 
 -- ---- advance
 
@@ -103,13 +123,17 @@ advance_swapped h found =
 abbrev pub poll_read : Holder → ℕ → Holder
 poll_read h found = record (read_loaded h found) { task = task.PollRead; read = found }
 
--- A load of the write hand. No word is loaded yet, and the least mark so far is the hand itself.
+-- a load of the write hand
 abbrev pub poll_loaded : About → Holder → ℕ → Holder
-poll_loaded a h found = record (write_loaded a h found) { task = task.Scanning; write = found; scanned = 0; least = found }
+poll_loaded a h found = record (write_loaded a h found) { task = task.PollLoaded; write = found }
 
 -- A load of the write hand that ends the poll, since the read hand that it has is not below the goal.
 abbrev pub poll_ended : About → Holder → ℕ → Holder
 poll_ended a h found = record (write_loaded a h found) { task = task.Idle }
+
+-- A load of the presence word: whose words the poll will load. None is loaded yet, and the least mark so far is the write hand itself.
+abbrev pub poll_present : About → Holder → ℕ → Holder
+poll_present a h found = record h { task = task.Scanning; present = found; scanned = next_present a found 0; least = h.write }
 
 -- The least mark, with a seat's word that has this reading: an enter that is older than the read hand counts as one at the read hand.
 abbrev pub least_with : ℕ → ℕ → Option ℕ → ℕ
@@ -120,9 +144,13 @@ least_with read least (Some entered) = min least (max entered read)
 abbrev pub least_after : ℕ → ℕ → ℕ → ℕ → ℕ
 least_after read write least word = if word == 0 then least else least_with read least (reading word write)
 
--- a load of the next seat's word
-abbrev pub poll_scanned : Holder → ℕ → Holder
-poll_scanned h found = record h { scanned = h.scanned + 1; least = least_after h.read h.write h.least found }
+-- a load of the word of the seat that is next in the set
+abbrev pub poll_scanned : About → Holder → ℕ → Holder
+poll_scanned a h found =
+    record h {
+      scanned = next_present a h.present (h.scanned + 1);
+      least = least_after h.read h.write h.least found;
+    }
 
 -- A compare-exchange of the read hand, from what was loaded to the least mark. What it leaves is the read hand last found.
 abbrev pub last_found : Holder → ℕ → ℕ
@@ -144,6 +172,7 @@ note_of h =
       task = task.Idle;
       read = 0;
       write = 0;
+      present = 0;
       scanned = 0;
       least = 0;
       seen = h.seen;

@@ -1,5 +1,5 @@
 -- The state of the core: the clock's numbers and words, and its holders with what their polls are after.
-use Rattle.std.specs.Prelude.{◌≡◌, ℕ, zero, suc, ◌<◌, ◌≤◌, List, [], ◌∷◌, ◌++◌, length, map, replicate, Option, Some, None, if◌then◌else◌, nat_lt}
+use Rattle.std.specs.Prelude.{◌≡◌, ℕ, zero, suc, ◌<◌, ◌≤◌, List, [], ◌∷◌, ◌++◌, length, map, ◌⊎◌, Option, Some, None, if◌then◌else◌, nat_lt}
 use mathlib.Core.Option.{some}
 use lib.ListN.{get_elem?}
 use Rattle.smr_seq.specs.Reading.{IsReading}
@@ -8,13 +8,13 @@ use Rattle.smr_core.specs.declared.actor.Actor.{Actor}
 use Rattle.smr_core.specs.declared.holder.Holder.{Holder}
 use Rattle.smr_core.specs.declared.phase.Phase.TheVariants as phase
 use Rattle.smr_core.specs.declared.task.Task.TheVariants as task
-use Rattle.smr_core.specs.ClockState.{place_after_seats}
+use Rattle.smr_core.specs.ClockState.{place_after_seats, opening_words}
 use Rattle.smr_core.specs.ClockLaw.{ClockLaw}
 
 pub record State : Type 0 where
   pub about : About
   pub words : List ℕ
-  -- the workers of the seats, in order, and then the notes
+  -- the workers or vacancies of the seats, in order, and then the notes
   pub actors : List Actor
 
 -- the actor of this number
@@ -45,6 +45,7 @@ first_worker a s =
         task = task.Idle;
         read = 0;
         write = 0;
+        present = 0;
         scanned = 0;
         least = 0;
         seen = a.start;
@@ -60,17 +61,17 @@ abbrev pub first_workers : About → ℕ → List Actor
 first_workers a zero = []
 first_workers a (suc n) = first_workers a n ++ first_worker a n ∷ []
 
--- both hands at the start, every word 0, a worker for each seat, and no note
+-- both hands at the start, every seat's word 0, a worker for each seat, and no note
 abbrev pub opening : About → State
-opening a = record { about = a; words = a.start ∷ a.start ∷ replicate a.seats 0; actors = first_workers a a.seats }
+opening a = record { about = a; words = opening_words a; actors = first_workers a a.seats }
 
 -- ---- its law
 
 -- what a poll is after: the reading of its tag near the write hand that it loaded is above the read hand that it loaded
 abbrev pub AimFits : Actor → Type 0
-AimFits actor = actor.holder.task ≡ task.Scanning → IsReading actor.tag actor.holder.write actor.reading × (actor.holder.read < actor.reading)
+AimFits actor = (actor.holder.task ≡ task.PollLoaded) ⊎ (actor.holder.task ≡ task.Scanning) → IsReading actor.tag actor.holder.write actor.reading × (actor.holder.read < actor.reading)
 
--- the worker of a seat has the seat's number, and no other holder has a seat
+-- the worker or vacancy of a seat has the seat's number, and no other holder has a seat
 abbrev pub seat_at : About → ℕ → Option ℕ
 seat_at a n = if nat_lt n a.seats then Some n else None
 

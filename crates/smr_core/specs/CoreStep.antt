@@ -1,5 +1,5 @@
 -- The steps of the core, each with what it needs, does and sees, and its refusals.
-use Rattle.std.specs.Prelude.{◌≡◌, ℕ, ◌<◌, ◌≤◌, ◌⊎◌, ◌==◌, List, [], ◌∷◌, ◌++◌, length, slice_index, slice_get, slice_set, take, Option, Some, None, IsSome, if◌then◌else◌, nat_le}
+use Rattle.std.specs.Prelude.{◌≡◌, ◌≢◌, ℕ, ◌<◌, ◌≤◌, ◌⊎◌, ◌==◌, List, [], ◌∷◌, ◌++◌, length, slice_index, slice_get, slice_set, take, Option, Some, None, IsSome, if◌then◌else◌, nat_le}
 use Rattle.smr_seq.specs.Reading.{reading}
 use Rattle.smr_core.specs.declared.about.About.{About}
 use Rattle.smr_core.specs.declared.actor.Actor.{Actor}
@@ -7,12 +7,12 @@ use Rattle.smr_core.specs.declared.holder.Holder.{Holder}
 use Rattle.smr_core.specs.declared.phase.Phase.TheVariants as phase
 use Rattle.smr_core.specs.declared.task.Task.TheVariants as task
 use Rattle.smr_core.specs.declared.step.Step.{Step}
-use Rattle.smr_core.specs.declared.step.Step.TheVariants.{EnterLoad, EnterStore, EnterCheck, Clear, AdvanceRead, AdvanceLoad, AdvanceSwap, PollRead, PollLoad, PollScan, PollSwap, Note, Absorb}
+use Rattle.smr_core.specs.declared.step.Step.TheVariants.{EnterLoad, EnterStore, EnterCheck, Clear, Leave, Come, AdvanceRead, AdvanceLoad, AdvanceSwap, PollRead, PollLoad, PollPresent, PollScan, PollSwap, Note, Absorb}
 use Rattle.smr_core.specs.declared.seen.Seen.{Seen}
 use Rattle.smr_core.specs.declared.seen.Seen.TheVariants as seen
 use Rattle.smr_core.specs.declared.step_refused.StepRefused.{StepRefused}
 use Rattle.smr_core.specs.declared.step_refused.StepRefused.TheVariants.{NoSeat, OutOfTurn, Crowded, Memory}
-use Rattle.smr_core.specs.ClockState.{write_place, read_place, seat_place, spent}
+use Rattle.smr_core.specs.ClockState.{write_place, read_place, seat_place, presence_place, spent}
 use Rattle.smr_core.specs.ClockStep as clock
 use Rattle.smr_core.specs.CoreState.{State, IsActor, most_holders}
 
@@ -22,26 +22,36 @@ taker (EnterLoad s) = s
 taker (EnterStore s) = s
 taker (EnterCheck s) = s
 taker (Clear s) = s
+taker (Leave s) = s
+taker (Come s) = s
 taker (AdvanceRead s) = s
 taker (AdvanceLoad s) = s
 taker (AdvanceSwap s) = s
 taker (PollRead s tag) = s
 taker (PollLoad s) = s
+taker (PollPresent s) = s
 taker (PollScan s) = s
 taker (PollSwap s) = s
 taker (Note s) = s
 taker (Absorb s note) = s
 
--- a worker is a holder with a seat
+-- a worker is a holder with a seat that isn't vacant
+abbrev pub IsWorker : Holder → Type 0
+IsWorker h = IsSome h.seat × (h.phase ≢ phase.Vacant)
+
 abbrev pub IsIdleWorker : Holder → Type 0
-IsIdleWorker h = IsSome h.seat × (h.task ≡ task.Idle)
+IsIdleWorker h = IsWorker h × (h.task ≡ task.Idle)
+
+-- a worker leaves outside a section, and in no advance or poll
+abbrev pub MayLeave : Holder → Type 0
+MayLeave h = (h.phase ≡ phase.Outside) × (h.task ≡ task.Idle)
 
 abbrev pub IsIdleNote : Holder → Type 0
 IsIdleNote h = (h.phase ≡ phase.Note) × (h.task ≡ task.Idle)
 
 -- a poll is for a worker or a note
 abbrev pub MayPoll : Holder → Type 0
-MayPoll h = (IsSome h.seat ⊎ (h.phase ≡ phase.Note)) × (h.task ≡ task.Idle)
+MayPoll h = (IsWorker h ⊎ (h.phase ≡ phase.Note)) × (h.task ≡ task.Idle)
 
 -- what a step needs of the holder that takes it
 abbrev pub Needs : About → Step → Holder → Type 0
@@ -49,11 +59,14 @@ Needs a (EnterLoad s) h = h.phase ≡ phase.Outside
 Needs a (EnterStore s) h = h.phase ≡ phase.Loaded
 Needs a (EnterCheck s) h = h.phase ≡ phase.Stored
 Needs a (Clear s) h = (h.phase ≡ phase.Inside) ⊎ (h.phase ≡ phase.Late)
+Needs a (Leave s) h = MayLeave h
+Needs a (Come s) h = h.phase ≡ phase.Vacant
 Needs a (AdvanceRead s) h = IsIdleWorker h
 Needs a (AdvanceLoad s) h = h.task ≡ task.AdvRead
 Needs a (AdvanceSwap s) h = h.task ≡ task.AdvLoaded
 Needs a (PollRead s tag) h = MayPoll h
 Needs a (PollLoad s) h = h.task ≡ task.PollRead
+Needs a (PollPresent s) h = h.task ≡ task.PollLoaded
 Needs a (PollScan s) h = (h.task ≡ task.Scanning) × (h.scanned < a.seats)
 Needs a (PollSwap s) h = (h.task ≡ task.Scanning) × (h.scanned ≡ a.seats)
 Needs a (Note s) h = IsIdleWorker h
@@ -144,6 +157,10 @@ IsStep s (EnterCheck n) =
     (λ x found. check_sees s.about x.holder found)
 IsStep s (Clear n) =
     Moves s (Clear n) (λ h. seat_place n) (λ h. clock.stored 0) (λ x found. record x { holder = clock.cleared x.holder }) (λ x found. seen.Done)
+IsStep s (Leave n) =
+    Moves s (Leave n) (λ h. presence_place s.about) (λ h. clock.without n) (λ x found. record x { holder = clock.left x.holder }) (λ x found. seen.Done)
+IsStep s (Come n) =
+    Moves s (Come n) (λ h. presence_place s.about) (λ h. clock.with_seat n) (λ x found. record x { holder = clock.came x.holder }) (λ x found. seen.Done)
 IsStep s (AdvanceRead n) =
     Moves s (AdvanceRead n) (λ h. read_place) (λ h. clock.same) (λ x found. record x { holder = clock.advance_read x.holder found }) (λ x found. seen.Hand found)
 IsStep s (AdvanceLoad n) =
@@ -156,8 +173,10 @@ IsStep s (PollRead n tag) =
     Moves s (PollRead n tag) (λ h. read_place) (λ h. clock.same) (λ x found. record x { holder = clock.poll_read x.holder found; tag = tag }) (λ x found. seen.Hand found)
 IsStep s (PollLoad n) =
     Moves s (PollLoad n) (λ h. write_place) (λ h. clock.same) (λ x found. poll_goes_on s.about x found (reading x.tag found)) (λ x found. poll_sees x found (reading x.tag found))
+IsStep s (PollPresent n) =
+    Moves s (PollPresent n) (λ h. presence_place s.about) (λ h. clock.same) (λ x found. record x { holder = clock.poll_present s.about x.holder found }) (λ x found. seen.Present found)
 IsStep s (PollScan n) =
-    Moves s (PollScan n) (λ h. seat_place h.scanned) (λ h. clock.same) (λ x found. record x { holder = clock.poll_scanned x.holder found })
+    Moves s (PollScan n) (λ h. seat_place h.scanned) (λ h. clock.same) (λ x found. record x { holder = clock.poll_scanned s.about x.holder found })
     (λ x found. seen.Word x.holder.scanned found (clock.least_after x.holder.read x.holder.write x.holder.least found))
 IsStep s (PollSwap n) =
     Moves s (PollSwap n) (λ h. read_place) (λ h. clock.exchanged h.read h.least) (λ x found. record x { holder = clock.poll_swapped x.holder found }) swap_sees

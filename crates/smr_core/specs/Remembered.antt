@@ -1,5 +1,5 @@
 -- What a view of the running clock remembers beside its holder, and the law of it. The core keeps none of this.
-use Rattle.std.specs.Prelude.{◌≡◌, ℕ, ◌+◌, ◌<◌, List, [], ◌∷◌, ◌++◌, length, fold, Contains, slice_index, Some, ◌⊎◌}
+use Rattle.std.specs.Prelude.{◌≡◌, ℕ, ◌+◌, ◌<◌, List, [], ◌∷◌, ◌++◌, map, fold, Contains, Some, ◌⊎◌}
 use mathlib.Core.Option.{some}
 use lib.ListN.{get_elem?}
 use Rattle.smr_seq.specs.Reading.{low}
@@ -8,30 +8,32 @@ use Rattle.smr_core.specs.declared.holder.Holder.{Holder}
 use Rattle.smr_core.specs.declared.phase.Phase.{Phase}
 use Rattle.smr_core.specs.declared.phase.Phase.TheVariants as phase
 use Rattle.smr_core.specs.declared.task.Task.TheVariants as task
-use Rattle.smr_core.specs.ClockState.{IsOdd}
+use Rattle.smr_core.specs.declared.found_word.FoundWord.{FoundWord}
+use Rattle.smr_core.specs.ClockState.{IsOdd, seats_below}
 use Rattle.smr_core.specs.ClockStep.{least_after, last_found}
 
--- A poll that came to its exchange: both hands that it loaded, the words that it found, the least mark, and the read hand last found.
+-- A poll that came to its exchange: both hands and the presence word that it loaded, the words that it found, the least mark, and the read hand last found.
 -- The reading of its tag is not kept: it follows from the tag and the write hand.
 pub record LastPoll : Type 0 where
   pub read : ℕ
   pub write : ℕ
-  pub found : List ℕ
+  pub present : ℕ
+  pub found : List FoundWord
   pub least : ℕ
   pub value : ℕ
 
 pub record Remembered : Type 0 where
   -- all write hands whose low half it has stored in its word
   pub stored : List ℕ
-  -- in Scanning, the words that it has loaded
-  pub found : List ℕ
+  -- in Scanning, the words that it has loaded, each with the number of its seat
+  pub found : List FoundWord
   -- its last poll that came to its exchange; all 0 and no word where there was none
   pub last : LastPoll
   -- how many of its polls came to their exchange
   pub polls : ℕ
 
 abbrev pub nothing_remembered : Remembered
-nothing_remembered = record { stored = []; found = []; last = record { read = 0; write = 0; found = []; least = 0; value = 0 }; polls = 0 }
+nothing_remembered = record { stored = []; found = []; last = record { read = 0; write = 0; present = 0; found = []; least = 0; value = 0 }; polls = 0 }
 
 -- ---- what the steps add to it
 
@@ -41,19 +43,27 @@ stored_too r h = record r { stored = r.stored ++ h.loaded ∷ [] }
 abbrev pub none_found : Remembered → Remembered
 none_found r = record r { found = [] }
 
-abbrev pub found_too : Remembered → ℕ → Remembered
-found_too r word = record r { found = r.found ++ word ∷ [] }
+-- the word of the seat that is next in the set of the poll of the holder h
+abbrev pub found_too : Remembered → Holder → ℕ → Remembered
+found_too r h word = record r { found = r.found ++ record { seat = h.scanned; word = word } ∷ [] }
 
 -- the poll of the holder h came to its exchange, which found this read hand
 abbrev pub poll_done : Remembered → Holder → ℕ → Remembered
 poll_done r h found =
     record r {
       found = [];
-      last = record { read = h.read; write = h.write; found = r.found; least = h.least; value = last_found h found };
+      last = record { read = h.read; write = h.write; present = h.present; found = r.found; least = h.least; value = last_found h found };
       polls = r.polls + 1;
     }
 
 -- ---- its law
+
+-- the seats whose words these are, and the words alone, in their order
+abbrev pub seats_found : List FoundWord → List ℕ
+seats_found found = map (λ f. f.seat) found
+
+abbrev pub words_found : List FoundWord → List ℕ
+words_found found = map (λ f. f.word) found
 
 -- the least mark after these words
 abbrev pub least_of : ℕ → ℕ → List ℕ → ℕ
@@ -66,20 +76,20 @@ StoredFits phase.Inside h r = Contains r.stored h.loaded
 StoredFits phase.Late h r = Contains r.stored h.loaded
 StoredFits _ h r = Unit {0}
 
--- how many words were scanned, and the least mark, follow from the words found
+-- The words found are those of the seats of the set that are scanned, one each and in order, and the least mark follows from them.
 pub record FoundFits (h : Holder) (r : Remembered) : Type 0 where
-  pub scanned : h.scanned ≡ length r.found
-  pub least : h.least ≡ least_of h.read h.write r.found
+  pub seats : seats_found r.found ≡ seats_below h.present h.scanned
+  pub least : h.least ≡ least_of h.read h.write (words_found r.found)
 
--- the last poll loaded one word a seat, and its least mark follows from them
+-- The last poll loaded one word for each seat of its set, and for no other, and its least mark follows from them.
 pub record LastFits (a : About) (last : LastPoll) : Type 0 where
-  pub all_seats : length last.found ≡ a.seats
-  pub least : last.least ≡ least_of last.read last.write last.found
+  pub seats : seats_found last.found ≡ seats_below last.present a.seats
+  pub least : last.least ≡ least_of last.read last.write (words_found last.found)
 
 abbrev pub View : Type 0
 View = Holder × Remembered
 
--- the worker of the seat s remembers that it has stored this write hand
+-- the worker of the seat s, or its vacancy, remembers that it has stored this write hand
 pub record HasStored (vs : List View) (s entered : ℕ) : Type 0 where
   pub id : ℕ
   pub worker : View
@@ -88,9 +98,8 @@ pub record HasStored (vs : List View) (s entered : ℕ) : Type 0 where
   pub remembers : Contains worker.1.stored entered
 
 -- each word found at a seat is 0, or the low half of a write hand that the worker of that seat has stored
-abbrev pub WordsWereStored : List View → List ℕ → Type 0
-WordsWereStored vs found =
-    (s : ℕ) → s < length found → (slice_index found s ≡ 0) ⊎ ((entered : ℕ) × HasStored vs s entered × (slice_index found s ≡ low entered))
+abbrev pub WordsWereStored : List View → List FoundWord → Type 0
+WordsWereStored vs found = (f : FoundWord) → Contains found f → (f.word ≡ 0) ⊎ ((entered : ℕ) × HasStored vs f.seat entered × (f.word ≡ low entered))
 
 pub record RememberedFits (a : About) (vs : List View) (v : View) : Type 0 where
   pub stored : StoredFits v.0.phase v.0 v.1

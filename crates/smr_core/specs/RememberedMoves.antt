@@ -6,7 +6,7 @@ use Rattle.smr_core.specs.declared.about.About.{About}
 use Rattle.smr_core.specs.declared.holder.Holder.{Holder}
 use Rattle.smr_core.specs.declared.phase.Phase.TheVariants as phase
 use Rattle.smr_core.specs.declared.task.Task.TheVariants as task
-use Rattle.smr_core.specs.ClockState.{write_place, read_place, seat_place, spent, first_holder}
+use Rattle.smr_core.specs.ClockState.{write_place, read_place, seat_place, presence_place, spent, first_holder}
 use Rattle.smr_core.specs.ClockStep as clock
 use Rattle.smr_core.specs.ClockLaw.{ClockLaw}
 use Rattle.smr_core.specs.Remembered.{View, RememberedLaw, nothing_remembered, stored_too, none_found, found_too, poll_done}
@@ -60,6 +60,14 @@ EnterCheckRemembers = (a : About) (id : ℕ) (v : View) → v.0.phase ≡ phase.
 abbrev pub ClearRemembers : Type 0
 ClearRemembers = (a : About) (id s : ℕ) (v : View) → KeepsMemory a id v (seat_place s) (λ found. (clock.cleared v.0, v.1))
 
+-- ---- leave and come
+
+abbrev pub LeaveRemembers : Type 0
+LeaveRemembers = (a : About) (id : ℕ) (v : View) → KeepsMemory a id v (presence_place a) (λ found. (clock.left v.0, v.1))
+
+abbrev pub ComeRemembers : Type 0
+ComeRemembers = (a : About) (id : ℕ) (v : View) → KeepsMemory a id v (presence_place a) (λ found. (clock.came v.0, v.1))
+
 -- ---- advance
 
 abbrev pub AdvanceReadRemembers : Type 0
@@ -76,15 +84,18 @@ AdvanceSwapRemembers = (a : About) (id : ℕ) (v : View) → KeepsMemory a id v 
 abbrev pub PollReadRemembers : Type 0
 PollReadRemembers = (a : About) (id : ℕ) (v : View) → KeepsMemory a id v read_place (λ found. (clock.poll_read v.0 found, v.1))
 
--- no word of this poll is found yet
 abbrev pub PollLoadRemembers : Type 0
-PollLoadRemembers = (a : About) (id : ℕ) (v : View) → KeepsMemory a id v write_place (λ found. (clock.poll_loaded a v.0 found, none_found v.1))
+PollLoadRemembers = (a : About) (id : ℕ) (v : View) → KeepsMemory a id v write_place (λ found. (clock.poll_loaded a v.0 found, v.1))
+
+-- no word of this poll is found yet
+abbrev pub PollPresentRemembers : Type 0
+PollPresentRemembers = (a : About) (id : ℕ) (v : View) → KeepsMemory a id v (presence_place a) (λ found. (clock.poll_present a v.0 found, none_found v.1))
 
 -- the word found is 0, or the low half of a write hand that the worker of its seat remembers
 abbrev pub PollScanRemembers : Type 0
 PollScanRemembers =
     (a : About) (id : ℕ) (v : View) → v.0.task ≡ task.Scanning → v.0.scanned < a.seats
-    → KeepsMemory a id v (seat_place v.0.scanned) (λ found. (clock.poll_scanned v.0 found, found_too v.1 found))
+    → KeepsMemory a id v (seat_place v.0.scanned) (λ found. (clock.poll_scanned a v.0 found, found_too v.1 v.0 found))
 
 -- the poll is remembered
 abbrev pub PollSwapRemembers : Type 0

@@ -1,17 +1,18 @@
 -- Turns: a step, or a whole operation, which is several steps until it ends (own). How many they are depends on what they see.
-use Rattle.std.specs.Prelude.{◌≡◌, ℕ, ◌+◌, List, [], ◌∷◌, ◌++◌, replicate, slice_get, Bool, true, false, if◌then◌else◌}
+use Rattle.std.specs.Prelude.{◌≡◌, ℕ, ◌+◌, List, [], ◌∷◌, ◌++◌, map, slice_get, Bool, true, false, if◌then◌else◌}
 use Rattle.std.specs.Option.{option_map_or}
 use Rattle.smr_core.specs.declared.about.About.{About}
 use Rattle.smr_core.specs.declared.actor.Actor.{Actor}
 use Rattle.smr_core.specs.declared.task.Task.TheVariants as task
 use Rattle.smr_core.specs.declared.step.Step.{Step}
-use Rattle.smr_core.specs.declared.step.Step.TheVariants.{EnterLoad, EnterStore, EnterCheck, Clear, AdvanceRead, AdvanceLoad, AdvanceSwap, PollRead, PollLoad, PollScan, PollSwap}
+use Rattle.smr_core.specs.declared.step.Step.TheVariants.{EnterLoad, EnterStore, EnterCheck, Clear, AdvanceRead, AdvanceLoad, AdvanceSwap, PollRead, PollLoad, PollPresent, PollScan, PollSwap}
 use Rattle.smr_core.specs.declared.seen.Seen.{Seen}
 use Rattle.smr_core.specs.declared.seen.Seen.TheVariants as seen
 use Rattle.smr_core.specs.declared.step_refused.StepRefused.{StepRefused}
 use Rattle.smr_core.specs.declared.step_refused.StepRefused.TheVariants.{Memory}
 use Rattle.smr_core.specs.declared.turn.Turn.{Turn}
-use Rattle.smr_core.specs.declared.turn.Turn.TheVariants.{One, Enter, Advance, Poll}
+use Rattle.smr_core.specs.declared.turn.Turn.TheVariants.{One, Enter, Advance, PollLoads, Poll}
+use Rattle.smr_core.specs.ClockState.{seats_below}
 use Rattle.smr_core.specs.CoreState.{State, IsActor}
 use Rattle.smr_core.specs.CoreStep.{Refuses, Run}
 
@@ -25,18 +26,28 @@ abbrev pub is_hand : Seen → Bool
 is_hand (seen.Hand value) = true
 is_hand saw = false
 
+-- the set of seats that the load of the presence word saw, and none where it is no such load
+abbrev pub set_in : Seen → ℕ
+set_in (seen.Present seats) = seats
+set_in saw = 0
+
 -- what the step of this place in its operation saw, from 0, passes
 abbrev pub saw_at : ℕ → (Seen → Bool) → List Seen → Bool
 saw_at n passes sees = option_map_or passes (slice_get sees n) false
 
+abbrev pub set_at : ℕ → List Seen → ℕ
+set_at n sees = option_map_or set_in (slice_get sees n) 0
+
 -- The steps of a turn, where they see this: an enter clears its word where its third step finds it late, an advance exchanges only where its second step saw a hand,
--- and a poll scans the words of all seats and exchanges only where its second step saw a hand.
+-- and a poll goes on only where its second step saw a hand: it loads the presence word, scans the word of each seat that is in it, and exchanges.
 abbrev pub turn_steps : About → Turn → List Seen → List Step
 turn_steps a (One step) sees = step ∷ []
 turn_steps a (Enter n) sees = EnterLoad n ∷ EnterStore n ∷ EnterCheck n ∷ (if saw_at 2 is_late sees then Clear n ∷ [] else [])
 turn_steps a (Advance n) sees = AdvanceRead n ∷ AdvanceLoad n ∷ (if saw_at 1 is_hand sees then AdvanceSwap n ∷ [] else [])
+turn_steps a (PollLoads n) sees = PollLoad n ∷ (if saw_at 0 is_hand sees then PollPresent n ∷ [] else [])
 turn_steps a (Poll n tag) sees =
-    PollRead n tag ∷ PollLoad n ∷ (if saw_at 1 is_hand sees then replicate a.seats (PollScan n) ++ PollSwap n ∷ [] else [])
+    PollRead n tag ∷ PollLoad n
+    ∷ (if saw_at 1 is_hand sees then PollPresent n ∷ (map (λ seat. PollScan n) (seats_below (set_at 2 sees) a.seats) ++ PollSwap n ∷ []) else [])
 
 -- From s the turn saw this, step by step, and led to s'.
 abbrev pub IsTurn : State → Turn → List Seen → State → Type 0
@@ -54,6 +65,7 @@ abbrev pub first_step : Turn → Step
 first_step (One step) = step
 first_step (Enter n) = EnterLoad n
 first_step (Advance n) = AdvanceRead n
+first_step (PollLoads n) = PollLoad n
 first_step (Poll n tag) = PollRead n tag
 
 -- From s the turn is refused so: as its first step is. Want of memory may be that of the list of what its steps see, which is taken before any step.
@@ -66,7 +78,8 @@ abbrev pub most_steps : About → Turn → ℕ
 most_steps a (One step) = 1
 most_steps a (Enter n) = 4
 most_steps a (Advance n) = 3
-most_steps a (Poll n tag) = a.seats + 3
+most_steps a (PollLoads n) = 2
+most_steps a (Poll n tag) = a.seats + 4
 
 -- ---- how the steps of an operation follow one another; no public clause cites these
 
@@ -74,9 +87,10 @@ most_steps a (Poll n tag) = a.seats + 3
 abbrev pub IsSure : State → Step → Type 0
 IsSure s step = (refused : StepRefused) → Refuses s step refused → ⊥
 
--- the holder n is in a poll that has loaded the words of k seats
-pub record Scans (s : State) (n k : ℕ) : Type 0 where
+-- the holder n is in a poll of this set of seats, whose next step loads the word of the seat k, or exchanges where that is the count of seats
+pub record Scans (s : State) (n set k : ℕ) : Type 0 where
   pub actor : Actor
   pub there : IsActor s n actor
   pub scanning : actor.holder.task ≡ task.Scanning
+  pub of_set : actor.holder.present ≡ set
   pub scanned : actor.holder.scanned ≡ k

@@ -33,7 +33,7 @@ impl Model for Core {
 }
 
 impl Core {
-    /// Both hands at `start`, every word 0, and a worker for each seat.
+    /// Both hands at `start`, every seat's word 0, and a worker for each seat.
     pub fn new(alloc: Global, seats: u32, start: u64, window: u64) -> Result<Self, CoreRefused>
         ensures in_range { IfOk result (λ core. IsInRange (record { start = start; window = window; seats = seats })) }
         ensures opened { IfOk result (λ core. core ≡ opening (record { start = start; window = window; seats = seats })) }
@@ -55,7 +55,7 @@ impl Core {
         self.works.apply(step)
     }
 
-    /// How many seats there are, 1 to 64: the workers are the holders below that number.
+    /// How many seats there are, 1 to 64: their workers, or vacancies, are the holders below that number.
     pub fn seats(&self) -> u32
         ensures value { result ≡ self.now.about.seats }
         ensures law { CoreLaw self.now }

@@ -1,20 +1,21 @@
 ghost use Rattle.std.specs.Prelude.{◌≡◌, ℕ, ◌+◌, ◌-◌, ◌^◌, ◌<◌, ◌≤◌, ◌↔◌, IsTrue, IsSome};
 ghost use Rattle.smr_core.specs.ClockState.{spent};
 ghost use Rattle.smr_core.specs.ClockStep as clock;
-ghost use Rattle.smr_core.specs.CoreStep.{IsIdleWorker, IsIdleNote, MayPoll};
+ghost use Rattle.smr_core.specs.CoreStep.{IsWorker, IsIdleWorker, IsIdleNote, MayLeave, MayPoll};
 
 use crate::about::About;
 use crate::hands::{exchanged, is_overtaken, is_spent, is_too_far, least_after};
 use crate::phase::Phase;
+use crate::presence::next_present;
 use crate::task::Task;
 use smr_seq::Seq;
 
-/// What one holder of a clock knows: a worker, which has a seat, or a note.
+/// What one holder of a clock knows: a worker or a vacancy, which have a seat, or a note.
 ///
 /// A number counts only in the phases and tasks that name it.
 #[derive(Clone, Copy, Debug, PartialEq, Eq)]
 pub struct Holder {
-    /// A worker's seat.
+    /// The seat of a worker or of a vacancy.
     pub seat: Option<u32>,
     pub phase: Phase,
     /// From Loaded on, the write hand that the enter loaded.
@@ -24,9 +25,12 @@ pub struct Holder {
     pub task: Task,
     /// The read hand that the advance or poll loaded.
     pub read: u64,
-    /// In AdvLoaded and Scanning, the write hand that the advance or poll loaded.
+    /// In AdvLoaded, PollLoaded and Scanning, the write hand that the advance or poll loaded.
     pub write: u64,
-    /// In Scanning, how many seats' words were loaded.
+    /// In Scanning, the presence word that the poll loaded: bit k is set where the seat k is scanned.
+    pub present: u64,
+    /// In Scanning, the next seat of that set whose word is to be loaded, and the count of seats where
+    /// all were.
     pub scanned: u32,
     /// In Scanning, the least mark so far: to where the read hand may go.
     pub least: u64,
@@ -41,11 +45,25 @@ pub struct Holder {
 /// What each step makes of the holder that takes it, from the value that the step found. The rules
 /// are those of FreeBSD's smr(9), where nothing else is said.
 impl Holder {
-    /// Whether it is a worker, which is a holder with a seat, in no advance or poll.
+    /// Whether it is a worker, which is a holder with a seat that isn't vacant.
+    pub fn is_worker(&self) -> bool
+        ensures { IsTrue result ↔ IsWorker self.now }
+    {
+        self.seat.is_some() && self.phase != Phase::Vacant
+    }
+
+    /// Whether it is a worker in no advance or poll.
     pub fn is_idle_worker(&self) -> bool
         ensures { IsTrue result ↔ IsIdleWorker self.now }
     {
-        self.seat.is_some() && self.task == Task::Idle
+        self.is_worker() && self.task == Task::Idle
+    }
+
+    /// Whether it is a worker that may leave its seat: outside a section, and in no advance or poll.
+    pub fn may_leave(&self) -> bool
+        ensures { IsTrue result ↔ MayLeave self.now }
+    {
+        self.phase == Phase::Outside && self.task == Task::Idle
     }
 
     /// Whether it is a note in no poll.
@@ -59,7 +77,7 @@ impl Holder {
     pub fn may_poll(&self) -> bool
         ensures { IsTrue result ↔ MayPoll self.now }
     {
-        (self.seat.is_some() || self.phase == Phase::Note) && self.task == Task::Idle
+        (self.is_worker() || self.phase == Phase::Note) && self.task == Task::Idle
     }
 
     /// A holder that was taken in.
@@ -74,6 +92,7 @@ impl Holder {
             task: Task::Idle,
             read: 0,
             write: 0,
+            present: 0,
             scanned: 0,
             least: 0,
             seen: 0,
@@ -163,6 +182,26 @@ impl Holder {
         }
     }
 
+    /// After it has left its seat: own.
+    pub fn left(self) -> Self
+        ensures { result ≡ clock.left self }
+    {
+        Holder {
+            phase: Phase::Vacant,
+            ..self
+        }
+    }
+
+    /// After it has come to its vacant seat: own.
+    pub fn came(self) -> Self
+        ensures { result ≡ clock.came self }
+    {
+        Holder {
+            phase: Phase::Outside,
+            ..self
+        }
+    }
+
     /// After an advance's load of the read hand.
     pub fn advance_read(self, found: u64) -> Self
         ensures { result ≡ clock.advance_read self found }
@@ -234,10 +273,8 @@ impl Holder {
         ensures { result ≡ clock.poll_loaded about self found }
     {
         Holder {
-            task: Task::Scanning,
+            task: Task::PollLoaded,
             write: found,
-            scanned: 0,
-            least: found,
             ..self.write_loaded(about, found)
         }
     }
@@ -252,6 +289,20 @@ impl Holder {
         }
     }
 
+    /// After a poll's load of the presence word: own.
+    pub fn poll_present(self, about: About, found: u64) -> Self
+        requires { about.seats ≤ 64 }
+        ensures { result ≡ clock.poll_present about self found }
+    {
+        Holder {
+            task: Task::Scanning,
+            present: found,
+            scanned: next_present(about, found, 0),
+            least: self.write,
+            ..self
+        }
+    }
+
     /// The least mark after a seat's word was loaded.
     pub fn least_after(&self, word: u32) -> u64
         ensures { result ≡ clock.least_after self.now.read self.now.write self.now.least word }
@@ -260,12 +311,13 @@ impl Holder {
     }
 
     /// After a poll's load of a seat's word.
-    pub fn poll_scanned(self, word: u32) -> Self
-        requires { self.scanned < 2 ^ 31 }
-        ensures { result ≡ clock.poll_scanned self word }
+    pub fn poll_scanned(self, about: About, word: u32) -> Self
+        requires few { about.seats ≤ 64 }
+        requires within { self.scanned < 2 ^ 31 }
+        ensures { result ≡ clock.poll_scanned about self word }
     {
         Holder {
-            scanned: self.scanned + 1,
+            scanned: next_present(about, self.present, self.scanned + 1),
             least: self.least_after(word),
             ..self
         }

@@ -1,9 +1,9 @@
 //! The laws of the clock, each for all states and all runs. A call here does nothing: its contract is
 //! the law. The definitions are those that the contract of `Core::apply` cites.
 
-ghost use Rattle.smr_core.specs.ClockMoves.{BeginsLawful, OtherWordKeeps, WriteLookKeeps, ReadLookKeeps, EnterLoadKeeps, EnterStoreKeeps, EnterCheckKeeps, ClearKeeps, AdvanceReadKeeps, AdvanceLoadKeeps, AdvanceSwapKeeps, PollReadKeeps, PollLoadKeeps, PollEndKeeps, PollScanKeeps, PollSwapKeeps, NoteKeeps, WorkerKeeps, JoinKeeps};
+ghost use Rattle.smr_core.specs.ClockMoves.{BeginsLawful, OtherWordKeeps, WriteLookKeeps, ReadLookKeeps, EnterLoadKeeps, EnterStoreKeeps, EnterCheckKeeps, ClearKeeps, LeaveKeeps, ComeKeeps, AdvanceReadKeeps, AdvanceLoadKeeps, AdvanceSwapKeeps, PollReadKeeps, PollLoadKeeps, PollEndKeeps, PollPresentKeeps, PollScanKeeps, PollSwapKeeps, NoteKeeps, WorkerKeeps, JoinKeeps};
 ghost use Rattle.smr_core.specs.TurnLaws.{TurnIsDetermined, TakenIsNotRefused};
-ghost use Rattle.smr_core.specs.RememberedMoves.{BeginsRemembering, WriteLookRemembers, ReadLookRemembers, EnterLoadRemembers, EnterStoreRemembers, EnterCheckRemembers, ClearRemembers, AdvanceReadRemembers, AdvanceLoadRemembers, AdvanceSwapRemembers, PollReadRemembers, PollLoadRemembers, PollScanRemembers, PollSwapRemembers, NoteRemembers, WorkerRemembers, JoinRemembers};
+ghost use Rattle.smr_core.specs.RememberedMoves.{BeginsRemembering, WriteLookRemembers, ReadLookRemembers, EnterLoadRemembers, EnterStoreRemembers, EnterCheckRemembers, ClearRemembers, LeaveRemembers, ComeRemembers, AdvanceReadRemembers, AdvanceLoadRemembers, AdvanceSwapRemembers, PollReadRemembers, PollLoadRemembers, PollPresentRemembers, PollScanRemembers, PollSwapRemembers, NoteRemembers, WorkerRemembers, JoinRemembers};
 ghost use Rattle.smr_core.specs.YesMeans.{YesIsKnown, YesMeansExpired, YesIsExpired, GoalIsExpired, PollKeepsItsTag, HandsNeverFall, WindowIsKept, MarksAreKept, EntryIsTheThirdStep};
 
 /// The clock's law holds where a clock begins, and each kind of step keeps it from every state in
@@ -17,12 +17,15 @@ pub fn steps_keep_the_law()
     ensures enter_store { EnterStoreKeeps }
     ensures enter_check { EnterCheckKeeps }
     ensures clear { ClearKeeps }
+    ensures leave { LeaveKeeps }
+    ensures come { ComeKeeps }
     ensures advance_read { AdvanceReadKeeps }
     ensures advance_load { AdvanceLoadKeeps }
     ensures advance_swap { AdvanceSwapKeeps }
     ensures poll_read { PollReadKeeps }
     ensures poll_load { PollLoadKeeps }
     ensures poll_end { PollEndKeeps }
+    ensures poll_present { PollPresentKeeps }
     ensures poll_scan { PollScanKeeps }
     ensures poll_swap { PollSwapKeeps }
     ensures note { NoteKeeps }
@@ -31,8 +34,8 @@ pub fn steps_keep_the_law()
 {}
 
 /// What the views of a running clock remember beside their holders is so where a clock begins, and
-/// stays so by each kind of step: a poll's words were stored by the workers of their seats, and how
-/// many were scanned, and the least mark, follow from them.
+/// stays so by each kind of step: a poll's words were stored by the workers of their seats, they are
+/// those of the seats of its set that were scanned, and the least mark follows from them.
 pub fn steps_keep_what_is_remembered()
     ensures begins { BeginsRemembering }
     ensures write_look { WriteLookRemembers }
@@ -41,11 +44,14 @@ pub fn steps_keep_what_is_remembered()
     ensures enter_store { EnterStoreRemembers }
     ensures enter_check { EnterCheckRemembers }
     ensures clear { ClearRemembers }
+    ensures leave { LeaveRemembers }
+    ensures come { ComeRemembers }
     ensures advance_read { AdvanceReadRemembers }
     ensures advance_load { AdvanceLoadRemembers }
     ensures advance_swap { AdvanceSwapRemembers }
     ensures poll_read { PollReadRemembers }
     ensures poll_load { PollLoadRemembers }
+    ensures poll_present { PollPresentRemembers }
     ensures poll_scan { PollScanRemembers }
     ensures poll_swap { PollSwapRemembers }
     ensures note { NoteRemembers }

@@ -5,7 +5,7 @@ ghost use Rattle.smr_core.specs.Works.{state_of};
 ghost use Rattle.smr_core.specs.declared.step.Step.{Step};
 
 use crate::actor::Actor;
-use crate::places::{READ_PLACE, WRITE_PLACE, seat_place};
+use crate::places::{READ_PLACE, WRITE_PLACE, presence_place, seat_place};
 use crate::seen::Seen;
 use crate::step_refused::StepRefused;
 use crate::task::Task;
@@ -66,7 +66,24 @@ impl Works {
         }
     }
 
-    /// The load of the next seat's word.
+    /// The load of the presence word, which is the poll's set of seats.
+    pub fn poll_present(&mut self, seat: u32) -> Result<Seen, StepRefused>
+        requires { CoreLaw (state_of self.old) }
+        ensures stepped { IfOk result (λ seen. IsStep (state_of self.old) (Step.PollPresent seat) seen (state_of self.new)) }
+        ensures refused { IfErr result (λ refused. Refuses (state_of self.old) (Step.PollPresent seat) refused) }
+        ensures unchanged { OnErr result (state_of self.new ≡ state_of self.old) }
+    {
+        let actor = self.actor(seat)?;
+        if actor.holder.task != Task::PollLoaded {
+            return Err(actor.out_of_turn(seat));
+        }
+        let found = self.words[presence_place(self.about)];
+        let holder = actor.holder.poll_present(self.about, found);
+        self.actors[seat as usize] = actor.with(holder);
+        Ok(Seen::Present { seats: found })
+    }
+
+    /// The load of the word of the next seat of the poll's set.
     pub fn poll_scan(&mut self, seat: u32) -> Result<Seen, StepRefused>
         requires { CoreLaw (state_of self.old) }
         ensures stepped { IfOk result (λ seen. IsStep (state_of self.old) (Step.PollScan seat) seen (state_of self.new)) }
@@ -79,7 +96,7 @@ impl Works {
             return Err(actor.out_of_turn(seat));
         }
         let word = self.words[seat_place(scanned)] as u32;
-        let holder = actor.holder.poll_scanned(word);
+        let holder = actor.holder.poll_scanned(self.about, word);
         self.actors[seat as usize] = actor.with(holder);
         Ok(Seen::Word {
             seat: scanned,

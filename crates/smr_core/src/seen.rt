@@ -1,5 +1,5 @@
 ghost use Rattle.std.specs.Prelude.{◌≡◌};
-ghost use Rattle.smr_core.specs.Turns.{is_hand, is_late};
+ghost use Rattle.smr_core.specs.Turns.{is_hand, is_late, set_in};
 
 /// What a step saw.
 #[derive(Clone, Copy, Debug, PartialEq, Eq)]
@@ -23,6 +23,8 @@ pub enum Seen {
     No { read: u64 },
     /// The seat whose word was loaded, the word, and the least mark so far.
     Word { seat: u32, word: u32, least: u64 },
+    /// The set of the seats that have a worker: bit k is that of the seat k.
+    Present { seats: u64 },
     /// The number of the new holder.
     Holder { number: u32 },
 }
@@ -40,5 +42,16 @@ impl Seen {
         ensures { result ≡ is_hand self.now }
     {
         matches!(self, Seen::Hand { .. })
+    }
+
+    /// The set of seats that a load of the presence word found, and the empty set where this is no
+    /// such load.
+    pub fn set(&self) -> u64
+        ensures { result ≡ set_in self.now }
+    {
+        match self {
+            Seen::Present { seats } => *seats,
+            _ => 0,
+        }
     }
 }

@@ -9,6 +9,10 @@ pub enum Step {
     EnterCheck { seat: u32 },
     /// The section, or the late enter, ends: the seat's word is 0 again.
     Clear { seat: u32 },
+    /// The worker of a seat leaves: its bit in the presence word is clear, and the seat is vacant.
+    Leave { seat: u32 },
+    /// A worker comes to a vacant seat: its bit is set again.
+    Come { seat: u32 },
     /// An advance loads the read hand.
     AdvanceRead { seat: u32 },
     /// The advance loads the write hand, and ends where there is no room for two more.
@@ -19,7 +23,9 @@ pub enum Step {
     PollRead { seat: u32, tag: u32 },
     /// The poll loads the write hand, and ends where its tag is known to be expired.
     PollLoad { seat: u32 },
-    /// The poll loads the next seat's word.
+    /// The poll loads the presence word, which is its set of seats.
+    PollPresent { seat: u32 },
+    /// The poll loads the word of the next seat of its set.
     PollScan { seat: u32 },
     /// The poll compare-exchanges the read hand.
     PollSwap { seat: u32 },

@@ -8,6 +8,8 @@ pub enum Task {
     AdvLoaded,
     /// The poll has the read hand.
     PollRead,
-    /// The poll has both hands, and loads the seats' words in order.
+    /// The poll has both hands.
+    PollLoaded,
+    /// The poll has both hands and the presence word, and loads the words of the seats in it in order.
     Scanning,
 }

@@ -9,7 +9,9 @@ pub enum Turn {
     Enter { seat: u32 },
     /// The loads of both hands, and the exchange where there is room for two more.
     Advance { seat: u32 },
-    /// The loads of both hands, and where the tag isn't known to be expired then, each seat's word
-    /// and the exchange.
+    /// A poll's load of the write hand, and where the poll goes on, of the presence word.
+    PollLoads { seat: u32 },
+    /// The loads of both hands, and where the tag isn't known to be expired then, of the presence word
+    /// and of the word of each seat in it, and the exchange.
     Poll { seat: u32, tag: u32 },
 }

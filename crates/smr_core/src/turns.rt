@@ -6,6 +6,7 @@ ghost use Rattle.smr_core.specs.declared.step_refused.StepRefused.{StepRefused};
 ghost use Rattle.smr_core.specs.declared.turn.Turn.{Turn};
 
 use crate::clock_core::Core;
+use crate::presence::is_present;
 use crate::seen::Seen;
 use crate::seens::Seens;
 use crate::step::Step;
@@ -27,6 +28,7 @@ impl Core {
             Turn::One { step } => self.one(alloc, step),
             Turn::Enter { seat } => self.enter(alloc, seat),
             Turn::Advance { seat } => self.advance(alloc, seat),
+            Turn::PollLoads { seat } => self.poll_loads(alloc, seat),
             Turn::Poll { seat, tag } => self.poll(alloc, seat, tag),
         }
     }
@@ -44,7 +46,8 @@ impl Core {
             Turn::One { .. } => 1,
             Turn::Enter { .. } => 4,
             Turn::Advance { .. } => 3,
-            Turn::Poll { .. } => words + 3,
+            Turn::PollLoads { .. } => 2,
+            Turn::Poll { .. } => words + 4,
         };
         match Vec::with_capacity(alloc, steps) {
             Ok(sees) => Ok(sees),
@@ -116,6 +119,23 @@ impl Core {
         Ok(Seens::from_vec(sees))
     }
 
+    fn poll_loads(&mut self, alloc: Global, seat: u32) -> Result<Seens, StepRefused>
+        ensures taken { IfOk result (λ sees. IsTurn self.old (Turn.PollLoads seat) sees self.new) }
+        ensures refused { IfErr result (λ refused. RefusesTurn self.old (Turn.PollLoads seat) refused) }
+        ensures unchanged { OnErr result (self.new ≡ self.old) }
+        ensures law { CoreLaw self.new }
+    {
+        let mut sees = self.room(alloc, Turn::PollLoads { seat })?;
+        let loaded = self.apply(alloc, Step::PollLoad { seat })?;
+        sees.push_reserved(loaded);
+        if !loaded.is_hand() {
+            return Ok(Seens::from_vec(sees));
+        }
+        let found = self.take(alloc, Step::PollPresent { seat });
+        sees.push_reserved(found);
+        Ok(Seens::from_vec(sees))
+    }
+
     fn poll(&mut self, alloc: Global, seat: u32, tag: u32) -> Result<Seens, StepRefused>
         ensures taken { IfOk result (λ sees. IsTurn self.old (Turn.Poll seat tag) sees self.new) }
         ensures refused { IfErr result (λ refused. RefusesTurn self.old (Turn.Poll seat tag) refused) }
@@ -131,9 +151,14 @@ impl Core {
         if !loaded.is_hand() {
             return Ok(Seens::from_vec(sees));
         }
-        for _ in 0..seats {
-            let word = self.take(alloc, Step::PollScan { seat });
-            sees.push_reserved(word);
+        let found = self.take(alloc, Step::PollPresent { seat });
+        sees.push_reserved(found);
+        let set = found.set();
+        for number in 0..seats {
+            if is_present(set, number) {
+                let word = self.take(alloc, Step::PollScan { seat });
+                sees.push_reserved(word);
+            }
         }
         let swapped = self.take(alloc, Step::PollSwap { seat });
         sees.push_reserved(swapped);

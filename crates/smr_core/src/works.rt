@@ -33,7 +33,7 @@ pub struct Works {
 }
 
 impl Works {
-    /// Both hands at the start, every word 0, and a worker for each seat.
+    /// Both hands at the start, every seat's word 0, and a worker for each seat.
     pub fn open(alloc: Global, about: About) -> Result<Self, AllocError>
         requires { about.seats ≤ 64 }
         ensures { IfOk result (λ works. state_of works ≡ opening about) }
@@ -57,11 +57,14 @@ impl Works {
             Step::EnterStore { seat } => self.enter_store(seat),
             Step::EnterCheck { seat } => self.enter_check(seat),
             Step::Clear { seat } => self.clear(seat),
+            Step::Leave { seat } => self.leave(seat),
+            Step::Come { seat } => self.come(seat),
             Step::AdvanceRead { seat } => self.advance_read(seat),
             Step::AdvanceLoad { seat } => self.advance_load(seat),
             Step::AdvanceSwap { seat } => self.advance_swap(seat),
             Step::PollRead { seat, tag } => self.poll_read(seat, tag),
             Step::PollLoad { seat } => self.poll_load(seat),
+            Step::PollPresent { seat } => self.poll_present(seat),
             Step::PollScan { seat } => self.poll_scan(seat),
             Step::PollSwap { seat } => self.poll_swap(seat),
             Step::Note { seat } => self.note(seat),

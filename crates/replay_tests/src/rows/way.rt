@@ -7,7 +7,7 @@ ghost use Rattle.name_rows.specs.Rows.{IsRowOf};
 ghost use Rattle.name_rows.specs.declared.entry_state.EntryState.{EntryState};
 
 use super::one_row;
-use name_rows::{Entry, Names, Root, Row, Unripe, find, link, raise, ripe, stamp, unlink, write};
+use name_rows::{Entry, Names, Root, Row, Unripe, link, raise, ripe, stamp, unlink, write};
 use smr_clock::{AdvanceRefused, Clock, Memory, Pass};
 use std::alloc::Global;
 use std::test::Fail;
@@ -73,43 +73,5 @@ fn an_entry_is_unripe_until_the_read_hand_comes_to_its_stamp(rt: HostRuntime) ->
     assert_eq!(rt; ripe(&clock, &mut entry), Err(unripe));
     assert!(rt; go_on(&clock, &mut writer)?);
     assert_eq!(rt; ripe(&clock, &mut entry), Ok(()));
-    Ok(())
-}
-
-#[test]
-fn an_entry_is_written_again_only_once_its_readers_have_left(rt: HostRuntime) -> Result<(), Fail> {
-    let (clock, mut writer, mut reader, mut row, mut root) = one_row(rt.alloc())?;
-    let first = clean(&clock, &mut root, 0)?;
-    let second = clean(&clock, &mut root, 1)?;
-    clock.enter(&mut reader)?;
-    assert_eq!(rt; find(&clock, &mut reader, 3), None);
-    bind(&clock, &mut row, first, 3, 30);
-    assert_eq!(rt; find(&clock, &mut reader, 3), Some(30));
-    let Some(mut evicted) = bind(&clock, &mut row, second, 4, 40) else {
-        return Err(Memory)?;
-    };
-    assert_eq!(rt;
-        (find(&clock, &mut reader, 3), find(&clock, &mut reader, 4)),
-        (None, Some(40))
-    );
-    assert!(rt; !go_on(&clock, &mut writer)?);
-    let unripe = Unripe { read: 1, stamp: 3 };
-    assert_eq!(rt; ripe(&clock, &mut evicted), Err(unripe));
-    assert_eq!(rt; find(&clock, &mut reader, 4), Some(40));
-    clock.exit(&mut reader);
-    assert!(rt; go_on(&clock, &mut writer)?);
-    clock.enter(&mut reader)?;
-    assert_eq!(rt; ripe(&clock, &mut evicted), Ok(()));
-    assert_eq!(rt; find(&clock, &mut reader, 4), Some(40));
-    bind(&clock, &mut row, evicted, 3, 50);
-    assert_eq!(rt;
-        (find(&clock, &mut reader, 3), find(&clock, &mut reader, 4)),
-        (Some(50), None)
-    );
-    assert_eq!(rt;
-        (row.key(), row.value(), row.version()),
-        (Some(3), Some(50), 3)
-    );
-    clock.exit(&mut reader);
     Ok(())
 }

@@ -3,17 +3,19 @@ ghost use Rattle.schedule_text.specs.ScheduleGrammar.{schedule_test};
 ghost use Rattle.schedule_text.specs.ScheduleShown.{Shows, Hears, IsOf};
 
 use crate::reading::said::Said;
-use crate::{Schedule, TraceKind, TurnLine};
+use crate::{Schedule, TraceKind, TurnLine, Version};
 use listed::Listed;
 use smr_core::About;
 use std::alloc::Global;
-use text_lines::{Grammar, LineRefused, is_head};
+use text_lines::{Grammar, LineRefused};
 
 /// The running state of a reading: what the lines so far have said.
 #[derive(Drop)]
 pub struct ScheduleReader {
     /// The first line was there.
     pub begun: bool,
+    /// What the first line said, and version 1 before it.
+    pub version: Version,
     pub clock: Option<About>,
     pub turns: Vec<TurnLine>,
     pub ended: bool,
@@ -26,6 +28,7 @@ impl ScheduleReader {
     {
         ScheduleReader {
             begun: false,
+            version: Version::One,
             clock: None,
             turns: Vec::new(alloc),
             ended: false,
@@ -41,6 +44,7 @@ impl ScheduleReader {
             unreachable!();
         };
         Schedule {
+            version: self.version,
             seats: clock.seats,
             start: clock.start,
             window: clock.window,
@@ -71,16 +75,17 @@ impl Grammar for ScheduleReader {
 
     fn take(&mut self, number: u64, line: &[u8]) -> Result<(), LineRefused> {
         if !self.begun {
-            if !is_head(line, b"smr") {
+            let Some(version) = Version::by_head(line) else {
                 return Err(TraceKind::Head.into());
-            }
+            };
             self.begun = true;
+            self.version = version;
             return Ok(());
         }
         if self.ended {
             return Err(TraceKind::After.into());
         }
-        let said = Said::by_line(self.clock.is_some(), line)?;
+        let said = Said::by_line(self.version, self.clock.is_some(), line)?;
         self.hear(number, said)
     }
 

@@ -4,7 +4,7 @@ ghost use Rattle.text_lines.specs.TextLines.{fields_of};
 ghost use Rattle.schedule_text.specs.ScheduleGrammar.{said_by, says, number_of_32_bits, start_in, window_in, clock_in, seat_in, two_numbers_in};
 
 use crate::reading::word::Word;
-use crate::{TraceKind, Turn};
+use crate::{TraceKind, Turn, Version};
 use smr_core::{About, Step};
 use text_lines::{
     next_field, no_field, number_in, number_within, one_field, ranged, three_fields, two_fields,
@@ -31,22 +31,25 @@ pub enum Said {
 
 impl Said {
     /// What a line says, or the first thing that is wrong with it.
-    pub fn by_line(clocked: bool, line: &[u8]) -> Result<Said, TraceKind>
-        ensures { result ≡ says clocked (fields_of line.now) }
+    pub fn by_line(version: Version, clocked: bool, line: &[u8]) -> Result<Said, TraceKind>
+        ensures { result ≡ says version clocked (fields_of line.now) }
     {
         let Some((first, rest)) = next_field(line) else {
             return Err(TraceKind::Word);
         };
         let word = Word::named(first).ok_or(TraceKind::Word)?;
+        if !word.is_known(version) {
+            return Err(TraceKind::Word);
+        }
         if !word.fits_place(clocked) {
             return Err(TraceKind::Place);
         }
-        Said::by_word(word, rest)
+        Said::by_word(version, word, rest)
     }
 
     /// What a line says by its word and what stands behind it.
-    fn by_word(word: Word, rest: &[u8]) -> Result<Said, TraceKind>
-        ensures { result ≡ said_by word (fields_of rest.now) }
+    fn by_word(version: Version, word: Word, rest: &[u8]) -> Result<Said, TraceKind>
+        ensures { result ≡ said_by version word (fields_of rest.now) }
     {
         match word {
             Word::Smr => Err(TraceKind::Place),
@@ -61,7 +64,7 @@ impl Said {
             Word::Seat(word) => {
                 let seat = seat_in(rest)?;
                 Ok(Said::Does {
-                    turn: word.turn(seat),
+                    turn: word.turn(version, seat),
                 })
             }
             Word::Pair(word) => {

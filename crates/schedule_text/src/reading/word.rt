@@ -1,7 +1,7 @@
 ghost use Rattle.std.specs.Prelude.{◌≡◌};
-ghost use Rattle.schedule_text.specs.ScheduleGrammar.{word_named, fits_place, seat_turn, pair_turn};
+ghost use Rattle.schedule_text.specs.ScheduleGrammar.{word_named, is_new, is_known, fits_place, seat_turn, pair_turn};
 
-use crate::Turn;
+use crate::{Turn, Version};
 use smr_core::Step;
 
 /// The word with which a line of a schedule begins.
@@ -22,10 +22,13 @@ pub enum SeatWord {
     Store,
     Check,
     Exit,
+    Leave,
+    Come,
     Aread,
     Aload,
     Aswap,
     Pload,
+    Ppres,
     Pscan,
     Pswap,
     Note,
@@ -53,11 +56,14 @@ impl Word {
             b"store" => Some(Word::Seat(SeatWord::Store)),
             b"check" => Some(Word::Seat(SeatWord::Check)),
             b"exit" => Some(Word::Seat(SeatWord::Exit)),
+            b"leave" => Some(Word::Seat(SeatWord::Leave)),
+            b"come" => Some(Word::Seat(SeatWord::Come)),
             b"aread" => Some(Word::Seat(SeatWord::Aread)),
             b"aload" => Some(Word::Seat(SeatWord::Aload)),
             b"aswap" => Some(Word::Seat(SeatWord::Aswap)),
             b"pread" => Some(Word::Pair(PairWord::Pread)),
             b"pload" => Some(Word::Seat(SeatWord::Pload)),
+            b"ppres" => Some(Word::Seat(SeatWord::Ppres)),
             b"pscan" => Some(Word::Seat(SeatWord::Pscan)),
             b"pswap" => Some(Word::Seat(SeatWord::Pswap)),
             b"note" => Some(Word::Seat(SeatWord::Note)),
@@ -66,6 +72,28 @@ impl Word {
             b"advance" => Some(Word::Seat(SeatWord::Advance)),
             b"poll" => Some(Word::Pair(PairWord::Poll)),
             _ => None,
+        }
+    }
+
+    /// Whether it is a word for seats that leave and come.
+    fn is_new(self) -> bool
+        ensures { result ≡ is_new self }
+    {
+        match self {
+            Word::Seat(SeatWord::Leave) => true,
+            Word::Seat(SeatWord::Come) => true,
+            Word::Seat(SeatWord::Ppres) => true,
+            _ => false,
+        }
+    }
+
+    /// Whether the version has this word: version 1 has none for seats that leave and come.
+    pub fn is_known(self, version: Version) -> bool
+        ensures { result ≡ is_known version self }
+    {
+        match version {
+            Version::One => !self.is_new(),
+            Version::Two => true,
         }
     }
 
@@ -83,18 +111,24 @@ impl Word {
 
 impl SeatWord {
     /// What the holder of this number does.
-    pub fn turn(self, seat: u32) -> Turn
-        ensures { result ≡ seat_turn self seat }
+    pub fn turn(self, version: Version, seat: u32) -> Turn
+        ensures { result ≡ seat_turn version self seat }
     {
         let step = match self {
             SeatWord::Load => Step::EnterLoad { seat },
             SeatWord::Store => Step::EnterStore { seat },
             SeatWord::Check => Step::EnterCheck { seat },
             SeatWord::Exit => Step::Clear { seat },
+            SeatWord::Leave => Step::Leave { seat },
+            SeatWord::Come => Step::Come { seat },
             SeatWord::Aread => Step::AdvanceRead { seat },
             SeatWord::Aload => Step::AdvanceLoad { seat },
             SeatWord::Aswap => Step::AdvanceSwap { seat },
-            SeatWord::Pload => Step::PollLoad { seat },
+            SeatWord::Pload => match version {
+                Version::One => return Turn::PollLoads { seat },
+                Version::Two => Step::PollLoad { seat },
+            },
+            SeatWord::Ppres => Step::PollPresent { seat },
             SeatWord::Pscan => Step::PollScan { seat },
             SeatWord::Pswap => Step::PollSwap { seat },
             SeatWord::Note => Step::Note { seat },

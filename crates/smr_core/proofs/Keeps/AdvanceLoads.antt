@@ -16,7 +16,7 @@ use Rattle.smr_core.proofs.KindLemmas.{in_task, phase_kept, same_scans, Loads, k
 use Rattle.smr_core.proofs.Keeps.Looks.{write_known, read_known}
 
 pub advance_read-keeps : AdvanceReadKeeps
-advance_read-keeps a id h worker =
+advance_read-keeps a id h worker filled =
     keeps_load a id h read_place (step.advance_read h)
     (λ ws hs law at.
     let f : HolderFits a ws h = law.holders id h at in
@@ -27,10 +27,11 @@ advance_read-keeps a id h worker =
         seen = f.seen;
         floor = read_known a ws hs h f;
         seat = f.seat;
-        phase = phase_kept a ws h (step.advance_read h (read_hand ws)) h.phase refl refl refl (omega arith) refl f.phase;
+        phase = phase_kept a ws h (step.advance_read h (read_hand ws)) h.phase refl refl refl (omega arith) refl (λ v _. absurd (filled v)) f.phase;
+        presence = f.presence;
         task = (worker, omega arith);
       };
-      scans = same_scans a ws hs id h (step.advance_read h (read_hand ws)) law at refl (record { scanning = λ e. cc; scanned = λ e. cc; least = λ e. cc }) (record { inside = λ e. e; mark = λ _. refl });
+      scans = same_scans a ws hs id h (step.advance_read h (read_hand ws)) law at refl (record { scanning = λ e. cc; covers = λ e s m c. absurd (cc) }) (record { inside = λ e. e; mark = λ _. refl });
     })
 
 -- an operation of a worker or a note that a load of the write hand ends
@@ -45,10 +46,11 @@ ended-loads a ws hs id h law at =
         seen = (write_known a ws hs h law f).0;
         floor = (write_known a ws hs h law f).1;
         seat = f.seat;
-        phase = phase_kept a ws h (step.advance_ended a h (write_hand ws)) h.phase refl refl refl (omega arith) refl f.phase;
+        phase = phase_kept a ws h (step.advance_ended a h (write_hand ws)) h.phase refl refl refl (omega arith) refl (λ _ _. refl) f.phase;
+        presence = f.presence;
         task = tt;
       };
-      scans = same_scans a ws hs id h (step.advance_ended a h (write_hand ws)) law at refl (record { scanning = λ e. cc; scanned = λ e. cc; least = λ e. cc }) (record { inside = λ e. e; mark = λ _. refl });
+      scans = same_scans a ws hs id h (step.advance_ended a h (write_hand ws)) law at refl (record { scanning = λ e. cc; covers = λ e s m c. absurd (cc) }) (record { inside = λ e. e; mark = λ _. refl });
     }
 
 module _ (a : About) (ws : List ℕ) (hs : List Holder) (id : ℕ) (h : Holder) where
@@ -68,10 +70,11 @@ module _ (a : About) (ws : List ℕ) (hs : List Holder) (id : ℕ) (h : Holder) 
           seen = (write_known a ws hs h law f).0;
           floor = (write_known a ws hs h law f).1;
           seat = f.seat;
-          phase = phase_kept a ws h goes_on h.phase refl refl refl (omega arith) refl f.phase;
+          phase = phase_kept a ws h goes_on h.phase refl refl refl (omega arith) refl (λ _ e. absurd (cc)) f.phase;
+          presence = f.presence;
           task = (t.0, t.1, omega arith, near, room, law.hands.odd_write);
         };
-        scans = same_scans a ws hs id h goes_on law at refl (record { scanning = λ e. cc; scanned = λ e. cc; least = λ e. cc }) (record { inside = λ e. e; mark = λ _. refl });
+        scans = same_scans a ws hs id h goes_on law at refl (record { scanning = λ e. cc; covers = λ e s m c. absurd (cc) }) (record { inside = λ e. e; mark = λ _. refl });
       }
 
   too_far-loads : ClockLaw a ws hs → get_elem? hs id ≡ some h → h.task ≡ task.AdvRead → write_hand ws + 2 < 2 ^ 63

@@ -1,5 +1,5 @@
 -- The entry, the third step of an enter, keeps the law. The mark is the write hand itself, so it is at least every least mark of a poll that has scanned the seat, and at least the read hand.
-use Rattle.std.proofs.Common.{◌≡◌, ℕ, ◌-◌, ◌<◌, ◌≤◌, List, refl, arith, le_trans, Bool, true, false, cond, leb, IsSome}
+use Rattle.std.proofs.Common.{◌≡◌, ℕ, ◌-◌, ◌<◌, ◌≤◌, ◌∙◌, List, refl, arith, le_trans, Bool, true, false, cond, leb, IsSome}
 use borrow.Author.Tests.{leb-true, leb-false}
 use mathlib.Core.Option.{some}
 use lib.ListN.{get_elem?}
@@ -10,9 +10,9 @@ use Rattle.smr_core.specs.declared.task.Task.TheVariants as task
 use Rattle.smr_core.specs.ClockState.{write_hand, read_hand, write_place}
 use Rattle.smr_core.specs.ClockStep as step
 use Rattle.smr_core.specs.ClockStep.{same, stored, exchanged}
-use Rattle.smr_core.specs.ClockLaw.{PhaseFits, SeatFits, HolderFits, ClockLaw}
+use Rattle.smr_core.specs.ClockLaw.{PhaseFits, SeatFits, HolderFits, ScanCovers, ClockLaw, presence_bit}
 use Rattle.smr_core.specs.ClockMoves.{EnterCheckKeeps}
-use Rattle.smr_core.proofs.KindLemmas.{in_phase, in_task, seat_in_phase, task_kept, Loads, keeps_load}
+use Rattle.smr_core.proofs.KindLemmas.{in_phase, in_task, seat_in_phase, presence_in_phase, task_kept, Loads, keeps_load}
 use Rattle.smr_core.proofs.Keeps.Looks.{write_known}
 
 module _ (a : About) (ws : List ℕ) (hs : List Holder) (id : ℕ) (h : Holder) where
@@ -38,10 +38,18 @@ module _ (a : About) (ws : List ℕ) (hs : List Holder) (id : ℕ) (h : Holder) 
   seat_fits s true = s
   seat_fits s false = s
 
+  bit_after : (b : Bool) → 1 ≡ presence_bit (cond b phase.Late phase.Inside)
+  bit_after true = refl
+  bit_after false = refl
+
   after_check : ClockLaw a ws hs → get_elem? hs id ≡ some h → h.phase ≡ phase.Stored → Loads a ws hs id h (step.enter_checked a h (write_hand ws))
   unfolding checked
   after_check law at at_stored =
       let f : HolderFits a ws h = law.holders id h at in
+      let covers : (s : ℕ) (p : Holder) → HolderFits a ws p → p.task ≡ task.Scanning → ScanCovers p s (write_hand ws) =
+      λ s p k scanning.
+      let t = in_task a ws p task.Scanning k scanning in
+      let m : p.least ≤ p.write = t.4 in let w : p.write ≤ write_hand ws = t.6 in (λ _ _. le_trans m w, λ _. w) in
       record {
         seat = refl;
         advances = refl;
@@ -50,16 +58,13 @@ module _ (a : About) (ws : List ℕ) (hs : List Holder) (id : ℕ) (h : Holder) 
           floor = (write_known a ws hs h law f).1;
           seat = seat_fits (seat_in_phase a ws h phase.Stored f at_stored) (step.is_overtaken a h.loaded (write_hand ws));
           phase = phase_fits law f at_stored (step.is_overtaken a h.loaded (write_hand ws)) refl;
-          task = task_kept a ws h (step.enter_checked a h (write_hand ws)) h.task refl refl refl refl f.task;
+          presence = λ s own. presence_in_phase a ws h phase.Stored f at_stored s own ∙ bit_after (step.is_overtaken a h.loaded (write_hand ws));
+          task = task_kept a ws h (step.enter_checked a h (write_hand ws)) h.task refl refl refl refl refl refl f.task;
         };
         scans = record {
-          scan = λ t j s q n g i seat below. law.scans id j s h q at g t i seat below;
-          section = λ i j s p n g scanning seat below.
-              let t = in_task a ws p task.Scanning (law.holders j p g) scanning in
-              let m : p.least ≤ p.write = t.4 in let w : p.write ≤ write_hand ws = t.6 in le_trans m w;
-          own = λ scanning i s seat below.
-              let t = in_task a ws h task.Scanning f scanning in
-              let m : h.least ≤ h.write = t.4 in let w : h.write ≤ write_hand ws = t.6 in le_trans m w;
+          scan = λ t j s q n g i seat. law.scans id j s h q at g t i seat;
+          section = λ i j s p n g scanning seat. covers s p (law.holders j p g) scanning;
+          own = λ scanning i s seat. covers s h f scanning;
         };
       }
 

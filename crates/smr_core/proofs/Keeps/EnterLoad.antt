@@ -6,7 +6,7 @@ use Rattle.smr_core.specs.ClockStep as step
 use Rattle.smr_core.specs.ClockStep.{same, stored, exchanged}
 use Rattle.smr_core.specs.ClockLaw.{HolderFits}
 use Rattle.smr_core.specs.ClockMoves.{EnterLoadKeeps}
-use Rattle.smr_core.proofs.KindLemmas.{in_phase, seat_in_phase, task_kept, same_scans, keeps_load}
+use Rattle.smr_core.proofs.KindLemmas.{in_phase, seat_in_phase, presence_in_phase, task_kept, same_scans, keeps_load}
 use Rattle.smr_core.proofs.Keeps.Looks.{write_known}
 
 pub enter_load-keeps : EnterLoadKeeps
@@ -22,9 +22,10 @@ enter_load-keeps a id h outside =
         floor = (write_known a ws hs h law f).1;
         seat = seat_in_phase a ws h phase.Outside f outside;
         phase = (in_phase a ws h phase.Outside f outside, law.hands.odd_write, omega arith);
-        task = task_kept a ws h (step.enter_loaded a h (write_hand ws)) h.task refl refl refl refl f.task;
+        presence = presence_in_phase a ws h phase.Outside f outside;
+        task = task_kept a ws h (step.enter_loaded a h (write_hand ws)) h.task refl refl refl refl refl refl f.task;
       };
       scans = same_scans a ws hs id h (step.enter_loaded a h (write_hand ws)) law at refl
-          (record { scanning = λ e. e; scanned = λ _. refl; least = λ _. refl })
+          (record { scanning = λ e. e; covers = λ _ s m c. c })
           (record { inside = λ e. cc; mark = λ e. cc });
     })

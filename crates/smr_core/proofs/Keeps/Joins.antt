@@ -27,11 +27,12 @@ module _ (a : About) (ws : List ℕ) (hs : List Holder) (id at : ℕ) (h other :
           seen = omega arith;
           floor = omega arith;
           seat = f.seat;
-          phase = phase_kept a ws h (step.joined h other) h.phase refl refl refl (omega arith) refl f.phase;
-          task = task_kept a ws h (step.joined h other) h.task refl refl refl refl f.task;
+          phase = phase_kept a ws h (step.joined h other) h.phase refl refl refl (omega arith) refl (λ _ e. e) f.phase;
+          presence = f.presence;
+          task = task_kept a ws h (step.joined h other) h.task refl refl refl refl refl refl f.task;
         };
         scans = same_scans a ws hs id h (step.joined h other) law here refl
-            (record { scanning = λ e. e; scanned = λ _. refl; least = λ _. refl })
+            (record { scanning = λ e. e; covers = λ _ s m c. c })
             (record { inside = λ e. e; mark = λ _. refl });
       }
 
@@ -41,9 +42,9 @@ module _ (a : About) (ws : List ℕ) (hs : List Holder) (id at : ℕ) (h other :
       record {
         seat = sym (seat_in_phase a ws other phase.Note g note);
         advances = sym (in_phase a ws other phase.Note g note);
-        fits = record { seen = omega arith; floor = omega arith; seat = refl; phase = refl; task = tt };
+        fits = record { seen = omega arith; floor = omega arith; seat = refl; phase = refl; presence = λ s e. absurd (cc); task = tt };
         scans = same_scans a ws hs at other spent law there (sym (seat_in_phase a ws other phase.Note g note))
-            (record { scanning = λ e. cc; scanned = λ e. cc; least = λ e. cc })
+            (record { scanning = λ e. cc; covers = λ e s m c. absurd (cc) })
             (record { inside = λ e. cc; mark = λ e. cc });
       }
 

@@ -26,8 +26,9 @@ module _ (a : About) (ws : List ℕ) (hs : List Holder) (h : Holder) where
         seen = (write_known law f).0;
         floor = (write_known law f).1;
         seat = f.seat;
-        phase = phase_kept a ws h (step.write_loaded a h (write_hand ws)) h.phase refl refl refl (omega arith) refl f.phase;
-        task = task_kept a ws h (step.write_loaded a h (write_hand ws)) h.task refl refl refl refl f.task;
+        phase = phase_kept a ws h (step.write_loaded a h (write_hand ws)) h.phase refl refl refl (omega arith) refl (λ _ e. e) f.phase;
+        presence = f.presence;
+        task = task_kept a ws h (step.write_loaded a h (write_hand ws)) h.task refl refl refl refl refl refl f.task;
       }
 
   pub read_loaded_fits : HolderFits a ws h → HolderFits a ws (step.read_loaded h (read_hand ws))
@@ -36,8 +37,9 @@ module _ (a : About) (ws : List ℕ) (hs : List Holder) (h : Holder) where
         seen = f.seen;
         floor = read_known f;
         seat = f.seat;
-        phase = phase_kept a ws h (step.read_loaded h (read_hand ws)) h.phase refl refl refl (omega arith) refl f.phase;
-        task = task_kept a ws h (step.read_loaded h (read_hand ws)) h.task refl refl refl refl f.task;
+        phase = phase_kept a ws h (step.read_loaded h (read_hand ws)) h.phase refl refl refl (omega arith) refl (λ _ e. e) f.phase;
+        presence = f.presence;
+        task = task_kept a ws h (step.read_loaded h (read_hand ws)) h.task refl refl refl refl refl refl f.task;
       }
 
 pub write_look-keeps : WriteLookKeeps
@@ -50,7 +52,7 @@ write_look-keeps a id h =
       advances = refl;
       fits = write_loaded_fits a ws hs h law (law.holders id h at);
       scans = same_scans a ws hs id h (step.write_loaded a h (write_hand ws)) law at refl
-          (record { scanning = λ e. e; scanned = λ _. refl; least = λ _. refl })
+          (record { scanning = λ e. e; covers = λ _ s m c. c })
           (record { inside = λ e. e; mark = λ _. refl });
     })
 
@@ -63,6 +65,6 @@ read_look-keeps a id h =
       advances = refl;
       fits = read_loaded_fits a ws hs h (law.holders id h at);
       scans = same_scans a ws hs id h (step.read_loaded h (read_hand ws)) law at refl
-          (record { scanning = λ e. e; scanned = λ _. refl; least = λ _. refl })
+          (record { scanning = λ e. e; covers = λ _ s m c. c })
           (record { inside = λ e. e; mark = λ _. refl });
     })

@@ -1,24 +1,25 @@
 -- For each kind of step: it keeps the law of what views remember.
-use Rattle.std.proofs.Common.{◌≡◌, ℕ, zero, suc, ◌+◌, List, [], ◌∷◌, ◌++◌, length, set, sym, refl, ap, ◌∙◌, subst, subst₂, arith, ◌⊎◌, ⊎_elim, Bool, true, false, cond, None, slice_index}
+use Rattle.std.proofs.Common.{◌≡◌, ℕ, zero, suc, List, [], ◌∷◌, ◌++◌, set, sym, refl, ap, ◌∙◌, subst, subst₂, arith, ⊎_elim, Bool, true, false, cond, None, slice_index}
 use Rattle.std.specs.Prelude.{Contains}
-use Rattle.std.proofs.lemmas.List.{length_push}
+use Rattle.std.proofs.lemmas.List.{map-append}
 use Rattle.std.proofs.lemmas.List.Elements.{Contains-append_left, Contains-append_right, Contains-append_cases}
 use Rattle.std.proofs.lemmas.List.Sums.{fold-append}
 use mathlib.Core.Option.{some-injective, some-ne-none}
-use Rattle.smr_seq.specs.Reading.{low}
 use Rattle.smr_core.specs.declared.about.About.{About}
+use Rattle.smr_core.specs.declared.found_word.FoundWord.{FoundWord}
 use Rattle.smr_core.specs.declared.holder.Holder.{Holder}
 use Rattle.smr_core.specs.declared.phase.Phase.{Phase}
 use Rattle.smr_core.specs.declared.phase.Phase.TheVariants as phase
 use Rattle.smr_core.specs.declared.task.Task.TheVariants as task
-use Rattle.smr_core.specs.ClockState.{IsOdd, seat_place, spent, first_holder}
+use Rattle.smr_core.specs.ClockState.{IsOdd, seat_place, read_place, presence_place, seats_below, spent, first_holder}
 use Rattle.smr_core.specs.ClockStep as clock
 use Rattle.smr_core.specs.ClockLaw.{HolderFits}
-use Rattle.smr_core.specs.Remembered.{View, Remembered, StoredFits, FoundFits, HasStored, RememberedFits, RememberedLaw, nothing_remembered, least_of, stored_too, none_found, found_too, poll_done}
+use Rattle.smr_core.specs.Remembered.{View, Remembered, StoredFits, FoundFits, RememberedFits, RememberedLaw, nothing_remembered, least_of, words_found, stored_too, none_found, found_too, poll_done}
 use Rattle.smr_core.specs.RememberedMoves as moves
 use Rattle.smr_core.specs.RememberedMoves.{holders_in, KeepsMemory}
 use Rattle.smr_core.proofs.PlaceLemmas.{at_map, set_else}
-use Rattle.smr_core.proofs.KindLemmas.{in_phase, seat_in_phase}
+use Rattle.smr_core.proofs.PresenceLemmas.{none-below-first, one-more-below}
+use Rattle.smr_core.proofs.KindLemmas.{in_phase, in_task, seat_in_phase}
 use Rattle.smr_core.proofs.RememberedLemmas.{memory_moved, memory_dropped, memory_pushed, word_was_stored, words_more}
 
 -- ---- a step that changes the holder alone
@@ -44,16 +45,25 @@ stored_kept h h' r r' phase.Loaded e s f = tt
 stored_kept h h' r r' phase.Stored e s f = subst₂ Contains (sym s) (sym e) f
 stored_kept h h' r r' phase.Inside e s f = subst₂ Contains (sym s) (sym e) f
 stored_kept h h' r r' phase.Late e s f = subst₂ Contains (sym s) (sym e) f
+stored_kept h h' r r' phase.Vacant e s f = tt
 stored_kept h h' r r' phase.Note e s f = tt
 stored_kept h h' r r' phase.Absorbed e s f = tt
 
-found_kept : (h h' : Holder) (r : Remembered) → h'.scanned ≡ h.scanned → h'.least ≡ h.least → h'.read ≡ h.read → h'.write ≡ h.write → FoundFits h r → FoundFits h' r
-found_kept h h' r s l m w f = record { scanned = s ∙ f.scanned; least = l ∙ f.least ∙ (λ i. least_of (sym m i) (sym w i) r.found) }
+-- the poll of the one is that of the other
+abbrev SamePoll : Holder → Holder → Type 0
+SamePoll h h' = (h'.present ≡ h.present) × (h'.scanned ≡ h.scanned) × (h'.least ≡ h.least) × (h'.read ≡ h.read) × (h'.write ≡ h.write)
+
+found_kept : (h h' : Holder) (r : Remembered) → SamePoll h h' → FoundFits h r → FoundFits h' r
+found_kept h h' r e f =
+    record {
+      seats = f.seats ∙ (λ i. seats_below (sym e.0 i) (sym e.1 i));
+      least = e.2 ∙ f.least ∙ (λ i. least_of (sym e.3 i) (sym e.4 i) (words_found r.found));
+    }
 
 -- a load alone, and a step of a section: the task stays
-in_same_task : (h h' : Holder) (r : Remembered) → h'.seat ≡ h.seat → h'.task ≡ h.task → h'.scanned ≡ h.scanned → h'.least ≡ h.least → h'.read ≡ h.read → h'.write ≡ h.write
+in_same_task : (h h' : Holder) (r : Remembered) → h'.seat ≡ h.seat → h'.task ≡ h.task → SamePoll h h'
     → (StoredFits h.phase h r → StoredFits h'.phase h' r) → Aside h h' r
-in_same_task h h' r s t n l m w k = record { seat = s; stored = k; scan = λ e f. found_kept h h' r n l m w f; scanning = λ e. sym t ∙ e }
+in_same_task h h' r s t p k = record { seat = s; stored = k; scan = λ e f. found_kept h h' r p f; scanning = λ e. sym t ∙ e }
 
 -- a step of an advance, or one that ends a poll or begins it: the phase stays, and no poll is at its scan
 in_same_phase : (h h' : Holder) (r : Remembered) → h'.seat ≡ h.seat → h'.phase ≡ h.phase → h'.loaded ≡ h.loaded → (h'.task ≡ task.Scanning → ⊥) → Aside h h' r
@@ -67,16 +77,16 @@ in_same_phase h h' r s p e n =
 
 pub write_look-remembers : moves.WriteLookRemembers
 write_look-remembers a id v =
-    aside a id v _ (clock.write_loaded a v.0) (λ found. in_same_task _ _ _ refl refl refl refl refl refl (λ k. stored_kept v.0 (clock.write_loaded a v.0 found) v.1 v.1 v.0.phase refl refl k))
+    aside a id v _ (clock.write_loaded a v.0) (λ found. in_same_task _ _ _ refl refl (refl, refl, refl, refl, refl) (λ k. stored_kept v.0 (clock.write_loaded a v.0 found) v.1 v.1 v.0.phase refl refl k))
 
 pub read_look-remembers : moves.ReadLookRemembers
 read_look-remembers a id v =
-    aside a id v _ (clock.read_loaded v.0) (λ found. in_same_task _ _ _ refl refl refl refl refl refl (λ k. stored_kept v.0 (clock.read_loaded v.0 found) v.1 v.1 v.0.phase refl refl k))
+    aside a id v _ (clock.read_loaded v.0) (λ found. in_same_task _ _ _ refl refl (refl, refl, refl, refl, refl) (λ k. stored_kept v.0 (clock.read_loaded v.0 found) v.1 v.1 v.0.phase refl refl k))
 
 -- ---- enter and exit
 
 pub enter_load-remembers : moves.EnterLoadRemembers
-enter_load-remembers a id v = aside a id v _ (clock.enter_loaded a v.0) (λ found. in_same_task _ _ _ refl refl refl refl refl refl (λ k. tt))
+enter_load-remembers a id v = aside a id v _ (clock.enter_loaded a v.0) (λ found. in_same_task _ _ _ refl refl (refl, refl, refl, refl, refl) (λ k. tt))
 
 late_or_inside : (b : Bool) (h : Holder) (r : Remembered) → Contains r.stored h.loaded → StoredFits (cond b phase.Late phase.Inside) h r
 late_or_inside true h r k = k
@@ -85,11 +95,21 @@ late_or_inside false h r k = k
 pub enter_check-remembers : moves.EnterCheckRemembers
 enter_check-remembers a id v waits =
     aside a id v _ (clock.enter_checked a v.0)
-    (λ found. in_same_task _ _ _ refl refl refl refl refl refl
+    (λ found. in_same_task _ _ _ refl refl (refl, refl, refl, refl, refl)
     (λ k. late_or_inside (clock.is_overtaken a v.0.loaded found) (clock.enter_checked a v.0 found) v.1 (subst (λ (p : Phase). StoredFits p v.0 v.1) waits k)))
 
 pub clear-remembers : moves.ClearRemembers
-clear-remembers a id s v = aside a id v (seat_place s) (λ found. clock.cleared v.0) (λ found. in_same_task _ _ _ refl refl refl refl refl refl (λ k. tt))
+clear-remembers a id s v = aside a id v (seat_place s) (λ found. clock.cleared v.0) (λ found. in_same_task _ _ _ refl refl (refl, refl, refl, refl, refl) (λ k. tt))
+
+-- ---- leave and come
+
+pub leave-remembers : moves.LeaveRemembers
+leave-remembers a id v = aside a id v (presence_place a) (λ found. clock.left v.0) (λ found. in_same_task _ _ _ refl refl (refl, refl, refl, refl, refl) (λ k. tt))
+
+pub come-remembers : moves.ComeRemembers
+come-remembers a id v = aside a id v (presence_place a) (λ found. clock.came v.0) (λ found. in_same_task _ _ _ refl refl (refl, refl, refl, refl, refl) (λ k. tt))
+
+-- ---- an enter's store
 
 pub enter_store-remembers : moves.EnterStoreRemembers
 enter_store-remembers a id s v loads ws vs law memory at =
@@ -102,7 +122,7 @@ enter_store-remembers a id s v loads ws vs law memory at =
       stored = Contains-append_right v.1.stored (v.0.loaded ∷ []) v.0.loaded (0, omega arith, refl);
       odd = λ entered c.
           ⊎_elim (λ t. f.odd entered t) (λ t. subst IsOdd (only v.0.loaded entered t) odd) (Contains-append_cases v.1.stored (v.0.loaded ∷ []) entered c);
-      scan = λ e. let k = f.scan e in record { scanned = k.scanned; least = k.least };
+      scan = λ e. let k = f.scan e in record { seats = k.seats; least = k.least };
       found = f.found;
       last = f.last;
       last_words = f.last_words;
@@ -138,14 +158,18 @@ pub poll_read-remembers : moves.PollReadRemembers
 poll_read-remembers a id v = aside a id v _ (clock.poll_read v.0) (λ found. in_same_phase _ _ _ refl refl refl (λ e. cc))
 
 pub poll_load-remembers : moves.PollLoadRemembers
-poll_load-remembers a id v ws vs law memory at =
+poll_load-remembers a id v = aside a id v _ (clock.poll_loaded a v.0) (λ found. in_same_phase _ _ _ refl refl refl (λ e. cc))
+
+pub poll_present-remembers : moves.PollPresentRemembers
+poll_present-remembers a id v ws vs law memory at =
     let f : RememberedFits a vs v = memory id v at in
-    memory_moved a vs id v (clock.poll_loaded a v.0 (slice_index ws 0), none_found v.1) memory at refl (λ entered c. c)
+    let p : ℕ = slice_index ws (presence_place a) in
+    memory_moved a vs id v (clock.poll_present a v.0 (slice_index ws (presence_place a)), none_found v.1) memory at refl (λ entered c. c)
     (record {
-      stored = stored_kept v.0 (clock.poll_loaded a v.0 (slice_index ws 0)) v.1 (none_found v.1) v.0.phase refl refl f.stored;
+      stored = stored_kept v.0 (clock.poll_present a v.0 (slice_index ws (presence_place a))) v.1 (none_found v.1) v.0.phase refl refl f.stored;
       odd = f.odd;
-      scan = λ e. record { scanned = refl; least = refl };
-      found = λ s below. absurd (omega arith);
+      scan = λ e. record { seats = sym (none-below-first a (slice_index ws (presence_place a))); least = refl };
+      found = λ s in_it. absurd (let below = in_it.1 in omega arith);
       last = f.last;
       last_words = f.last_words;
     })
@@ -154,20 +178,21 @@ pub poll_scan-remembers : moves.PollScanRemembers
 poll_scan-remembers a id v scanning known ws vs law memory at =
     let f : RememberedFits a vs v = memory id v at in
     let k : FoundFits v.0 v.1 = f.scan scanning in
+    let t = in_task a ws v.0 task.Scanning (law.holders id v.0 (at_map (λ (x : View). x.0) vs id v at)) scanning in
     let word : ℕ = slice_index ws (seat_place v.0.scanned) in
-    let more : length v.1.found + 1 ≡ length (v.1.found ++ word ∷ []) = sym (length_push v.1.found word) in
-    memory_moved a vs id v (clock.poll_scanned v.0 word, found_too v.1 word) memory at refl (λ entered c. c)
+    let new : FoundWord = record { seat = v.0.scanned; word = slice_index ws (seat_place v.0.scanned) } in
+    memory_moved a vs id v (clock.poll_scanned a v.0 word, found_too v.1 v.0 word) memory at refl (λ entered c. c)
     (record {
-      stored = stored_kept v.0 (clock.poll_scanned v.0 word) v.1 (found_too v.1 word) v.0.phase refl refl f.stored;
+      stored = stored_kept v.0 (clock.poll_scanned a v.0 word) v.1 (found_too v.1 v.0 word) v.0.phase refl refl f.stored;
       odd = f.odd;
       scan = λ e. record {
-        scanned = ap (λ (n : ℕ). n + 1) k.scanned ∙ more;
+        seats = map-append (λ (x : FoundWord). x.seat) v.1.found (new ∷ []) ∙ ap (λ (l : List ℕ). l ++ v.0.scanned ∷ []) k.seats
+            ∙ sym (one-more-below a v.0.present v.0.scanned (t.7.1 known));
         least = ap (λ (n : ℕ). clock.least_after v.0.read v.0.write n word) k.least
-            ∙ sym (fold-append (clock.least_after v.0.read v.0.write) v.0.write v.1.found (word ∷ []));
+            ∙ sym (fold-append (clock.least_after v.0.read v.0.write) v.0.write (words_found v.1.found) (word ∷ []))
+            ∙ ap (λ (l : List ℕ). least_of v.0.read v.0.write l) (sym (map-append (λ (x : FoundWord). x.word) v.1.found (new ∷ [])));
       };
-      found = words_more vs v.1.found word f.found
-          (subst (λ (n : ℕ). (slice_index ws (seat_place v.0.scanned) ≡ 0) ⊎ ((entered : ℕ) × HasStored vs n entered × (slice_index ws (seat_place v.0.scanned) ≡ low entered))) k.scanned
-          (word_was_stored a ws vs law memory v.0.scanned known));
+      found = words_more vs v.1.found new f.found (word_was_stored a ws vs law memory v.0.scanned known);
       last = f.last;
       last_words = f.last_words;
     })
@@ -176,13 +201,13 @@ pub poll_swap-remembers : moves.PollSwapRemembers
 poll_swap-remembers a id v scanning all ws vs law memory at =
     let f : RememberedFits a vs v = memory id v at in
     let k : FoundFits v.0 v.1 = f.scan scanning in
-    memory_moved a vs id v (clock.poll_swapped v.0 (slice_index ws 1), poll_done v.1 v.0 (slice_index ws 1)) memory at refl (λ entered c. c)
+    memory_moved a vs id v (clock.poll_swapped v.0 (slice_index ws read_place), poll_done v.1 v.0 (slice_index ws read_place)) memory at refl (λ entered c. c)
     (record {
-      stored = stored_kept v.0 (clock.poll_swapped v.0 (slice_index ws 1)) v.1 (poll_done v.1 v.0 (slice_index ws 1)) v.0.phase refl refl f.stored;
+      stored = stored_kept v.0 (clock.poll_swapped v.0 (slice_index ws read_place)) v.1 (poll_done v.1 v.0 (slice_index ws read_place)) v.0.phase refl refl f.stored;
       odd = f.odd;
       scan = λ e. absurd (cc);
-      found = λ s below. absurd (omega arith);
-      last = λ some. record { all_seats = sym k.scanned ∙ all; least = k.least };
+      found = λ s in_it. absurd (let below = in_it.1 in omega arith);
+      last = λ some. record { seats = k.seats ∙ ap (seats_below v.0.present) all; least = k.least };
       last_words = f.found;
     })
 
@@ -195,9 +220,9 @@ fresh a vs h k idle =
       stored = k;
       odd = λ entered c. absurd (let below = c.1 in omega arith);
       scan = λ e. absurd (idle e);
-      found = λ s below. absurd (omega arith);
+      found = λ s in_it. absurd (let below = in_it.1 in omega arith);
       last = λ some. absurd (omega arith);
-      last_words = λ s below. absurd (omega arith);
+      last_words = λ s in_it. absurd (let below = in_it.1 in omega arith);
     }
 
 pub note-remembers : moves.NoteRemembers
@@ -217,7 +242,7 @@ join-remembers a id v at other apart note ws vs law memory here there =
     (record {
       stored = stored_kept v.0 (clock.joined v.0 other.0) v.1 v.1 v.0.phase refl refl f.stored;
       odd = f.odd;
-      scan = λ e. found_kept v.0 (clock.joined v.0 other.0) v.1 refl refl refl refl (f.scan e);
+      scan = λ e. found_kept v.0 (clock.joined v.0 other.0) v.1 (refl, refl, refl, refl, refl) (f.scan e);
       found = f.found;
       last = f.last;
       last_words = f.last_words;

@@ -1,6 +1,6 @@
 -- The load of a seat's word by a poll keeps the law: the deep point of the clock. The reading comes in as a premise, so that it is plain what of it is used.
-use Rattle.std.proofs.Common.{◌≡◌, ℕ, ◌+◌, ◌-◌, ◌^◌, ◌<◌, ◌≤◌, List, sym, refl, ap, ◌∙◌, subst, ⊎_elim, arith, le_trans, max, cond, eqb, Option, Some, None}
-use Rattle.std.proofs.lemmas.Bool.{cases_lt}
+use Rattle.std.proofs.Common.{◌≡◌, ℕ, ◌+◌, ◌-◌, ◌^◌, ◌<◌, ◌≤◌, ◌≢◌, List, sym, refl, ap, ◌∙◌, subst, ⊎_elim, arith, le_trans, max, cond, eqb, Option, Some, None}
+use Rattle.std.proofs.lemmas.Bool.{cases_lt, cases_eq}
 use borrow.Author.Tests.{eqb-true, eqb-false}
 use mathlib.Core.Option.{some}
 use lib.ListN.{get_elem?}
@@ -10,11 +10,12 @@ use Rattle.smr_core.specs.declared.holder.Holder.{Holder}
 use Rattle.smr_core.specs.declared.phase.Phase.TheVariants as phase
 use Rattle.smr_core.specs.declared.task.Task.{Task}
 use Rattle.smr_core.specs.declared.task.Task.TheVariants as task
-use Rattle.smr_core.specs.ClockState.{IsOdd, write_hand, read_hand, seat_word, seat_place, word_of}
+use Rattle.smr_core.specs.ClockState.{IsOdd, IsAbsent, write_hand, read_hand, seat_word, seat_place, word_of}
 use Rattle.smr_core.specs.ClockStep as step
 use Rattle.smr_core.specs.ClockStep.{same, stored, exchanged}
-use Rattle.smr_core.specs.ClockLaw.{TaskFits, HolderFits, ClockLaw}
+use Rattle.smr_core.specs.ClockLaw.{TaskFits, HolderFits, ScanCovers, ClockLaw}
 use Rattle.smr_core.specs.ClockMoves.{PollScanKeeps}
+use Rattle.smr_core.proofs.PresenceLemmas.{next-within, next-present, next-skips}
 use Rattle.smr_core.proofs.KindLemmas.{by_test, in_phase, in_task, phase_kept, Loads, keeps_load}
 use Rattle.smr_seq.proofs.ReadingLemmas.{reading-low, IsReading-reading}
 
@@ -87,19 +88,27 @@ module _ (a : About) (ws : List ℕ) (hs : List Holder) (id : ℕ) (h : Holder) 
       subst (λ (c : ℕ). step.least_after h.read h.write h.least c ≤ q.mark) (sym word)
       (least-le-mark h.read h.write h.least q.loaded q.mark odd entered (omega arith) above below near)
 
-  -- a section of any seat scanned so far is at or above the new least mark
-  sections_scanned : ClockLaw a ws hs → get_elem? hs id ≡ some h → h.task ≡ task.Scanning → (j s : ℕ) (q : Holder) → get_elem? hs j ≡ some q
-      → q.phase ≡ phase.Inside → q.seat ≡ Some s → s < h.scanned + 1 → step.least_after h.read h.write h.least (seat_word ws h.scanned) ≤ q.mark
-  sections_scanned law at scanning j s q g inside seat below =
+  -- so is a section of any seat of the set that is scanned by now: none lies between the seat and the next one
+  sections_scanned : ClockLaw a ws hs → get_elem? hs id ≡ some h → h.task ≡ task.Scanning → h.scanned < a.seats → (j s : ℕ) (q : Holder) → get_elem? hs j ≡ some q
+      → q.phase ≡ phase.Inside → q.seat ≡ Some s → ScanCovers (step.poll_scanned a h (seat_word ws h.scanned)) s q.mark
+  sections_scanned law at scanning seats j s q g inside seat =
       let t = in_task a ws h task.Scanning (law.holders id h at) scanning in
-      ⊎_elim
-      (λ b. let r : h.least ≤ q.mark = law.scans id j s h q at g scanning inside seat b in
-      le_trans (least_after-between h.read h.write h.least (seat_word ws h.scanned) t.3).1 r)
-      (λ b. let e : s ≡ h.scanned = omega arith in
-      section_scanned law (law.holders id h at) scanning j q g inside (seat ∙ ap (λ (n : ℕ). Some n) e))
-      (cases_lt s h.scanned)
+      let covers = law.scans id j s h q at g scanning inside seat in (
+        λ present below.
+            ⊎_elim
+            (λ b. le_trans (least_after-between h.read h.write h.least (seat_word ws h.scanned) t.3).1 (covers.0 present b))
+            (λ above.
+            ⊎_elim
+            (λ (here : s ≡ h.scanned). section_scanned law (law.holders id h at) scanning j q g inside (seat ∙ ap (λ (n : ℕ). Some n) here))
+            (λ (past : s ≢ h.scanned).
+            let absent : IsAbsent h.present s = next-skips a h.present (h.scanned + 1) s (omega arith) below in
+            absurd (omega arith))
+            (cases_eq s h.scanned))
+            (cases_lt s h.scanned),
+        covers.1,
+      )
 
-  after_scan : ClockLaw a ws hs → get_elem? hs id ≡ some h → h.task ≡ task.Scanning → h.scanned < a.seats → Loads a ws hs id h (step.poll_scanned h (seat_word ws h.scanned))
+  after_scan : ClockLaw a ws hs → get_elem? hs id ≡ some h → h.task ≡ task.Scanning → h.scanned < a.seats → Loads a ws hs id h (step.poll_scanned a h (seat_word ws h.scanned))
   after_scan law at scanning seats =
       let f : HolderFits a ws h = law.holders id h at in
       let t = in_task a ws h task.Scanning f scanning in
@@ -114,16 +123,17 @@ module _ (a : About) (ws : List ℕ) (hs : List Holder) (id : ℕ) (h : Holder) 
           seen = f.seen;
           floor = f.floor;
           seat = f.seat;
-          phase = phase_kept a ws h (step.poll_scanned h (seat_word ws h.scanned)) h.phase refl refl refl (omega arith) refl f.phase;
-          task = subst (λ (x : Task). TaskFits a ws (step.poll_scanned h (seat_word ws h.scanned)) x) (sym scanning)
-              (t.0, t.1, odd, between.0, le_trans between.1 t.4, t.5, t.6);
+          phase = phase_kept a ws h (step.poll_scanned a h (seat_word ws h.scanned)) h.phase refl refl refl (omega arith) refl (λ _ e. e) f.phase;
+          presence = f.presence;
+          task = subst (λ (x : Task). TaskFits a ws (step.poll_scanned a h (seat_word ws h.scanned)) x) (sym scanning)
+              (t.0, t.1, odd, between.0, le_trans between.1 t.4, t.5, t.6, (next-within a h.present (h.scanned + 1) (omega arith), next-present a h.present (h.scanned + 1)));
         };
         scans = record {
-          scan = λ _ j s q n g inside seat below. sections_scanned law at scanning j s q g inside seat below;
-          section = λ inside i s p n g sc seat below. law.scans i id s p h g at sc inside seat below;
-          own = λ _ inside s seat below. sections_scanned law at scanning id s h at inside seat below;
+          scan = λ _ j s q n g inside seat. sections_scanned law at scanning seats j s q g inside seat;
+          section = λ inside i s p n g sc seat. law.scans i id s p h g at sc inside seat;
+          own = λ _ inside s seat. sections_scanned law at scanning seats id s h at inside seat;
         };
       }
 
 pub poll_scan-keeps : PollScanKeeps
-poll_scan-keeps a id h scanning seats = keeps_load a id h (seat_place h.scanned) (step.poll_scanned h) (λ ws hs law at. after_scan a ws hs id h law at scanning seats)
+poll_scan-keeps a id h scanning seats = keeps_load a id h (seat_place h.scanned) (step.poll_scanned a h) (λ ws hs law at. after_scan a ws hs id h law at scanning seats)

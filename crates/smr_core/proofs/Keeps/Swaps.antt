@@ -1,7 +1,8 @@
 -- The two compare-exchanges keep the law. Each has two lemmas: it finds what it had loaded and writes, or it is a mere look.
-use Rattle.std.proofs.Common.{◌≡◌, ℕ, ◌+◌, ◌-◌, ◌^◌, ◌<◌, ◌≤◌, List, length, set, sym, refl, ap, ◌∙◌, subst, arith, max, cond, eqb, Option, Some, None, IsSome, length-set, get_or-set_same, get_or-set_other}
+use Rattle.std.proofs.Common.{◌≡◌, ℕ, ◌+◌, ◌-◌, ◌^◌, ◌<◌, ◌≤◌, List, length, set, sym, refl, ap, ◌∙◌, subst, ⊎_elim, le_trans, arith, max, cond, eqb, Option, Some, None, IsSome, length-set, get_or-set_same, get_or-set_other}
 use borrow.Author.Tests.{eqb-true, eqb-false}
 use Rattle.std.proofs.lemmas.List.{set-get_or}
+use Rattle.std.specs.Int.{bit_at}
 use mathlib.Core.Option.{some}
 use lib.ListN.{get_elem?}
 use Rattle.smr_core.specs.declared.about.About.{About}
@@ -9,20 +10,27 @@ use Rattle.smr_core.specs.declared.holder.Holder.{Holder}
 use Rattle.smr_core.specs.declared.phase.Phase.{Phase}
 use Rattle.smr_core.specs.declared.phase.Phase.TheVariants as phase
 use Rattle.smr_core.specs.declared.task.Task.TheVariants as task
-use Rattle.smr_core.specs.ClockState.{IsOdd, place_after_seats, write_hand, read_hand, seat_word, seat_place, write_place, read_place, word_of}
+use Rattle.smr_core.specs.ClockState.{IsOdd, place_after_seats, presence_place, presence_word, write_hand, read_hand, seat_word, seat_place, write_place, read_place, word_of}
 use Rattle.smr_core.specs.ClockStep as step
 use Rattle.smr_core.specs.ClockStep.{same, stored, exchanged}
 use Rattle.smr_core.specs.ClockLaw.{HandsFit, PhaseFits, SeatFits, TaskFits, HolderFits, ClockLaw, Later}
 use Rattle.smr_core.proofs.PlaceLemmas.{at_map}
+use Rattle.smr_core.proofs.PresenceLemmas.{present_or_absent}
 use Rattle.smr_core.specs.ClockMoves.{AdvanceSwapKeeps, PollSwapKeeps}
 use Rattle.smr_core.proofs.MoveLemmas.{Moves, moved, fits_still}
 use Rattle.smr_core.proofs.KindLemmas.{by_test, in_task, seat_in_phase, phase_kept, same_scans, marks_above_read, Loads, loads}
 use Rattle.smr_core.specs.ClockState.{IsSeatWord}
 
--- the words after a hand is written: the place is below those of the seats
-module _ (ws : List ℕ) (i v : ℕ) (hand : i < 2) where
+-- the words after a hand is written: the place is below those of the seats and of the presence word
+module _ (ws : List ℕ) (i v : ℕ) (hand : i < 16) where
   seat_word_after : (s : ℕ) → seat_word (set ws i v) s ≡ seat_word ws s
   seat_word_after s = get_or-set_other ws i (seat_place s) v 0 (λ e. omega arith)
+
+  presence_after : (a : About) → presence_word a (set ws i v) ≡ presence_word a ws
+  presence_after a = get_or-set_other ws i (presence_place a) v 0 (λ e. omega arith)
+
+  bit_after : (a : About) (s : ℕ) → bit_at (presence_word a (set ws i v)) s ≡ bit_at (presence_word a ws) s
+  bit_after a s = ap (λ (n : ℕ). bit_at n s) (presence_after a)
 
   word_of_after : (o : Option ℕ) → word_of (set ws i v) o ≡ word_of ws o
   word_of_after None = refl
@@ -44,6 +52,7 @@ workers_phase o phase.Loaded f i = tt
 workers_phase o phase.Stored f i = tt
 workers_phase o phase.Inside f i = tt
 workers_phase o phase.Late f i = tt
+workers_phase o phase.Vacant f i = tt
 workers_phase o phase.Note f i = not_some (subst IsSome f i)
 workers_phase o phase.Absorbed f i = not_some (subst IsSome f i)
 
@@ -63,6 +72,7 @@ module _ (a : About) (ws : List ℕ) (hs : List Holder) (id : ℕ) (h : Holder) 
   phase_risen ws' phase.Stored f k = f
   phase_risen ws' phase.Inside f k = (f.0, f.1, f.2, omega arith, f.4, f.5)
   phase_risen ws' phase.Late f k = f
+  phase_risen ws' phase.Vacant f k = (f.0, refl)
   phase_risen ws' phase.Note f k = absurd k
   phase_risen ws' phase.Absorbed f k = absurd k
 
@@ -82,9 +92,10 @@ module _ (a : About) (ws : List ℕ) (hs : List Holder) (id : ℕ) (h : Holder) 
       let read : h.read ≤ read_hand ws = t.1 in
       let seen : h.seen ≤ write_hand ws = f.seen in
       let floor : h.floor ≤ read_hand ws = f.floor in
-      let scans = same_scans a ws hs id h risen law at refl (record { scanning = λ e. cc; scanned = λ e. cc; least = λ e. cc }) (record { inside = λ e. e; mark = λ _. refl }) in
+      let scans = same_scans a ws hs id h risen law at refl (record { scanning = λ e. cc; covers = λ e s m c. absurd (cc) }) (record { inside = λ e. e; mark = λ _. refl }) in
       let still : HolderFits a (set ws write_place (h.write + 2)) h =
-      fits_still a ws (set ws write_place (h.write + 2)) h f (word_of_after ws write_place (h.write + 2) (omega arith) h.seat) (omega arith) (omega arith)
+      fits_still a ws (set ws write_place (h.write + 2)) h f (word_of_after ws write_place (h.write + 2) (omega arith) h.seat)
+      (λ s _. bit_after ws write_place (h.write + 2) (omega arith) a s) (omega arith) (omega arith)
       (λ i. subst (λ (n : ℕ). n ≤ h.mark) (sym r) (marks_above_read a ws hs id h risen law id h at i)) in
       record {
         seat = refl;
@@ -101,12 +112,15 @@ module _ (a : About) (ws : List ℕ) (hs : List Holder) (id : ℕ) (h : Holder) 
         read_not_lower = omega arith;
         others = λ s k n. seat_word_after ws write_place (h.write + 2) (omega arith) s;
         seat_words = λ s k. subst IsSeatWord (sym (seat_word_after ws write_place (h.write + 2) (omega arith) s)) (law.seat_words s k);
+        other_bits = λ s k n. bit_after ws write_place (h.write + 2) (omega arith) a s;
+        presence = subst (λ (n : ℕ). n < 2 ^ a.seats) (sym (presence_after ws write_place (h.write + 2) (omega arith) a)) law.presence;
         balance = omega arith;
         fits = record {
           seen = omega arith;
           floor = still.floor;
           seat = f.seat;
           phase = phase_risen (set ws write_place (h.write + 2)) h.phase still.phase (workers_phase h.seat h.phase f.seat t.0);
+          presence = still.presence;
           task = tt;
         };
         pinned = λ j q n g i. subst (λ (x : ℕ). x ≤ q.mark) (sym r) (marks_above_read a ws hs id h risen law j q g i);
@@ -127,10 +141,11 @@ module _ (a : About) (ws : List ℕ) (hs : List Holder) (id : ℕ) (h : Holder) 
           seen = omega arith;
           floor = f.floor;
           seat = f.seat;
-          phase = phase_kept a ws h looked h.phase refl refl refl (omega arith) (omega arith) f.phase;
+          phase = phase_kept a ws h looked h.phase refl refl refl (omega arith) (omega arith) (λ _ _. refl) f.phase;
+          presence = f.presence;
           task = tt;
         };
-        scans = same_scans a ws hs id h looked law at refl (record { scanning = λ e. cc; scanned = λ e. cc; least = λ e. cc }) (record { inside = λ e. e; mark = λ _. refl });
+        scans = same_scans a ws hs id h looked law at refl (record { scanning = λ e. cc; covers = λ e s m c. absurd (cc) }) (record { inside = λ e. e; mark = λ _. refl });
       }
 
 pub advance_swap-keeps : AdvanceSwapKeeps
@@ -158,7 +173,7 @@ goal-le-left a ws h hands t =
 
 -- ---- the read hand
 
--- It finds what the poll had loaded. Every seat was scanned, so the least mark is at most every section's.
+-- It finds what the poll had loaded. Every seat of its set was scanned, and a section of another is at or above its write hand, so the least mark is at most every section's.
 module _ (a : About) (ws : List ℕ) (hs : List Holder) (id : ℕ) (h : Holder) where
   raised : Holder
   raised = record h { task = task.Idle; floor = max h.floor h.least }
@@ -173,9 +188,14 @@ module _ (a : About) (ws : List ℕ) (hs : List Holder) (id : ℕ) (h : Holder) 
   pub marks_above_least : ClockLaw a ws hs → get_elem? hs id ≡ some h → h.task ≡ task.Scanning → h.scanned ≡ a.seats
       → (j : ℕ) (q : Holder) → get_elem? hs j ≡ some q → q.phase ≡ phase.Inside → h.least ≤ q.mark
   marks_above_least law at scanning all j q g inside =
+      let t = in_task a ws h task.Scanning (law.holders id h at) scanning in
       let seat = some_seat q.seat (seat_in_phase a ws q phase.Inside (law.holders j q g) inside) in
-      let known : seat.0 < a.seats = law.workers.known j seat.0 (at_map (λ (x : Holder). x.seat) hs j q g ∙ ap (λ (o : Option ℕ). some o) seat.1) in
-      law.scans id j seat.0 h q at g scanning inside seat.1 (omega arith)
+      let known : seat.0 < a.seats = law.seats.known j seat.0 (at_map (λ (x : Holder). x.seat) hs j q g ∙ ap (λ (o : Option ℕ). some o) seat.1) in
+      let covers = law.scans id j seat.0 h q at g scanning inside seat.1 in
+      ⊎_elim
+      (λ present. covers.0 present (omega arith))
+      (λ absent. le_trans t.4 (covers.1 absent))
+      (present_or_absent h.present seat.0)
 
   poll_hits : ClockLaw a ws hs → get_elem? hs id ≡ some h → h.task ≡ task.Scanning → h.scanned ≡ a.seats → read_hand ws ≡ h.read
       → Moves a ws hs (set ws read_place h.least) id h raised
@@ -193,9 +213,10 @@ module _ (a : About) (ws : List ℕ) (hs : List Holder) (id : ℕ) (h : Holder) 
       let window : write_hand ws - read_hand ws ≤ a.window = law.hands.within_window in
       let seen : h.seen ≤ write_hand ws = f.seen in
       let floor : h.floor ≤ read_hand ws = f.floor in
-      let scans = same_scans a ws hs id h raised law at refl (record { scanning = λ e. cc; scanned = λ e. cc; least = λ e. cc }) (record { inside = λ e. e; mark = λ _. refl }) in
+      let scans = same_scans a ws hs id h raised law at refl (record { scanning = λ e. cc; covers = λ e s m c. absurd (cc) }) (record { inside = λ e. e; mark = λ _. refl }) in
       let still : HolderFits a (set ws read_place h.least) h =
-      fits_still a ws (set ws read_place h.least) h f (word_of_after ws read_place h.least (omega arith) h.seat) (omega arith) (omega arith)
+      fits_still a ws (set ws read_place h.least) h f (word_of_after ws read_place h.least (omega arith) h.seat)
+      (λ s _. bit_after ws read_place h.least (omega arith) a s) (omega arith) (omega arith)
       (λ i. subst (λ (n : ℕ). n ≤ h.mark) (sym r) (marks_above_least law at scanning all id h at i)) in
       record {
         seat = refl;
@@ -212,12 +233,15 @@ module _ (a : About) (ws : List ℕ) (hs : List Holder) (id : ℕ) (h : Holder) 
         read_not_lower = omega arith;
         others = λ s k n. seat_word_after ws read_place h.least (omega arith) s;
         seat_words = λ s k. subst IsSeatWord (sym (seat_word_after ws read_place h.least (omega arith) s)) (law.seat_words s k);
+        other_bits = λ s k n. bit_after ws read_place h.least (omega arith) a s;
+        presence = subst (λ (n : ℕ). n < 2 ^ a.seats) (sym (presence_after ws read_place h.least (omega arith) a)) law.presence;
         balance = omega arith;
         fits = record {
           seen = still.seen;
           floor = omega arith;
           seat = f.seat;
-          phase = phase_kept a (set ws read_place h.least) h raised h.phase refl refl refl (omega arith) refl still.phase;
+          phase = phase_kept a (set ws read_place h.least) h raised h.phase refl refl refl (omega arith) refl (λ _ _. refl) still.phase;
+          presence = still.presence;
           task = tt;
         };
         pinned = λ j q n g i. subst (λ (x : ℕ). x ≤ q.mark) (sym r) (marks_above_least law at scanning all j q g i);
@@ -238,10 +262,11 @@ module _ (a : About) (ws : List ℕ) (hs : List Holder) (id : ℕ) (h : Holder) 
           seen = f.seen;
           floor = omega arith;
           seat = f.seat;
-          phase = phase_kept a ws h found h.phase refl refl refl (omega arith) refl f.phase;
+          phase = phase_kept a ws h found h.phase refl refl refl (omega arith) refl (λ _ _. refl) f.phase;
+          presence = f.presence;
           task = tt;
         };
-        scans = same_scans a ws hs id h found law at refl (record { scanning = λ e. cc; scanned = λ e. cc; least = λ e. cc }) (record { inside = λ e. e; mark = λ _. refl });
+        scans = same_scans a ws hs id h found law at refl (record { scanning = λ e. cc; covers = λ e s m c. absurd (cc) }) (record { inside = λ e. e; mark = λ _. refl });
       }
 
 pub poll_swap-keeps : PollSwapKeeps

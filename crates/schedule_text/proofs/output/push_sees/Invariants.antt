@@ -5,4 +5,4 @@ use Rattle.schedule_text.proofs.output.push_sees.Given as goal
 
 -- the lines so far were appended
 abbrev pub invariant-loop-seen : goal.invariant-loop-seen
-invariant-loop-seen l = l.text.items ≡ l.initial.text.items ++ flat_map seen_line (take l.seen-index l.sees)
+invariant-loop-seen l = l.text.items ≡ l.initial.text.items ++ flat_map (seen_line l.version) (take l.seen-index l.sees)

@@ -22,7 +22,7 @@ pub loop-line-preserved : goal.loop-line-preserved
 loop-line-preserved c =
     let below = rw c.as_slice-line-items.ensures at c.loop-line-test.true in
     let printed = rw c.as_slice-line-items.ensures at c.in_ok-print_line.ensures.printed in
-    prints-more (opening (about_of c.args.schedule.now)) c.loop-line.core c.print_line.new.core
+    prints-more c.args.schedule.now.version (opening (about_of c.args.schedule.now)) c.loop-line.core c.print_line.new.core
     c.args.schedule.now.lines
     c.loop-line.line-index _
     c.loop-line.text.items c.print_line.new.text.items below c.loop-line.invariant printed

@@ -6,4 +6,4 @@ use Rattle.schedule_text.proofs.output.schedule_text.Given as goal
 -- the lines so far print the text
 abbrev pub invariant-loop-line : goal.invariant-loop-line
 invariant-loop-line l =
-    Prints (opening (about_of l.schedule)) (take l.line-index l.schedule.lines) l.text.items l.core
+    Prints l.schedule.version (opening (about_of l.schedule)) (take l.line-index l.schedule.lines) l.text.items l.core

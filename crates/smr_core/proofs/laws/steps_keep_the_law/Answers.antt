@@ -4,7 +4,8 @@ use Rattle.smr_core.proofs.Keeps.EnterLoad.{enter_load-keeps}
 use Rattle.smr_core.proofs.Keeps.EnterCheck.{enter_check-keeps}
 use Rattle.smr_core.proofs.Keeps.Stores.{enter_store-keeps, clear-keeps}
 use Rattle.smr_core.proofs.Keeps.AdvanceLoads.{advance_read-keeps, advance_load-keeps}
-use Rattle.smr_core.proofs.Keeps.PollLoads.{poll_read-keeps, poll_load-keeps, poll_end-keeps}
+use Rattle.smr_core.proofs.Keeps.PollLoads.{poll_read-keeps, poll_load-keeps, poll_end-keeps, poll_present-keeps}
+use Rattle.smr_core.proofs.Keeps.Presences.{leave-keeps, come-keeps}
 use Rattle.smr_core.proofs.Keeps.PollScan.{poll_scan-keeps}
 use Rattle.smr_core.proofs.Keeps.Swaps.{advance_swap-keeps, poll_swap-keeps}
 use Rattle.smr_core.proofs.Keeps.Splits.{note-keeps, worker-keeps}
@@ -33,6 +34,12 @@ returns-clause-enter_check c = enter_check-keeps
 pub returns-clause-clear : goal.returns-clause-clear
 returns-clause-clear c = clear-keeps
 
+pub returns-clause-leave : goal.returns-clause-leave
+returns-clause-leave c = leave-keeps
+
+pub returns-clause-come : goal.returns-clause-come
+returns-clause-come c = come-keeps
+
 pub returns-clause-advance_read : goal.returns-clause-advance_read
 returns-clause-advance_read c = advance_read-keeps
 
@@ -50,6 +57,9 @@ returns-clause-poll_load c = poll_load-keeps
 
 pub returns-clause-poll_end : goal.returns-clause-poll_end
 returns-clause-poll_end c = poll_end-keeps
+
+pub returns-clause-poll_present : goal.returns-clause-poll_present
+returns-clause-poll_present c = poll_present-keeps
 
 pub returns-clause-poll_scan : goal.returns-clause-poll_scan
 returns-clause-poll_scan c = poll_scan-keeps

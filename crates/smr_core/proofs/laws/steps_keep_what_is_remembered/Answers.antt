@@ -1,4 +1,4 @@
-use Rattle.smr_core.proofs.Keeps.Memory.{begins-remembering, write_look-remembers, read_look-remembers, enter_load-remembers, enter_store-remembers, enter_check-remembers, clear-remembers, advance_read-remembers, advance_load-remembers, advance_swap-remembers, poll_read-remembers, poll_load-remembers, poll_scan-remembers, poll_swap-remembers, note-remembers, worker-remembers, join-remembers}
+use Rattle.smr_core.proofs.Keeps.Memory.{begins-remembering, write_look-remembers, read_look-remembers, enter_load-remembers, enter_store-remembers, enter_check-remembers, clear-remembers, leave-remembers, come-remembers, advance_read-remembers, advance_load-remembers, advance_swap-remembers, poll_read-remembers, poll_load-remembers, poll_present-remembers, poll_scan-remembers, poll_swap-remembers, note-remembers, worker-remembers, join-remembers}
 use Rattle.smr_core.proofs.laws.steps_keep_what_is_remembered.Goals as goal
 
 pub returns-clause-begins : goal.returns-clause-begins
@@ -22,6 +22,12 @@ returns-clause-enter_check c = enter_check-remembers
 pub returns-clause-clear : goal.returns-clause-clear
 returns-clause-clear c = clear-remembers
 
+pub returns-clause-leave : goal.returns-clause-leave
+returns-clause-leave c = leave-remembers
+
+pub returns-clause-come : goal.returns-clause-come
+returns-clause-come c = come-remembers
+
 pub returns-clause-advance_read : goal.returns-clause-advance_read
 returns-clause-advance_read c = advance_read-remembers
 
@@ -36,6 +42,9 @@ returns-clause-poll_read c = poll_read-remembers
 
 pub returns-clause-poll_load : goal.returns-clause-poll_load
 returns-clause-poll_load c = poll_load-remembers
+
+pub returns-clause-poll_present : goal.returns-clause-poll_present
+returns-clause-poll_present c = poll_present-remembers
 
 pub returns-clause-poll_scan : goal.returns-clause-poll_scan
 returns-clause-poll_scan c = poll_scan-remembers

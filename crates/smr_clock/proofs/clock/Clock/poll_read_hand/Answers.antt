@@ -3,4 +3,4 @@ use Rattle.smr_clock.proofs.Steps.{poll_reads}
 use Rattle.smr_clock.proofs.clock.Clock.poll_read_hand.Goals as goal
 
 pub load-requires : goal.load-requires
-load-requires g c = (search rules, search rules, poll_reads _ g.H.Host.includes g.H.Host.frame _ _ _ _ (search rules))
+load-requires g c = (search rules, search rules, poll_reads _ g.H.Host.includes g.H.Host.frame _ _ _ _ (search rules) (search rules))

@@ -1,17 +1,18 @@
--- So far: the steps are a run from where the turn began, the poll has loaded so many words, and there is room for the rest.
-use Rattle.std.proofs.Common.{◌≡◌, ◌+◌, ◌≤◌, ◌∷◌, replicate, true, vec_len, vec_capacity}
-use Rattle.smr_core.specs.declared.step.Step.TheVariants.{PollRead, PollLoad, PollScan}
+-- So far: the steps are a run from where the turn began, the poll has loaded the words of the seats of its set below this number, and there is room for the rest.
+use Rattle.std.proofs.Common.{◌≡◌, ◌+◌, ◌≤◌, vec_len, vec_capacity}
+use Rattle.smr_core.specs.ClockState.{next_present, seats_below}
 use Rattle.smr_core.specs.CoreStep.{Run}
-use Rattle.smr_core.specs.Turns.{Scans, is_hand, saw_at}
+use Rattle.smr_core.specs.Turns.{Scans}
+use Rattle.smr_core.proofs.TurnLemmas.{HasBegun, poll_so_far}
 use Rattle.smr_core.proofs.clock_core.Core.poll.Given as goal
 
-abbrev pub invariant-loop : goal.invariant-loop
-invariant-loop l =
+abbrev pub invariant-loop-number : goal.invariant-loop-number
+invariant-loop-number l =
     record {
-      run : Run l.fn.self (PollRead l.seat l.tag ∷ PollLoad l.seat ∷ replicate l.counter (PollScan l.seat)) l.sees.items l.self;
-      scans : Scans l.self l.seat l.counter;
+      run : Run l.fn.self (poll_so_far l.seat l.tag (seats_below l.set l.number)) l.sees.items l.self;
+      scans : Scans l.self l.seat l.set (next_present l.self.about l.set l.number);
       about : l.self.about ≡ l.fn.self.about;
-      hand : saw_at 1 is_hand l.sees.items ≡ true;
-      count : vec_len l.sees ≡ l.counter + 2;
-      room : l.seats + 3 ≤ vec_capacity l.sees;
+      begun : HasBegun l.set l.sees.items;
+      count : vec_len l.sees ≤ l.number + 3;
+      room : l.seats + 4 ≤ vec_capacity l.sees;
     }

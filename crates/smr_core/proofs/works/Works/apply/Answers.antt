@@ -13,6 +13,12 @@ returns-in-EnterCheck-clause-stepped c = rw c.in-EnterCheck.is c.enter_check.ens
 pub returns-in-Clear-clause-stepped : goal.returns-in-Clear-clause-stepped
 returns-in-Clear-clause-stepped c = rw c.in-Clear.is c.clear.ensures.stepped
 
+pub returns-in-Leave-clause-stepped : goal.returns-in-Leave-clause-stepped
+returns-in-Leave-clause-stepped c = rw c.in-Leave.is c.leave.ensures.stepped
+
+pub returns-in-Come-clause-stepped : goal.returns-in-Come-clause-stepped
+returns-in-Come-clause-stepped c = rw c.in-Come.is c.come.ensures.stepped
+
 pub returns-in-AdvanceRead-clause-stepped : goal.returns-in-AdvanceRead-clause-stepped
 returns-in-AdvanceRead-clause-stepped c = rw c.in-AdvanceRead.is c.advance_read.ensures.stepped
 
@@ -27,6 +33,9 @@ returns-in-PollRead-clause-stepped c = rw c.in-PollRead.is c.poll_read.ensures.s
 
 pub returns-in-PollLoad-clause-stepped : goal.returns-in-PollLoad-clause-stepped
 returns-in-PollLoad-clause-stepped c = rw c.in-PollLoad.is c.poll_load.ensures.stepped
+
+pub returns-in-PollPresent-clause-stepped : goal.returns-in-PollPresent-clause-stepped
+returns-in-PollPresent-clause-stepped c = rw c.in-PollPresent.is c.poll_present.ensures.stepped
 
 pub returns-in-PollScan-clause-stepped : goal.returns-in-PollScan-clause-stepped
 returns-in-PollScan-clause-stepped c = rw c.in-PollScan.is c.poll_scan.ensures.stepped

@@ -52,3 +52,28 @@ pub returns-in-advance : goal.returns-in-advance
 returns-in-advance c =
     let is : c.args.field.now ≡ codes "advance" = text_from_reads c.args.field.now (codes "advance") (omega (arith, c.in-advance.len_at_least, c.in-advance.len_below)) (search rules) in
     rw is refl
+
+pub returns-in-clock : goal.returns-in-clock
+returns-in-clock c =
+    let is : c.args.field.now ≡ codes "clock" = text_from_reads c.args.field.now (codes "clock") (omega (arith, c.in-clock.len_at_least, c.in-clock.len_below)) (search rules) in
+    rw is refl
+
+pub returns-in-check : goal.returns-in-check
+returns-in-check c =
+    let is : c.args.field.now ≡ codes "check" = text_from_reads c.args.field.now (codes "check") (omega (arith, c.in-check.len_at_least, c.in-check.len_below)) (search rules) in
+    rw is refl
+
+pub returns-in-store : goal.returns-in-store
+returns-in-store c =
+    let is : c.args.field.now ≡ codes "store" = text_from_reads c.args.field.now (codes "store") (omega (arith, c.in-store.len_at_least, c.in-store.len_below)) (search rules) in
+    rw is refl
+
+pub returns-in-leave : goal.returns-in-leave
+returns-in-leave c =
+    let is : c.args.field.now ≡ codes "leave" = text_from_reads c.args.field.now (codes "leave") (omega (arith, c.in-leave.len_at_least, c.in-leave.len_below)) (search rules) in
+    rw is refl
+
+pub returns-in-ppres : goal.returns-in-ppres
+returns-in-ppres c =
+    let is : c.args.field.now ≡ codes "ppres" = text_from_reads c.args.field.now (codes "ppres") (omega (arith, c.in-ppres.len_at_least, c.in-ppres.len_below)) (search rules) in
+    rw is refl
