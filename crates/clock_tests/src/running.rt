@@ -1,15 +1,19 @@
 ghost use Rattle.std.specs.Prelude.{◌≡◌, IfOk};
 ghost use Rattle.smr_core.specs.declared.phase.Phase.{Phase};
-ghost use Rattle.smr_clock.specs.Belongs.{IsOf, holder};
+ghost use Rattle.smr_clock.specs.Belongs.{IsOf, clock_id, holder};
+ghost use Rattle.smr_deferred.specs.RetireList.{IsUsedWith};
 
 use smr_clock::{AdvanceRefused, Bare, Clock, ClockRefused, Overtaken, Pass};
 use smr_core::Phase;
+use smr_deferred::{LimitRefused, RetireList};
 use std::alloc::Global;
 use std::test::Fail;
 
 mod counting;
 mod making;
+mod retiring;
 mod schedules;
+mod settings;
 mod texts;
 mod turns;
 
@@ -29,4 +33,17 @@ fn two_seats(
         unreachable!()
     };
     Ok((clock, first, second))
+}
+
+// An empty list, which no clock was used with yet, and so none but this one.
+fn new_list<T>(
+    alloc: Global,
+    clock: &Clock<Bare>,
+    limit: u32,
+) -> Result<RetireList<T, Bare>, LimitRefused>
+    ensures mine { IfOk result (IsUsedWith (clock_id clock.now)) }
+{
+    let _ = clock;
+    let list = RetireList::new(alloc, limit)?;
+    Ok(list)
 }

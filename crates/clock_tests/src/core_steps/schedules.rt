@@ -35,6 +35,9 @@ pub struct Schedule {
     pub write_hand: u64,
 }
 
+/// The poll of the note finds that both seats have a worker.
+const PRESENT: (Step, Seen) = (Step::PollPresent { seat: 2 }, Seen::Present { seats: 3 });
+
 /// A stale enter counts as one at the read hand.
 pub const STALE_ENTER: Schedule = Schedule {
     seats: 2,
@@ -48,6 +51,7 @@ pub const STALE_ENTER: Schedule = Schedule {
         (Step::Note { seat: 1 }, Seen::Holder { number: 2 }),
         (Step::PollRead { seat: 2, tag: 3 }, Seen::Hand { value: 1 }),
         (Step::PollLoad { seat: 2 }, Seen::Hand { value: 3 }),
+        PRESENT,
         (Step::PollScan { seat: 2 }, word!(0, 0, 3)),
         (Step::PollScan { seat: 2 }, word!(1, 0, 3)),
         (Step::PollSwap { seat: 2 }, Seen::Yes { read: 3 }),
@@ -58,12 +62,14 @@ pub const STALE_ENTER: Schedule = Schedule {
         (Step::AdvanceSwap { seat: 1 }, goal!(5, true)),
         (Step::PollRead { seat: 2, tag: 5 }, Seen::Hand { value: 3 }),
         (Step::PollLoad { seat: 2 }, Seen::Hand { value: 5 }),
+        PRESENT,
         (Step::PollScan { seat: 2 }, word!(0, 1, 3)),
         (Step::PollScan { seat: 2 }, word!(1, 0, 3)),
         (Step::PollSwap { seat: 2 }, Seen::No { read: 3 }),
         (Step::Clear { seat: 0 }, Seen::Done),
         (Step::PollRead { seat: 2, tag: 5 }, Seen::Hand { value: 3 }),
         (Step::PollLoad { seat: 2 }, Seen::Hand { value: 5 }),
+        PRESENT,
         (Step::PollScan { seat: 2 }, word!(0, 0, 5)),
         (Step::PollScan { seat: 2 }, word!(1, 0, 5)),
         (Step::PollSwap { seat: 2 }, Seen::Yes { read: 5 }),
@@ -85,6 +91,7 @@ pub const OVERTAKEN: Schedule = Schedule {
         (Step::Note { seat: 1 }, Seen::Holder { number: 2 }),
         (Step::PollRead { seat: 2, tag: 3 }, Seen::Hand { value: 1 }),
         (Step::PollLoad { seat: 2 }, Seen::Hand { value: 3 }),
+        PRESENT,
         (Step::PollScan { seat: 2 }, word!(0, 0, 3)),
         (Step::PollScan { seat: 2 }, word!(1, 0, 3)),
         (Step::PollSwap { seat: 2 }, Seen::Yes { read: 3 }),
@@ -93,6 +100,7 @@ pub const OVERTAKEN: Schedule = Schedule {
         (Step::AdvanceSwap { seat: 1 }, goal!(5, true)),
         (Step::PollRead { seat: 2, tag: 5 }, Seen::Hand { value: 3 }),
         (Step::PollLoad { seat: 2 }, Seen::Hand { value: 5 }),
+        PRESENT,
         (Step::PollScan { seat: 2 }, word!(0, 0, 5)),
         (Step::PollScan { seat: 2 }, word!(1, 0, 5)),
         (Step::PollSwap { seat: 2 }, Seen::Yes { read: 5 }),
@@ -131,6 +139,7 @@ pub const WINDOW_USED_UP: Schedule = Schedule {
         (Step::Note { seat: 1 }, Seen::Holder { number: 2 }),
         (Step::PollRead { seat: 2, tag: 5 }, Seen::Hand { value: 1 }),
         (Step::PollLoad { seat: 2 }, Seen::Hand { value: 5 }),
+        PRESENT,
         (Step::PollScan { seat: 2 }, word!(0, 0, 5)),
         (Step::PollScan { seat: 2 }, word!(1, 0, 5)),
         (Step::PollSwap { seat: 2 }, Seen::Yes { read: 5 }),
@@ -185,6 +194,7 @@ pub const ACROSS_THE_WRAP: Schedule = Schedule {
                 value: 4_294_967_297,
             },
         ),
+        PRESENT,
         (
             Step::PollScan { seat: 2 },
             word!(0, 4_294_967_295, 4_294_967_295),
@@ -209,6 +219,7 @@ pub const ACROSS_THE_WRAP: Schedule = Schedule {
                 value: 4_294_967_297,
             },
         ),
+        PRESENT,
         (Step::PollScan { seat: 2 }, word!(0, 0, 4_294_967_297)),
         (Step::PollScan { seat: 2 }, word!(1, 0, 4_294_967_297)),
         (
@@ -305,6 +316,7 @@ pub const OLD_TAGS: Schedule = Schedule {
                 value: 4_294_967_303,
             },
         ),
+        PRESENT,
         (Step::PollScan { seat: 2 }, word!(0, 5, 4_294_967_301)),
         (Step::PollScan { seat: 2 }, word!(1, 0, 4_294_967_301)),
         (
@@ -330,6 +342,34 @@ pub const OLD_TAGS: Schedule = Schedule {
     write_hand: 4_294_967_303,
 };
 
+/// A seat leaves, so a poll doesn't scan it; it comes while the next poll is under way, and its
+/// section, whose mark is the write hand, doesn't hold that poll back.
+pub const SEAT_THAT_LEAVES: Schedule = Schedule {
+    seats: 2,
+    start: 1,
+    window: 8,
+    rows: &[
+        (Step::Leave { seat: 0 }, Seen::Done),
+        (Step::AdvanceRead { seat: 1 }, Seen::Hand { value: 1 }),
+        (Step::AdvanceLoad { seat: 1 }, Seen::Hand { value: 1 }),
+        (Step::AdvanceSwap { seat: 1 }, goal!(3, true)),
+        (Step::Note { seat: 1 }, Seen::Holder { number: 2 }),
+        (Step::PollRead { seat: 2, tag: 3 }, Seen::Hand { value: 1 }),
+        (Step::PollLoad { seat: 2 }, Seen::Hand { value: 3 }),
+        (Step::PollPresent { seat: 2 }, Seen::Present { seats: 2 }),
+        (Step::Come { seat: 0 }, Seen::Done),
+        (Step::EnterLoad { seat: 0 }, Seen::Hand { value: 3 }),
+        (Step::EnterStore { seat: 0 }, Seen::Done),
+        (Step::EnterCheck { seat: 0 }, inside!(3, 3)),
+        (Step::PollScan { seat: 2 }, word!(1, 0, 3)),
+        (Step::PollSwap { seat: 2 }, Seen::Yes { read: 3 }),
+        (Step::PollRead { seat: 2, tag: 5 }, Seen::Hand { value: 3 }),
+        (Step::PollLoad { seat: 2 }, Seen::Yes { read: 3 }),
+    ],
+    read_hand: 3,
+    write_hand: 3,
+};
+
 #[test]
 fn schedules_see_what_they_should(rt: HostRuntime) -> Result<(), Fail> {
     let schedules = [
@@ -340,6 +380,7 @@ fn schedules_see_what_they_should(rt: HostRuntime) -> Result<(), Fail> {
         SPENT,
         EXCHANGE_THAT_FAILS,
         OLD_TAGS,
+        SEAT_THAT_LEAVES,
     ];
     for schedule in schedules {
         let mut core = Core::new(rt.alloc(), schedule.seats, schedule.start, schedule.window)?;

@@ -87,6 +87,7 @@ fn a_poll_scans_all_seats_or_says_yes_at_its_load(rt: HostRuntime) -> Result<(),
             &[
                 Seen::Hand { value: 1 },
                 Seen::Hand { value: 3 },
+                Seen::Present { seats: 3 },
                 Seen::Word {
                     seat: 0,
                     word: 1,
@@ -102,6 +103,37 @@ fn a_poll_scans_all_seats_or_says_yes_at_its_load(rt: HostRuntime) -> Result<(),
         ),
     ];
     take_turns(&rt, rt.alloc(), &mut core, &rows)
+}
+
+#[test]
+fn a_poll_loads_the_words_of_the_seats_that_have_a_worker(rt: HostRuntime) -> Result<(), Fail> {
+    let mut core = Core::new(rt.alloc(), 64, 1, 8)?;
+    for seat in 1..63 {
+        core.apply(rt.alloc(), Step::Leave { seat })?;
+    }
+    core.turn(rt.alloc(), Turn::Advance { seat: 63 })?;
+    let turn = Turn::Poll { seat: 63, tag: 3 };
+    let seen = core.turn(rt.alloc(), turn)?;
+    let sees = [
+        Seen::Hand { value: 1 },
+        Seen::Hand { value: 3 },
+        Seen::Present {
+            seats: (1 << 63) + 1,
+        },
+        Seen::Word {
+            seat: 0,
+            word: 0,
+            least: 3,
+        },
+        Seen::Word {
+            seat: 63,
+            word: 0,
+            least: 3,
+        },
+        Seen::Yes { read: 3 },
+    ];
+    assert_eq!(rt; seen.as_slice(), sees.as_slice());
+    Ok(())
 }
 
 #[test]

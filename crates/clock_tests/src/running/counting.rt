@@ -2,10 +2,12 @@ ghost use Rattle.std.specs.Prelude.{◌≡◌, ◌<◌, Some, None, IsSome, IfOk
 ghost use Rattle.smr_core.specs.declared.phase.Phase.{Phase};
 ghost use Rattle.smr_clock.specs.Belongs.{IsOf, view, holder, table_of, setup_of};
 ghost use Rattle.smr_clock.specs.CountingHost.{count_place};
+ghost use Rattle.smr_clock.specs.HostSteps.{IsHand};
 ghost use Rattle.smr_clock.specs.Notes.{IsSeatOf, IsNoteOf, seat_knows, note_knows};
 
 use super::*;
 use smr_clock::{Host, HostAct, HostJoin, HostPlay, HostSeat, HostSplit, Note};
+use smr_core::places::{READ_PLACE, WRITE_PLACE};
 
 /// A host with one word of its own, which only the seat that keeps it stores.
 struct Counting;
@@ -126,7 +128,7 @@ fn put(clock: &Clock<Counting>, seat: &mut HostSeat<Counting>, count: u64) -> u6
 // A hand, as the seat loads it.
 fn hand(clock: &Clock<Counting>, seat: &mut HostSeat<Counting>, word: u32) -> u64
     requires here { IsSeatOf clock.now seat.old }
-    requires hand { word < 2 }
+    requires hand { IsHand word }
     ensures here { IsSeatOf clock.now seat.new }
     ensures host { (seat_knows seat.new).host ≡ (seat_knows seat.old).host }
 {
@@ -174,7 +176,10 @@ fn the_clock_goes_on_under_a_host(rt: HostRuntime) -> Result<(), Fail> {
     let (clock, mut pass, mut seat) = counted(rt.alloc(), 7)?;
     clock.enter(&mut pass)?;
     let goal = clock.advance(&mut pass)?;
-    assert!(rt; hand(&clock, &mut seat, 0) == 3 && hand(&clock, &mut seat, 1) == 1);
+    assert!(rt;
+        hand(&clock, &mut seat, WRITE_PLACE as u32) == 3
+            && hand(&clock, &mut seat, READ_PLACE as u32) == 1
+    );
     clock.exit(&mut pass);
     let seat = clock.note(&mut pass).into_host();
     let mut note = Note::of_host(seat);

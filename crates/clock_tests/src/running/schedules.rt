@@ -69,6 +69,31 @@ fn a_poll_reads_tags_and_words_across_the_wrap(rt: HostRuntime) -> Result<(), Fa
     Ok(())
 }
 
+#[test]
+fn a_poll_does_without_a_seat_that_has_left(rt: HostRuntime) -> Result<(), Fail> {
+    let (clock, reader, mut writer) = two_seats(rt.alloc(), 1, 8)?;
+    let _vacancy = clock.leave(reader);
+    let goal = clock.advance(&mut writer)?;
+    let mut note = clock.note(&mut writer);
+    assert!(rt; goal.tag().raw == 3 && clock.poll(&mut note, &goal));
+    assert_eq!(rt; clock.hands(&mut writer), (3, 3));
+    Ok(())
+}
+
+#[test]
+fn a_poll_finds_the_section_of_who_came(rt: HostRuntime) -> Result<(), Fail> {
+    let (clock, reader, mut writer) = two_seats(rt.alloc(), 1, 8)?;
+    let vacancy = clock.leave(reader);
+    let mut reader = clock.come(vacancy);
+    clock.enter(&mut reader)?;
+    let goal = clock.advance(&mut writer)?;
+    let mut note = clock.note(&mut writer);
+    assert!(rt; !clock.poll(&mut note, &goal));
+    clock.exit(&mut reader);
+    assert!(rt; clock.poll(&mut note, &goal));
+    Ok(())
+}
+
 // The other pass's advance, which is interrupted before its exchange, can't be written as a call.
 #[test]
 fn an_advance_alone_moves_the_write_hand_by_two(rt: HostRuntime) -> Result<(), Fail> {

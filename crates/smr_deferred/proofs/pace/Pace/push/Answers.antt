@@ -1,0 +1,18 @@
+use Rattle.smr_clock.specs.Belongs.{view}
+use Rattle.smr_deferred.specs.Numbers.{one_pushed}
+use Rattle.smr_deferred.proofs.Pacing.{rests_twice, advances_since}
+use Rattle.smr_deferred.proofs.pace.Pace.push.Goals as goal
+
+pub advance-requires-clause-mine : goal.advance-requires-clause-mine
+advance-requires-clause-mine g c = c.count_push.ensures.mine _ c.settle.ensures.mine
+
+pub returns-clause-advances : goal.returns-clause-advances
+returns-clause-advances g c =
+    record {
+      begun = view c.settle.new.pass;
+      more = c.settle.ensures.more;
+      advances =
+          advances_since _ _ _ c.args.self.now c.count_push.new.self _ _ _
+          (rests_twice one_pushed c.args.self.now c.settle.new.self c.count_push.new.self c.settle.ensures.rests c.count_push.ensures.rests)
+          c.advance.ensures.advances;
+    }

@@ -1,0 +1,12 @@
+pub mod Numbers
+pub mod Counts
+pub mod Asked
+pub mod Pace
+pub mod Pass
+pub mod Retired
+pub mod RetireList
+pub mod Advancing
+pub mod Goals
+pub mod Retiring
+pub mod Polling
+pub mod Reaping

@@ -1,0 +1,42 @@
+-- What a list keeps of its advances. Own.
+use Rattle.std.specs.Prelude.{◌≡◌, ◌≤◌, ℕ, Option}
+use Rattle.std.specs.Option.{ForSome}
+use Rattle.smr_clock.specs.declared.setup.Setup.{Setup}
+use Rattle.smr_clock.specs.declared.refused.AdvanceRefused.{AdvanceRefused}
+use Rattle.smr_clock.specs.declared.host.Host.{Ghosts}
+use Rattle.smr_clock.specs.Belongs.{TableId}
+use Rattle.smr_clock.specs.Notes.{note_clock}
+use Rattle.smr_deferred.specs.declared.asked.Asked.{Asked}
+use Rattle.smr_deferred.specs.declared.pace.Pace.{Pace}
+use Rattle.smr_deferred.specs.Asked.{IsAskedAt}
+use Rattle.smr_deferred.specs.Counts.{numbers_in}
+use Rattle.smr_deferred.specs.Numbers.{Numbers}
+
+-- the limits that a list may have
+pub record IsLimit (limit : ℕ) : Type 0 where
+  pub least : 1 ≤ limit
+  pub most : limit ≤ 65536
+
+module _ {H P : Type 0} {g : Ghosts H P} where
+  abbrev pub limit_in : Pace H P g → ℕ
+  limit_in pace = pace.limit
+
+  -- two above the write hand that was loaded before the last advance that answered, or 0
+  abbrev pub moved_in : Pace H P g → ℕ
+  moved_in pace = pace.moved
+
+  -- that advance's goal, and the note that was taken right after it
+  abbrev pub asked_in : Pace H P g → Option (Asked H P g)
+  asked_in pace = pace.asked
+
+  -- how the last advance was refused, if it was
+  abbrev pub refused_in : Pace H P g → Option AdvanceRefused
+  refused_in pace = pace.refused
+
+  abbrev pub numbers_of : Pace H P g → Numbers
+  numbers_of pace = numbers_in pace.counts
+
+  -- what is kept of any clock is of this one
+  pub record IsOfClock (clock : TableId × Setup) (pace : Pace H P g) : Type 0 where
+    pub home : ForSome pace.home (λ note. note_clock note ≡ clock)
+    pub asked : ForSome pace.asked (IsAskedAt clock)

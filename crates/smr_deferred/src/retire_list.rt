@@ -1,0 +1,157 @@
+ghost use Rattle.std.specs.Prelude.{◌≤◌, All};
+ghost use Rattle.smr_deferred.specs.Counts.{numbers_in};
+ghost use Rattle.smr_deferred.specs.Numbers.{AreFew};
+
+use crate::pace::Pace;
+use crate::refused::{LimitRefused, ReapNo, RetireRefused};
+use crate::retired::Retired;
+use smr_clock::{AdvanceRefused, Clock, Host, Pass};
+use smr_core::hands::is_spent;
+use std::alloc::Global;
+use std::collections::VecDeque;
+
+/// Values that wait until no section can see them, and come back in order. It is used with one pass, and so with one clock.
+///
+/// What always holds: at most one advance answered for each `limit` values listed, and one for each push.
+#[derive(Drop)]
+pub struct RetireList<T, H: Host> {
+    queue: VecDeque<Retired<T>>,
+    pace: Pace<H>,
+    pub ghost few: { AreFew pace.limit (numbers_in pace.counts) },
+    ghost some: { All (λ retired. 1 ≤ retired.goal) queue.items },
+}
+
+impl<T, H: Host> RetireList<T, H> {
+    ghost use Rattle.std.specs.Prelude.{◌≡◌, ◌<◌, ◌+◌, ℕ, [], Ok, Err, Some, None, IfOk, IfErr, OnOk, OnErr, IfSome};
+    ghost use Rattle.smr_clock.specs.Belongs.{IsOf, clock_id, view, holder};
+    ghost use Rattle.smr_deferred.specs.Advancing.{refusal_of};
+    ghost use Rattle.smr_deferred.specs.Pace.{IsLimit};
+    ghost use Rattle.smr_deferred.specs.Reaping.{Reaps};
+    ghost use Rattle.smr_deferred.specs.RetireList.{listed, limit_of, moved_of, refused_of, counts_of, IsUsedWith, IsSame, IsNew};
+    ghost use Rattle.smr_deferred.specs.Retired.{oldest_goal};
+    ghost use Rattle.smr_deferred.specs.Retiring.{Retires, Pushes, RefusesRetire};
+
+    /// An empty list that advances once in `limit` retirements, which is 1 to 65,536.
+    pub fn new(alloc: Global, limit: u32) -> Result<RetireList<T, H>, LimitRefused>
+        ensures in_range { OnOk result (IsLimit limit) }
+        ensures new { IfOk result (IsNew limit) }
+        ensures unused { IfOk result (λ list. (clock : _) → IsUsedWith clock list) }
+        ensures refused { IfErr result (λ refused. refused.limit ≡ limit) }
+        ensures out_of_range { OnErr result (IsLimit limit → ⊥) }
+    {
+        if limit == 0 || limit > 65_536 {
+            return Err(LimitRefused { limit });
+        }
+        Ok(RetireList {
+            queue: VecDeque::new(alloc),
+            pace: Pace::new(limit),
+        })
+    }
+
+    /// Lists a value that no section which is entered from now on can see. Its goal is two above the write hand that is loaded
+    /// here. Then the list advances once if `limit` values or more were listed since its last advance that answered; a
+    /// refused advance is kept for `refused`. After a refusal the list is as before, and the value is back.
+    pub fn retire(
+        &mut self,
+        _alloc: Global,
+        clock: &Clock<H>,
+        pass: &mut Pass<H>,
+        value: T,
+    ) -> Result<(), (T, RetireRefused)>
+        requires here { IsOf clock.now pass.old }
+        requires mine { IsUsedWith (clock_id clock.now) self.old }
+        ensures here { IsOf clock.now pass.new }
+        ensures mine { IsUsedWith (clock_id clock.now) self.new }
+        ensures phase { (holder pass.new).phase ≡ (holder pass.old).phase }
+        ensures seen { (holder pass.old).seen ≤ (holder pass.new).seen }
+        ensures host { (view pass.new).host ≡ (view pass.old).host }
+        ensures advances { (holder pass.new).advances + (counts_of self.old).answered ≤ (holder pass.old).advances + (counts_of self.new).answered }
+        ensures retired { OnOk result (Retires H.copied (view pass.old) value self.old self.new (view pass.new)) }
+        ensures back { IfErr result (λ (back, refused). back ≡ value) }
+        ensures refused { IfErr result (λ (back, refused). RefusesRetire (view pass.old) self.old refused (view pass.new)) }
+        ensures same { OnErr result (IsSame self.old self.new) }
+    {
+        if self.queue.reserve(1).is_err() {
+            return Err((value, RetireRefused::Memory));
+        }
+        let (_, write) = clock.hands(pass);
+        if is_spent(write) {
+            return Err((value, RetireRefused::Spent { write }));
+        }
+        let goal = write + 2;
+        self.queue.push_back_reserved(Retired { value, goal });
+        self.pace.retire(clock, pass, goal);
+        Ok(())
+    }
+
+    /// Loads the hands and advances once, so that the values listed so far can be reaped once no section before their goals is
+    /// open. Refused exactly as that advance.
+    pub fn push(&mut self, clock: &Clock<H>, pass: &mut Pass<H>) -> Result<(), AdvanceRefused>
+        requires here { IsOf clock.now pass.old }
+        requires mine { IsUsedWith (clock_id clock.now) self.old }
+        ensures here { IsOf clock.now pass.new }
+        ensures mine { IsUsedWith (clock_id clock.now) self.new }
+        ensures phase { (holder pass.new).phase ≡ (holder pass.old).phase }
+        ensures seen { (holder pass.old).seen ≤ (holder pass.new).seen }
+        ensures host { (view pass.new).host ≡ (view pass.old).host }
+        ensures advances { (holder pass.new).advances + (counts_of self.old).answered ≤ (holder pass.old).advances + (counts_of self.new).answered }
+        ensures pushed { Pushes H.copied (view pass.old) self.old self.new (view pass.new) }
+        ensures kept { refused_of self.new ≡ refusal_of result }
+    {
+        let (_, write) = clock.hands(pass);
+        self.pace.push(clock, pass, write + 2)
+    }
+
+    // The goal of the oldest value.
+    fn oldest(&self) -> Option<u64>
+        ensures oldest { result ≡ oldest_goal (listed self.now) }
+        ensures some { IfSome result (λ goal. 1 ≤ goal) }
+    {
+        let oldest = self.queue.front()?;
+        Some(oldest.goal)
+    }
+
+    /// The oldest value, where a poll says that no section before its goal is open; from here on none ever is. None where the
+    /// list is empty. The poll is by the list's own note, so the pass stays as it is.
+    pub fn reap(&mut self, clock: &Clock<H>, pass: &mut Pass<H>) -> Result<Option<T>, ReapNo>
+        requires here { IsOf clock.now pass.old }
+        requires mine { IsUsedWith (clock_id clock.now) self.old }
+        ensures here { IsOf clock.now pass.new }
+        ensures mine { IsUsedWith (clock_id clock.now) self.new }
+        ensures pass { view pass.new ≡ view pass.old }
+        ensures reaps { Reaps self.old result self.new }
+        ensures none { listed self.old ≡ [] → result ≡ Ok None }
+        ensures ahead { (goal : ℕ) → oldest_goal (listed self.old) ≡ Some goal → moved_of self.old < goal → result ≡ Err (ReapNo.Ahead goal (moved_of self.old)) }
+    {
+        let _ = pass;
+        let Some(goal) = self.oldest() else {
+            return Ok(None);
+        };
+        let moved = self.pace.moved();
+        if moved < goal {
+            return Err(ReapNo::Ahead { goal, moved });
+        }
+        if !self.pace.poll(clock, goal) {
+            return Err(ReapNo::Held { goal });
+        }
+        let Some(Retired { value, goal: _ }) = self.queue.pop_front() else {
+            unreachable!()
+        };
+        Ok(Some(value))
+    }
+
+    /// How the last advance was refused. None after one that answered, and before the first.
+    pub fn refused(&self) -> Option<AdvanceRefused>
+        ensures { result ≡ refused_of self.now }
+    {
+        self.pace.refused()
+    }
+
+    /// Ends an empty list. One whose values may be dropped can be dropped instead.
+    pub fn destroy_empty(self)
+        requires { listed self ≡ [] }
+    {
+        let RetireList { queue, pace: _ } = self;
+        queue.destroy_empty();
+    }
+}
