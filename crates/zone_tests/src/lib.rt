@@ -3,9 +3,13 @@
 //! What no clause of the zones' lower crates says: rows at the edges, and their contracts met at types of a caller's own.
 
 #[cfg(test)]
+mod arenas;
+#[cfg(test)]
 mod body;
 #[cfg(test)]
 mod buckets;
+#[cfg(test)]
+mod caches;
 #[cfg(test)]
 mod clock;
 #[cfg(test)]
@@ -22,6 +26,8 @@ mod locks;
 mod logs;
 #[cfg(test)]
 mod places_of_slabs;
+#[cfg(test)]
+mod ports;
 #[cfg(test)]
 mod seats;
 #[cfg(test)]

@@ -1,6 +1,6 @@
 ghost use Rattle.std.specs.Prelude.{◌≡◌, [], ◌∷◌};
 
-use ghost_log::Log;
+use listed::Log;
 use std::test::Fail;
 use std::thread::{Threads, join};
 

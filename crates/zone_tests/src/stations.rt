@@ -1,4 +1,4 @@
-use identity_client::{Network, Pair, Station};
+use keyed_lock::pattern::{Network, Pair, Station};
 use std::test::Fail;
 use std::thread;
 

@@ -1,0 +1,14 @@
+-- Own: what contracts see of an item that is outside.
+use Rattle.std.specs.Prelude.{ℕ}
+use Rattle.deed_book.specs.Deed.{BookId, deed_table, no_of}
+use Rattle.uma_zcache.specs.declared.held.Held.{Held}
+
+abbrev pub held_base : Held → ℕ
+held_base held = held.base
+
+abbrev pub held_no : Held → ℕ
+held_no held = no_of held.deed
+
+-- the book of its cache zone, which tells it from every other one
+abbrev pub held_book : Held → BookId
+held_book held = deed_table held.deed

@@ -1,0 +1,13 @@
+pub mod Refused
+pub mod Bases
+pub mod Held
+pub mod Entries
+pub mod HomeList
+pub mod Stack
+pub mod Seat
+pub mod Locked
+pub mod Imports
+pub mod Releases
+pub mod Rule
+pub mod Cache
+pub mod ArenaImport

@@ -1,0 +1,4 @@
+mod ports;
+mod ranges;
+mod refusals;
+mod threads;
