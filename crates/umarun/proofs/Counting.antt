@@ -12,7 +12,7 @@ use Rattle.smr_clock.specs.declared.view.View.{View}
 use Rattle.name_rows.specs.declared.part.Part.{Part}
 use Rattle.name_rows.specs.declared.records.Bound.{Bound}
 use Rattle.name_rows.specs.declared.words.Words.{Words}
-use Rattle.name_entries.specs.Raised.{refusal_of}
+use Rattle.name_cache.specs.Raised.{refusal_of}
 use Rattle.name_cache.specs.declared.bind_refused.BindRefused.{BindRefused}
 use Rattle.name_cache.specs.declared.bind_refused.BindRefused.TheVariants.{Zone, Worn, Unripe, Memory}
 use Rattle.name_cache.specs.declared.receipt.Receipt.{Receipt}

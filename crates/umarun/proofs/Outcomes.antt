@@ -8,20 +8,21 @@ use Rattle.text_lines.specs.declared.refused.ParseRefused.{ParseRefused}
 use Rattle.text_lines.specs.declared.refused.ParseRefused.TheVariants as parsing
 use Rattle.text_lines.specs.declared.refused.TraceRefused.{TraceRefused}
 use Rattle.schedule_text.specs.declared.schedule.Schedule.{Schedule}
+use Rattle.schedule_text.specs.declared.refused.ScheduleRefused.{ScheduleRefused}
 use Rattle.schedule_text.specs.declared.refused.ScheduleRefused.TheVariants as refusals
 use Rattle.schedule_text.specs.ScheduleGrammar.{schedule_test, IsScheduleText}
 use Rattle.schedule_text.specs.ScheduleLaws.{RefusedPrintsNothing}
-use Rattle.schedule_text.specs.ScheduleText.{RefusesSchedule}
+use Rattle.schedule_text.specs.ScheduleText.{IsOutput, RefusesSchedule}
 use Rattle.trace_text.specs.declared.trace.Trace.{Trace}
 use Rattle.trace_text.specs.Grammar.{IsTraceText, trace_test}
 use Rattle.uma_io.specs.Source.{HasMoreThan}
 use Rattle.uma_replay.specs.Report.{StandsFor}
-use Rattle.umarun.specs.Causes.{parse_fault}
+use Rattle.umarun.specs.Causes.{parse_fault, schedule_fault}
 use Rattle.umarun.specs.declared.fault.Fault.{Fault}
 use Rattle.umarun.specs.declared.fault.Fault.TheVariants as faults
 use Rattle.umarun.specs.declared.ended.Ended.{Ended}
 use Rattle.umarun.specs.Replaying.{LeavesHall, Replays, AreInput, AreRefused, RefusesTrace, most_bytes}
-use Rattle.umarun.specs.Stepping.{ArePlayed, RefusesText, RefusesStep}
+use Rattle.umarun.specs.Stepping.{Plays, ArePlayed, RefusesText, RefusesStep}
 use Rattle.zone_stats.specs.declared.report.Report.{Report}
 
 -- no text is right and refused
@@ -139,6 +140,34 @@ step_not_played one nothing line refused bytes refuses played =
     let P : Schedule → Type 0 = λ s. RefusesSchedule s (refusals.Step line refused) in
     let at = subst P same refuses.step in
     nothing played.1.schedule played.0 played.1.output at.0 at.1.0 refused at.1.2
+
+-- the bytes that were left are those that were read
+pub plays : (left : Option (List ℕ)) (read given : List ℕ) (schedule : Schedule) (printed : List ℕ) → IfSome left (λ all. read ≡ all) → given ≡ read → length read ≤ most_bytes
+    → IsScheduleText given schedule → IsOutput schedule printed → IfSome left (Plays printed)
+plays None read given schedule printed all same within text output = tt
+plays (Some left) read given schedule printed all same within text output =
+    let P : List ℕ → Type 0 = λ bytes. Plays printed bytes in
+    let Q : List ℕ → Type 0 = λ bytes. IsScheduleText bytes schedule in
+    subst P all (record { within = within; schedule = schedule; text = subst Q same text; output = output })
+
+step_by : (schedule : Schedule) (why : ScheduleRefused) (fault : Fault) (line : ℕ) (refused : StepRefused) → RefusesSchedule schedule why
+    → fault ≡ schedule_fault why → fault ≡ faults.Step line refused → RefusesSchedule schedule (refusals.Step line refused)
+step_by schedule (refusals.Step at turned) fault line refused bad by is =
+    let same : at ≡ line = cc in
+    let turns : turned ≡ refused = cc in
+    let P : ℕ → Type 0 = λ x. RefusesSchedule schedule (refusals.Step x turned) in
+    let Q : StepRefused → Type 0 = λ x. RefusesSchedule schedule (refusals.Step line x) in
+    subst Q turns (subst P same bad)
+step_by schedule refusals.Memory fault line refused bad by is = absurd cc
+
+pub refuses_step : (left : Option (List ℕ)) (read given : List ℕ) (schedule : Schedule) (why : ScheduleRefused) (fault : Fault) (line : ℕ) (refused : StepRefused)
+    → IfSome left (λ all. read ≡ all) → given ≡ read → length read ≤ most_bytes
+    → IsScheduleText given schedule → RefusesSchedule schedule why → fault ≡ schedule_fault why → fault ≡ faults.Step line refused → IfSome left (RefusesStep line refused)
+refuses_step None read given schedule why fault line refused all same within text bad by is = tt
+refuses_step (Some left) read given schedule why fault line refused all same within text bad by is =
+    let P : List ℕ → Type 0 = λ bytes. RefusesStep line refused bytes in
+    let Q : List ℕ → Type 0 = λ bytes. IsScheduleText bytes schedule in
+    subst P all (record { within = within; schedule = schedule; text = subst Q same text; step = step_by schedule why fault line refused bad by is })
 
 -- a schedule that is played ends by want of memory, or by a fault of the source, or well
 pub ends_by_memory : (left : Option (List ℕ)) (fault : Fault)

@@ -1,9 +1,9 @@
 -- What was written of a report is its text.
 use Rattle.std.proofs.Common.{◌≡◌, List, ℕ, Option, Some, refl, sym, subst}
 use Rattle.std.specs.Prelude.{IfNone, IfSome}
+use Rattle.command_line.specs.declared.command.Command.{Command}
+use Rattle.command_line.specs.declared.command.Command.TheVariants.{Bulk}
 use Rattle.umarun.specs.Summary.{summary_text}
-use Rattle.umarun.specs.declared.command.Command.{Command}
-use Rattle.umarun.specs.declared.command.Command.TheVariants.{Bulk}
 use Rattle.umarun.specs.declared.fault.Fault.{Fault}
 use Rattle.zone_stats.specs.declared.report.Report.{Report}
 

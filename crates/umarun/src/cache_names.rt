@@ -2,8 +2,7 @@ ghost use Rattle.std.specs.Prelude.{◌≡◌, ◌≢◌, IfOk, OnOk, false};
 
 use crate::opening::{cache_over, open};
 use crate::trace_cache::TraceCache;
-use name_cache::BindRefused;
-use name_entries::RaisedEntry;
+use name_cache::{BindRefused, RaisedEntry};
 use name_rows::{Names, find};
 use smr_clock::{Clock, Overtaken, Pass};
 use std::alloc::Global;

@@ -1,6 +1,13 @@
 //! Replays a trace of allocations and frees, and prints a table in the manner of `vmstat -z`; plays a schedule of the
-//! reclamation clock, and prints what each step sees; makes a trace from a number; or replays such a trace, and prints what no
-//! schedule changes.
+//! reclamation clock, and prints what each step sees; makes a trace from a number; or replays such a trace, and prints what
+//! no schedule changes.
+//!
+//! - That `bulk` writes the same under each schedule no clause says in one word. Its report stands for the trace, so REQ
+//!   and FAIL of a zone are its requests together, and looks and binds are the counts of their lines; where nothing is
+//!   refused, REQ and USED are the trace's alone. That nothing is, tests show.
+//! - Nothing but want of memory refuses the cache of a valid trace: each other refusal is shown to be none by the ranges of
+//!   the header.
+//! - The words are read by `command_line`, over `clap`, whose calls take memory: so `run` may answer `Memory` for any words.
 #![tactic(auto)]
 
 ghost use Rattle.std.specs.Prelude.{◌≡◌, ◌≢◌};
@@ -9,7 +16,6 @@ ghost use Rattle.umarun.specs.Ending.{exit_code};
 
 mod bulk;
 mod cache_names;
-mod command;
 mod ended;
 mod fault;
 mod finish;

@@ -1,11 +1,12 @@
 ghost use Rattle.std.specs.Prelude.{◌≡◌, ◌≢◌, ◌↔◌, ◌⊎◌, ℕ, true, false, map, string_bytes, Some, None, IsSome, IsNone, IfSome, IfNone, IsSomeAnd};
+ghost use Rattle.command_line.specs.Commands.{command_of};
 ghost use Rattle.smr_core.specs.declared.step_refused.StepRefused.{StepRefused as Turned};
 ghost use Rattle.text_lines.specs.declared.refused.TraceRefused.{TraceRefused as Refused};
 ghost use Rattle.uma_io.specs.Faults.{Rose};
 ghost use Rattle.uma_io.specs.Sink.{Adds, AddsPart};
 ghost use Rattle.uma_io.specs.Source.{Exhausts, HasMoreThan};
 ghost use Rattle.umarun.specs.Bulk.{ReplaysMade};
-ghost use Rattle.umarun.specs.Ending.{command_of, makes_report, reads_input, status_at};
+ghost use Rattle.umarun.specs.Ending.{makes_report, reads_input, status_at};
 ghost use Rattle.umarun.specs.Making.{made_text};
 ghost use Rattle.umarun.specs.Replaying.{Replays, AreInput, AreRefused, RefusesTrace, most_bytes};
 ghost use Rattle.umarun.specs.Stepping.{ArePlayed, WritesOutput, WritesPart, RefusesText, RefusesStep};
@@ -13,12 +14,12 @@ ghost use Rattle.umarun.specs.Summary.{summary_text};
 ghost use Rattle.zone_stats.specs.ReportText.{report_text};
 
 use crate::bulk::replay_made;
-use crate::command::Command;
 use crate::fault::Fault;
 use crate::finish::Finish;
 use crate::making::made_text;
 use crate::replaying::{Replayed, replay, replayed_or_refused};
 use crate::stepping::{played_or_refused, steps};
+use command_line::{Command, WordsRefused, command_in};
 use std::alloc::Global;
 use std::sync::Wait;
 use std::thread::Threads;
@@ -46,9 +47,11 @@ pub fn run<R: Threads + Wait + Sync, S: Source, K: Sink, G: Gate + Sync>(
         × (IsNone result.fault ⊎ (result.fault ≡ Some Fault.Write))) }
     ensures hall { IsSome result.hall ↔ IsSome result.report }
 
-    // Usage exactly where the words are no command. Nothing is read but for `replay` and `steps`, which read all.
+    // Usage only where the words are no command; where they are none it is Usage, or memory was wanting. Nothing is read but
+    // for `replay` and `steps`, which read all.
     ensures usage { result.fault ≡ Some Fault.Usage → command_of (map string_bytes words.now) ≡ None }
-    ensures command { result.fault ≢ Some Fault.Usage → IsSome (command_of (map string_bytes words.now)) }
+    ensures command { command_of (map string_bytes words.now) ≡ None
+        → (result.fault ≡ Some Fault.Usage) ⊎ (result.fault ≡ Some Fault.Memory) }
     ensures unread { reads_input (command_of (map string_bytes words.now)) ≡ false → source.new ≡ source.old }
     ensures end { reads_input (command_of (map string_bytes words.now)) ≡ true
         → IfNone result.fault (Exhausts (S.bytes_left source.old) (S.bytes_left source.new)) }
@@ -135,27 +138,28 @@ pub fn run<R: Threads + Wait + Sync, S: Source, K: Sink, G: Gate + Sync>(
         → ¬ (Rose (K.fault_count sink.old) (K.fault_count sink.new))
         → (result.fault ≡ None) ⊎ (result.fault ≡ Some Fault.Memory) }
 {
-    match Command::of(words) {
-        None => Finish::refused(Fault::Usage),
-        Some(Command::Replay) => {
+    match command_in(alloc, words) {
+        Err(WordsRefused::Usage) => Finish::refused(Fault::Usage),
+        Err(WordsRefused::Memory) => Finish::refused(Fault::Memory),
+        Ok(Command::Replay) => {
             replayed_or_refused();
             match replay(rt, alloc, source, gate) {
                 Err(fault) => Finish::refused(fault),
                 Ok((played, text)) => reported(sink, played, &text),
             }
         }
-        Some(Command::Steps) => {
+        Ok(Command::Steps) => {
             played_or_refused();
             match steps(alloc, source) {
                 Err(fault) => Finish::refused(fault),
                 Ok(text) => written(sink, &text),
             }
         }
-        Some(Command::Gen { seed, workers, ops }) => match made_text(alloc, seed, workers, ops) {
+        Ok(Command::Gen { seed, workers, ops }) => match made_text(alloc, seed, workers, ops) {
             Err(_) => Finish::refused(Fault::Memory),
             Ok(text) => written(sink, &text),
         },
-        Some(Command::Bulk { seed, workers, ops }) => {
+        Ok(Command::Bulk { seed, workers, ops }) => {
             match replay_made(rt, alloc, seed, workers, ops, gate) {
                 Err(_) => Finish::refused(Fault::Memory),
                 Ok((played, summary)) => reported(sink, played, &summary),

@@ -2,8 +2,8 @@
 ghost use Rattle.std.specs.Prelude.{◌≡◌, ◌++◌, IfOk, OnOk, flat_map};
 ghost use Rattle.umarun.specs.Summary.{names_summary, summary_text, zone_summary};
 
-use printed_lines::push_line;
 use std::alloc::{AllocError, Global};
+use text_lines::push_line;
 use zone_stats::{Memory, NamesLine, Report, ZoneLine};
 
 /// How many zones a made trace has beside that of its names, which is the last one.

@@ -64,6 +64,10 @@ returns-in-Err-steps-clause-steps_complete g c = λ is played unread unwritten.
     (λ is. unread (c.in-Err-steps.ensures.read (ap Err is))) played in
     inr (ap (λ (finish : Finish). finish.fault) c.refused-in-Err-steps.ensures ∙ ap Some memory)
 
+-- The text of a schedule is written whole where writing didn't fail.
+pub returns-in-Ok-steps-clause-steps_complete : goal.returns-in-Ok-steps-clause-steps_complete
+returns-in-Ok-steps-clause-steps_complete g c = λ is played unread unwritten. inl (c.written.ensures.complete unwritten)
+
 -- The text of a made trace is written whole where writing didn't fail.
 pub returns-in-Ok-made_text-clause-gen_complete : goal.returns-in-Ok-made_text-clause-gen_complete
 returns-in-Ok-made_text-clause-gen_complete g c = λ seed workers ops is unwritten. inl (c.written-in-Ok-made_text.ensures.complete unwritten)
@@ -72,6 +76,6 @@ pub returns-in-Ok-replay_made-clause-bulk_part : goal.returns-in-Ok-replay_made-
 returns-in-Ok-replay_made-clause-bulk_part g c = λ seed workers ops is fault.
     let W : List ℕ → Type 0 = λ text. AddsPart (g.K.Sink.bytes_held c.args.sink.now) text (g.K.Sink.bytes_held c.reported-in-Ok-replay_made.new.sink) in
     let report = c.in-Ok-replay_made.played.report in
-    let same = same_summary c.in-Some-Bulk.seed c.in-Some-Bulk.workers c.in-Some-Bulk.ops seed workers ops (sym is ∙ sym c.of.ensures.is ∙ c.in-Some-Bulk.is ∙ ap Some c.in-Some-Bulk.field-0-is) report in
+    let same = same_summary c.in-Ok-Bulk.seed c.in-Ok-Bulk.workers c.in-Ok-Bulk.ops seed workers ops (sym is ∙ c.in-Ok-Bulk.ensures.command ∙ ap Some c.in-Ok-Bulk.field-0-is) report in
     shown (λ (r : Report). summary_text seed workers ops r) W c.reported-in-Ok-replay_made.result.report report c.deref-in-Ok-replay_made.result.now c.reported-in-Ok-replay_made.ensures.report
     (c.deref-in-Ok-replay_made.ensures.value ∙ c.in-Ok-replay_made.ensures.text ∙ same) (c.reported-in-Ok-replay_made.ensures.part fault)

@@ -1,6 +1,9 @@
-ghost use Rattle.std.specs.Prelude.{◌≡◌, map, string_bytes, IfOk, IfSome};
-ghost use Rattle.umarun.specs.Ending.{AreNumbers, HasRanges, command_made, command_named, command_numbered, command_of, numbers};
+ghost use Rattle.std.specs.Prelude.{◌≡◌, IfOk, IfSome, codes};
+ghost use Rattle.clap.specs.Words.{first_value, found_of};
+ghost use Rattle.command_line.specs.Commands.{AreNumbers, HasRanges, command_made, command_named, command_numbered, numbers};
+ghost use Rattle.command_line.specs.Reading.{command_met};
 
+use clap::ArgMatches;
 use text_lines::{TraceKind, number_in, number_within};
 
 /// What the program is asked to do.
@@ -17,20 +20,24 @@ pub enum Command {
 }
 
 impl Command {
-    /// The command that the words after the program's name are, if they are one.
-    pub fn of(words: &[String]) -> Option<Command>
-        ensures is { result ≡ command_of (map string_bytes words.now) }
+    /// The command of the name that clap met, with what it found behind the name.
+    pub(crate) fn met(name: &str, found: &ArgMatches<'_>) -> Option<Command>
+        ensures is { result ≡ command_met name.now (first_value (found_of found.now) (codes "seed"))
+            (first_value (found_of found.now) (codes "workers")) (first_value (found_of found.now) (codes "ops")) }
         ensures ranges { IfSome result HasRanges }
     {
-        match words {
-            [word] => Command::named(word.as_bytes()),
-            [word, seed, workers, ops] => Command::numbered(
-                word.as_bytes(),
+        match (
+            found.get_str("seed"),
+            found.get_str("workers"),
+            found.get_str("ops"),
+        ) {
+            (Some(seed), Some(workers), Some(ops)) => Command::numbered(
+                name.as_bytes(),
                 seed.as_bytes(),
                 workers.as_bytes(),
                 ops.as_bytes(),
             ),
-            _ => None,
+            _ => Command::named(name.as_bytes()),
         }
     }
 

@@ -2,7 +2,7 @@
 use Rattle.std.proofs.Common.{rules, ◌≡◌, refl, arith}
 use Rattle.std.specs.Prelude.{codes}
 use Rattle.std.proofs.lemmas.Slice.Eq.{text_from_reads}
-use Rattle.umarun.proofs.command.Command.named.Goals as goal
+use Rattle.command_line.proofs.command.Command.named.Goals as goal
 
 pub returns-in-replay-clause-is : goal.returns-in-replay-clause-is
 returns-in-replay-clause-is c =
