@@ -1,0 +1,18 @@
+use Rattle.std.proofs.Common.{ap, sym, subst, ◌∙◌}
+use Rattle.smr_clock.specs.declared.setup.Setup.{Setup}
+use Rattle.smr_clock.specs.declared.host_act.HostAct.TheVariants.{Load}
+use Rattle.smr_clock.specs.Belongs.{TableId}
+use Rattle.smr_objects.specs.Cells.{cell_place}
+use Rattle.smr_objects.specs.ObjectsLaw.{IsPlan}
+use Rattle.smr_objects.proofs.PassSteps.{reads_cell-keeps}
+use Rattle.smr_objects.proofs.PassCalls.{sees_none, sees_record}
+use Rattle.smr_objects.proofs.pass_steps.load_cell.Goals as goal
+
+pub host_step-word-requires-clause-keeps : goal.host_step-word-requires-clause-keeps
+host_step-word-requires-clause-keeps c = reads_cell-keeps _ _ _ (ap (λ (p : TableId × Setup). p.1) c.requires.here) c.requires.inside c.args.cell _ c.requires.cell c.cell_place-place.ensures
+
+pub returns-clause-none : goal.returns-clause-none
+returns-clause-none c = λ none. sees_none _ c.args.cell _ c.host_step-word.result Load _ (subst (λ (s : Setup). IsPlan s.plan.0 s.plan.1) (sym (ap (λ (p : TableId × Setup). p.1) c.requires.here)) c.requires.objects.plan) (c.cell_place-place.ensures ∙ ap (λ (s : Setup). cell_place s c.args.cell) (sym (ap (λ (p : TableId × Setup). p.1) c.requires.here))) c.host_step-word.ensures.stepped none
+
+pub returns-clause-some : goal.returns-clause-some
+returns-clause-some c = λ some. sees_record _ c.args.cell _ c.host_step-word.result Load _ (subst (λ (s : Setup). IsPlan s.plan.0 s.plan.1) (sym (ap (λ (p : TableId × Setup). p.1) c.requires.here)) c.requires.objects.plan) (c.cell_place-place.ensures ∙ ap (λ (s : Setup). cell_place s c.args.cell) (sym (ap (λ (p : TableId × Setup). p.1) c.requires.here))) c.host_step-word.ensures.stepped some

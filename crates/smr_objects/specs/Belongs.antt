@@ -1,0 +1,42 @@
+-- What contracts see of a clock of objects and of its cells.
+use Rattle.std.specs.Prelude.{ℕ, ◌≤◌, List, [], ◌∷◌, Bool, true, false, Option, Some, None}
+use Rattle.smr_clock.specs.declared.setup.Setup.{Setup}
+use Rattle.smr_clock.specs.declared.clock.Clock.{Clock}
+use Rattle.smr_clock.specs.Belongs.{table_of, setup_of}
+use Rattle.smr_objects.specs.declared.records.SlotView.{SlotView}
+use Rattle.smr_objects.specs.declared.records.CellView.{CellView}
+use Rattle.smr_objects.specs.declared.slot_state.SlotState.{SlotState}
+use Rattle.smr_objects.specs.declared.slot_state.SlotState.TheVariants.{Closed, Stamped}
+use Rattle.smr_objects.specs.Cells.{cell_place, fresh_cell}
+use Rattle.smr_objects.specs.ObjectsLaw.{IsPlan}
+
+-- the counts are in range, and there is a word for each
+pub record FitsObjects (a : Setup) (words : ℕ) : Type 0 where
+  pub seats : a.about.seats ≤ 64
+  pub plan : IsPlan a.plan.0 a.plan.1
+  pub room : cell_place a a.plan.0 ≤ words
+
+module _ {H P : Type 0} where
+  abbrev pub IsObjectsClock : Clock H P → Type 0
+  IsObjectsClock clock = FitsObjects (setup_of clock) (table_of clock).words
+
+-- the first cell that a seat has
+abbrev pub the_cell : List CellView → CellView
+the_cell [] = fresh_cell 0
+the_cell (v ∷ rest) = v
+
+abbrev pub state_of : SlotView → SlotState
+state_of x = x.state
+
+abbrev pub is_closed : SlotState → Bool
+is_closed Closed = true
+is_closed _ = false
+
+abbrev pub stamp_of : SlotState → Option ℕ
+stamp_of (Stamped stamp) = Some stamp
+stamp_of _ = None
+
+-- the slot has a stamp, and the read hand is known to have come to it
+abbrev pub IsOver : ℕ → SlotState → Type 0
+IsOver floor (Stamped stamp) = stamp ≤ floor
+IsOver floor _ = ⊥

@@ -1,0 +1,11 @@
+pub mod Cells
+pub mod ObjectsLaw
+pub mod Laws
+pub mod Steps
+pub mod Belongs
+pub mod CellViews
+pub mod Stamping
+pub mod Reading
+pub mod Moving
+pub mod Opening
+pub mod SlotsStand
