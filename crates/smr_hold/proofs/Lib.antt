@@ -1,0 +1,3 @@
+pub mod LookLemmas
+pub mod FreeLemmas
+pub mod PutLemmas

@@ -1,0 +1,190 @@
+-- What the steps of a publish come to together.
+use Rattle.std.proofs.Common.{◌≡◌, ◌≢◌, ℕ, ◌+◌, ◌<◌, ◌≤◌, ◌⊎◌, ◌∷◌, length, get_or-set_other, refl, sym, ap, ◌∙◌, subst, ⊎_elim, inl, inr, arith, Some, None, le_trans}
+use Rattle.std.proofs.Math.Nat.{le_refl, le-max_left, le-max_right}
+use Rattle.smr_core.specs.declared.holder.Holder.{Holder}
+use Rattle.smr_clock.specs.declared.view.View.{View}
+use Rattle.smr_objects.specs.declared.records.SlotView.{SlotView}
+use Rattle.smr_objects.specs.declared.records.CellView.{CellView}
+use Rattle.smr_objects.specs.declared.slot_state.SlotState.TheVariants.{Closed, Open, Stamped}
+use Rattle.smr_objects.specs.declared.part.Part.{Part}
+use Rattle.smr_objects.specs.Cells.{fresh_slot, slot_at, current_slot, last_version}
+use Rattle.smr_objects.specs.Stamping.{StampsSlot}
+use Rattle.smr_objects.specs.Steps.{with_slot, valued, opened, stamped, switched}
+use Rattle.smr_objects.proofs.Seats.{decide}
+use Rattle.smr_hold.specs.declared.slot_cause.SlotCause.{SlotCause}
+use Rattle.smr_hold.specs.declared.slot_cause.SlotCause.TheVariants.{Current, Unripe, Held}
+use Rattle.smr_hold.specs.Publishing.{cell_in, slot_in, current_in, GivesStamp, CauseIs, SlotWaits, Waits, published, Puts}
+use Rattle.smr_hold.proofs.FreeLemmas.{changed, changes}
+
+-- ---- the slots that wait
+
+gives_after : (v u w : View Part) (stamp : ℕ) → u.holder.seen ≤ w.holder.seen → GivesStamp v u stamp → GivesStamp v w stamp
+gives_after v u w stamp seen g = record { write = g.write; two_above = g.two_above; not_lower = g.not_lower; seen = le_trans g.seen seen }
+
+gives_before : (v u w : View Part) (stamp : ℕ) → v.holder.seen ≤ u.holder.seen → GivesStamp u w stamp → GivesStamp v w stamp
+gives_before v u w stamp seen g = record { write = g.write; two_above = g.two_above; not_lower = le_trans seen g.not_lower; seen = g.seen }
+
+cause_after : (n : ℕ) (cause : SlotCause) (v u w : View Part) → slot_in w n ≡ slot_in u n → u.holder.seen ≤ w.holder.seen → u.holder.floor ≤ w.holder.floor → CauseIs n cause v u → CauseIs n cause v w
+cause_after n Current v u w same seen floor is = (is.0, same ∙ is.1)
+cause_after n (Unripe read stamp) v u w same seen floor is = (
+  is.0,
+  is.1,
+  le_trans is.2 floor,
+  ap (λ (x : SlotView). x.state) same ∙ is.3,
+  ap (λ (x : SlotView). x.closings) same ∙ is.4,
+  ⊎_elim (λ t. inl t) (λ t. inr (t.0, gives_after v u w stamp seen t.1)) is.5,
+  is.6,
+)
+cause_after n (Held holds) v u w same seen floor is = (is.0, ap (λ (x : SlotView). x.closings) same ∙ is.1, ap (λ (x : SlotView). x.found) same ∙ is.2, is.3)
+
+cause_before : (n : ℕ) (cause : SlotCause) (v u w : View Part) → slot_in u n ≡ slot_in v n → (cell_in u).records ≡ (cell_in v).records → v.holder.seen ≤ u.holder.seen → v.holder.floor ≤ u.holder.floor → CauseIs n cause u w → CauseIs n cause v w
+cause_before n Current v u w same records seen floor is = (ap current_slot (sym records) ∙ is.0, is.1 ∙ same)
+cause_before n (Unripe read stamp) v u w same records seen floor is = (
+  is.0,
+  le_trans floor is.1,
+  is.2,
+  is.3,
+  is.4 ∙ ap (λ (x : SlotView). x.closings) same,
+  ⊎_elim (λ t. inl (ap (λ (x : SlotView). x.state) (sym same) ∙ t)) (λ t. inr (ap (λ (x : SlotView). x.state) (sym same) ∙ t.0, gives_before v u w stamp seen t.1)) is.5,
+  λ e. is.6 (ap current_slot records ∙ e),
+)
+cause_before n (Held holds) v u w same records seen floor is = (is.0, is.1 ∙ ap (λ (x : SlotView). x.closings + 1) same, is.2, λ e. is.3 (ap current_slot records ∙ e))
+
+pub waits_none : (causes : ℕ → SlotCause) (v : View Part) → Waits 0 causes v v
+waits_none causes v =
+    record { records = refl; number = refl; values = λ n. refl; each = λ n low. absurd (omega arith); others = λ n high. refl; seen = le_refl v.holder.seen; floor = le_refl v.holder.floor }
+
+pub waits_more : (k : ℕ) (causes later : ℕ → SlotCause) (cause : SlotCause) (v u w : View Part) → Waits k causes v u → SlotWaits k cause u w → later k ≡ cause → ((n : ℕ) → n ≢ k → later n ≡ causes n) → Waits (k + 1) later v w
+waits_more k causes later cause v u w before one here other =
+    record {
+      records = one.touches.records ∙ before.records;
+      number = one.touches.number ∙ before.number;
+      values = λ n.
+          ⊎_elim
+          (λ e. subst (λ (m : ℕ). (slot_in w m).value ≡ (slot_in v m).value) (sym e) (one.touches.value ∙ before.values k))
+          (λ f. ap (λ (x : SlotView). x.value) (one.touches.others n f) ∙ before.values n)
+          (decide k n);
+      each = λ n low.
+          ⊎_elim
+          (λ e.
+          subst (λ (m : ℕ). CauseIs m (later m) v w) (sym e)
+          (subst (λ (c : SlotCause). CauseIs k c v w) (sym here) (cause_before k cause v u w (before.others k (le_refl k)) before.records before.seen before.floor one.because)))
+          (λ f.
+          subst (λ (c : SlotCause). CauseIs n c v w) (sym (other n f))
+          (cause_after n (causes n) v u w (one.touches.others n f) one.touches.seen one.touches.floor (before.each n (let g : n ≢ k = f in below n k low g))))
+          (decide k n);
+      others = λ n high. one.touches.others n (λ e. omega arith) ∙ before.others n (omega arith);
+      seen = le_trans before.seen one.touches.seen;
+      floor = le_trans before.floor one.touches.floor;
+    }
+  where
+    below : (n k : ℕ) → n < k + 1 → n ≢ k → n < k
+    below n k low other = ⊎_elim (λ (e : n < k). e) (λ (e : k ≤ n). absurd (other (omega arith))) (split n k)
+      where
+        split : (n k : ℕ) → (n < k) ⊎ (k ≤ n)
+        split n k = grind arith
+
+-- ---- a value is put in a closed slot
+
+module _ (v a b c : View Part) (slot value : ℕ) (few : slot < length (cell_in v).slots) (few_a : slot < length (cell_in a).slots)
+    (wrote : cell_in a ≡ with_slot slot (valued value) (cell_in v)) (opens : cell_in b ≡ with_slot slot opened (cell_in a)) (switch : cell_in c ≡ switched slot (cell_in b))
+    (holder_a : a.holder ≡ v.holder) (holder_b : b.holder ≡ a.holder) (holder_c : c.holder ≡ b.holder) (idle : current_in v ≢ Some slot) where
+  same_holder : c.holder ≡ v.holder
+  same_holder = holder_c ∙ holder_b ∙ holder_a
+
+  as_opened : (n : ℕ) → slot_in c n ≡ slot_in b n
+  as_opened n = ap (λ (d : CellView). slot_at d.slots n) switch
+
+  its_slot : slot_in c slot ≡ opened (valued value (slot_in v slot))
+  its_slot = as_opened slot ∙ changed a b slot opened opens few_a ∙ ap opened (changed v a slot (valued value) wrote few)
+
+  le_same : (m n : ℕ) → m ≡ n → m ≤ n
+  le_same m n e = omega arith
+
+  wrote_touches : (n : ℕ) → n ≢ slot → slot_in c n ≡ slot_in v n
+  wrote_touches n other =
+      as_opened n
+      ∙ (changes a b slot opened opens few_a refl (le_same _ _ (ap (λ (h : Holder). h.seen) (sym holder_b))) (le_same _ _ (ap (λ (h : Holder). h.floor) (sym holder_b)))).others n other
+      ∙ ap (λ (d : CellView). slot_at d.slots n) wrote ∙ far n other
+    where
+      far : (n : ℕ) → n ≢ slot → slot_at (with_slot slot (valued value) (cell_in v)).slots n ≡ slot_in v n
+      far n other = get_or-set_other (cell_in v).slots slot n (valued value (slot_in v slot)) fresh_slot other
+
+  records_before : (cell_in b).records ≡ (cell_in v).records
+  records_before = ap (λ (d : CellView). d.records) opens ∙ ap (λ (d : CellView). d.records) wrote
+
+  number_before : (cell_in b).number ≡ (cell_in v).number
+  number_before = ap (λ (d : CellView). d.number) opens ∙ ap (λ (d : CellView). d.number) wrote
+
+  value_before : (slot_in b slot).value ≡ value
+  value_before = ap (λ (x : SlotView). x.value) (changed a b slot opened opens few_a) ∙ ap (λ (x : SlotView). x.value) (changed v a slot (valued value) wrote few)
+
+  records_after : (cell_in c).records ≡ published slot value (cell_in v) ∷ (cell_in v).records
+  records_after = ap (λ (d : CellView). d.records) switch ∙ (λ k. record { cell = number_before k; version = last_version (records_before k) + 1; slot = slot; value = value_before k } ∷ records_before k)
+
+  number_after : (cell_in c).number ≡ (cell_in v).number
+  number_after = ap (λ (d : CellView). d.number) switch ∙ number_before
+
+  seen_after : v.holder.seen ≤ c.holder.seen
+  seen_after = le_same v.holder.seen c.holder.seen (ap (λ (h : Holder). h.seen) (sym same_holder))
+
+  floor_after : v.holder.floor ≤ c.holder.floor
+  floor_after = le_same v.holder.floor c.holder.floor (ap (λ (h : Holder). h.floor) (sym same_holder))
+
+  pub puts_first : None ≡ current_in v → Puts slot value v c
+  puts_first none =
+      record {
+        records = records_after;
+        number = number_after;
+        opens = ap (λ (x : SlotView). x.state) its_slot;
+        value_in = ap (λ (x : SlotView). x.value) its_slot;
+        former = λ f e. absurd (let g : None ≡ Some f = none ∙ e in cc);
+        others = λ n other far. wrote_touches n other;
+        seen = seen_after;
+        floor = floor_after;
+      }
+
+  -- the former current slot isn't the new one
+  pub not_former : (f : ℕ) → Some f ≡ current_in v → Some slot ≢ Some f
+  not_former f is e = idle (sym is ∙ sym e)
+
+  -- the former current slot isn't closed
+  pub former_open : ((f : ℕ) → current_in b ≡ Some f → (slot_in b f).state ≡ Open) → (f : ℕ) → Some f ≡ current_in v → (slot_in c f).state ≡ Closed → ⊥
+  former_open told f is e =
+      let is_open = told f (ap current_slot records_before ∙ sym is) in
+      let g : Closed ≡ Open = sym e ∙ ap (λ (x : SlotView). x.state) (as_opened f) ∙ is_open in
+      cc
+
+  pub puts_after : (f : ℕ) (w : View Part) → Some f ≡ current_in v → f < length (cell_in c).slots → StampsSlot f c w → Puts slot value v w
+  puts_after f w is few_f s =
+      let apart : f ≢ slot = λ e. not_former f is (ap Some (sym e)) in
+      let seen_is = ap (λ (h : Holder). h.seen) s.holder in
+      let floor_is = ap (λ (h : Holder). h.floor) s.holder in
+      let up = subst (λ (n : ℕ). c.holder.seen ≤ n) (sym seen_is) (le-max_left c.holder.seen s.write) in
+      let t = changes c w f (stamped (s.write + 2)) s.cell few_f refl up (subst (λ (n : ℕ). c.holder.floor ≤ n) (sym floor_is) (le-max_left c.holder.floor _)) in
+      let now = changed c w f (stamped (s.write + 2)) s.cell few_f in
+      record {
+        records = t.records ∙ records_after;
+        number = t.number ∙ number_after;
+        opens = ap (λ (x : SlotView). x.state) (t.others slot (λ e. apart (sym e)) ∙ its_slot);
+        value_in = ap (λ (x : SlotView). x.value) (t.others slot (λ e. apart (sym e)) ∙ its_slot);
+        former = λ g e.
+            let same : f ≡ g = same_some f g (is ∙ e) in
+            subst (λ (m : ℕ). (stamp : ℕ) × ((slot_in w m).state ≡ Stamped stamp) × GivesStamp v w stamp × ((slot_in w m).value ≡ (slot_in v m).value)) same (
+              s.write + 2,
+              ap (λ (x : SlotView). x.state) now,
+              record {
+                write = s.write;
+                two_above = refl;
+                not_lower = le_trans seen_after s.found.not_lower;
+                seen = subst (λ (n : ℕ). s.write ≤ n) (sym seen_is) (le-max_right c.holder.seen s.write);
+              },
+              t.value ∙ ap (λ (x : SlotView). x.value) (wrote_touches f apart),
+            );
+        others = λ n other far. t.others n (λ e. far (sym is ∙ ap Some (sym e))) ∙ wrote_touches n other;
+        seen = le_trans seen_after t.seen;
+        floor = le_trans floor_after t.floor;
+      }
+    where
+      same_some : (m n : ℕ) → Some m ≡ Some n → m ≡ n
+      same_some m n e = cc

@@ -1,0 +1,8 @@
+/// What a look at a cell found: its last record.
+#[derive(Clone, Copy, Debug, PartialEq, Eq)]
+pub struct Look {
+    pub value: u64,
+    /// From 1 on.
+    pub version: u64,
+    pub slot: u32,
+}
