@@ -11,4 +11,5 @@ pub mod ReuseLemmas
 pub mod CompleteLemmas
 pub mod HostAllowed
 pub mod SeatSteps
+pub mod SeatsLeft
 pub mod CountingLemmas

@@ -14,7 +14,6 @@ use crate::note::Note;
 use crate::plays::{PollLoads, PollPresents, PollReads, PollScans, PollSwaps};
 use smr_core::hands::{exchanged, least_after};
 use smr_core::places::{READ_PLACE, WRITE_PLACE, presence_place, seat_place};
-use smr_core::presence::next_present;
 
 /// Polls: a note asks whether a goal is expired, and moves the read hand on where it may.
 impl<H: Host> Clock<H> {
@@ -86,7 +85,8 @@ impl<H: Host> Clock<H> {
             .load::<PollPresents>(&mut note.seat, place)
     }
 
-    // Loads the word of each seat of the set in order, and answers the least mark.
+    // Loads the word of each seat of the set in order, and answers the least mark. The set loses its
+    // lowest bit at each turn, so the next seat needs no shift by the last one, nor waits for it.
     fn scan(&self, note: &mut Note<H>, read: u64, write: u64, present: u64) -> u64
         requires here { IsNoteOf self.now note.old }
         requires scanning { (note_holder note.old).task ≡ Task.Scanning }
@@ -100,11 +100,13 @@ impl<H: Host> Clock<H> {
     {
         let about = self.setup.about;
         let mut least = write;
-        let mut seat = next_present(about, present, 0);
+        let mut rest = present;
+        let mut seat = rest.trailing_zeros();
         while seat < about.seats {
             let word = self.load_word(note, seat);
             least = least_after(read, write, least, word as u32);
-            seat = next_present(about, present, seat + 1);
+            rest &= rest - 1;
+            seat = rest.trailing_zeros();
         }
         least
     }
