@@ -9,7 +9,7 @@ use Rattle.uma_life.specs.Hook.{Hook, KegInit, ZoneInit, Ctor, Dtor, ZoneFini, K
 use Rattle.uma_life.specs.Sum.{sum_of, zone_sums, no_zone_sums, AreBelow}
 use Rattle.uma_life.specs.Trail.{ShowsSame}
 use Rattle.uma_bucket.specs.declared.held.Held.{Held}
-use Rattle.uma_bucket.specs.declared.held.Held.TheVariants.{Cached as Cached', Freed as Freed'}
+use Rattle.uma_bucket.specs.declared.held.Held.TheVariants.{Cached as Cached', Freed as Freed', Away}
 use Rattle.uma_bucket.specs.declared.sums.Sums.{Sums}
 use Rattle.uma_bucket.specs.Held.{is_cached, is_freed, cached_in, freed_in, times_held}
 use Rattle.uma_bucket.specs.Sums.{nothing_held, times_cached, times_freed, Adds, AreOfAtMost, Balance}
@@ -20,6 +20,7 @@ module _ {T : Type 0} {g : _} where
   held_times : (hook : Hook) (x : Held T g) → times_held hook x < 2 ^ 64
   held_times hook (Cached' item) = trail_times _ _ item.at.trail hook
   held_times hook (Freed' item) = trail_times _ _ item.live.at.trail hook
+  held_times hook Away = omega arith
 
   pub all_times : (hook : Hook) (xs : List (Held T g)) → sum_by (times_held hook) xs ≤ length xs * 2 ^ 64
   all_times hook xs = sum_by-le (times_held hook) (2 ^ 64) xs (λ k d within. let few : times_held hook (get_or xs k d) < 2 ^ 64 = held_times hook (get_or xs k d) in omega arith)
@@ -28,11 +29,13 @@ module _ {T : Type 0} {g : _} where
   cached_times hook [] all = refl
   cached_times hook (Cached' x ∷ xs) all = sum_by-cons (times_held hook) (Cached' x) xs ∙ ap (λ (n : ℕ). times_held hook (Cached' x) + n) (cached_times hook xs all) ∙ sym (sum_by-cons _ x (filter_map cached_in xs))
   cached_times hook (Freed' x ∷ xs) all = absurd (cc)
+  cached_times hook (Away ∷ xs) all = absurd (cc)
 
   pub freed_times : (hook : Hook) (xs : List (Held T g)) → list_all is_freed xs ≡ true → sum_by (times_held hook) xs ≡ times_freed hook (filter_map freed_in xs)
   freed_times hook [] all = refl
   freed_times hook (Freed' x ∷ xs) all = sum_by-cons (times_held hook) (Freed' x) xs ∙ ap (λ (n : ℕ). times_held hook (Freed' x) + n) (freed_times hook xs all) ∙ sym (sum_by-cons _ x (filter_map freed_in xs))
   freed_times hook (Cached' x ∷ xs) all = absurd (cc)
+  freed_times hook (Away ∷ xs) all = absurd (cc)
 
   -- there is room for the tally of one item more
   pub room_left : (was now : Sums) (xs : List (Held T g)) (i : ℕ) → AreOfAtMost (2 ^ 62) was → length xs ≤ 64 → Adds (λ hook. sum_by (times_held hook) (take i xs)) 0 was now → AreBelow (2 ^ 127) now.tally

@@ -64,7 +64,7 @@ impl<T: Body> Bucket<T> {
     {
         match self.room.pop()? {
             Held::Cached(item) => Some(item),
-            Held::Freed(_) => unreachable!(),
+            Held::Freed(_) | Held::Away => unreachable!(),
         }
     }
 

@@ -10,8 +10,9 @@
 //!   still built, `Ripe` freed ones with a note whose floor is at least the goal. A bucket has no model of its own.
 //! - `Sealed::poll` stays in place, and `try_open` is a poll and an `open`: a scan of a list polls each bucket where it
 //!   lies.
-//! - `into_cached` goes round once: the first item is taken out, finished and put behind the last, as often as there are
-//!   items. So each passes `dtor` once, in order.
+//! - `into_cached` goes over the room once, from the first place to the last: each item is taken out, finished and put back
+//!   in its place. So each passes `dtor` once, in order, and is moved twice, however full the bucket is. A place whose item
+//!   is out is `Held::Away`, which no bucket has.
 //! - The clause `over` stands on the very call by which freed items become cached: from any moment at which the clock has a
 //!   view like the note's, no open section is before the goal, then and later. Its proof is the clock's law.
 //! - Which clock a sealed bucket is of is one equation, of the pair of table and setup.

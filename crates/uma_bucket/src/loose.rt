@@ -97,10 +97,8 @@ impl<T: Body> Loose<T> {
         ensures place { place_of result ≡ loose_place self }
     {
         let Loose { mut room, size } = self;
-        for _ in 0..room.len() {
-            // The first goes behind the last, so after one round the order is as before.
-            let item = room.remove(0);
-            room.push_reserved(item.finish(hooks));
+        for at in 0..room.len() {
+            room[at].finish(hooks);
         }
         Bucket { room, size }
     }

@@ -1,7 +1,7 @@
-ghost use Rattle.std.specs.Prelude.{◌≡◌, ◌^◌, ◌+◌, ◌≤◌, ℕ, vec_len};
-ghost use Rattle.std.specs.List.{sum_by};
+ghost use Rattle.std.specs.Prelude.{◌≡◌, ◌^◌, ◌+◌, ◌≤◌, ℕ, true, vec_len};
+ghost use Rattle.std.specs.List.{sum_by, list_all};
 ghost use Rattle.uma_life.specs.Sum.{sum_of};
-ghost use Rattle.uma_bucket.specs.Held.{times_held};
+ghost use Rattle.uma_bucket.specs.Held.{is_filled, times_held};
 ghost use Rattle.uma_bucket.specs.Sums.{nothing_held, Adds, AreOfAtMost, Balance};
 
 use crate::held::Held;
@@ -45,6 +45,7 @@ impl Sums {
     pub(crate) fn add_tallies<T: Body>(&mut self, room: &Vec<Held<T>>)
         requires room { AreOfAtMost (2 ^ 62) self.old }
         requires few { vec_len room.now ≤ 64 }
+        requires filled { list_all is_filled room.now.items ≡ true }
         ensures { Adds (λ hook. sum_by (times_held hook) room.now.items) 0 self.old self.new }
     {
         for held in room {

@@ -2,12 +2,15 @@ use Rattle.std.proofs.Common.{◌≡◌, ◌≤◌, ◌+◌, ◌*◌, ◌^◌, �
 use Rattle.std.specs.List.{filter_map}
 use Rattle.uma_life.specs.Sum.{sum_of}
 use Rattle.uma_bucket.specs.Bucket.{items_of}
-use Rattle.uma_bucket.specs.Held.{is_cached, cached_in}
+use Rattle.uma_bucket.specs.Held.{is_cached, is_filled, cached_in}
 use Rattle.uma_bucket.specs.Sums.{times_cached}
 use Rattle.uma_bucket.proofs.Added.{all_times, cached_times, more_of, still_balance_cached}
-use Rattle.uma_bucket.proofs.Rooms.{count, cached_tests}
+use Rattle.uma_bucket.proofs.Rooms.{count, cached_tests, cached_fills, all_pass_too}
 use Rattle.uma_bucket.proofs.Tallied.{cached_balance}
 use Rattle.uma_bucket.proofs.bucket.Bucket.add_to.Goals as goal
+
+pub add_tallies-requires-clause-filled : goal.add_tallies-requires-clause-filled
+add_tallies-requires-clause-filled g c = all_pass_too is_cached is_filled cached_fills c.args.self.now.room.items c.args.self.now.kept.alike
 
 pub returns-clause-adds : goal.returns-clause-adds
 returns-clause-adds g c =
