@@ -5,7 +5,7 @@ use Rattle.std.proofs.lemmas.List.{map-append}
 use Rattle.deed_book.specs.declared.cause.Cause.{Cause}
 use Rattle.uma_keg.specs.declared.fetch_refused.FetchRefused.{FetchRefused}
 use Rattle.uma_keg.specs.declared.keg.Keg.{Keg}
-use Rattle.uma_keg.specs.Keg.{places_in, fetches_in, IsSameKeg, IsWithinLimits}
+use Rattle.uma_keg.specs.Keg.{places_in, fetches_in, IsSameKeg}
 use Rattle.locked_keg.specs.declared.key.KegKey.{KegKey}
 use Rattle.locked_keg.specs.declared.locked_keg.LockedKeg.{LockedKeg}
 use Rattle.locked_keg.specs.Ends.{fetch_cause}
@@ -27,11 +27,10 @@ module _ {T K : Type 0} {g : _} {h : _} where
     reserve = same.reserve ∙ is.reserve;
   }
 
-  pub still_keeps : (key : KegKey) (old new : LockedKeg T K g h) → IsSameKeg (keg_in old) (keg_in new) → IsWithinLimits (keg_in new) → ((zone : ℕ) → table_at (fails_in new) zone ≡ table_at (fails_in old) zone) → (ListsFetches old → ListsFetches new) → (HasDomainsBelow key.domains (places_in (keg_in old)) → HasDomainsBelow key.domains (places_in (keg_in new))) → Keeps key old → Keeps key new
-  still_keeps key old new same within tables lists domains is = record {
+  pub still_keeps : (key : KegKey) (old new : LockedKeg T K g h) → IsSameKeg (keg_in old) (keg_in new) → ((zone : ℕ) → table_at (fails_in new) zone ≡ table_at (fails_in old) zone) → (ListsFetches old → ListsFetches new) → (HasDomainsBelow key.domains (places_in (keg_in old)) → HasDomainsBelow key.domains (places_in (keg_in new))) → Keeps key old → Keeps key new
+  still_keeps key old new same tables lists domains is = record {
     of_key = still_of_key key old new same tables is.of_key;
     counted = lists is.counted;
-    within = within;
     domains = domains is.domains;
   }
 

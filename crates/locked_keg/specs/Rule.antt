@@ -2,7 +2,7 @@
 use Rattle.std.specs.Prelude.{◌≡◌, ◌<◌, ◌/◌, ℕ, Some, map, min}
 use Rattle.deed_book.specs.Book.{book_table}
 use Rattle.uma_places.specs.Places.{KegPlaces, domain_at}
-use Rattle.uma_keg.specs.Keg.{places_in, table_in, rights_in, size_in, reserve_in, fetches_in, IsWithinLimits}
+use Rattle.uma_keg.specs.Keg.{places_in, table_in, rights_in, size_in, reserve_in, fetches_in}
 use Rattle.locked_keg.specs.declared.key.KegKey.{KegKey}
 use Rattle.locked_keg.specs.declared.locked_keg.LockedKeg.{LockedKeg}
 use Rattle.locked_keg.specs.Ends.{fetch_cause}
@@ -31,10 +31,8 @@ module _ {T K : Type 0} {g : _} {h : _} where
 
   -- 1. It is the keg that the key names.
   -- 2. The fail books list exactly the keg's own fetches.
-  -- 3. No zone exceeds its limit.
-  -- 4. Its slabs are of the domains that the key counts.
+  -- 3. Its slabs are of the domains that the key counts.
   pub record Keeps (key : KegKey) (locked : LockedKeg T K g h) : Type 0 where
     pub of_key : IsOfKey key locked
     pub counted : ListsFetches locked
-    pub within : IsWithinLimits (keg_in locked)
     pub domains : HasDomainsBelow key.domains (places_in (keg_in locked))

@@ -1,7 +1,7 @@
 ghost use Rattle.std.specs.Prelude.{◌≡◌, ◌≤◌, ◌<◌, ℕ, IfOk, IfErr, OnOk};
 ghost use Rattle.uma_places.specs.Places.{slab_count};
 ghost use Rattle.uma_keg.specs.BringSlabs.{BringsSlabs};
-ghost use Rattle.uma_keg.specs.Keg.{places_in, zones_in, rights_in, limit_in, fetches_in, IsSameKeg, IsWithinLimits};
+ghost use Rattle.uma_keg.specs.Keg.{places_in, zones_in, rights_in, limit_in, fetches_in, IsSameKeg};
 ghost use Rattle.locked_keg.specs.LockedKeg.{keg_in, fails_in};
 ghost use Rattle.locked_keg.specs.Rule.{Keeps, HasDomainsBelow};
 ghost use Rattle.locked_keg.specs.Slabs.{StopsBringing};
@@ -31,7 +31,6 @@ impl<T: Body, K: Hooks<T>> LockedKeg<T, K> {
         ensures limits { (zone : ℕ) → limit_in (keg_in self.new) zone ≡ limit_in (keg_in self.old) zone }
         ensures fetches { (zone : ℕ) → fetches_in (keg_in self.new) zone ≡ fetches_in (keg_in self.old) zone }
         ensures same { IsSameKeg (keg_in self.old) (keg_in self.new) }
-        ensures within { IsWithinLimits (keg_in self.new) }
         ensures books { fails_in self.new ≡ fails_in self.old }
         ensures domains { (domains : ℕ) → domain < domains → HasDomainsBelow domains (places_in (keg_in self.old)) → HasDomainsBelow domains (places_in (keg_in self.new)) }
         ensures keeps { (key : KegKey) → domain < key.domains → Keeps key self.old → Keeps key self.new }
@@ -56,7 +55,6 @@ fn bring_all<T: Body, K: Hooks<T>, R: Wait>(
     ensures limits { (zone : ℕ) → limit_in keg.new zone ≡ limit_in keg.old zone }
     ensures fetches { (zone : ℕ) → fetches_in keg.new zone ≡ fetches_in keg.old zone }
     ensures same { IsSameKeg keg.old keg.new }
-    ensures within { IsWithinLimits keg.new }
 {
     for _ in 0..count {
         keg.bring(rt, alloc, domain)?;

@@ -3,7 +3,7 @@ ghost use Rattle.zone_stats.specs.LedgerSteps.{HasRoom};
 ghost use Rattle.uma_life.specs.Hook.{Hook};
 ghost use Rattle.uma_bucket.specs.Home.{Home, AreHome};
 ghost use Rattle.uma_keg.specs.Fetched.{FetchesInto, RefusesFetch, NamesWhatItFound, GivesItems};
-ghost use Rattle.uma_keg.specs.Keg.{places_in, zones_in, out_in, rights_in, limit_in, fetches_in, buried_in, total_in, HasZone, IsSameKeg, IsWithinLimits};
+ghost use Rattle.uma_keg.specs.Keg.{places_in, zones_in, out_in, rights_in, limit_in, fetches_in, buried_in, total_in, HasZone, IsWithinLimit, IsSameKeg};
 ghost use Rattle.uma_seat.specs.Fetches.{CountsEnd};
 ghost use Rattle.uma_seat.specs.Seat.{top_of, top_tickets, ledger_of, fetches_of, seat_fails};
 ghost use Rattle.locked_keg.specs.Ends.{end_of, fetch_cause};
@@ -49,6 +49,7 @@ impl<T: Body, K: Hooks<T>> LockedKeg<T, K> {
         ensures sums_full { (((hook : Hook) → total_in (keg_in self.old) hook < 2 ^ 120) → ⊥) → result ≡ Err FetchRefused.Memory }
         ensures fetches { fetches_in (keg_in self.new) ask.zone ≡ fetches_in (keg_in self.old) ask.zone ++ result ∷ [] }
         ensures other_fetches { (zone : ℕ) → zone ≢ ask.zone → fetches_in (keg_in self.new) zone ≡ fetches_in (keg_in self.old) zone }
+        ensures within { OnOk result (IsWithinLimit (keg_in self.new) ask.zone) }
         ensures out { IfOk result (λ count. out_in (keg_in self.new) ask.zone ≡ out_in (keg_in self.old) ask.zone + count) }
         ensures zones { OnErr result (zones_in (keg_in self.new) ≡ zones_in (keg_in self.old)) }
         ensures outs { (zone : ℕ) → zone ≢ ask.zone → out_in (keg_in self.new) zone ≡ out_in (keg_in self.old) zone }
@@ -56,7 +57,6 @@ impl<T: Body, K: Hooks<T>> LockedKeg<T, K> {
         ensures limits { (zone : ℕ) → limit_in (keg_in self.new) zone ≡ limit_in (keg_in self.old) zone }
         ensures buried { OnOk result (buried_in (keg_in self.new) ≡ buried_in (keg_in self.old)) }
         ensures same { IsSameKeg (keg_in self.old) (keg_in self.new) }
-        ensures within { IsWithinLimits (keg_in self.new) }
         // It is listed.
         ensures listed { causes_at (fails_in self.new) ask.zone ≡ causes_at (fails_in self.old) ask.zone ++ fetch_cause result ∷ [] }
         ensures others { (zone : ℕ) → zone ≢ ask.zone → causes_at (fails_in self.new) zone ≡ causes_at (fails_in self.old) zone }

@@ -1,7 +1,7 @@
 ghost use Rattle.std.specs.Prelude.{◌≡◌, ◌+◌, [], ℕ, All, length};
 ghost use Rattle.uma_life.specs.Cached.{cached_table};
 ghost use Rattle.uma_bucket.specs.Bucket.{items_of};
-ghost use Rattle.uma_keg.specs.Keg.{out_in, table_in, rights_in, limit_in, fetches_in, buried_in, IsSameKeg, IsWithinLimits};
+ghost use Rattle.uma_keg.specs.Keg.{out_in, table_in, rights_in, limit_in, fetches_in, buried_in, IsSameKeg};
 ghost use Rattle.locked_keg.specs.LockedKeg.{keg_in, fails_in};
 ghost use Rattle.locked_keg.specs.Gives.{GivesBack, GivesAllBack, count_in};
 ghost use Rattle.locked_keg.specs.Rule.{Keeps};
@@ -23,7 +23,6 @@ impl<T: Body, K: Hooks<T>> LockedKeg<T, K> {
         ensures fetches { (zone : ℕ) → fetches_in (keg_in self.new) zone ≡ fetches_in (keg_in self.old) zone }
         ensures buried { buried_in (keg_in self.new) ≡ buried_in (keg_in self.old) }
         ensures same { IsSameKeg (keg_in self.old) (keg_in self.new) }
-        ensures within { IsWithinLimits (keg_in self.new) }
         ensures books { fails_in self.new ≡ fails_in self.old }
         ensures keeps { (key : KegKey) → Keeps key self.old → Keeps key self.new }
     {
@@ -41,7 +40,6 @@ impl<T: Body, K: Hooks<T>> LockedKeg<T, K> {
         ensures fetches { (zone : ℕ) → fetches_in (keg_in self.new) zone ≡ fetches_in (keg_in self.old) zone }
         ensures buried { buried_in (keg_in self.new) ≡ buried_in (keg_in self.old) }
         ensures same { IsSameKeg (keg_in self.old) (keg_in self.new) }
-        ensures within { IsWithinLimits (keg_in self.new) }
         ensures books { fails_in self.new ≡ fails_in self.old }
         ensures keeps { (key : KegKey) → Keeps key self.old → Keeps key self.new }
     {
@@ -62,7 +60,6 @@ fn give_each<T: Body, K: Hooks<T>>(keg: &mut Keg<T, K>, hooks: &K, bucket: &mut 
     ensures fetches { (zone : ℕ) → fetches_in keg.new zone ≡ fetches_in keg.old zone }
     ensures buried { buried_in keg.new ≡ buried_in keg.old }
     ensures same { IsSameKeg keg.old keg.new }
-    ensures within { IsWithinLimits keg.new }
 {
     let count = bucket.len();
     for _ in 0..count {

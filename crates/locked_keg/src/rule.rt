@@ -3,7 +3,7 @@ use crate::locked_keg::LockedKeg;
 use keyed_lock::LockRule;
 use uma_life::{Body, Hooks};
 
-/// The keg is the one that the key names, its books list its fetches, and no zone exceeds its limit.
+/// The keg is the one that the key names, and its books list its fetches.
 pub struct KegRule;
 
 impl<T: Body, K: Hooks<T>> LockRule<LockedKeg<T, K>, KegKey> for KegRule {

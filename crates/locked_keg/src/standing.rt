@@ -7,7 +7,7 @@ ghost use Rattle.uma_places.specs.Dropping.{IsUsedUp};
 ghost use Rattle.uma_places.specs.Places.{IsSound, free_count};
 ghost use Rattle.uma_keg.specs.Census.{census_counts, census_out, census_tally, census_table, counts_in};
 ghost use Rattle.uma_keg.specs.FreeSlabs.{FreesSlabs, GivesNoMore, slabs_to_free};
-ghost use Rattle.uma_keg.specs.Keg.{book_in, places_in, zones_in, out_in, table_in, rights_in, HasZone, stored_in, limit_in, fetches_in, reserve_in, buried_in, total_in, IsSameKeg, IsWithinLimits};
+ghost use Rattle.uma_keg.specs.Keg.{book_in, places_in, zones_in, out_in, table_in, rights_in, HasZone, stored_in, limit_in, fetches_in, reserve_in, buried_in, total_in, IsSameKeg};
 ghost use Rattle.uma_keg.specs.Lent.{all_seen, lent_of, deed_of};
 ghost use Rattle.locked_keg.specs.LockedKeg.{keg_in, fails_in};
 ghost use Rattle.locked_keg.specs.Rule.{Keeps};
@@ -57,7 +57,6 @@ impl<T: Body, K: Hooks<T>> LockedKeg<T, K> {
         ensures limits { (zone : ℕ) → limit_in (keg_in self.new) zone ≡ limit_in (keg_in self.old) zone }
         ensures fetches { (zone : ℕ) → fetches_in (keg_in self.new) zone ≡ fetches_in (keg_in self.old) zone }
         ensures same { IsSameKeg (keg_in self.old) (keg_in self.new) }
-        ensures within { IsWithinLimits (keg_in self.new) }
         ensures books { fails_in self.new ≡ fails_in self.old }
         ensures keeps { (key : KegKey) → Keeps key self.old → Keeps key self.new }
     {
@@ -85,7 +84,6 @@ impl<T: Body, K: Hooks<T>> LockedKeg<T, K> {
         ensures fetches { (zone : ℕ) → fetches_in (keg_in self.new) zone ≡ fetches_in (keg_in self.old) zone }
         ensures buried { buried_in (keg_in self.new) ≡ buried_in (keg_in self.old) }
         ensures same { IsSameKeg (keg_in self.old) (keg_in self.new) }
-        ensures within { IsWithinLimits (keg_in self.new) }
         ensures books { fails_in self.new ≡ fails_in self.old }
         ensures keeps { (key : KegKey) → Keeps key self.old → Keeps key self.new }
     {

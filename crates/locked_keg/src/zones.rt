@@ -1,8 +1,9 @@
-ghost use Rattle.std.specs.Prelude.{◌≡◌, ◌≢◌, ◌<◌, ◌↔◌, [], ℕ, None, Some, IsTrue, slice_set};
+ghost use Rattle.std.specs.Prelude.{◌≡◌, ◌≢◌, ◌≤◌, ◌<◌, [], ℕ, None, Some, slice_set};
 ghost use Rattle.deed_book.specs.Book.{book_table, zones_of};
 ghost use Rattle.deed_book.specs.Deed.{deed_table, no_of};
 ghost use Rattle.deed_book.specs.FailShare.{share_table, causes_in};
-ghost use Rattle.uma_keg.specs.Keg.{places_in, zones_in, rights_in, HasZone, stored_in, limit_in, fetches_in, buried_in, IsSameKeg, IsWithinLimits};
+ghost use Rattle.uma_keg.specs.Keg.{places_in, zones_in, rights_in, HasZone, stored_in, limit_in, fetches_in, buried_in, IsSameKeg};
+ghost use Rattle.uma_keg.specs.SetLimit.{SetsLimit};
 ghost use Rattle.locked_keg.specs.FailBooks.{table_at, causes_at};
 ghost use Rattle.locked_keg.specs.LockedKeg.{keg_in, fails_in};
 ghost use Rattle.locked_keg.specs.Rule.{Keeps};
@@ -13,8 +14,8 @@ use deed_book::{Deed, FailShare};
 use uma_life::{Body, Hooks};
 
 impl<T: Body, K: Hooks<T>> LockedKeg<T, K> {
-    /// Adds a zone by a right that came with this keg, and answers its index, which is the right's number, and a share of
-    /// its fail book that lists nothing. At most `limit` of its items are outside, where that is above 0.
+    /// Adds a zone with this limit, where 0 is none, by a right that came with this keg. Answers its index, which is the
+    /// right's number, and a share of its fail book that lists nothing.
     ///
     /// The share shows that the zone was added: one is opened only for a zone that exists.
     pub fn add_zone(&mut self, right: Deed, limit: u64) -> (u8, FailShare)
@@ -36,7 +37,6 @@ impl<T: Body, K: Hooks<T>> LockedKeg<T, K> {
         ensures stored { (n : ℕ) → stored_in (keg_in self.new) n ≡ stored_in (keg_in self.old) n }
         ensures buried { buried_in (keg_in self.new) ≡ buried_in (keg_in self.old) }
         ensures same { IsSameKeg (keg_in self.old) (keg_in self.new) }
-        ensures within { IsWithinLimits (keg_in self.new) }
         ensures keeps { (key : KegKey) → Keeps key self.old → Keeps key self.new }
     {
         let zone = self.keg.add_zone(right, limit);
@@ -44,11 +44,16 @@ impl<T: Body, K: Hooks<T>> LockedKeg<T, K> {
         (zone, share)
     }
 
-    /// Whether the zone of this number exists, and was added with this limit.
-    pub fn has(&self, zone: u8, limit: u64) -> bool
-        ensures { IsTrue result ↔ (HasZone (keg_in self.now) zone × (limit_in (keg_in self.now) zone ≡ limit)) }
+    /// Sets the limit of a zone, at most 1,000,000, where 0 is none, and answers the former one. Nothing else changes.
+    pub fn set_limit(&mut self, zone: u8, limit: u64) -> u64
+        requires below_8 { zone < 8 }
+        requires most { limit ≤ 1000000 }
+        ensures former { result ≡ limit_in (keg_in self.old) zone }
+        ensures set { SetsLimit (keg_in self.old) zone limit (keg_in self.new) }
+        ensures books { fails_in self.new ≡ fails_in self.old }
+        ensures keeps { (key : KegKey) → Keeps key self.old → Keeps key self.new }
     {
-        self.keg.has_zone(zone) && self.keg.limit(zone) == limit
+        self.keg.set_limit(zone, limit)
     }
 
     /// A share of the fail book of a zone that exists. It lists nothing.

@@ -7,10 +7,12 @@ use Rattle.smr_clock.specs.Belongs.{TableId, clock_id, table_of, setup_of}
 use Rattle.smr_clock.specs.Notes.{IsSeatOf}
 use Rattle.name_rows.specs.declared.names.Names.{Names}
 use Rattle.name_rows.specs.declared.part.Part.{Part}
+use Rattle.name_rows.specs.declared.root.Root.{Root}
 use Rattle.name_rows.specs.declared.row.Row.{Row}
 use Rattle.name_rows.specs.declared.words.Words.{Words}
 use Rattle.name_rows.specs.Belongs.{FitsNames, IsNamesClock}
 use Rattle.name_rows.specs.Entries.{AreWordsOf}
+use Rattle.name_rows.specs.Roots.{IsRootOf}
 use Rattle.name_rows.specs.Rows.{IsRowOf}
 
 module _ (one other : Clock Names Part) (same : clock_id one ≡ clock_id other) where
@@ -22,6 +24,9 @@ module _ (one other : Clock Names Part) (same : clock_id one ≡ clock_id other)
 
   pub row_too : (row : Row) → IsRowOf one row → IsRowOf other row
   row_too row is = (is.0 ∙ same_table, is.1 ∙ same_setup)
+
+  pub root_too : (root : Root) → IsRootOf one root → IsRootOf other root
+  root_too root is = (is.0 ∙ same_table, is.1 ∙ same_setup)
 
   seat_too : (w : Words) → IsSeatOf one w.seat → IsSeatOf other w.seat
   seat_too w is = (is.0 ∙ same_table, is.1 ∙ same_setup)

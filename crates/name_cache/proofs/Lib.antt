@@ -1,6 +1,5 @@
 pub mod Clocks
 pub mod Ends
-pub mod Freeing
 pub mod Items
 pub mod Linked
 pub mod Locking
@@ -8,8 +7,10 @@ pub mod Opening
 pub mod Outs
 pub mod Popped
 pub mod Rebinding
+pub mod Rooms
 pub mod RowFacts
 pub mod Shared
+pub mod Since
 pub mod Summing
 pub mod Taking
 pub mod Telling

@@ -15,13 +15,15 @@ use Rattle.name_rows.specs.Linking.{row_record}
 use Rattle.name_rows.specs.Reading.{bound_to}
 use Rattle.name_rows.specs.Ripening.{StampsAt}
 use Rattle.name_rows.specs.Rows.{row_last, key_in, value_in, pair_in}
-use Rattle.name_cache.specs.declared.bind_refused.BindRefused.TheVariants.{Worn}
+use Rattle.name_cache.specs.declared.bind_refused.BindRefused.{BindRefused}
+use Rattle.name_cache.specs.declared.bind_refused.BindRefused.TheVariants.{Zone, Worn, Unripe, Memory}
 use Rattle.name_cache.specs.declared.locked_row.LockedRow.{LockedRow}
 use Rattle.name_cache.specs.declared.parts.EntryParts.{EntryParts}
 use Rattle.name_cache.specs.declared.receipt.Receipt.{Receipt}
 use Rattle.name_cache.specs.LinkedItem.{guest_life}
-use Rattle.name_cache.specs.LockedRow.{row_identity, IsSameRow, MeetsRow, IsOut, IsStamped, IsOutStamped, BindsInRow, RefusesInRow, UnbindsInRow, HasNotKey}
+use Rattle.name_cache.specs.LockedRow.{row_identity, IsSameRow, MeetsRow, IsOut, IsStamped, IsOutStamped, BindsInRow, RefusesEntry, RefusesInRow, UnbindsInRow, HasNotKey}
 use Rattle.name_cache.specs.Known.{Meets}
+use Rattle.name_cache.specs.Parts.{IsSameItem}
 use Rattle.name_cache.specs.RowKey.{Identity}
 use Rattle.name_cache.proofs.Items.{guest_lives}
 use Rattle.name_cache.proofs.Outs.{out_stamped, stamped_words}
@@ -29,6 +31,22 @@ use Rattle.name_cache.proofs.Telling.{meets_to}
 
 pub same_number : (was is : LockedRow) → row_identity is ≡ row_identity was → is.row.number ≡ was.row.number
 same_number was is same = is.number ∙ ap (λ (i : Identity). i.number) same ∙ sym was.number
+
+-- a row that is met again and again is the same
+pub same_row : (locked : LockedRow) → IsSameRow locked locked
+same_row locked = record { last = refl; version = refl; guest = refl; linked = refl }
+
+-- who has met a row has met it as it was left
+pub met_too : (v v' : View Part) (was is : LockedRow) → row_identity is ≡ row_identity was → IsSameRow was is → MeetsRow v was v' → MeetsRow v is v'
+met_too v v' was is id same met = record {
+  last = met.last;
+  is_last = same.last ∙ met.is_last;
+  version = met.version ∙ sym same.version;
+  content = met.content ∙ ap content_of (sym same.guest);
+  meets = subst (λ (n : ℕ). Meets v n met.last v') (sym (same_number was is id)) met.meets;
+  newest = met.newest;
+  still = met.still;
+}
 
 -- the guest of a row that binds the key to the value
 pub named_guest : (guest : Option Guest) (key value : ℕ) → key_in guest ≡ Some key → value_in guest ≡ Some value → (g : Guest) × (guest ≡ Some g) × (g.key ≡ key) × (g.value ≡ value)
@@ -53,18 +71,20 @@ module _ (v v1 : View Part) (old one : LockedRow) (met : MeetsRow v old v1) (sam
   pub met_at : (row : ℕ) → row ≡ one.row.number → Meets v row met.last v1
   met_at row is = subst (λ (n : ℕ). Meets v n met.last v1) (sym (is ∙ row_is)) met.meets
 
-  -- a worn row
-  pub refuses_worn : (parts back : EntryParts) (row version : ℕ) → entry_state back.entry ≡ Some Clean → row ≡ one.row.number → version ≡ one.row.version → 2 ^ 44 ≤ version + 2 → RefusesInRow v old parts v1 back (Worn row version)
-  refuses_worn parts back row version clean row_named version_named worn = (clean, row_named ∙ row_is, worn, (met.last, sym (version_named ∙ version_met), met.newest, met_at row row_named))
+  -- why a row takes no entry, before it was met
+  refuses_old : (parts back : EntryParts) (refused : BindRefused) → RefusesEntry one parts back refused → RefusesEntry old parts back refused
+  refuses_old parts back (Unripe read stamp) why = why
+  refuses_old parts back (Worn row version) why = (why.0, why.1 ∙ row_is, why.2 ∙ same.version, why.3)
+  refuses_old parts back (Zone refusal) why = why
+  refuses_old parts back Memory why = why
+
+  -- a row that takes no entry
+  pub refuses_in_row : (parts back : EntryParts) (refused : BindRefused) → RefusesEntry one parts back refused → IsSameItem parts back → RefusesInRow v old parts back refused one v1
+  refuses_in_row parts back refused why item = record { why = refuses_old parts back refused why; item = item; same = same; met = met }
 
   -- a row without the key
-  pub has_not_key : (key : ℕ) → bound_to key (content_of one.row.guest) ≡ None → HasNotKey key v old.row.number v1
-  has_not_key key unbound = record {
-    last = met.last;
-    met = met.meets;
-    newest = met.newest;
-    unbound = ap (bound_to key) (met.content ∙ ap content_of (sym same.guest)) ∙ unbound;
-  }
+  pub has_not_key : (key : ℕ) → bound_to key (content_of one.row.guest) ≡ None → HasNotKey key v old one v1
+  has_not_key key unbound = record { unbound = ap (λ (g : Option Guest). bound_to key (content_of g)) (sym same.guest) ∙ unbound; same = same; met = met }
 
   -- two is the row with its next record, and three the same after the pass met it again
   module _ (v2 : View Part) (two three : LockedRow) (id2 : row_identity two ≡ row_identity one) (version : two.row.version ≡ one.row.version + 1) (met2 : MeetsRow v1 two v2) (same2 : IsSameRow two three)
@@ -83,7 +103,7 @@ module _ (v v1 : View Part) (old one : LockedRow) (met : MeetsRow v old v1) (sam
 
     pub binds_in_row : (key value : ℕ) (parts written : EntryParts) (raw out : Option EntryParts) → written.ticket ≡ parts.ticket → (g : Guest) × (guest_of written.entry ≡ Some g) × (g.key ≡ key) × (g.value ≡ value)
         → two.row.guest ≡ guest_of written.entry → one.row.version + 2 < 2 ^ 44 → IsOut (row_identity one).clock (row_identity one).home one.row.guest raw → IsStamped raw out
-        → BindsInRow (record { entry = ticket_no parts.ticket; key = key; value = value }) v old receipt out v2
+        → BindsInRow (record { entry = ticket_no parts.ticket; key = key; value = value }) v old receipt out three v2
     binds_in_row key value parts written raw out ticket named guest low was is =
         let g = named.0 in
         let life : entry_life written.entry ≡ guest_life g = guest_lives written.entry written.entry.words g named.1 written.entry.numbered in
@@ -93,6 +113,7 @@ module _ (v v1 : View Part) (old one : LockedRow) (met : MeetsRow v old v1) (sam
           before = met.last;
           met = both_met;
           row = row_named ∙ row_is;
+          was_last = met.is_last;
           next = next_is;
           low = subst (λ (n : ℕ). n + 2 < 2 ^ 44) version_met low;
           knows = record {
@@ -103,12 +124,13 @@ module _ (v v1 : View Part) (old one : LockedRow) (met : MeetsRow v old v1) (sam
             newest = met2.newest;
             binds = met2.content ∙ ap content_of (guest ∙ named.1) ∙ ap (λ (b : Bound). Some b) bound;
           };
+          is_last = same2.last ∙ met2.is_last;
           out_before = subst (λ (c : Option Bound). IsOutStamped c out) (ap content_of same.guest ∙ sym met.content) (out_stamped (row_identity one).clock (row_identity one).home one.row.guest raw out was is);
         }
 
     pub unbinds_in_row : (key value : ℕ) (raw out : EntryParts) → key_in one.row.guest ≡ Some key → value_in one.row.guest ≡ Some value → two.row.guest ≡ None
         → row_last two.row ≡ row_record one.row.number (one.row.version + 1) None (pair_in one.row.guest) ∷ [] → IsOut (row_identity one).clock (row_identity one).home one.row.guest (Some raw)
-        → OnWords StampsAt raw.entry.words out.entry.words → UnbindsInRow key value v old receipt out v2
+        → OnWords StampsAt raw.entry.words out.entry.words → UnbindsInRow key value v old receipt out three v2
     unbinds_in_row key value raw out key_is value_is guest last was stamps =
         let named = named_guest one.row.guest key value key_is value_is in
         let g = named.0 in
@@ -119,6 +141,7 @@ module _ (v v1 : View Part) (old one : LockedRow) (met : MeetsRow v old v1) (sam
         record {
           before = met.last;
           met = both_met;
+          was_last = met.is_last;
           row = row_named ∙ row_is;
           next = next_is;
           bound = bound_of g;
@@ -134,6 +157,7 @@ module _ (v v1 : View Part) (old one : LockedRow) (met : MeetsRow v old v1) (sam
             empty = met2.content ∙ ap content_of guest;
             took = ap (λ (r : Record). r.took) (head_same met2.last (row_record one.row.number (one.row.version + 1) None (pair_in one.row.guest)) (sym met2.is_last ∙ last)) ∙ took;
           };
+          is_last = same2.last ∙ met2.is_last;
           goal = stamped.0;
           stamped = stamped.1;
         }

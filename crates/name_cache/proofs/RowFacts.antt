@@ -58,3 +58,14 @@ has_met v w locked known newest =
   where
     one_up : (last : Record) (r : Record) → In r (last ∷ []) → r.version ≤ last.version
     one_up last r i = ⊎_elim (λ (e : last ≡ r). subst (λ (x : Record). x.version ≤ last.version) e (le_refl last.version)) (λ t. absurd t) i
+
+version_in : List Record → ℕ
+version_in [] = 0
+version_in (r ∷ rs) = r.version
+
+-- the one last record of a row has its version
+pub row_told : (locked : LockedRow) (last : Record) → row_last locked.row ≡ last ∷ [] → last.version ≡ locked.row.version
+unfolding last_of version_in
+row_told locked last is =
+    let k = last_of (seat_knows locked.row.seat).host.rows locked.row.number locked.row.version (content_of locked.row.guest) locked.row.seen in
+    ap version_in (sym is ∙ k.is_last) ∙ k.version_is

@@ -1,43 +1,42 @@
--- Own: which freed items are on a seat still, and what a free of an entry does to the seat.
-use Rattle.std.specs.Prelude.{◌≡◌, ◌⊎◌, ◌==◌, not, ℕ, List, [], map, Option, Some, None}
-use Rattle.zone_stats.specs.declared.ledger.SeatLedger.{SeatLedger}
+-- Own: what a free of an entry does to its seat.
+use Rattle.std.specs.Prelude.{◌≡◌, ◌<◌, ◌==◌, not, true, false, ℕ, length, slice_set, Option, Some, None}
+use Rattle.smr_clock.specs.declared.view.View.{View}
 use Rattle.zone_stats.specs.LedgerSteps.{CountsFree}
 use Rattle.uma_life.specs.Live.{live_domain}
-use Rattle.uma_bucket.specs.declared.shelved.Shelved.TheVariants.{Plain, Loose, Sealed}
-use Rattle.uma_bucket.specs.Freed.{freed_item}
-use Rattle.uma_bucket.specs.Loose.{loose_items}
-use Rattle.uma_bucket.specs.Sealed.{sealed_bucket}
-use Rattle.uma_seat.specs.Stack.{stack_at}
-use Rattle.uma_seat.specs.Seat.{seat_domain, freed_of, shelf_of, ledger_of, KeepsFreed}
+use Rattle.uma_seat.specs.Freeing.{ShelvesFreed}
+use Rattle.uma_seat.specs.Stack.{Stack, stack_at, with_item, is_filled_by_one}
+use Rattle.uma_seat.specs.Seat.{seat_domain, freed_of, ledger_of, fetches_of, KeepsTop, KeepsPlain, KeepsRack, KeepsMisses}
+use Rattle.name_rows.specs.declared.part.Part.{Part}
 use Rattle.name_rows.specs.declared.records.Bound.{Bound}
 use Rattle.name_rows.specs.declared.entry_state.EntryState.TheVariants.{Stamped}
-use Rattle.name_rows.specs.Records.{In, owned_as}
-use Rattle.name_cache.specs.Types.{EntrySeat, EntryBucket, LiveEntry}
+use Rattle.name_rows.specs.Records.{owned_as, told}
+use Rattle.name_cache.specs.Types.{EntrySeat, LiveEntry}
 use Rattle.name_cache.specs.Parts.{kept_of}
 
--- the freed items of a bucket on the shelf
-abbrev pub freed_on : EntryBucket → List LiveEntry
-freed_on (Plain domain bucket) = []
-freed_on (Loose domain bucket) = map freed_item (loose_items bucket)
-freed_on (Sealed domain bucket) = map freed_item (loose_items (sealed_bucket bucket))
+-- the deferred items of the item's domain on the seat
+abbrev pub deferred_beside : EntrySeat → LiveEntry → Stack LiveEntry
+deferred_beside seat live = stack_at (freed_of seat) (live_domain live)
 
--- The item is among the seat's deferred ones, in the bucket of its domain, or in a bucket on the seat's shelf.
-abbrev pub IsDeferred : EntrySeat → LiveEntry → Type 0
-IsDeferred seat live = In live (stack_at (freed_of seat) (live_domain live)).items ⊎ ((shelved : EntryBucket) × In shelved (shelf_of seat) × In live (freed_on shelved))
+-- The item was freed, by a pass whose view was v before and v' after: it is the newest of the deferred items of its domain on the seat. Where it fills their bucket, that was tried to be sealed after it, and is the newest on the shelf. The free is counted. All else of the seat is as it was.
+pub record Frees (v : View Part) (old : EntrySeat) (live : LiveEntry) (v' : View Part) (new : EntrySeat) : Type 0 where
+  pub within : live_domain live < length (freed_of old)
+  pub put : is_filled_by_one (deferred_beside old live) ≡ false → freed_of new ≡ slice_set (freed_of old) (live_domain live) (with_item (deferred_beside old live) live)
+  pub rack : is_filled_by_one (deferred_beside old live) ≡ false → KeepsRack old new
+  pub full : is_filled_by_one (deferred_beside old live) ≡ true → ShelvesFreed told v old (live_domain live) (with_item (deferred_beside old live) live) new v'
+  pub free : CountsFree (ledger_of old) (ledger_of new) (not (live_domain live == seat_domain old))
+  pub fetches : fetches_of new ≡ fetches_of old
+  pub top : KeepsTop old new
+  pub plain : KeepsPlain old new
+  pub misses : KeepsMisses old new
 
--- The item was freed, and the free is counted behind these counts. It stays as it is until no section may see it.
-pub record Frees (counted : SeatLedger) (live : LiveEntry) (seat : EntrySeat) : Type 0 where
-  pub deferred : IsDeferred seat live
-  pub free : CountsFree counted (ledger_of seat) (not (live_domain live == seat_domain seat))
-
--- The entry with this number, key and value was freed, with a stamp.
-pub record FreesStamped (counted : SeatLedger) (b : Bound) (seat : EntrySeat) : Type 0 where
+-- The entry with this number, key and value was freed so, with a stamp.
+pub record FreesStamped (v : View Part) (old : EntrySeat) (b : Bound) (v' : View Part) (new : EntrySeat) : Type 0 where
   pub live : LiveEntry
   pub goal : ℕ
   pub entry : kept_of live ≡ Some (owned_as b (Stamped goal))
-  pub frees : Frees counted live seat
+  pub frees : Frees v old live v' new
 
--- What a row bound was freed, with a stamp. Where it bound nothing, nothing was freed.
-abbrev pub FreesBound : SeatLedger → EntrySeat → Option Bound → EntrySeat → Type 0
-FreesBound counted old None seat = (ledger_of seat ≡ counted) × KeepsFreed old seat
-FreesBound counted old (Some b) seat = FreesStamped counted b seat
+-- What a row bound was freed, with a stamp. Where it bound nothing, the seat is as it was.
+abbrev pub FreesBound : View Part → EntrySeat → Option Bound → View Part → EntrySeat → Type 0
+FreesBound v old None v' new = new ≡ old
+FreesBound v old (Some b) v' new = FreesStamped v old b v' new

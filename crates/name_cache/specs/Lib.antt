@@ -13,6 +13,7 @@ pub mod Origins
 pub mod Parts
 pub mod Raised
 pub mod Rebound
+pub mod Room
 pub mod RowKey
 pub mod Sums
 pub mod Types

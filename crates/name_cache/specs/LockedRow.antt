@@ -53,6 +53,14 @@ pub record MeetsRow (v : View Part) (locked : LockedRow) (v' : View Part) : Type
   pub newest : IsNewest (known_in v') last
   pub still : StillKnows v v'
 
+-- The row with this number, as it stood under its lock when a call got that, and as it was when the call gave the lock back: this was its last record, and it is the same.
+pub record StaysAs (row : ℕ) (last : Record) : Type 0 where
+  pub was : LockedRow
+  pub is : LockedRow
+  pub numbered : was.row.number ≡ row
+  pub is_last : row_last was.row ≡ last ∷ []
+  pub same : IsSameRow was is
+
 -- The entry's words are of this clock, and the item is at home here.
 abbrev pub IsItemOf : TableId × Setup → Home → EntryParts → Type 0
 IsItemOf clock home parts = (parts_clock parts ≡ clock) × IsHome home parts.ticket
@@ -71,27 +79,36 @@ IsOutStamped None (Some parts) = ⊥
 IsOutStamped (Some b) None = ⊥
 IsOutStamped (Some b) (Some parts) = (goal : ℕ) × (kept_in parts.entry.words ≡ Some (owned_as b (Stamped goal)))
 
--- The row's next record, which the pass knows, binds this. What the row bound before is out with a stamp.
-pub record BindsInRow (bound : Bound) (v : View Part) (old : LockedRow) (receipt : Receipt) (out : Option EntryParts) (v' : View Part) : Type 0 where
+-- The row went on by one record, which the pass knows, and which binds this. What the row bound before is out with a stamp.
+pub record BindsInRow (bound : Bound) (v : View Part) (old : LockedRow) (receipt : Receipt) (out : Option EntryParts) (new : LockedRow) (v' : View Part) : Type 0 where
   pub before : Record
+  pub was_last : row_last old.row ≡ before ∷ []
   pub met : Meets v receipt.row before v'
   pub row : receipt.row ≡ old.row.number
   pub next : receipt.version ≡ before.version + 1
   pub low : before.version + 2 < 2 ^ 44
   pub knows : KnowsBound bound receipt (known_in v')
+  pub is_last : row_last new.row ≡ knows.at ∷ []
   pub out_before : IsOutStamped before.content out
 
--- Why the row takes no entry: the entry isn't ripe, which the row doesn't matter for; or it is, and the row is worn. The row's record is as it was.
-abbrev pub RefusesInRow : View Part → LockedRow → EntryParts → View Part → EntryParts → BindRefused → Type 0
-RefusesInRow v old parts v' back (Unripe' read stamp) = OnWords (IsUnripe (record { read = read; stamp = stamp })) parts.entry.words back.entry.words
-RefusesInRow v old parts v' back (Worn row version) =
-    (entry_state back.entry ≡ Some Clean) × (row ≡ old.row.number) × (2 ^ 44 ≤ version + 2) × ((last : Record) × (last.version ≡ version) × IsNewest (known_in v') last × Meets v row last v')
-RefusesInRow v old parts v' back (Zone refusal) = ⊥
-RefusesInRow v old parts v' back Memory = ⊥
+-- Why the row takes no entry: the entry isn't ripe, which the row doesn't matter for; or it is, and the row is worn.
+abbrev pub RefusesEntry : LockedRow → EntryParts → EntryParts → BindRefused → Type 0
+RefusesEntry row parts back (Unripe' read stamp) = OnWords (IsUnripe (record { read = read; stamp = stamp })) parts.entry.words back.entry.words
+RefusesEntry row parts back (Worn number version) = (entry_state back.entry ≡ Some Clean) × (number ≡ row.row.number) × (version ≡ row.row.version) × (2 ^ 44 ≤ version + 2)
+RefusesEntry row parts back (Zone refusal) = ⊥
+RefusesEntry row parts back Memory = ⊥
 
--- The row bound the key to this value, and its next record, which the pass knows, is empty. Its entry is out with a stamp.
-pub record UnbindsInRow (key value : ℕ) (v : View Part) (old : LockedRow) (receipt : Receipt) (out : EntryParts) (v' : View Part) : Type 0 where
+-- The row takes no entry, and is as it was; the pass has met it. The entry is back.
+pub record RefusesInRow (v : View Part) (old : LockedRow) (parts back : EntryParts) (refused : BindRefused) (new : LockedRow) (v' : View Part) : Type 0 where
+  pub why : RefusesEntry old parts back refused
+  pub item : IsSameItem parts back
+  pub same : IsSameRow old new
+  pub met : MeetsRow v old v'
+
+-- The row bound the key to this value, and went on by one record, which the pass knows, and which is empty. Its entry is out with a stamp.
+pub record UnbindsInRow (key value : ℕ) (v : View Part) (old : LockedRow) (receipt : Receipt) (out : EntryParts) (new : LockedRow) (v' : View Part) : Type 0 where
   pub before : Record
+  pub was_last : row_last old.row ≡ before ∷ []
   pub met : Meets v receipt.row before v'
   pub row : receipt.row ≡ old.row.number
   pub next : receipt.version ≡ before.version + 1
@@ -100,15 +117,15 @@ pub record UnbindsInRow (key value : ℕ) (v : View Part) (old : LockedRow) (rec
   pub key_bound : bound.key ≡ key
   pub value_bound : bound.value ≡ value
   pub knows : KnowsTaken key value receipt (known_in v')
+  pub is_last : row_last new.row ≡ knows.at ∷ []
   pub goal : ℕ
   pub stamped : kept_in out.entry.words ≡ Some (owned_as bound (Stamped goal))
 
--- The row's record, which the pass knows, doesn't bind the key.
-pub record HasNotKey (key : ℕ) (v : View Part) (row : ℕ) (v' : View Part) : Type 0 where
-  pub last : Record
-  pub met : Meets v row last v'
-  pub newest : IsNewest (known_in v') last
-  pub unbound : bound_to key last.content ≡ None
+-- The row doesn't bind the key, and is as it was; the pass has met it.
+pub record HasNotKey (key : ℕ) (v : View Part) (old new : LockedRow) (v' : View Part) : Type 0 where
+  pub unbound : bound_to key (content_of old.row.guest) ≡ None
+  pub same : IsSameRow old new
+  pub met : MeetsRow v old v'
 
 -- The entry that was out without a stamp, if there was one, has one now.
 abbrev pub IsStamped : Option EntryParts → Option EntryParts → Type 0
@@ -117,15 +134,10 @@ IsStamped None (Some is) = ⊥
 IsStamped (Some was) None = ⊥
 IsStamped (Some was) (Some is) = OnWords StampsAt was.entry.words is.entry.words × IsSameItem was is
 
--- How a bind leaves its row: it binds the key to the value by the entry of these parts, or not.
-abbrev pub RebindsRow : ℕ → ℕ → View Part → LockedRow → EntryParts → Rebound → View Part → Type 0
-RebindsRow key value v old parts (Done receipt evicted) v' = BindsInRow (record { entry = ticket_no parts.ticket; key = key; value = value }) v old receipt evicted v'
-RebindsRow key value v old parts (Refused entry refused) v' = RefusesInRow v old parts v' entry refused × IsSameItem parts entry
-
--- where the row took no entry, it is as it was
-abbrev pub KeepsRefused : LockedRow → Rebound → LockedRow → Type 0
-KeepsRefused was (Done receipt evicted) is = Unit {0}
-KeepsRefused was (Refused entry refused) is = IsSameRow was is
+-- How a bind leaves its row: it binds the key to the value by the entry of these parts, or is as it was.
+abbrev pub RebindsRow : ℕ → ℕ → View Part → LockedRow → EntryParts → Rebound → LockedRow → View Part → Type 0
+RebindsRow key value v old parts (Done receipt evicted) new v' = BindsInRow (record { entry = ticket_no parts.ticket; key = key; value = value }) v old receipt evicted new v'
+RebindsRow key value v old parts (Refused entry refused) new v' = RefusesInRow v old parts entry refused new v'
 
 -- The entry that a bind leaves out of the row, if there is one, is of this clock, and at home here.
 abbrev pub HasItemOf : TableId × Setup → Home → Rebound → Type 0

@@ -15,6 +15,10 @@ use Rattle.name_cache.specs.RowKey.{key_identity, identity}
 abbrev pub RowLock : Type 0
 RowLock = KeyedLock LockedRow RowKey RowOfKey
 
+-- the version with which a row was put under its lock
+abbrev pub lock_version : RowLock → ℕ
+lock_version lock = (lock_key lock).version
+
 -- the locks of the rows from 0 on, in order, of this clock, whose entries are at home here
 abbrev pub AreNamed : TableId × Setup → Home → List RowLock → Type 0
-AreNamed clock home locks = (n : ℕ) (lock : RowLock) → get_elem? locks n ≡ some lock → key_identity (lock_key lock) ≡ identity clock home n
+AreNamed clock home locks = (n : ℕ) (lock : RowLock) → get_elem? locks n ≡ some lock → key_identity (lock_key lock) ≡ identity clock home n (lock_version lock)

@@ -1,5 +1,5 @@
 -- Own: with what a cache is made.
-use Rattle.std.specs.Prelude.{◌≡◌, ◌≤◌, ◌*◌, ℕ, List, length, None, [], ◌∷◌, true}
+use Rattle.std.specs.Prelude.{◌≡◌, ◌≤◌, ◌*◌, ℕ, List, length, map, None, [], ◌∷◌, true}
 use mathlib.Core.Option.{some}
 use lib.ListN.{get_elem?}
 use Rattle.smr_clock.specs.declared.clock.Clock.{Clock}
@@ -27,6 +27,10 @@ pub record IsFreshRow (clock : Clock Names Part) (number : ℕ) (row : Row) : Ty
 -- the rows from this number on, in order
 abbrev pub AreFreshRows : Clock Names Part → List Row → Type 0
 AreFreshRows clock rows = (n : ℕ) (row : Row) → get_elem? rows n ≡ some row → IsFreshRow clock n row
+
+-- the versions of rows, in order
+abbrev pub versions_of : List Row → List ℕ
+versions_of rows = map (λ row. row.version) rows
 
 -- A clock of names with all its rows, which are empty, and its root.
 pub record IsOpened (opened : Opened) : Type 0 where

@@ -1,7 +1,6 @@
 -- Own: what the steps of a bind and of an unbind come to.
-use Rattle.std.specs.Prelude.{◌≡◌, ◌%◌, ℕ, false, Option, Some, None}
+use Rattle.std.specs.Prelude.{◌≡◌, ◌%◌, ◌<◌, ℕ, false, Option, Some, None}
 use Rattle.smr_clock.specs.declared.view.View.{View}
-use Rattle.zone_stats.specs.declared.ledger.SeatLedger.{SeatLedger}
 use Rattle.uma_life.specs.Live.{live_body, live_ticket}
 use Rattle.uma_zone.specs.Alloc.{Serves, TurnsAway, WantsMemory}
 use Rattle.name_rows.specs.declared.part.Part.{Part}
@@ -11,11 +10,13 @@ use Rattle.name_cache.specs.declared.bind_refused.BindRefused.TheVariants.{Zone,
 use Rattle.name_cache.specs.declared.locked_row.LockedRow.{LockedRow}
 use Rattle.name_cache.specs.declared.parts.EntryParts.{EntryParts}
 use Rattle.name_cache.specs.declared.rebound.Rebound.{Rebound}
+use Rattle.name_cache.specs.declared.rebound.Rebound.TheVariants.{Done, Refused}
+use Rattle.name_cache.specs.declared.receipt.Receipt.{Receipt}
 use Rattle.name_cache.specs.Types.{ZoneOfEntries, EntrySeat, LiveEntry}
 use Rattle.name_cache.specs.Known.{StillKnows}
-use Rattle.name_cache.specs.Bind.{entry_ask}
-use Rattle.name_cache.specs.LockedRow.{RebindsRow}
+use Rattle.name_cache.specs.LockedRow.{RebindsRow, UnbindsInRow, HasNotKey}
 use Rattle.name_cache.specs.Parts.{words_of}
+use Rattle.name_cache.specs.Room.{entry_ask}
 use Rattle.name_cache.specs.Deferred.{Frees}
 
 -- The zone handed out an item for a request that is counted, and these are its parts.
@@ -34,22 +35,42 @@ HandsOutNone zone old new (Unripe read stamp) = ⊥
 
 -- Under the lock of the key's row an entry was handed out, and the row took it or not.
 pub record HasRebound (zone : ZoneOfEntries) (rows key value : ℕ) (v : View Part) (old : EntrySeat) (rebound : Rebound) (v' : View Part) (new : EntrySeat) : Type 0 where
-  pub row : LockedRow
-  pub numbered : row.row.number ≡ key % rows
+  pub was : LockedRow
+  pub is : LockedRow
+  pub numbered : was.row.number ≡ key % rows
   pub parts : EntryParts
   pub hands_out : HandsOut zone old parts new
   pub between : View Part
   pub knew : StillKnows v between
-  pub ends : RebindsRow key value between row parts rebound v'
+  pub ends : RebindsRow key value between was parts rebound is v'
 
--- The item of these parts was freed, and the free is counted behind these counts.
-pub record FreesParts (counted : SeatLedger) (parts : EntryParts) (seat : EntrySeat) : Type 0 where
+-- Under the lock of the key's row the key was taken out of it.
+pub record HasTakenOut (rows key value : ℕ) (v : View Part) (receipt : Receipt) (out : EntryParts) (v' : View Part) : Type 0 where
+  pub was : LockedRow
+  pub is : LockedRow
+  pub numbered : was.row.number ≡ key % rows
+  pub ends : UnbindsInRow key value v was receipt out is v'
+
+-- Under the lock of the key's row the key wasn't found in it.
+pub record HasFoundNone (rows key : ℕ) (v v' : View Part) : Type 0 where
+  pub was : LockedRow
+  pub is : LockedRow
+  pub numbered : was.row.number ≡ key % rows
+  pub ends : HasNotKey key v was is v'
+
+-- the record that a bind made is above this version
+abbrev pub IsBoundAbove : ℕ → Rebound → Type 0
+IsBoundAbove version (Done receipt evicted) = version < receipt.version
+IsBoundAbove version (Refused entry refused) = Unit {0}
+
+-- The item of these parts was freed by a pass whose view was v before and v' after.
+pub record FreesParts (v : View Part) (old : EntrySeat) (parts : EntryParts) (v' : View Part) (new : EntrySeat) : Type 0 where
   pub live : LiveEntry
   pub entry : raised_entry (live_body live) ≡ parts.entry
   pub ticket : live_ticket live ≡ parts.ticket
-  pub frees : Frees counted live seat
+  pub frees : Frees v old live v' new
 
 -- The item of these parts was freed, if there are any; else the seat is as it was.
-abbrev pub FreesEvicted : SeatLedger → EntrySeat → Option EntryParts → EntrySeat → Type 0
-FreesEvicted counted old None new = new ≡ old
-FreesEvicted counted old (Some parts) new = FreesParts counted parts new
+abbrev pub FreesEvicted : View Part → EntrySeat → Option EntryParts → View Part → EntrySeat → Type 0
+FreesEvicted v old None v' new = new ≡ old
+FreesEvicted v old (Some parts) v' new = FreesParts v old parts v' new

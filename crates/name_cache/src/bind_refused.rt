@@ -3,8 +3,8 @@ use std::fmt;
 use uma_zone::AllocRefused;
 use zone_stats::Refusal;
 
-/// Why a key was not bound. The tests are made in the order want of memory and `Zone`, `Unripe`, `Worn`. Its row is as it
-/// was.
+/// Why a key was not bound. The tests are made in the order want of memory and `Zone`, `Unripe`, `Worn`. After the latter two
+/// its row is as it was.
 #[derive(Clone, Copy, Debug, PartialEq, Eq)]
 pub enum BindRefused {
     /// The zone of entries turned the request for an entry away.

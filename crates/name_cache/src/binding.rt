@@ -4,13 +4,14 @@ ghost use Rattle.smr_clock.specs.Belongs.{IsOf, clock_id, view, holder};
 ghost use Rattle.zone_stats.specs.LedgerSteps.{HasRoom, CountsAlloc};
 ghost use Rattle.uma_life.specs.Live.{live_ticket};
 ghost use Rattle.uma_bucket.specs.Home.{IsHome};
-ghost use Rattle.uma_seat.specs.Seat.{ledger_of, spares_of, IsSameSeat, KeepsFreed};
+ghost use Rattle.uma_seat.specs.Seat.{ledger_of, spares_of, shelf_of, IsSameSeat, KeepsFreed};
+ghost use Rattle.uma_zone.specs.Flushed.{HasLastOf};
 ghost use Rattle.name_cache.specs.Bind.{HasRoomToBind, Binds, RefusesToBind};
-ghost use Rattle.name_cache.specs.Cache.{cache_zone, cache_clock, cache_home, row_count, IsCacheSeat};
+ghost use Rattle.name_cache.specs.Cache.{cache_zone, cache_clock, cache_home, row_count, first_version, IsCacheSeat};
 ghost use Rattle.name_cache.specs.Known.{IsAbove, StillKnows};
 ghost use Rattle.name_cache.specs.LockedRow.{row_identity, IsItemOf, HasItemOf};
 ghost use Rattle.name_cache.specs.Parts.{words_of};
-ghost use Rattle.name_cache.specs.Rebound.{HandsOut, HandsOutNone, HasRebound, FreesParts, FreesEvicted};
+ghost use Rattle.name_cache.specs.Rebound.{HandsOut, HandsOutNone, HasRebound, IsBoundAbove, FreesParts, FreesEvicted};
 ghost use Rattle.name_cache.specs.RowKey.{identity, key_identity};
 
 use crate::RaisedEntry;
@@ -48,7 +49,7 @@ impl NameCache {
     ///
     /// In this order: `Memory` where memory is wanting; `Zone` where the zone turned the request for an entry away;
     /// `Unripe` where the read hand loaded is below the entry's stamp; `Worn` where the row's version is 2^44 - 2 or above.
-    /// The row is as it was. After `Unripe` and `Worn` the entry is freed again.
+    /// After `Unripe` and `Worn` the row is as it was, and the entry is freed again.
     pub fn bind<R: Wait>(
         &self,
         rt: &R,
@@ -65,6 +66,7 @@ impl NameCache {
         requires room { HasRoomToBind (ledger_of seat.old) }
         ensures bound { IfOk result (λ receipt. Binds (cache_zone self.now) (row_count self.now) key value (view pass.old) seat.old receipt (view pass.new) seat.new) }
         ensures above { IfOk result (λ receipt. IsAbove receipt.row receipt.version (view pass.old)) }
+        ensures since { IfOk result (λ receipt. first_version self.now (key % row_count self.now) < receipt.version) }
         ensures refused { IfErr result (RefusesToBind (cache_zone self.now) (row_count self.now) key (view pass.old) seat.old (view pass.new) seat.new) }
         ensures still { StillKnows (view pass.old) (view pass.new) }
         ensures pass { IsOf clock.now pass.new }
@@ -105,6 +107,7 @@ impl NameCache {
         requires seat { IsCacheSeat self.now seat.old }
         requires room { HasRoom (ledger_of seat.old) }
         ensures rebound { IfOk result (λ rebound. HasRebound (cache_zone self.now) (row_count self.now) key value (view pass.old) seat.old rebound (view pass.new) seat.new) }
+        ensures since { IfOk result (IsBoundAbove (first_version self.now (key % row_count self.now))) }
         ensures items { IfOk result (HasItemOf (cache_clock self.now) (cache_home self.now)) }
         ensures counted { OnOk result (CountsAlloc (ledger_of seat.old) (ledger_of seat.new)) }
         ensures refused { IfErr result (HandsOutNone (cache_zone self.now) seat.old seat.new) }
@@ -114,6 +117,7 @@ impl NameCache {
         ensures seen { (holder pass.old).seen ≤ (holder pass.new).seen }
         ensures seat { IsCacheSeat self.now seat.new }
         ensures spare { length (spares_of seat.old) ≤ length (spares_of seat.new) }
+        ensures shelf { HasLastOf (shelf_of seat.old) (shelf_of seat.new) }
         ensures freed { KeepsFreed seat.old seat.new }
         ensures same { IsSameSeat seat.old seat.new }
     {
@@ -128,7 +132,7 @@ impl NameCache {
         rt: &R,
         key: u64,
     ) -> KeyedGuard<'a, LockedRow, RowKey, RowOfKey>
-        ensures row { row_identity result.value ≡ identity (cache_clock self.now) (cache_home self.now) (key % row_count self.now) }
+        ensures row { row_identity result.value ≡ identity (cache_clock self.now) (cache_home self.now) (key % row_count self.now) (first_version self.now (key % row_count self.now)) }
         ensures mine { row_identity result.value ≡ key_identity (guard_key result) }
     {
         let row = (key % self.rows.len() as u64) as usize;
@@ -158,6 +162,7 @@ impl NameCache {
         ensures seen { (holder pass.old).seen ≤ (holder pass.new).seen }
         ensures seat { IsCacheSeat self.now seat.new }
         ensures spare { length (spares_of seat.old) ≤ length (spares_of seat.new) }
+        ensures shelf { HasLastOf (shelf_of seat.old) (shelf_of seat.new) }
         ensures freed { KeepsFreed seat.old seat.new }
         ensures same { IsSameSeat seat.old seat.new }
     {
@@ -189,7 +194,7 @@ impl NameCache {
         requires spare { 0 < length (spares_of seat.old) }
         requires room { HasRoom (ledger_of seat.old) }
         requires item { IfSome evicted (IsItemOf (cache_clock self.now) (cache_home self.now)) }
-        ensures frees { FreesEvicted (ledger_of seat.old) seat.old evicted seat.new }
+        ensures frees { FreesEvicted (view pass.old) seat.old evicted (view pass.new) seat.new }
         ensures host { (view pass.new).host ≡ (view pass.old).host }
         ensures pass { IsOf clock.now pass.new }
         ensures phase { (holder pass.new).phase ≡ (holder pass.old).phase }
@@ -216,7 +221,7 @@ impl NameCache {
         requires spare { 0 < length (spares_of seat.old) }
         requires room { HasRoom (ledger_of seat.old) }
         requires item { IsItemOf (cache_clock self.now) (cache_home self.now) entry }
-        ensures frees { FreesParts (ledger_of seat.old) entry seat.new }
+        ensures frees { FreesParts (view pass.old) seat.old entry (view pass.new) seat.new }
         ensures host { (view pass.new).host ≡ (view pass.old).host }
         ensures pass { IsOf clock.now pass.new }
         ensures phase { (holder pass.new).phase ≡ (holder pass.old).phase }

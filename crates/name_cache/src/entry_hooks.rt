@@ -1,8 +1,9 @@
-ghost use Rattle.std.specs.Prelude.{◌≡◌, None, IfOk};
+ghost use Rattle.std.specs.Prelude.{◌≡◌, ◌⊎◌, None, IfOk};
 ghost use Rattle.smr_clock.specs.Belongs.{clock_id};
+ghost use Rattle.uma_life.specs.declared.body_phase.BodyPhase.TheVariants.{Raw, Gone};
 ghost use Rattle.name_rows.specs.Belongs.{IsNamesClock};
 ghost use Rattle.name_rows.specs.Roots.{IsRootOf};
-ghost use Rattle.name_cache.specs.Hooked.{IsAtHome};
+ghost use Rattle.name_cache.specs.Hooked.{RaisesAtHome};
 ghost use Rattle.name_cache.specs.Raised.{KeepsWords, refusal_of};
 
 use crate::home::Home;
@@ -55,7 +56,8 @@ impl EntryHooks {
 
 impl Hooks<RaisedEntry> for EntryHooks {
     ghost use Rattle.name_cache.specs.Hooked.{hooks_home};
-    ghost use Rattle.name_cache.specs.Homes.{home_origin};
+    ghost use Rattle.name_cache.specs.Homes.{home_clock, home_origin, LowersInto};
+    ghost use Rattle.name_cache.specs.Raised.{raised_entry, raised_home, raised_life};
 
     ghost origin = { λ hooks. home_origin (hooks_home hooks) };
 
@@ -63,7 +65,7 @@ impl Hooks<RaisedEntry> for EntryHooks {
 
     ghost refuses_ctor = { λ hooks body zone arg. None };
 
-    ghost makes = { λ hooks number body. IsAtHome hooks body };
+    ghost makes = { λ hooks number body. RaisesAtHome hooks number body };
 
     ghost leaves_init = { λ hooks body zone left. KeepsWords body left };
 
@@ -105,7 +107,11 @@ impl Hooks<RaisedEntry> for EntryHooks {
         body.entry.keg_fini();
     }
 
-    fn bury<R: Wait>(&self, rt: &R, body: RaisedEntry) -> Tally {
+    fn bury<R: Wait>(&self, rt: &R, body: RaisedEntry) -> Tally
+        requires { ((raised_life body).phase ≡ Raw) ⊎ ((raised_life body).phase ≡ Gone) }
+        ensures tally { result ≡ (raised_life body).tally }
+        ensures lowered { LowersInto (home_clock (raised_home body)) (raised_entry body) }
+    {
         let RaisedEntry { entry, home } = body;
         home.lower(rt, entry)
     }

@@ -42,7 +42,7 @@ pub struct Home {
 }
 
 impl Home {
-    ghost use Rattle.name_cache.specs.Homes.{home_clock};
+    ghost use Rattle.name_cache.specs.Homes.{home_clock, RaisesFrom, LowersInto};
 
     /// A home of this root. The clock gets a handle more.
     pub fn new(alloc: Global, clock: &Clock<Names>, root: Root) -> Result<Home, Memory>
@@ -69,22 +69,24 @@ impl Home {
         &self.clock
     }
 
-    /// An entry of this number that passed no hook. It has words exactly where the root, once this call has the lock, has
-    /// the number. Waits until it has the lock.
+    /// An entry of this number that passed no hook. It has words exactly where the root, as it stands under the lock, has the
+    /// number, which it then hasn't any more. Waits until it has the lock.
     pub fn raise<R: Wait>(&self, rt: &R, no: u32) -> Entry
         ensures here { IsEntryOf (home_clock self.now) result }
         ensures life { entry_life result ≡ raw_life no }
+        ensures raised { RaisesFrom (home_clock self.now) no result }
     {
         let mut guard = self.root.lock(rt);
         raise(&self.clock, &mut guard.value, no)
     }
 
-    /// Ends an entry, and answers its tally. The root has its number again, with the entry's state. Waits until it has
-    /// the lock.
+    /// Ends an entry, and answers its tally. The root has its number again, with the entry's state, where the entry has words.
+    /// Waits until it has the lock.
     pub fn lower<R: Wait>(&self, rt: &R, entry: Entry) -> Tally
         requires here { IsEntryOf (home_clock self.now) entry }
         requires over { ((entry_life entry).phase ≡ Raw) ⊎ ((entry_life entry).phase ≡ Gone) }
-        ensures { result ≡ (entry_life entry).tally }
+        ensures tally { result ≡ (entry_life entry).tally }
+        ensures lowered { LowersInto (home_clock self.now) entry }
     {
         let mut guard = self.root.lock(rt);
         lower(&self.clock, &mut guard.value, entry)

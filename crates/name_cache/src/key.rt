@@ -11,4 +11,6 @@ pub struct RowKey {
     pub zone: Snapshot<EntryZone>,
     /// The row's number.
     pub number: u32,
+    /// The version with which the cache got the row.
+    pub version: u64,
 }

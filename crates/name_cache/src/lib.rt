@@ -30,6 +30,11 @@
 //! - A linked entry's tally lies beside its row, with its ticket and the handle of its home: so `sums` counts linked
 //!   entries without a look into a row that readers go through, and a rebind makes no new handle (`link` takes the bare
 //!   `Entry`).
+//! - No clause speaks of a row once its lock is free. What a call did to it is said by the row's states under the lock
+//!   (`StaysAs`), and tied to the call by the pass: whatever changes a locked row tells the pass of the record made, so where
+//!   the pass knows no newer record than the one found, the call made none. Of the root it is said that an entry came by one
+//!   raise out of it, or went by one lowering into it; that its lock was got only once isn't.
+//! - A row's version under its lock is never below that of the key (`first_versions`), with which the cache got the row.
 //! - The seat's ledger needs room for one request more than it counts (`HasRoomToBind`): a bind that evicts counts a
 //!   request and a free.
 //! - Of another thread's look nothing is said: that a bind is seen by who looks later is had where its note was absorbed,
@@ -50,7 +55,6 @@ mod parts;
 mod raised_entry;
 mod rebound;
 mod receipt;
-mod rewriting;
 mod rule;
 mod unbinding;
 

@@ -1,4 +1,4 @@
-ghost use Rattle.std.specs.Prelude.{◌≡◌, ◌≤◌, ◌<◌, ◌+◌, ◌^◌, [], ◌∷◌, map, is_some, Some, None, IfSome};
+ghost use Rattle.std.specs.Prelude.{◌≡◌, ◌≤◌, ◌<◌, ◌+◌, ◌%◌, ◌^◌, [], ◌∷◌, map, is_some, Some, None, IfSome, IfNone};
 ghost use Rattle.name_rows.specs.declared.entry.Entry.{Entry};
 ghost use Rattle.name_rows.specs.Rows.{IsRowOf, row_last};
 ghost use Rattle.name_rows.specs.declared.guest.Guest.{Guest};
@@ -6,27 +6,36 @@ ghost use Rattle.name_cache.specs.LinkedItem.{IsLinkedAs, FitsItem};
 ghost use Rattle.name_cache.specs.RowKey.{key_identity};
 ghost use Rattle.name_cache.specs.declared.linked_item.LinkedItem.{LinkedItem};
 
+use crate::bind_refused::BindRefused;
 use crate::key::RowKey;
 use crate::linked_item::LinkedItem;
 use crate::parts::EntryParts;
-use name_rows::{Entry, Names, Row, link, meet, unlink};
+use crate::rebound::Rebound;
+use crate::receipt::Receipt;
+use name_rows::{Entry, Names, Row, Unripe, link, meet, unlink};
 use smr_clock::{Clock, Pass};
 use std::snapshot::Snapshot;
 use uma_bucket::Sums;
 use uma_life::Body;
 
-/// What a row's lock keeps: the row of names, and what its linked entry is as an item of the zone.
+/// The least version at which a row takes no further name.
+const WORN: u64 = (1 << 44) - 2;
+
+/// What a row's lock keeps: the row of names, and what its linked entry is as an item of the zone. Outside of this file it
+/// changes by `bind`, `unbind` and `take` alone, which tell the pass of each record that they make.
 ///
-/// What always holds: the row is of the key's clock, and has the key's number, as its last record has. There is a ticket
-/// exactly where there is a linked entry. That entry is built and stands on its trail, with the number of its ticket, which
-/// is at home in the key's zone; its words are of the key's clock. A row that names an entry can go on by one version.
+/// What always holds: the row is of the key's clock, and has the key's number, as its last record has, and no version below
+/// the key's. There is a ticket exactly where there is a linked entry. That entry is built and stands on its trail, with the
+/// number of its ticket, which is at home in the key's zone; its words are of the key's clock. A row that names an entry can
+/// go on by one version.
 #[derive(Drop)]
 pub(crate) struct LockedRow {
-    pub row: Row,
-    pub linked: Option<LinkedItem>,
-    pub key: Snapshot<RowKey>,
+    row: Row,
+    linked: Option<LinkedItem>,
+    key: Snapshot<RowKey>,
     ghost here: { IsRowOf key.value.clock.value row },
     ghost number: { row.number ≡ key.value.number },
+    ghost since: { key.value.version ≤ row.version },
     ghost of_row: { map (λ last. last.row) (row_last row) ≡ row.number ∷ [] },
     ghost paired: { is_some linked ≡ is_some row.guest },
     ghost fits: { (guest : Guest) (item : LinkedItem) → row.guest ≡ Some guest → linked ≡ Some item → IsLinkedAs (key_identity key.value).clock (key_identity key.value).home guest item },
@@ -43,7 +52,8 @@ impl LockedRow {
     ghost use Rattle.name_rows.specs.Linking.{row_record};
     ghost use Rattle.name_rows.specs.Rows.{IsKeyOf, pair_in};
     ghost use Rattle.name_rows.specs.declared.entry_state.EntryState.{EntryState};
-    ghost use Rattle.name_cache.specs.LockedRow.{row_identity, names_row, IsSameRow, MeetsRow, IsItemOf, IsOut};
+    ghost use Rattle.name_cache.specs.Known.{StillKnows};
+    ghost use Rattle.name_cache.specs.LockedRow.{row_identity, names_row, IsSameRow, MeetsRow, IsItemOf, IsOut, IsStamped, HasItemOf, RebindsRow, UnbindsInRow, HasNotKey};
     ghost use Rattle.name_cache.specs.Parts.{parts_clock};
     ghost use Rattle.name_cache.specs.Sums.{AddsLinked};
 
@@ -51,6 +61,7 @@ impl LockedRow {
     pub fn new(row: Row, key: &RowKey) -> LockedRow
         requires here { IsRowOf key.now.clock.value row }
         requires number { row.number ≡ key.now.number }
+        requires version { row.version ≡ key.now.version }
         requires empty { row.guest ≡ None }
         requires last { row_last row ≡ row_record row.number row.version None None ∷ [] }
         ensures identity { row_identity result ≡ key_identity key.now }
@@ -63,8 +74,8 @@ impl LockedRow {
         }
     }
 
-    /// The pass knows the row's last record then, and knew none of the row that is newer.
-    pub fn meet(&mut self, clock: &Clock<Names>, pass: &mut Pass<Names>)
+    // The pass knows the row's last record then, and knew none of the row that is newer.
+    fn meet(&mut self, clock: &Clock<Names>, pass: &mut Pass<Names>)
         requires clock { clock_id clock.now ≡ (row_identity self.old).clock }
         requires names { IsNamesClock clock.now }
         requires pass { IsOf clock.now pass.old }
@@ -78,8 +89,102 @@ impl LockedRow {
         meet(clock, &mut self.row, pass);
     }
 
-    /// Links a written entry, with the next version. The entry that was there is out, unlinked and without a stamp.
-    pub fn link(&mut self, clock: &Clock<Names>, parts: EntryParts) -> Option<EntryParts>
+    /// Binds a key of this row to a value, by an entry of the zone. The entry has to be ripe, and then the row not worn; it
+    /// is written, and linked by one store of the row's word. What the row bound before is stamped. However it ends, the pass
+    /// knows the row's last record then, and none that is newer.
+    pub fn bind(
+        &mut self,
+        clock: &Clock<Names>,
+        pass: &mut Pass<Names>,
+        mut parts: EntryParts,
+        key: u64,
+        value: u64,
+    ) -> Rebound
+        requires clock { clock_id clock.now ≡ (row_identity self.old).clock }
+        requires names { IsNamesClock clock.now }
+        requires pass { IsOf clock.now pass.old }
+        requires item { IsItemOf (row_identity self.old).clock (row_identity self.old).home parts }
+        requires of_row { key % (setup_of clock.now).plan.0 ≡ (names_row self.old).number }
+        ensures identity { row_identity self.new ≡ row_identity self.old }
+        ensures ends { RebindsRow key value (view pass.old) self.old parts result self.new (view pass.new) }
+        ensures out { HasItemOf (row_identity self.old).clock (row_identity self.old).home result }
+        ensures still { StillKnows (view pass.old) (view pass.new) }
+        ensures pass { IsOf clock.now pass.new }
+        ensures phase { (holder pass.new).phase ≡ (holder pass.old).phase }
+        ensures seen { (holder pass.old).seen ≤ (holder pass.new).seen }
+    {
+        self.meet(clock, pass);
+        if let Err(Unripe { read, stamp }) = parts.ripe(clock) {
+            let refused = BindRefused::Unripe { read, stamp };
+            return Rebound::Refused {
+                entry: parts,
+                refused,
+            };
+        }
+        let row = self.row.number();
+        let version = self.row.version();
+        if version >= WORN {
+            let refused = BindRefused::Worn { row, version };
+            return Rebound::Refused {
+                entry: parts,
+                refused,
+            };
+        }
+        parts.write(clock, key, value);
+        let evicted = Self::stamped(clock, self.link(clock, parts));
+        self.meet(clock, pass);
+        let version = self.row.version();
+        Rebound::Done {
+            receipt: Receipt { row, version },
+            evicted,
+        }
+    }
+
+    /// Takes the key out of this row, if the row binds it. Answers its value, and the entry, which is stamped. The pass knows
+    /// the row's last record then, and none that is newer.
+    pub fn unbind(
+        &mut self,
+        clock: &Clock<Names>,
+        pass: &mut Pass<Names>,
+        key: u64,
+    ) -> Option<(u64, Receipt, EntryParts)>
+        requires clock { clock_id clock.now ≡ (row_identity self.old).clock }
+        requires names { IsNamesClock clock.now }
+        requires pass { IsOf clock.now pass.old }
+        ensures identity { row_identity self.new ≡ row_identity self.old }
+        ensures unbound { IfSome result (λ (value, receipt, out). UnbindsInRow key value (view pass.old) self.old receipt out self.new (view pass.new)) }
+        ensures out { IfSome result (λ (value, receipt, out). IsItemOf (row_identity self.old).clock (row_identity self.old).home out) }
+        ensures none { IfNone result (HasNotKey key (view pass.old) self.old self.new (view pass.new)) }
+        ensures still { StillKnows (view pass.old) (view pass.new) }
+        ensures pass { IsOf clock.now pass.new }
+        ensures phase { (holder pass.new).phase ≡ (holder pass.old).phase }
+        ensures seen { (holder pass.old).seen ≤ (holder pass.new).seen }
+    {
+        self.meet(clock, pass);
+        if self.row.key() != Some(key) {
+            return None;
+        }
+        let value = self.row.value()?;
+        let mut out = self.take(clock, pass)?;
+        out.stamp(clock);
+        let row = self.row.number();
+        let version = self.row.version();
+        Some((value, Receipt { row, version }, out))
+    }
+
+    // The entry that a row gave out, with a stamp.
+    fn stamped(clock: &Clock<Names>, out: Option<EntryParts>) -> Option<EntryParts>
+        requires here { IfSome out (λ parts. parts_clock parts ≡ clock_id clock.now) }
+        requires unlinked { IfSome out (λ parts. entry_state parts.entry ≡ Some EntryState.Unlinked) }
+        ensures { IsStamped out result }
+    {
+        let mut out = out?;
+        out.stamp(clock);
+        Some(out)
+    }
+
+    // Links a written entry, with the next version. The entry that was there is out, unlinked and without a stamp.
+    fn link(&mut self, clock: &Clock<Names>, parts: EntryParts) -> Option<EntryParts>
         requires clock { clock_id clock.now ≡ (row_identity self.old).clock }
         requires names { IsNamesClock clock.now }
         requires item { IsItemOf (row_identity self.old).clock (row_identity self.old).home parts }
@@ -107,8 +212,28 @@ impl LockedRow {
         rejoined(out, item)
     }
 
-    /// Unlinks the row's entry, with the next version. It is out, unlinked and without a stamp. An empty row stays as it is.
-    pub fn unlink(&mut self, clock: &Clock<Names>) -> Option<EntryParts>
+    /// Unlinks the row's entry, and tells the pass. It is out, unlinked and without a stamp. An empty row stays as it is.
+    pub fn take(&mut self, clock: &Clock<Names>, pass: &mut Pass<Names>) -> Option<EntryParts>
+        requires clock { clock_id clock.now ≡ (row_identity self.old).clock }
+        requires names { IsNamesClock clock.now }
+        requires pass { IsOf clock.now pass.old }
+        ensures identity { row_identity self.new ≡ row_identity self.old }
+        ensures guest { self.new.row.guest ≡ None }
+        ensures last { IfSome result (λ _. row_last self.new.row ≡ row_record self.old.row.number (self.old.row.version + 1) None (pair_in self.old.row.guest) ∷ []) }
+        ensures version { IfSome result (λ _. self.new.row.version ≡ self.old.row.version + 1) }
+        ensures out { IsOut (row_identity self.old).clock (row_identity self.old).home self.old.row.guest result }
+        ensures told { MeetsRow (view pass.old) self.new (view pass.new) }
+        ensures pass { IsOf clock.now pass.new }
+        ensures phase { (holder pass.new).phase ≡ (holder pass.old).phase }
+        ensures seen { (holder pass.old).seen ≤ (holder pass.new).seen }
+    {
+        let out = self.unlink(clock);
+        self.meet(clock, pass);
+        out
+    }
+
+    // Unlinks the row's entry, with the next version. It is out, unlinked and without a stamp. An empty row stays as it is.
+    fn unlink(&mut self, clock: &Clock<Names>) -> Option<EntryParts>
         requires clock { clock_id clock.now ≡ (row_identity self.old).clock }
         requires names { IsNamesClock clock.now }
         ensures identity { row_identity self.new ≡ row_identity self.old }

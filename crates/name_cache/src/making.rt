@@ -1,12 +1,12 @@
-ghost use Rattle.std.specs.Prelude.{◌≡◌, ◌<◌, ◌++◌, ◌∷◌, [], length, IfOk, IfErr, OnOk};
+ghost use Rattle.std.specs.Prelude.{◌≡◌, ◌<◌, ◌++◌, ◌∷◌, [], length, map, IfOk, IfErr, OnOk};
 ghost use Rattle.keyed_lock.specs.KeyedLock.{lock_key};
 ghost use Rattle.smr_clock.specs.Belongs.{clock_id};
 ghost use Rattle.uma_zone.specs.Making.{AcceptsSet};
 ghost use Rattle.uma_zone.specs.Seat.{IsFresh};
 ghost use Rattle.uma_zone.specs.Zone.{zone_home, zone_size, zone_bucket, zone_limit, zone_cap, zone_reserve};
-ghost use Rattle.name_cache.specs.Cache.{cache_zone, cache_clock, cache_domains, IsCacheSeat};
-ghost use Rattle.name_cache.specs.Locks.{AreNamed};
-ghost use Rattle.name_cache.specs.Making.{IsOpened, FitsOpened, RefusesCache, AreFreshRows, IsFreshRow};
+ghost use Rattle.name_cache.specs.Cache.{cache_zone, cache_clock, cache_domains, first_versions, IsCacheSeat};
+ghost use Rattle.name_cache.specs.Locks.{AreNamed, lock_version};
+ghost use Rattle.name_cache.specs.Making.{IsOpened, FitsOpened, RefusesCache, AreFreshRows, IsFreshRow, versions_of};
 ghost use Rattle.name_cache.specs.RowKey.{key_identity, identity};
 
 use crate::cache::{EntryZone, NameCache};
@@ -27,9 +27,9 @@ use uma_zone::{Zone, ZoneRefused, ZoneSet};
 const ENTRY_SIZE: u32 = 64;
 
 impl NameCache {
-    /// A cache with an SMR zone of entries of 64 bytes, over a clock of names and its rows, which are empty. The zone's frees
-    /// are deferred, and the clock has a number for each of the 64 entries of each slab. The clock, and its passes, come back
-    /// beside the cache, which has a handle of it.
+    /// A cache with an SMR zone of entries of 64 bytes, over a clock of names and its rows, which are empty, and of which none
+    /// falls below its version. The zone's frees are deferred, and the clock has a number for each of the 64 entries of each
+    /// slab. The clock, and its passes, come back beside the cache, which has a handle of it.
     ///
     /// # Errors
     ///
@@ -45,6 +45,7 @@ impl NameCache {
         ensures clock { IfOk result (λ (cache, clock, passes). clock ≡ opened.clock) }
         ensures passes { IfOk result (λ (cache, clock, passes). passes.items ≡ opened.passes) }
         ensures of_clock { IfOk result (λ (cache, clock, passes). cache_clock cache ≡ clock_id opened.clock) }
+        ensures versions { IfOk result (λ (cache, clock, passes). first_versions cache ≡ versions_of opened.rows) }
         ensures domains { IfOk result (λ (cache, clock, passes). cache_domains cache ≡ set.domains) }
         ensures size { IfOk result (λ (cache, clock, passes). zone_size (cache_zone cache) ≡ 64) }
         ensures bucket { IfOk result (λ (cache, clock, passes). zone_bucket (cache_zone cache) ≡ set.bucket) }
@@ -92,6 +93,7 @@ fn lock_rows(
     requires rows { AreFreshRows clock.now rows.items }
     ensures long { IfOk result (λ locks. length locks.items ≡ length rows.items) }
     ensures named { IfOk result (λ locks. AreNamed (clock_id clock.now) (zone_home zone.now) locks.items) }
+    ensures versions { IfOk result (λ locks. map lock_version locks.items ≡ versions_of rows.items) }
 {
     let mut locks = Vec::new(alloc);
     for row in rows {
@@ -118,12 +120,13 @@ fn lock_row(
     row: Row,
 ) -> Result<RowLock, Memory>
     requires { IsFreshRow clock.now row.number row }
-    ensures { IfOk result (λ lock. key_identity (lock_key lock) ≡ identity (clock_id clock.now) (zone_home zone.now) row.number) }
+    ensures { IfOk result (λ lock. key_identity (lock_key lock) ≡ identity (clock_id clock.now) (zone_home zone.now) row.number row.version) }
 {
     let key = RowKey {
         clock: Snapshot::of(clock),
         zone: Snapshot::of(zone),
         number: row.number(),
+        version: row.version(),
     };
     let row = LockedRow::new(row, &key);
     match RowLock::new(alloc, row, &key) {

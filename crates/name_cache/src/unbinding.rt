@@ -1,13 +1,13 @@
-ghost use Rattle.std.specs.Prelude.{◌≡◌, ◌≤◌, ◌%◌, OnErr, IfOk, IfSome, IfNone};
+ghost use Rattle.std.specs.Prelude.{◌≡◌, ◌≤◌, ◌%◌, ◌<◌, OnErr, IfOk, IfSome, IfNone};
 ghost use Rattle.smr_clock.specs.Belongs.{IsOf, clock_id, view, holder};
 ghost use Rattle.zone_stats.specs.LedgerSteps.{HasRoom};
 ghost use Rattle.uma_seat.specs.Seat.{ledger_of, IsSameSeat};
 ghost use Rattle.name_cache.specs.Bind.{WantsMemory};
-ghost use Rattle.name_cache.specs.Cache.{cache_clock, cache_home, row_count, IsCacheSeat};
+ghost use Rattle.name_cache.specs.Cache.{cache_clock, cache_home, row_count, first_version, IsCacheSeat};
 ghost use Rattle.name_cache.specs.Known.{IsAbove, StillKnows};
-ghost use Rattle.name_cache.specs.LockedRow.{IsItemOf, UnbindsInRow, HasNotKey};
+ghost use Rattle.name_cache.specs.LockedRow.{IsItemOf};
+ghost use Rattle.name_cache.specs.Rebound.{HasTakenOut, HasFoundNone};
 ghost use Rattle.name_cache.specs.Unbind.{Unbinds, FindsUnbound};
-ghost use Rattle.name_cache.specs.declared.locked_row.LockedRow.{LockedRow};
 
 use crate::RaisedEntry;
 use crate::cache::NameCache;
@@ -41,6 +41,7 @@ impl NameCache {
         requires room { HasRoom (ledger_of seat.old) }
         ensures unbound { IfOk result (λ found. IfSome found (λ (value, receipt). Unbinds (row_count self.now) key value (view pass.old) seat.old receipt (view pass.new) seat.new)) }
         ensures above { IfOk result (λ found. IfSome found (λ (value, receipt). IsAbove receipt.row receipt.version (view pass.old))) }
+        ensures since { IfOk result (λ found. IfSome found (λ (value, receipt). first_version self.now (key % row_count self.now) < receipt.version)) }
         ensures none { IfOk result (λ found. IfNone found (FindsUnbound (row_count self.now) key (view pass.old) seat.old (view pass.new) seat.new)) }
         ensures memory { OnErr result (WantsMemory seat.old seat.new) }
         ensures still { StillKnows (view pass.old) (view pass.new) }
@@ -70,9 +71,10 @@ impl NameCache {
     ) -> Option<(u64, Receipt, EntryParts)>
         requires clock { clock_id clock.now ≡ cache_clock self.now }
         requires pass { IsOf clock.now pass.old }
-        ensures unbound { IfSome result (λ (value, receipt, entry). (row : LockedRow) × (row.row.number ≡ key % row_count self.now) × UnbindsInRow key value (view pass.old) row receipt entry (view pass.new)) }
+        ensures unbound { IfSome result (λ (value, receipt, entry). HasTakenOut (row_count self.now) key value (view pass.old) receipt entry (view pass.new)) }
+        ensures since { IfSome result (λ (value, receipt, entry). first_version self.now (key % row_count self.now) < receipt.version) }
         ensures item { IfSome result (λ (value, receipt, entry). IsItemOf (cache_clock self.now) (cache_home self.now) entry) }
-        ensures none { IfNone result (HasNotKey key (view pass.old) (key % row_count self.now) (view pass.new)) }
+        ensures none { IfNone result (HasFoundNone (row_count self.now) key (view pass.old) (view pass.new)) }
         ensures still { StillKnows (view pass.old) (view pass.new) }
         ensures pass { IsOf clock.now pass.new }
         ensures phase { (holder pass.new).phase ≡ (holder pass.old).phase }

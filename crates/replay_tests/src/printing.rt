@@ -2,12 +2,14 @@ use listed::Listed;
 use std::alloc::{AllocError, Global};
 use std::test::Fail;
 use trace_print::print;
-use trace_text::{Between, ClockHead, Head, NamesHead, Op, Round, Trace, ZoneHead, ZoneKind};
+use trace_text::{
+    Between, ClockHead, Head, NamesHead, Op, Round, Trace, Version, ZoneHead, ZoneKind,
+};
 use zone_stats::ZoneName;
 
 /// What is printed of `whole`.
 const WHOLE: &str = "\
-uma 1
+uma 2
 workers 2
 domains 4
 clock 5 8
@@ -27,6 +29,8 @@ alloc 1 box 1 reserve
 free 1 1
 round
 give 0 7 1 1
+setmax late 1000000
+setmax box 0
 give 0 8 1 3
 trim 0 box
 drain 1 late
@@ -55,6 +59,11 @@ fn give(slot: u32, slot2: u32) -> Between {
         taker: 1,
         slot2,
     }
+}
+
+/// The zone at this place gets another limit.
+fn limit(zone: u32, limit: u64) -> Between {
+    Between::SetMax { zone, limit }
 }
 
 fn name(bytes: &[u8]) -> Result<ZoneName, Fail> {
@@ -86,14 +95,14 @@ fn zones(alloc: Global) -> Result<Vec<ZoneHead>, Fail> {
 }
 
 /// A round of these operations, one slice a worker.
-fn round(alloc: Global, workers: &[&[Op]], gives: &[Between]) -> Result<Round, AllocError> {
+fn round(alloc: Global, workers: &[&[Op]], betweens: &[Between]) -> Result<Round, AllocError> {
     let mut lists = Vec::new(alloc);
     for ops in workers {
         lists.push(Listed::from_vec(ops.to_vec(alloc)?))?;
     }
     Ok(Round {
         ops: Listed::from_vec(lists),
-        between: Listed::from_vec(gives.to_vec(alloc)?),
+        between: Listed::from_vec(betweens.to_vec(alloc)?),
     })
 }
 
@@ -113,7 +122,8 @@ fn rounds(alloc: Global) -> Result<Vec<Round>, AllocError> {
         request(0, 1, 0, true),
         Op::Free { slot: 1 },
     ];
-    let first = round(alloc, &[&ops, &others], &[give(7, 1), give(8, 3)])?;
+    let betweens = [give(7, 1), limit(1, 1_000_000), limit(0, 0), give(8, 3)];
+    let first = round(alloc, &[&ops, &others], &betweens)?;
     let ops = [Op::Trim { zone: 0 }];
     let others = [
         Op::Drain { zone: 1 },
@@ -124,7 +134,7 @@ fn rounds(alloc: Global) -> Result<Vec<Round>, AllocError> {
     Ok(vec![in alloc; first, second]?)
 }
 
-/// A trace of all header lines and all operations.
+/// A trace of version 2, of all header lines and all operations.
 fn whole(alloc: Global) -> Result<Trace, Fail> {
     let names = NamesHead {
         name: name(b"cache")?,
@@ -144,12 +154,13 @@ fn whole(alloc: Global) -> Result<Trace, Fail> {
         names: Some(names),
     };
     Ok(Trace {
+        version: Version::Two,
         head,
         rounds: Listed::from_vec(rounds(alloc)?),
     })
 }
 
-/// A trace of no zone and no more header lines than there must be, of three rounds of which two are empty.
+/// A trace of version 1, of no zone and no more header lines than there must be, of three rounds of which two are empty.
 fn bare(alloc: Global) -> Result<Trace, Fail> {
     let head = Head {
         workers: 1,
@@ -163,6 +174,7 @@ fn bare(alloc: Global) -> Result<Trace, Fail> {
     let second = round(alloc, &[&[]], &[])?;
     let third = round(alloc, &[&[Op::Free { slot: 65535 }]], &[])?;
     Ok(Trace {
+        version: Version::One,
         head,
         rounds: Listed::from_vec(vec![in alloc; first, second, third]?),
     })

@@ -1,6 +1,6 @@
 use std::process::Abort;
 use std::test::Fail;
-use trace_text::{Between, Op, parse};
+use trace_text::{Between, Op, ParseRefused, TraceKind, TraceRefused, Version, parse};
 
 const ALLOC: Op = Op::Alloc {
     zone: 0,
@@ -17,6 +17,8 @@ const GIVE: Between = Between::Give {
     taker: 1,
     slot2: 7,
 };
+
+const LIMIT: Between = Between::SetMax { zone: 0, limit: 2 };
 
 /// What each of two workers does in a round, and the lines behind it.
 type Row<'a> = (&'a [Op], &'a [Op], &'a [Between]);
@@ -47,4 +49,98 @@ fn round_lines_cut_the_lines_into_rounds(rt: HostRuntime) -> Result<(), Fail> {
     )?;
     expect_rounds(&rt, "", &[(&[], &[], &[])])?;
     expect_rounds(&rt, "round\n", &[(&[], &[], &[]), (&[], &[], &[])])
+}
+
+/// What stands behind the first line of a trace of version 2: four requests, a lower limit behind a round, and more.
+const LOWERED: &str = "\
+workers 1
+domains 1
+zone box 256 4 4 4 0 plain
+alloc 0 box 0
+alloc 0 box 1
+alloc 0 box 2
+alloc 0 box 3
+round
+setmax box 2
+alloc 0 box 4
+free 0 0
+free 0 1
+alloc 0 box 5
+end
+";
+
+#[test]
+fn a_limit_changes_between_two_rounds(rt: HostRuntime) -> Result<(), Fail> {
+    let text = format!(in rt.alloc(); "uma 2\n{LOWERED}")?;
+    let trace = parse(rt.alloc(), text.as_bytes())?;
+    assert_eq!(rt; trace.version, Version::Two);
+    assert_eq!(rt; trace.rounds.len(), 2);
+    assert_eq!(rt;
+        trace.rounds.as_slice()[0].between.as_slice(),
+        [LIMIT].as_slice()
+    );
+    let text = "uma 2\nworkers 2\ndomains 1\nzone bag 8 1 4 0 0 plain\nsecond box bag 4 9 plain\n\
+        alloc 0 box 0\nround\nsetmax box 1000000\ngive 0 0 1 7\nsetmax bag 0\nend\n";
+    let trace = parse(rt.alloc(), text.as_bytes())?;
+    let betweens = [
+        Between::SetMax {
+            zone: 1,
+            limit: 1_000_000,
+        },
+        GIVE,
+        Between::SetMax { zone: 0, limit: 0 },
+    ];
+    assert_eq!(rt;
+        trace.rounds.as_slice()[0].between.as_slice(),
+        betweens.as_slice()
+    );
+    Ok(())
+}
+
+#[test]
+fn a_version_is_that_of_the_first_line(rt: HostRuntime) -> Result<(), Fail> {
+    for (first, version) in [("uma 1", Version::One), (" uma\t2", Version::Two)] {
+        let text = format!(in rt.alloc(); "{first}\nworkers 1\ndomains 1\nend\n")?;
+        let trace = parse(rt.alloc(), text.as_bytes())?;
+        assert_eq!(rt; trace.version, version);
+    }
+    Ok(())
+}
+
+#[test]
+fn version_one_has_no_word_for_a_limit(rt: HostRuntime) -> Result<(), Fail> {
+    let text = format!(in rt.alloc(); "uma 1\n{LOWERED}")?;
+    let refused = TraceRefused {
+        line: 10,
+        kind: TraceKind::Word,
+    };
+    let found = parse(rt.alloc(), text.as_bytes()).err();
+    assert_eq!(rt; found, Some(ParseRefused::Trace { refused }));
+    Ok(())
+}
+
+#[test]
+fn a_limit_that_may_not_stand_is_refused(rt: HostRuntime) -> Result<(), Fail> {
+    let rows = [
+        (1, "round\nsetmax box 2", 6, TraceKind::Word),
+        (1, "setmax box 2", 5, TraceKind::Word),
+        (2, "setmax box 2", 5, TraceKind::Place),
+        (2, "round\nalloc 0 box 0\nsetmax box 2", 7, TraceKind::Place),
+        (2, "round\nsetmax box", 6, TraceKind::Fields),
+        (2, "round\nsetmax b*x 02", 6, TraceKind::Name),
+        (2, "round\nsetmax bax 02", 6, TraceKind::Number),
+        (2, "round\nsetmax bax 1000001", 6, TraceKind::Range),
+        (2, "round\nsetmax bax 2", 6, TraceKind::NoZone),
+        (2, "round\nsetmax box 2\nsetmax dir 2", 7, TraceKind::NoZone),
+        (3, "round\nsetmax box 2", 1, TraceKind::Head),
+    ];
+    for (version, lines, line, kind) in rows {
+        let text = format!(in rt.alloc();
+            "uma {version}\nworkers 1\ndomains 1\nzone box 256 4 4 0 0 plain\n{lines}\nend\n"
+        )?;
+        let refused = TraceRefused { line, kind };
+        let found = parse(rt.alloc(), text.as_bytes()).err();
+        assert_eq!(rt; found, Some(ParseRefused::Trace { refused }));
+    }
+    Ok(())
 }

@@ -7,6 +7,7 @@ use Rattle.zone_stats.specs.declared.ledger.SeatLedger.{SeatLedger}
 use Rattle.zone_stats.specs.LedgerSteps.{CountsAlloc}
 use Rattle.sessions.specs.declared.connections.Connections.{Connections}
 use Rattle.sessions.specs.declared.held.Held.{Held}
+use Rattle.sessions.specs.Held.{IsOpen}
 use Rattle.sessions.specs.Pool.{KeepsPool, Opens, held_in, ledger_in}
 
 -- a list that was given room, and then an element
@@ -15,6 +16,10 @@ pushed before room all held same is = is ∙ ap (λ (l : List Held). l ++ held �
 
 pub all_pushed : (P : Held → Type 0) (before all : List Held) (held : Held) → all ≡ before ++ held ∷ [] → All P before → P held → All P all
 all_pushed P before all held is each one = subst (λ (l : List Held). All P l) (sym is) (All-push P before held each one)
+
+-- a list that was given room has the same connections
+pub still_open : (before room : List Held) → room ≡ before → All IsOpen before → All IsOpen room
+still_open before room same each = subst (λ (l : List Held). All IsOpen l) (sym same) each
 
 pub one_more_out : (a b : SeatLedger) (before all : List Held) (held : Held) → CountsAlloc a b → all ≡ before ++ held ∷ [] → a.allocs ≡ a.frees + length before → b.allocs ≡ b.frees + length all
 one_more_out a b before all held c is out =

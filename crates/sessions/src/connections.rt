@@ -70,6 +70,7 @@ impl<'a> Connections<'a> {
 
     /// Opens a connection to a peer for a session, and answers its number in the pool. What can fail besides is done first, so a
     /// connection that was opened is held.
+    #[tactic(auto, using(crate::proofs::Opened::still_open))]
     pub fn open<R: Wait>(
         &mut self,
         rt: &R,

@@ -3,7 +3,7 @@ use Rattle.std.proofs.Common.{◌≡◌, ℕ, zero, suc, true, false, List, [], 
 use Rattle.trace_text.specs.declared.trace_reading.entry.Entry.{Entry}
 use Rattle.trace_text.specs.declared.trace_reading.entry.Entry.TheVariants as entries
 use Rattle.std.proofs.lemmas.Bool.{false≢true}
-use Rattle.trace_text.proofs.TraceParts.{GivesStand}
+use Rattle.trace_text.proofs.TraceParts.{BetweensStand}
 use Rattle.trace_gen.specs.declared.drawn.Drawn.{Drawn}
 use Rattle.trace_gen.specs.declared.drawn.Drawn.TheVariants as drawn
 use Rattle.trace_gen.specs.Generator.{State, drawn_lines, entries_of, step}
@@ -15,17 +15,17 @@ lines_more workers left next s t d is e =
     ap (λ (n : ℕ). drawn_lines workers n s) is ∙ ap (λ (r : Drawn × State). entries_of r.0 ++ drawn_lines workers next r.1) (sym e)
 
 -- lines that begin without a `give` line may stand behind a `round` line too
-behind_round : (lines : List Entry) → GivesStand false lines → GivesStand true lines
+behind_round : (lines : List Entry) → BetweensStand false lines → BetweensStand true lines
 behind_round [] stand = tt
 behind_round (entries.Does w op ∷ more) stand = stand
 behind_round (entries.Moves between ∷ more) stand = absurd (false≢true stand.0)
 behind_round (entries.Round ∷ more) stand = stand
 
-drawn_stand : (d : Drawn) (rest : List Entry) → GivesStand false rest → GivesStand false (entries_of d ++ rest)
+drawn_stand : (d : Drawn) (rest : List Entry) → BetweensStand false rest → BetweensStand false (entries_of d ++ rest)
 drawn_stand (drawn.Does w op) rest stand = stand
 drawn_stand (drawn.Round (Some between)) rest stand = (refl, behind_round rest stand)
 drawn_stand (drawn.Round None) rest stand = behind_round rest stand
 
-pub lines_stand : (workers left : ℕ) (s : State) → GivesStand false (drawn_lines workers left s)
+pub lines_stand : (workers left : ℕ) (s : State) → BetweensStand false (drawn_lines workers left s)
 lines_stand workers zero s = tt
 lines_stand workers (suc left) s = drawn_stand (step workers s).0 (drawn_lines workers left (step workers s).1) (lines_stand workers left (step workers s).1)

@@ -6,7 +6,7 @@ use Rattle.std.proofs.lemmas.Bool.{leb-true, ltb-true}
 use Rattle.std.proofs.lemmas.List.Quantifiers.{position-Some}
 use Rattle.rand_xoshiro.specs.Xoshiro256.{plus_plus}
 use Rattle.trace_text.specs.declared.between.Between.{Between}
-use Rattle.trace_text.specs.declared.between.Between.TheVariants.{Give}
+use Rattle.trace_text.specs.declared.between.Between.TheVariants.{Give, SetMax}
 use Rattle.trace_text.specs.declared.op.Op.{Op}
 use Rattle.trace_text.specs.declared.op.Op.TheVariants.{Alloc, Free, Enter, Exit, Bind, Unbind, Look, Trim, Drain, DrainSeat, Prealloc}
 use Rattle.trace_gen.specs.Generator.{draw, least_free, least_filled, filled_from, filled_slots, look_drawn, unbind_drawn, bind_drawn, free_drawn, alloc_into, op_drawn, give_between, give_drawn}
@@ -131,6 +131,7 @@ op_may slots binds choice random =
 -- from a worker's full slot to another one's free one
 abbrev pub MayGive : ℕ → List (List Bool) → Option Between → Type 0
 MayGive workers slots None = Unit {0}
+MayGive workers slots (Some (SetMax zone limit)) = ⊥
 MayGive workers slots (Some (Give giver slot taker slot2)) =
     (giver < workers) × (taker < workers) × (giver ≢ taker) × IsFull (get_or slots giver []) slot × IsFree (get_or slots taker []) slot2
 

@@ -6,15 +6,16 @@ use Rattle.std.proofs.lemmas.Bool.{false≢true}
 use Rattle.std.proofs.lemmas.List.Concat.{flat_map-append}
 use Rattle.std.proofs.lemmas.List.Elements.{All-nil, All-cons, All-append}
 use Rattle.trace_text.specs.declared.between.Between.{Between}
-use Rattle.trace_text.specs.declared.between.Between.TheVariants.{Give}
+use Rattle.trace_text.specs.declared.between.Between.TheVariants.{Give, SetMax}
 use Rattle.trace_text.specs.declared.op.Op.{Op}
 use Rattle.trace_text.specs.declared.op.Op.TheVariants.{Alloc, Free, Enter, Exit, Bind, Unbind, Look, Trim, Drain, DrainSeat, Prealloc}
 use Rattle.trace_text.specs.declared.trace_reading.entry.Entry.{Entry}
 use Rattle.trace_text.specs.declared.trace_reading.entry.Entry.TheVariants as entries
 use Rattle.trace_text.specs.Lines.{Line, Does, Moves}
+use Rattle.trace_text.specs.declared.version.Version.TheVariants as versions
 use Rattle.trace_text.specs.Reading.{held}
 use Rattle.trace_text.specs.Valid.{OpFits, LineFits, LinesFit}
-use Rattle.trace_text.proofs.TraceParts.{FitsHead, entry_line}
+use Rattle.trace_text.proofs.TraceParts.{FitsHead, HasEntry, entry_line}
 use Rattle.trace_gen.specs.declared.drawn.Drawn.{Drawn}
 use Rattle.trace_gen.specs.declared.drawn.Drawn.TheVariants as drawn
 use Rattle.trace_gen.specs.Generator.{State, draw, drawn_lines, entries_of, give_drawn, op_drawn, round_step, slots_given, step, work_step}
@@ -28,6 +29,7 @@ use Rattle.trace_gen.proofs.KnownSlots.{Knows, knows_did, knows_gave, row}
 record StepFits (workers : ℕ) (before : List Line) (d : Drawn × State) : Type 0 where
   after : List Line
   head : All (FitsHead (made_head workers)) (entries_of d.0)
+  known : All (HasEntry versions.One) (entries_of d.0)
   fits : (rest : List Line) → LinesFit after rest → LinesFit before (flat_map entry_line (entries_of d.0) ++ rest)
   knows : Knows workers d.1.slots after
 
@@ -69,6 +71,7 @@ work_fits workers w choice s before lt knows =
     record {
       after = Does w op ∷ before;
       head = All-cons (FitsHead (made_head workers)) (entries.Does w op) [] (lt, op_head workers slots op (knows.few w) may) (All-nil (FitsHead (made_head workers)));
+      known = All-cons (HasEntry versions.One) (entries.Does w op) [] tt (All-nil (HasEntry versions.One));
       fits = λ rest fit. (op_line before w slots op (knows.same w) may, fit);
       knows = knows_did op workers s.slots before w knows lt may;
     }
@@ -78,6 +81,7 @@ give_fits : (workers : ℕ) (s : State) (before : List Line) (give : Option Betw
 give_fits workers s before None knows may = record {
   after = before;
   head = All-cons (FitsHead (made_head workers)) entries.Round [] tt (All-nil (FitsHead (made_head workers)));
+  known = All-cons (HasEntry versions.One) entries.Round [] tt (All-nil (HasEntry versions.One));
   fits = λ rest fit. fit;
   knows = knows;
 }
@@ -90,9 +94,13 @@ give_fits workers s before (Some (Give giver from taker to)) knows may =
       head =
           All-cons (FitsHead (made_head workers)) entries.Round (entries.Moves between ∷ []) tt
           (All-cons (FitsHead (made_head workers)) (entries.Moves between) [] (may.0, low, may.1, low2) (All-nil (FitsHead (made_head workers))));
+      known =
+          All-cons (HasEntry versions.One) entries.Round (entries.Moves between ∷ []) tt
+          (All-cons (HasEntry versions.One) (entries.Moves between) [] tt (All-nil (HasEntry versions.One)));
       fits = λ rest fit. ((sym (knows.same giver from) ∙ may.3.full, none_held (held before taker to) (sym (knows.same taker to) ∙ may.4.empty)), fit);
       knows = knows_gave workers s.slots before giver from taker to knows may;
     }
+give_fits workers s before (Some (SetMax zone limit)) knows may = absurd may
 
 step_fits : (workers : ℕ) (s : State) (before : List Line) → 0 < workers → Knows workers s.slots before → StepFits workers before (step workers s)
 step_fits workers s before some knows =
@@ -111,6 +119,13 @@ lines_head workers (suc left) s before some knows =
     let first = step_fits workers s before some knows in
     All-append (FitsHead (made_head workers)) (entries_of (step workers s).0) (drawn_lines workers left (step workers s).1) first.head
     (lines_head workers left (step workers s).1 first.after some first.knows)
+
+pub lines_known : (workers left : ℕ) (s : State) (before : List Line) → 0 < workers → Knows workers s.slots before → All (HasEntry versions.One) (drawn_lines workers left s)
+lines_known workers zero s before some knows = All-nil (HasEntry versions.One)
+lines_known workers (suc left) s before some knows =
+    let first = step_fits workers s before some knows in
+    All-append (HasEntry versions.One) (entries_of (step workers s).0) (drawn_lines workers left (step workers s).1) first.known
+    (lines_known workers left (step workers s).1 first.after some first.knows)
 
 pub lines_fit : (workers left : ℕ) (s : State) (before : List Line) → 0 < workers → Knows workers s.slots before → LinesFit before (flat_map entry_line (drawn_lines workers left s))
 lines_fit workers zero s before some knows = tt

@@ -5,7 +5,7 @@ use Rattle.std.proofs.lemmas.List.{length-replicate}
 use Rattle.trace_text.specs.declared.round.Round.{Round}
 use Rattle.trace_text.specs.declared.trace_reading.entry.Entry.{Entry}
 use Rattle.trace_text.specs.Grammar.{is_round, rounds_in}
-use Rattle.trace_text.proofs.TraceParts.{GivesStand}
+use Rattle.trace_text.proofs.TraceParts.{BetweensStand}
 use Rattle.trace_gen.specs.declared.drawn.Did.{Did}
 use Rattle.trace_gen.specs.declared.drawn.Drawn.{Drawn}
 use Rattle.trace_gen.specs.Generator.{State, begun, drawn_lines, entries_of, step}
@@ -32,7 +32,7 @@ makes_none seed workers ops s ended part is none nothing = record {
 
 pub makes_next : (seed workers ops done : ℕ) (s t : State) (d : Drawn) (ended next_ended : List Round) (part next_part : List Did)
     → Makes seed workers ops done s ended part → done < ops → (d, t) ≡ step workers s → length t.slots ≡ workers → t.binds ≤ 3000
-    → ((rest : List Entry) → GivesStand false rest → rounds_with workers next_ended next_part rest ≡ rounds_with workers ended part (entries_of d ++ rest))
+    → ((rest : List Entry) → BetweensStand false rest → rounds_with workers next_ended next_part rest ≡ rounds_with workers ended part (entries_of d ++ rest))
     → Makes seed workers ops (done + 1) t next_ended next_part
 makes_next seed workers ops done s t d ended next_ended part next_part makes lt stepped whole binds pushed = record {
   whole = whole;

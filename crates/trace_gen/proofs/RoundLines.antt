@@ -8,8 +8,8 @@ use Rattle.trace_text.specs.declared.op.Op.{Op}
 use Rattle.trace_text.specs.declared.round.Round.{Round}
 use Rattle.trace_text.specs.declared.trace_reading.entry.Entry.{Entry}
 use Rattle.trace_text.specs.declared.trace_reading.entry.Entry.TheVariants as entries
-use Rattle.trace_text.specs.Grammar.{is_round, give_in, ops_in, rounds_in}
-use Rattle.trace_text.proofs.TraceParts.{GivesStand}
+use Rattle.trace_text.specs.Grammar.{is_round, between_in, ops_in, rounds_in}
+use Rattle.trace_text.proofs.TraceParts.{BetweensStand}
 use Rattle.trace_gen.specs.declared.drawn.Did.{Did}
 use Rattle.trace_gen.specs.declared.drawn.Drawn.TheVariants as drawn
 use Rattle.trace_gen.specs.Generator.{entries_of, give_entries}
@@ -26,8 +26,8 @@ with_did workers ended part worker op rest =
     ap (λ (lines : List Entry). ended ++ rounds_in workers (slice_split is_round lines)) (did_behind part (record { worker = worker; op = op }) rest)
 
 -- there is a first part, which has no `give` lines where none may stand there
-first_part : (begun : Bool) (lines : List Entry) → GivesStand begun lines
-    → (part : List Entry) × (parts : List (List Entry)) × (slice_split is_round lines ≡ part ∷ parts) × (begun ≡ false → flat_map give_in part ≡ [])
+first_part : (begun : Bool) (lines : List Entry) → BetweensStand begun lines
+    → (part : List Entry) × (parts : List (List Entry)) × (slice_split is_round lines ≡ part ∷ parts) × (begun ≡ false → flat_map between_in part ≡ [])
 first_part begun [] stand = ([], [], refl, λ e. refl)
 first_part begun (entries.Does w op ∷ more) stand =
     let p = first_part false more stand in (entries.Does w op ∷ p.0, p.1, ap (onto_first (entries.Does w op)) p.2, λ e. p.3 refl)
@@ -50,7 +50,7 @@ given_first workers between part (next ∷ parts) = refl
 
 -- the rounds behind one that ends
 ended_rounds : (workers : ℕ) (lines : List Entry) (give : Option Between) (part : List Entry) (parts : List (List Entry)) (rest : List Entry)
-    → slice_split is_round rest ≡ part ∷ parts → flat_map give_in part ≡ []
+    → slice_split is_round rest ≡ part ∷ parts → flat_map between_in part ≡ []
     → rounds_in workers (lines ∷ slice_split is_round (give_entries give ++ rest))
     ≡ record { ops = ops_in workers lines; between = option_to_list give } ∷ rounds_in workers (slice_split is_round rest)
 ended_rounds workers lines None part parts rest is none =
@@ -63,7 +63,7 @@ ended_rounds workers lines (Some between) part parts rest is none =
     ∙ (ap (λ (rounds : List Round). record { ops = ops_in workers lines; between = between ∷ [] } ∷ rounds) (given_first workers between part parts)
     ∙ ap (λ (all : List (List Entry)). record { ops = ops_in workers lines; between = between ∷ [] } ∷ rounds_in workers all) (sym is)))
 
-pub with_round : (workers : ℕ) (ended : List Round) (part : List Did) (give : Option Between) (rest : List Entry) → GivesStand false rest
+pub with_round : (workers : ℕ) (ended : List Round) (part : List Did) (give : Option Between) (rest : List Entry) → BetweensStand false rest
     → rounds_with workers (ended ++ record { ops = ops_in workers (map did_entry part); between = option_to_list give } ∷ []) [] rest
     ≡ rounds_with workers ended part (entries_of (drawn.Round give) ++ rest)
 with_round workers ended part give rest stand =

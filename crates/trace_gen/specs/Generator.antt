@@ -4,7 +4,7 @@ use Rattle.std.specs.Prelude.{ℕ, ◌+◌, ◌%◌, zero, suc, List, [], ◌∷
 use Rattle.rand_xoshiro.specs.SplitMix64.{splitmix_seed}
 use Rattle.rand_xoshiro.specs.Xoshiro256.{of_seed, plus_plus}
 use Rattle.trace_text.specs.declared.between.Between.{Between}
-use Rattle.trace_text.specs.declared.between.Between.TheVariants.{Give}
+use Rattle.trace_text.specs.declared.between.Between.TheVariants.{Give, SetMax}
 use Rattle.trace_text.specs.declared.op.Op.{Op}
 use Rattle.trace_text.specs.declared.op.Op.TheVariants.{Alloc, Free, Bind, Unbind, Look}
 use Rattle.trace_text.specs.declared.trace_reading.entry.Entry.{Entry}
@@ -109,6 +109,7 @@ abbrev pub slots_given : Option Between → List (List Bool) → List (List Bool
 slots_given (Some (Give giver slot taker slot2)) slots =
     let left = slice_set slots giver (slice_set (slice_index_or slots giver []) slot false) in
     slice_set left taker (slice_set (slice_index_or left taker []) slot2 true)
+slots_given (Some (SetMax zone limit)) slots = slots
 slots_given None slots = slots
 
 -- ---- the steps

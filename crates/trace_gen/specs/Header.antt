@@ -6,6 +6,7 @@ use Rattle.trace_text.specs.declared.head.ZoneHead.{ZoneHead}
 use Rattle.trace_text.specs.declared.head.ZoneKind.{ZoneKind}
 use Rattle.trace_text.specs.declared.head.ZoneKind.TheVariants.{Plain, Smr}
 use Rattle.trace_text.specs.declared.trace.Trace.{Trace}
+use Rattle.trace_text.specs.declared.version.Version.TheVariants as versions
 use Rattle.trace_text.specs.Grammar.{is_round, rounds_in}
 use Rattle.trace_gen.specs.Generator.{begun, drawn_lines}
 
@@ -27,6 +28,7 @@ made_head workers = record {
 -- the trace of the header and of the lines that so many steps from this seed draw
 abbrev pub made_trace : ℕ → ℕ → ℕ → Trace
 made_trace seed workers ops = record {
+  version = versions.One;
   head = made_head workers;
   rounds = rounds_in workers (slice_split is_round (drawn_lines workers ops (begun seed workers)));
 }

@@ -7,7 +7,7 @@ use Rattle.trace_text.specs.declared.round.Round.{Round}
 use Rattle.trace_text.specs.declared.trace_reading.entry.Entry.{Entry}
 use Rattle.trace_text.specs.declared.trace_reading.entry.Entry.TheVariants as entries
 use Rattle.trace_text.specs.Grammar.{is_round, rounds_in}
-use Rattle.trace_text.proofs.TraceParts.{GivesStand}
+use Rattle.trace_text.proofs.TraceParts.{BetweensStand}
 use Rattle.trace_gen.specs.declared.drawn.Did.{Did}
 
 -- an operation that may be done where so many binds were made
@@ -21,9 +21,9 @@ MayBeDrawn binds op = Unit {0}
 abbrev pub did_entry : Did → Entry
 did_entry did = entries.Does did.worker did.op
 
--- Lines that may stand behind what a step drew: each `give` line of theirs is behind a `round` line of theirs.
+-- Lines that may stand behind what a step drew: each line of theirs between two rounds is behind a `round` line of theirs.
 abbrev pub StandAlone : List Entry → Type 0
-StandAlone lines = GivesStand false lines
+StandAlone lines = BetweensStand false lines
 
 -- the rounds, where `rounds` are ended, `part` is of the next one, and `rest` are the lines behind it
 abbrev pub rounds_with : ℕ → List Round → List Did → List Entry → List Round

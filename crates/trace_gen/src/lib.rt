@@ -12,7 +12,7 @@ ghost use Rattle.trace_gen.specs.Header.{made_trace};
 use generator::Generator;
 use rounds::RoundsMade;
 use std::alloc::Global;
-use trace_text::Trace;
+use trace_text::{Trace, Version};
 use zone_stats::Memory;
 
 mod drawn;
@@ -21,8 +21,8 @@ mod head;
 mod rounds;
 mod slots;
 
-/// The trace that a seed gives: `ops` steps of `workers` workers, 1 to 16, over the zones `alpha`, `beta` and `gamma` and
-/// the names `dir`. `ops` is 1 to 50,000. `Memory` is the one error.
+/// The trace, of version 1, that a seed gives: `ops` steps of `workers` workers, 1 to 16, over the zones `alpha`, `beta`
+/// and `gamma` and the names `dir`. `ops` is 1 to 50,000. `Memory` is the one error.
 pub fn make_trace(alloc: Global, seed: u64, workers: u32, ops: u32) -> Result<Trace, Memory>
     requires workers { IsWithin 1 16 workers }
     requires ops { IsWithin 1 50000 ops }
@@ -37,5 +37,9 @@ pub fn make_trace(alloc: Global, seed: u64, workers: u32, ops: u32) -> Result<Tr
         rounds.push(alloc, workers, drawn)?;
     }
     let rounds = rounds.finish(alloc, workers)?;
-    Ok(Trace { head, rounds })
+    Ok(Trace {
+        version: Version::One,
+        head,
+        rounds,
+    })
 }

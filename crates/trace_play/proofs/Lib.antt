@@ -1,14 +1,15 @@
 pub mod Adding
 pub mod AfterRound
 pub mod Beginners
+pub mod BetweenLines
 pub mod Bounds
 pub mod Closing
 pub mod Collected
 pub mod Crossed
+pub mod Done
 pub mod Filled
 pub mod Gathering
 pub mod GaveUp
-pub mod GiveLines
 pub mod HeadFacts
 pub mod Heard
 pub mod Indexes

@@ -7,7 +7,7 @@ use Rattle.std.specs.Prelude.{All, Result, Ok, Err, OnOk}
 use Rattle.smr_clock.specs.declared.clock.Clock.{Clock}
 use Rattle.smr_clock.specs.declared.host.Host.{Ghosts}
 use Rattle.trace_text.specs.declared.between.Between.{Between}
-use Rattle.trace_text.specs.declared.between.Between.TheVariants.{Give}
+use Rattle.trace_text.specs.declared.between.Between.TheVariants.{Give, SetMax}
 use Rattle.trace_text.specs.declared.head.Head.{Head}
 use Rattle.trace_text.specs.declared.round.Round.{Round}
 use Rattle.trace_text.specs.declared.trace.Trace.{Trace}
@@ -23,13 +23,13 @@ use Rattle.trace_worker.specs.OwnLines.{stacked, lines_before}
 use Rattle.trace_worker.specs.Together.{AllNamed}
 use Rattle.trace_worker.proofs.LineCounts.{binds-more, looks-more, unbinds-more}
 use Rattle.trace_play.specs.DoneBy.{done_by}
-use Rattle.trace_play.specs.Parts.{after_workers, gives_of, IsAmong}
+use Rattle.trace_play.specs.Parts.{after_workers, betweens_of, IsAmong}
 use Rattle.trace_play.specs.Rounds.{AllAsked, AllMoved, AllWorked, AreAfter, GaveUpAsBefore, HasEnded, IsBegun, Suits}
 use Rattle.trace_play.proofs.AfterRound.{SameNumbers, turns, stand_after, named_after, named_as, asked_after}
 use Rattle.trace_play.proofs.Bounds.{below_as, some_of, none_done, none_asked, none_given_up, done_as, asked_as}
 use Rattle.trace_play.proofs.Items.{adds_after}
 use Rattle.trace_play.proofs.RoundLists.{before, map-same}
-use Rattle.trace_play.proofs.RoundLines.{gives_fit, lines_before-all, lines_before-more, none_before}
+use Rattle.trace_play.proofs.RoundLines.{betweens_fit, lines_before-all, lines_before-more, none_before}
 use Rattle.trace_play.proofs.SameFor.{done_by-more, done_by-none, none_counted}
 
 module _ {N H C S Part : Type 0} {h : Ghosts H Part} (names : NameGhosts N H C S Part) (cache : C) where
@@ -48,25 +48,27 @@ module _ {N H C S Part : Type 0} {h : Ghosts H Part} (names : NameGhosts N H C S
     worker_count = size ∙ suits.worker_count;
   }
 
--- ---- givers and takers are workers
+-- ---- givers and takers are workers, and limits are set of zones
 
-among : (count : ℕ) (h : Head) (b : Between) → count ≡ h.workers → BetweenFits h b → IsAmong count b
-among count h (Give giver slot taker slot2) same fits = (below_as fits.0 (sym same), below_as fits.2 (sym same), fits.3)
+among : (workers zones : ℕ) (h : Head) (b : Between) → workers ≡ h.workers → zones ≡ length h.zones → BetweenFits h b → IsAmong workers zones b
+among workers zones h (Give giver slot taker slot2) same all fits = (below_as fits.0 (sym same), below_as fits.2 (sym same), fits.3)
+among workers zones h (SetMax zone limit) same all fits = (below_as fits.0 (sym all), fits.1)
 
-all_of_round : (count : ℕ) (h : Head) (r : Round) → count ≡ h.workers → RoundFits h r → All (IsAmong count) r.between
-all_of_round count h r same fits i d below = among count h (get_or r.between i d) same (fits.between i d below)
+all_of_round : (workers zones : ℕ) (h : Head) (r : Round) → workers ≡ h.workers → zones ≡ length h.zones → RoundFits h r → All (IsAmong workers zones) r.between
+all_of_round workers zones h r same all fits i d below = among workers zones h (get_or r.between i d) same all (fits.between i d below)
 
 module _ {N H C S Part : Type 0} {h : Ghosts H Part} (names : NameGhosts N H C S Part) (cache : C) where
-  pub all_among : (t : Trace) (zones : List (CountedZone H Part h)) (clock : Clock H Part) (k : ℕ) (workers : List (Running N H C S Part h)) → Suits names cache t zones clock workers → All (IsAmong (length workers)) (gives_of t.rounds k)
+  pub all_among : (t : Trace) (zones : List (CountedZone H Part h)) (clock : Clock H Part) (k : ℕ) (workers : List (Running N H C S Part h)) → Suits names cache t zones clock workers
+      → All (IsAmong (length workers) (length zones)) (betweens_of t.rounds k)
   all_among t zones clock k workers suits =
-      let P : List Between → Type 0 = λ list. All (IsAmong (length workers)) list in
+      let P : List Between → Type 0 = λ list. All (IsAmong (length workers) (length zones)) list in
       let between : Option Round → List Between = λ o. option_map_or (λ (r : Round). r.between) o [] in
       elim (slice_get_cases t.rounds k).1 [
-        | inl w ↦ subst P (ap between (sym w.2)) (all_of_round (length workers) t.head w.0 suits.worker_count (subst (RoundFits t.head) w.3 (suits.valid.rounds k w.0 w.1)))
-        | inr w ↦ subst P (ap between (sym w.1)) (All-nil (IsAmong (length workers)))
+        | inl w ↦ subst P (ap between (sym w.2)) (all_of_round (length workers) (length zones) t.head w.0 suits.worker_count suits.zone_count (subst (RoundFits t.head) w.3 (suits.valid.rounds k w.0 w.1)))
+        | inr w ↦ subst P (ap between (sym w.1)) (All-nil (IsAmong (length workers) (length zones)))
       ]
 
--- ---- the `give` lines leave the counts as they are
+-- ---- the lines between two rounds leave the counts as they are
 
 done_by-moves : (n : ℕ) (betweens : List Between) (lines : List Line) → done_by n (stacked (map Moves betweens) lines) ≡ done_by n lines
 unfolding stacked
@@ -118,17 +120,17 @@ module _ {N H C S Part : Type 0} {h : Ghosts H Part} (names : NameGhosts N H C S
   -- ---- a whole round
 
   pub after_round : (t : Trace) (zones : List (CountedZone H Part h)) (clock : Clock H Part) (k : ℕ) (old mid new : List (Running N H C S Part h)) → Suits names cache t zones clock old → AreAfter names cache zones clock (lines_before t.rounds k) old
-      → length mid ≡ length old → All HasEnded mid → AllWorked names cache t zones clock k old mid → KeepsRest mid new → AllMoved (gives_of t.rounds k) mid new
+      → length mid ≡ length old → All HasEnded mid → AllWorked names cache t zones clock k old mid → KeepsRest mid new → AllMoved (betweens_of t.rounds k) mid new
       → AreAfter names cache zones clock (lines_before t.rounds (k + 1)) new
   after_round t zones clock k old mid new suits after size ended worked keeps moved =
       let done = turns names cache t zones clock k old mid size ended worked in
-      let now = moved zones clock (after_workers t.rounds k) (gives_fit t.rounds k suits.valid.lines) (stand_after names cache t zones clock k old mid done) in
+      let now = moved zones clock (after_workers t.rounds k) (betweens_fit t.rounds k suits.valid.lines) (stand_after names cache t zones clock k old mid done) in
       let P : List Line → Type 0 = λ lines. AreAfter names cache zones clock lines new in
       subst P (sym (lines_before-more t.rounds k)) record {
         stand = now.stand;
         adds_up = λ z. now.adds_up z (adds_after names cache t zones clock k old mid done z after.stand (after.adds_up z));
-        named = named_moved names cache (gives_of t.rounds k) (after_workers t.rounds k) mid new keeps (named_after names cache t zones clock k old mid done);
-        asked = asked_moved (gives_of t.rounds k) (after_workers t.rounds k) mid new keeps (asked_after names cache t zones clock k old mid done after.asked);
+        named = named_moved names cache (betweens_of t.rounds k) (after_workers t.rounds k) mid new keeps (named_after names cache t zones clock k old mid done);
+        asked = asked_moved (betweens_of t.rounds k) (after_workers t.rounds k) mid new keeps (asked_after names cache t zones clock k old mid done after.asked);
       }
 
   -- ---- the first round and the last

@@ -10,7 +10,7 @@ use Rattle.trace_text.specs.Lines.{Line, Does, Moves, worker_lines, lines_of}
 use Rattle.trace_text.specs.Valid.{LinesFit}
 use Rattle.trace_worker.specs.OwnLines.{stacked, worked, lines_before, own_ops}
 use Rattle.trace_worker.proofs.Alike.{LinesFit-front, LinesFit-back, stacked-append}
-use Rattle.trace_play.specs.Parts.{lists_of, gives_of, after_workers}
+use Rattle.trace_play.specs.Parts.{lists_of, betweens_of, after_workers}
 use Rattle.trace_play.proofs.SameFor.{SameFor, SameFor-self, SameFor-list, SameFor-worked}
 
 -- ---- a round is to a worker what its own list is
@@ -67,7 +67,7 @@ unfolding stacked
 none_before rounds = refl
 
 more_before : (k : ℕ) (rounds : List Round) (a : List Line)
-    → stacked (lines_of (take (suc k) rounds)) a ≡ stacked (map Moves (gives_of rounds k)) (stacked (worker_lines 0 (lists_of rounds k)) (stacked (lines_of (take k rounds)) a))
+    → stacked (lines_of (take (suc k) rounds)) a ≡ stacked (map Moves (betweens_of rounds k)) (stacked (worker_lines 0 (lists_of rounds k)) (stacked (lines_of (take k rounds)) a))
 unfolding stacked
 more_before zero [] a = refl
 more_before (suc k) [] a = refl
@@ -75,11 +75,11 @@ more_before zero (first ∷ rounds) a =
     ap (λ lines. stacked lines a) (append-nil (worker_lines 0 first.ops ++ map Moves first.between)) ∙ stacked-append (worker_lines 0 first.ops) (map Moves first.between) a
 more_before (suc k) (first ∷ rounds) a =
     let front = worker_lines 0 first.ops ++ map Moves first.between in
-    let with_round : List Line → List Line = λ before. stacked (map Moves (gives_of rounds k)) (stacked (worker_lines 0 (lists_of rounds k)) before) in
+    let with_round : List Line → List Line = λ before. stacked (map Moves (betweens_of rounds k)) (stacked (worker_lines 0 (lists_of rounds k)) before) in
     stacked-append front (lines_of (take (suc k) rounds)) a
     ∙ (more_before k rounds (stacked front a) ∙ ap with_round (sym (stacked-append front (lines_of (take k rounds)) a)))
 
-pub lines_before-more : (rounds : List Round) (k : ℕ) → lines_before rounds (k + 1) ≡ stacked (map Moves (gives_of rounds k)) (after_workers rounds k)
+pub lines_before-more : (rounds : List Round) (k : ℕ) → lines_before rounds (k + 1) ≡ stacked (map Moves (betweens_of rounds k)) (after_workers rounds k)
 lines_before-more rounds k =
     let e : k + 1 ≡ suc k = omega arith in
     ap (λ n. stacked (lines_of (take n rounds)) []) e ∙ more_before k rounds []
@@ -94,18 +94,18 @@ lines_before-all rounds k past = ap (λ rs. stacked (lines_of rs) []) (take_all 
 
 -- the `give` lines of a round fit after its workers' lines
 fit_after : (k : ℕ) (rounds : List Round) (a : List Line) → LinesFit a (lines_of rounds)
-    → LinesFit (stacked (worker_lines 0 (lists_of rounds k)) (stacked (lines_of (take k rounds)) a)) (map Moves (gives_of rounds k))
+    → LinesFit (stacked (worker_lines 0 (lists_of rounds k)) (stacked (lines_of (take k rounds)) a)) (map Moves (betweens_of rounds k))
 unfolding stacked
 fit_after k [] a fit = tt
 fit_after zero (first ∷ rounds) a fit =
     LinesFit-back (worker_lines 0 first.ops) (map Moves first.between) a (LinesFit-front (worker_lines 0 first.ops ++ map Moves first.between) (lines_of rounds) a fit)
 fit_after (suc k) (first ∷ rounds) a fit =
     let front = worker_lines 0 first.ops ++ map Moves first.between in
-    let P : List Line → Type 0 = λ lines. LinesFit (stacked (worker_lines 0 (lists_of rounds k)) lines) (map Moves (gives_of rounds k)) in
+    let P : List Line → Type 0 = λ lines. LinesFit (stacked (worker_lines 0 (lists_of rounds k)) lines) (map Moves (betweens_of rounds k)) in
     subst P (sym (stacked-append front (lines_of (take k rounds)) a)) (fit_after k rounds (stacked front a) (LinesFit-back front (lines_of rounds) a fit))
 
-pub gives_fit : (rounds : List Round) (k : ℕ) → LinesFit [] (lines_of rounds) → LinesFit (after_workers rounds k) (map Moves (gives_of rounds k))
-gives_fit rounds k fit = fit_after k rounds [] fit
+pub betweens_fit : (rounds : List Round) (k : ℕ) → LinesFit [] (lines_of rounds) → LinesFit (after_workers rounds k) (map Moves (betweens_of rounds k))
+betweens_fit rounds k fit = fit_after k rounds [] fit
 
 -- ---- how many there are
 

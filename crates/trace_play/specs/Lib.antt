@@ -1,4 +1,5 @@
 pub mod Beginners
+pub mod Betweens
 pub mod Clock
 pub mod Closes
 pub mod DoneBy

@@ -2,7 +2,7 @@
 use Rattle.std.specs.Prelude.{ℕ, ◌<◌, ◌≤◌, List, [], slice_get}
 use Rattle.std.specs.Option.{option_map_or}
 use Rattle.trace_text.specs.declared.between.Between.{Between}
-use Rattle.trace_text.specs.declared.between.Between.TheVariants.{Give}
+use Rattle.trace_text.specs.declared.between.Between.TheVariants.{Give, SetMax}
 use Rattle.trace_text.specs.declared.op.Op.{Op}
 use Rattle.trace_text.specs.declared.round.Round.{Round}
 use Rattle.trace_text.specs.Limits.{last_slot}
@@ -14,13 +14,14 @@ abbrev pub lists_of : List Round → ℕ → List (List Op)
 lists_of rounds k = option_map_or (λ (r : Round). r.ops) (slice_get rounds k) []
 
 -- the lines between round `k` and the next
-abbrev pub gives_of : List Round → ℕ → List Between
-gives_of rounds k = option_map_or (λ (r : Round). r.between) (slice_get rounds k) []
+abbrev pub betweens_of : List Round → ℕ → List Between
+betweens_of rounds k = option_map_or (λ (r : Round). r.between) (slice_get rounds k) []
 
 -- the lines up to the last one of round `k`'s workers
 abbrev pub after_workers : List Round → ℕ → List Line
 after_workers rounds k = stacked (worker_lines 0 (lists_of rounds k)) (lines_before rounds k)
 
--- giver and taker are among so many workers, and the taker has such a slot
-abbrev pub IsAmong : ℕ → Between → Type 0
-IsAmong count (Give giver slot taker slot2) = (giver < count) × (taker < count) × (slot2 ≤ last_slot)
+-- giver and taker are among so many workers, and the taker has such a slot; the zone is among so many, and may have such a limit
+abbrev pub IsAmong : ℕ → ℕ → Between → Type 0
+IsAmong workers zones (Give giver slot taker slot2) = (giver < workers) × (taker < workers) × (slot2 ≤ last_slot)
+IsAmong workers zones (SetMax zone limit) = (zone < zones) × (limit ≤ 1000000)

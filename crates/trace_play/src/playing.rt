@@ -1,12 +1,13 @@
 ghost use Rattle.std.specs.Prelude.{◌≡◌, ◌<◌, ◌+◌, ℕ, OnOk, length, reverse};
-ghost use Rattle.trace_play.specs.Parts.{gives_of as gives_at};
+ghost use Rattle.trace_play.specs.Betweens.{DoRoundAt, DoRounds};
+ghost use Rattle.trace_play.specs.Parts.{betweens_of as betweens_at};
 ghost use Rattle.trace_play.specs.Plays.{AllPlay, AllPlayRound};
 ghost use Rattle.trace_play.specs.Rounds.{AllAsked, AreAfter, GaveUpAsBefore, IsBegun, Suits};
 ghost use Rattle.trace_text.specs.Lines.{lines_of};
 ghost use Rattle.trace_worker.specs.OwnLines.{lines_before};
 ghost use Rattle.trace_worker.specs.Together.{AddsUp, AllNamed, AllStand, crew};
 
-use crate::giving::give_all;
+use crate::betweens::do_betweens;
 use crate::round::{all_ended, work_round};
 use smr_clock::Clock;
 use std::alloc::Global;
@@ -15,8 +16,9 @@ use std::thread::Threads;
 use trace_text::{Between, Trace};
 use trace_worker::{CountedZone, Gate, Memory, NameCalls, ReclaimCalls, Running};
 
-/// All rounds of a trace: in each round every worker does its own list on a thread of its own, and behind it the round's
-/// `give` lines are done in order. Waits where a worker's lines do. After `Memory` the replay is over.
+/// All rounds of a trace: in each round every worker does its own list on a thread of its own, and behind it the lines
+/// between this round and the next are done in order: `give` lines, and `setmax` lines, each of which sets the limit of its
+/// zone. Waits where these lines do. After `Memory` the replay is over.
 pub fn play<N: NameCalls + Sync, R: Threads + Wait + Sync, G: Gate + Sync, C: ReclaimCalls + Sync>(
     rt: &R,
     alloc: Global,
@@ -35,6 +37,7 @@ pub fn play<N: NameCalls + Sync, R: Threads + Wait + Sync, G: Gate + Sync, C: Re
     ensures named { OnOk result (AllNamed N.NameCalls cache.now (reverse (lines_of trace.now.rounds)) workers.new) }
     ensures adds_up { OnOk result ((z : ℕ) → AddsUp z (crew workers.new)) }
     ensures plays { OnOk result (AllPlay N.NameCalls cache.now zones.now trace.now.rounds workers.old workers.new) }
+    ensures rounds { OnOk result (DoRounds N.NameCalls cache.now zones.now trace.now.rounds workers.old workers.new) }
     ensures count { length workers.new ≡ length workers.old }
     ensures asked { OnOk result (AllAsked (reverse (lines_of trace.now.rounds)) workers.new) }
     ensures free { G.is_free gate.now → OnOk result (GaveUpAsBefore workers.old workers.new) }
@@ -47,7 +50,7 @@ pub fn play<N: NameCalls + Sync, R: Threads + Wait + Sync, G: Gate + Sync, C: Re
     Ok(())
 }
 
-/// One round, and the `give` lines behind it.
+/// One round, and the lines behind it.
 fn play_round<
     N: NameCalls + Sync,
     R: Threads + Wait + Sync,
@@ -71,19 +74,20 @@ fn play_round<
     requires after { AreAfter N.NameCalls cache.now zones.now clock.now (lines_before trace.now.rounds round) workers.old }
     ensures after { OnOk result (AreAfter N.NameCalls cache.now zones.now clock.now (lines_before trace.now.rounds (round + 1)) workers.new) }
     ensures plays { OnOk result (AllPlayRound N.NameCalls cache.now zones.now trace.now.rounds round workers.old workers.new) }
+    ensures round { OnOk result (DoRoundAt N.NameCalls cache.now zones.now trace.now.rounds round workers.old workers.new) }
     ensures free { G.is_free gate.now → OnOk result (GaveUpAsBefore workers.old workers.new) }
 {
     work_round(
         rt, alloc, trace, zones, clock, names, cache, gate, reclaim, round, workers,
     );
     all_ended(workers)?;
-    give_all(alloc, gives_of(trace, round), workers)
+    do_betweens(rt, alloc, zones, betweens_of(trace, round), workers)
 }
 
 /// The lines between a round and the next.
-fn gives_of(trace: &Trace, round: usize) -> &[Between]
+fn betweens_of(trace: &Trace, round: usize) -> &[Between]
     requires { round < length trace.now.rounds }
-    ensures { result.now ≡ gives_at trace.now.rounds round }
+    ensures { result.now ≡ betweens_at trace.now.rounds round }
 {
     trace.rounds.as_slice()[round].between.as_slice()
 }

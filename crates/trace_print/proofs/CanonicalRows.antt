@@ -2,8 +2,6 @@
 use Rattle.std.proofs.Common.{ℕ, ◌+◌, List, [], ◌∷◌, ◌++◌, map, Bool, true, false, Option, Some, None}
 use Rattle.std.specs.Prelude.{codes}
 use Rattle.std.specs.Fmt.{decimal}
-use Rattle.trace_text.specs.declared.between.Between.{Between}
-use Rattle.trace_text.specs.declared.between.Between.TheVariants.{Give}
 use Rattle.trace_text.specs.declared.head.ClockHead.{ClockHead}
 use Rattle.trace_text.specs.declared.head.Head.{Head}
 use Rattle.trace_text.specs.declared.head.NamesHead.{NamesHead}
@@ -11,7 +9,8 @@ use Rattle.trace_text.specs.declared.head.ZoneHead.{ZoneHead}
 use Rattle.trace_text.specs.declared.op.Op.{Op}
 use Rattle.trace_text.specs.declared.round.Round.{Round}
 use Rattle.trace_text.specs.declared.trace.Trace.{Trace}
-use Rattle.trace_print.specs.CanonicalText.{zone_fields, op_fields}
+use Rattle.trace_text.specs.declared.version.Version.{Version}
+use Rattle.trace_print.specs.CanonicalText.{between_fields, op_fields, version_word, zone_fields}
 
 abbrev pub clock_rows : Option ClockHead → List (List (List ℕ))
 clock_rows None = []
@@ -27,21 +26,25 @@ names_rows (Some n) = (codes "names" ∷ n.name ∷ decimal n.rows ∷ decimal n
 
 abbrev pub head_rows : Head → List (List (List ℕ))
 head_rows h =
-    (codes "uma" ∷ codes "1" ∷ []) ∷ (codes "workers" ∷ decimal h.workers ∷ []) ∷ (codes "domains" ∷ decimal h.domains ∷ [])
+    (codes "workers" ∷ decimal h.workers ∷ []) ∷ (codes "domains" ∷ decimal h.domains ∷ [])
     ∷ (clock_rows h.clock ++ (detail_rows h.detail ++ (map (λ (z : ZoneHead). zone_fields h.zones z.parent z) h.zones ++ names_rows h.names)))
 
 abbrev pub ops_rows : List ZoneHead → ℕ → List (List Op) → List (List (List ℕ))
 ops_rows zones w [] = []
 ops_rows zones w (ops ∷ lists) = map (op_fields zones w) ops ++ ops_rows zones (w + 1) lists
 
-abbrev pub between_row : Between → List (List ℕ)
-between_row (Give giver slot taker slot2) = codes "give" ∷ decimal giver ∷ decimal slot ∷ decimal taker ∷ decimal slot2 ∷ []
-
 abbrev pub rounds_rows : List ZoneHead → List Round → List (List (List ℕ))
 rounds_rows zones [] = []
 rounds_rows zones (r ∷ []) = ops_rows zones 0 r.ops
 rounds_rows zones (r ∷ next ∷ rounds) =
-    ops_rows zones 0 r.ops ++ ((codes "round" ∷ []) ∷ (map between_row r.between ++ rounds_rows zones (next ∷ rounds)))
+    ops_rows zones 0 r.ops ++ ((codes "round" ∷ []) ∷ (map (between_fields zones) r.between ++ rounds_rows zones (next ∷ rounds)))
+
+-- the first line's, and those behind it
+abbrev pub first_row : Version → List (List ℕ)
+first_row version = codes "uma" ∷ version_word version ∷ []
+
+abbrev pub other_rows : Trace → List (List (List ℕ))
+other_rows t = head_rows t.head ++ (rounds_rows t.head.zones t.rounds ++ (codes "end" ∷ []) ∷ [])
 
 abbrev pub trace_rows : Trace → List (List (List ℕ))
-trace_rows t = head_rows t.head ++ (rounds_rows t.head.zones t.rounds ++ (codes "end" ∷ []) ∷ [])
+trace_rows t = first_row t.version ∷ other_rows t

@@ -12,7 +12,7 @@ use Rattle.trace_text.specs.declared.op.Op.{Op}
 use Rattle.trace_text.specs.declared.round.Round.{Round}
 use Rattle.trace_text.specs.declared.trace_reading.entry.Entry.{Entry}
 use Rattle.trace_text.specs.declared.trace_reading.entry.Entry.TheVariants as entries
-use Rattle.trace_text.specs.Grammar.{is_round, op_by, give_in, ops_in, rounds_in}
+use Rattle.trace_text.specs.Grammar.{is_round, op_by, between_in, ops_in, rounds_in}
 use Rattle.trace_text.specs.Lines.{Line, Does, Moves, worker_lines, lines_of}
 use Rattle.trace_text.specs.Valid.{RoundFits, LastRoundEnds}
 use Rattle.trace_text.proofs.TraceParts.{entry_line}
@@ -28,9 +28,9 @@ rounds_entries [] = []
 rounds_entries (r ∷ []) = ops_entries 0 r.ops
 rounds_entries (r ∷ next ∷ rounds) = ops_entries 0 r.ops ++ (entries.Round ∷ (map entries.Moves r.between ++ rounds_entries (next ∷ rounds)))
 
--- `give` lines, and then what the workers do
+-- lines between two rounds, and then what the workers do
 abbrev part_of : List Between → List (List Op) → List Entry
-part_of gives lists = map entries.Moves gives ++ ops_entries 0 lists
+part_of betweens lists = map entries.Moves betweens ++ ops_entries 0 lists
 
 -- ---- what some lines of one kind add to what is taken from all
 
@@ -85,25 +85,25 @@ at_place (ops ∷ lists) first (suc k) v e =
 pub ops_at_place : (lists : List (List Op)) (w : ℕ) → flat_map (op_by w) (ops_entries 0 lists) ≡ get_or lists w []
 ops_at_place lists w = at_place lists 0 w w (omega arith)
 
--- the lines of all workers, behind `give` lines, give back what each does
-ops_rebuilt : (workers : ℕ) (gives : List Between) (lists : List (List Op)) → length lists ≡ workers
-    → ops_in workers (part_of gives lists) ≡ lists
-ops_rebuilt workers gives lists long =
-    sym (fill_by_all (λ (w : ℕ). flat_map (op_by w) (part_of gives lists)) lists workers [] long
-    (λ w lt. sym (none_each (op_by w) entries.Moves gives (ops_entries 0 lists) (λ between. refl) ∙ ops_at_place lists w)))
+-- the lines of all workers, behind lines between two rounds, give back what each does
+ops_rebuilt : (workers : ℕ) (betweens : List Between) (lists : List (List Op)) → length lists ≡ workers
+    → ops_in workers (part_of betweens lists) ≡ lists
+ops_rebuilt workers betweens lists long =
+    sym (fill_by_all (λ (w : ℕ). flat_map (op_by w) (part_of betweens lists)) lists workers [] long
+    (λ w lt. sym (none_each (op_by w) entries.Moves betweens (ops_entries 0 lists) (λ between. refl) ∙ ops_at_place lists w)))
 
--- ---- the `give` lines
+-- ---- the lines between two rounds
 
--- the workers' lines have none, so a part gives back those it begins with
-no_gives : (w : ℕ) (lists : List (List Op)) → flat_map give_in (ops_entries w lists) ≡ []
-no_gives w [] = refl
-no_gives w (ops ∷ lists) = none_each give_in (entries.Does w) ops (ops_entries (w + 1) lists) (λ op. refl) ∙ no_gives (w + 1) lists
+-- the workers' lines have none, so a part betweens back those it begins with
+no_betweens : (w : ℕ) (lists : List (List Op)) → flat_map between_in (ops_entries w lists) ≡ []
+no_betweens w [] = refl
+no_betweens w (ops ∷ lists) = none_each between_in (entries.Does w) ops (ops_entries (w + 1) lists) (λ op. refl) ∙ no_betweens (w + 1) lists
 
-gives_rebuilt : (gives : List Between) (lists : List (List Op)) → flat_map give_in (part_of gives lists) ≡ gives
-gives_rebuilt gives lists =
-    itself_each give_in entries.Moves gives (ops_entries 0 lists) (λ between. refl)
-    ∙ ap (λ (more : List Between). gives ++ more) (no_gives 0 lists)
-    ∙ append-nil gives
+betweens_rebuilt : (betweens : List Between) (lists : List (List Op)) → flat_map between_in (part_of betweens lists) ≡ betweens
+betweens_rebuilt betweens lists =
+    itself_each between_in entries.Moves betweens (ops_entries 0 lists) (λ between. refl)
+    ∙ ap (λ (more : List Between). betweens ++ more) (no_betweens 0 lists)
+    ∙ append-nil betweens
 
 -- ---- the parts between the `round` lines
 
@@ -119,43 +119,43 @@ others_of_lists : (w : ℕ) (lists : List (List Op)) → All IsOther (ops_entrie
 others_of_lists w [] = All-nil IsOther
 others_of_lists w (ops ∷ lists) = All-append IsOther (map (entries.Does w) ops) (ops_entries (w + 1) lists) (others_of_ops w ops) (others_of_lists (w + 1) lists)
 
-others_of_part : (gives : List Between) (lists : List (List Op)) → All IsOther (part_of gives lists)
+others_of_part : (betweens : List Between) (lists : List (List Op)) → All IsOther (part_of betweens lists)
 others_of_part [] lists = others_of_lists 0 lists
-others_of_part (between ∷ gives) lists = All-cons IsOther (entries.Moves between) (part_of gives lists) refl (others_of_part gives lists)
+others_of_part (between ∷ betweens) lists = All-cons IsOther (entries.Moves between) (part_of betweens lists) refl (others_of_part betweens lists)
 
--- the parts of these rounds, of which the first one is behind these `give` lines
+-- the parts of these rounds, of which the first one is behind these lines
 abbrev parts_of : List Between → List Round → List (List Entry)
-parts_of gives [] = []
-parts_of gives (r ∷ rounds) = part_of gives r.ops ∷ parts_of r.between rounds
+parts_of betweens [] = []
+parts_of betweens (r ∷ rounds) = part_of betweens r.ops ∷ parts_of r.between rounds
 
 -- the `round` lines cut the rounds' lines into these parts
-split_at_rounds : (gives : List Between) (r : Round) (rounds : List Round)
-    → slice_split is_round (map entries.Moves gives ++ rounds_entries (r ∷ rounds)) ≡ parts_of gives (r ∷ rounds)
-split_at_rounds gives r [] = slice_split_none is_round (part_of gives r.ops) (others_of_part gives r.ops)
-split_at_rounds gives r (next ∷ rounds) =
+split_at_rounds : (betweens : List Between) (r : Round) (rounds : List Round)
+    → slice_split is_round (map entries.Moves betweens ++ rounds_entries (r ∷ rounds)) ≡ parts_of betweens (r ∷ rounds)
+split_at_rounds betweens r [] = slice_split_none is_round (part_of betweens r.ops) (others_of_part betweens r.ops)
+split_at_rounds betweens r (next ∷ rounds) =
     let rest : List Entry = map entries.Moves r.between ++ rounds_entries (next ∷ rounds) in
-    ap (λ (lines : List Entry). slice_split is_round lines) (sym (append_assoc (map entries.Moves gives) (ops_entries 0 r.ops) (entries.Round ∷ rest)))
-    ∙ slice_split_at is_round (part_of gives r.ops) entries.Round rest (others_of_part gives r.ops) refl
-    ∙ ap (λ (parts : List (List Entry)). part_of gives r.ops ∷ parts) (split_at_rounds r.between next rounds)
+    ap (λ (lines : List Entry). slice_split is_round lines) (sym (append_assoc (map entries.Moves betweens) (ops_entries 0 r.ops) (entries.Round ∷ rest)))
+    ∙ slice_split_at is_round (part_of betweens r.ops) entries.Round rest (others_of_part betweens r.ops) refl
+    ∙ ap (λ (parts : List (List Entry)). part_of betweens r.ops ∷ parts) (split_at_rounds r.between next rounds)
 
 -- ---- the rounds, read back
 
--- rounds are the same if their operations and `give` lines are
+-- rounds are the same if their operations and the lines behind them are
 same_round : (r : Round) (ops : List (List Op)) (between : List Between) → ops ≡ r.ops → between ≡ r.between
     → (let round : Round = record { ops = ops; between = between } in round) ≡ r
 same_round r ops between of_ops of_between =
     ap₂ (λ (o : List (List Op)) (b : List Between). let round : Round = record { ops = o; between = b } in round) of_ops of_between
 
 -- these parts give the rounds back
-rounds_of_parts : (h : Head) (gives : List Between) (r : Round) (rounds : List Round) → All (RoundFits h) (r ∷ rounds) → LastRoundEnds (r ∷ rounds)
-    → rounds_in h.workers (parts_of gives (r ∷ rounds)) ≡ r ∷ rounds
-rounds_of_parts h gives r [] fit ends =
+rounds_of_parts : (h : Head) (betweens : List Between) (r : Round) (rounds : List Round) → All (RoundFits h) (r ∷ rounds) → LastRoundEnds (r ∷ rounds)
+    → rounds_in h.workers (parts_of betweens (r ∷ rounds)) ≡ r ∷ rounds
+rounds_of_parts h betweens r [] fit ends =
     ap (λ (round : Round). round ∷ [])
-    (same_round r (ops_in h.workers (part_of gives r.ops)) [] (ops_rebuilt h.workers gives r.ops (All-head (RoundFits h) r [] fit).workers) (sym ends))
-rounds_of_parts h gives r (next ∷ rounds) fit ends =
+    (same_round r (ops_in h.workers (part_of betweens r.ops)) [] (ops_rebuilt h.workers betweens r.ops (All-head (RoundFits h) r [] fit).workers) (sym ends))
+rounds_of_parts h betweens r (next ∷ rounds) fit ends =
     ap₂ (λ (round : Round) (more : List Round). round ∷ more)
-    (same_round r (ops_in h.workers (part_of gives r.ops)) (flat_map give_in (part_of r.between next.ops))
-    (ops_rebuilt h.workers gives r.ops (All-head (RoundFits h) r (next ∷ rounds) fit).workers) (gives_rebuilt r.between next.ops))
+    (same_round r (ops_in h.workers (part_of betweens r.ops)) (flat_map between_in (part_of r.between next.ops))
+    (ops_rebuilt h.workers betweens r.ops (All-head (RoundFits h) r (next ∷ rounds) fit).workers) (betweens_rebuilt r.between next.ops))
     (rounds_of_parts h r.between next rounds (All-tail (RoundFits h) r (next ∷ rounds) fit) ends)
 
 -- the lines of rounds, cut at the `round` lines, give the rounds back
@@ -181,7 +181,7 @@ lines_are_entries (r ∷ []) ends =
     let lines : List Line = worker_lines 0 r.ops in
     lines_of_workers 0 r.ops
     ∙ sym (append-nil lines)
-    ∙ ap (λ (gives : List Between). lines ++ map Moves gives) (sym ends)
+    ∙ ap (λ (betweens : List Between). lines ++ map Moves betweens) (sym ends)
     ∙ sym (append-nil (lines ++ map Moves r.between))
 lines_are_entries (r ∷ next ∷ rounds) ends =
     let lines : List Line = worker_lines 0 r.ops in

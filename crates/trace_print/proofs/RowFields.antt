@@ -14,7 +14,7 @@ use Rattle.std.proofs.lemmas.List.Sums.{AllPass-from_list_all}
 use Rattle.std.proofs.lemmas.Option.{slice_get-get_or}
 use Rattle.zone_stats.specs.Name.{IsName, is_name_character}
 use Rattle.trace_text.specs.declared.between.Between.{Between}
-use Rattle.trace_text.specs.declared.between.Between.TheVariants.{Give}
+use Rattle.trace_text.specs.declared.between.Between.TheVariants.{Give, SetMax}
 use Rattle.trace_text.specs.declared.head.ClockHead.{ClockHead}
 use Rattle.trace_text.specs.declared.head.Head.{Head}
 use Rattle.trace_text.specs.declared.head.NamesHead.{NamesHead}
@@ -25,11 +25,13 @@ use Rattle.trace_text.specs.declared.op.Op.{Op}
 use Rattle.trace_text.specs.declared.op.Op.TheVariants.{Alloc, Free, Enter, Exit, Bind, Unbind, Look, Trim, Drain, DrainSeat, Prealloc}
 use Rattle.trace_text.specs.declared.round.Round.{Round}
 use Rattle.trace_text.specs.declared.trace.Trace.{Trace}
+use Rattle.trace_text.specs.declared.version.Version.{Version}
+use Rattle.trace_text.specs.declared.version.Version.TheVariants as versions
 use Rattle.text_lines.specs.CanonicalLine.{line}
-use Rattle.trace_print.specs.CanonicalText.{kind_word, zone_fields, zone_line, clock_text, detail_text, names_text, head_text, arg_fields, reserve_fields, op_fields, op_line, ops_text, between_line, rounds_text, canonical_text}
+use Rattle.trace_print.specs.CanonicalText.{kind_word, zone_fields, zone_line, clock_text, detail_text, names_text, first_line, version_word, head_text, arg_fields, reserve_fields, op_fields, op_line, ops_text, between_fields, between_line, rounds_text, canonical_text}
 use Rattle.trace_text.specs.NamedZones.{zone_name}
 use Rattle.trace_text.specs.Valid.{BetweenFits, ClockFits, HeadFits, IsValid, KegFits, NamesFits, OpFits, RoundFits, ZoneFits}
-use Rattle.trace_print.proofs.CanonicalRows.{clock_rows, detail_rows, names_rows, head_rows, ops_rows, between_row, rounds_rows, trace_rows}
+use Rattle.trace_print.proofs.CanonicalRows.{clock_rows, detail_rows, names_rows, head_rows, ops_rows, rounds_rows, first_row, trace_rows}
 use Rattle.trace_print.proofs.RowText.{IsRow, IsWord}
 
 -- ---- the text of the rows
@@ -69,28 +71,26 @@ behind_domains h =
 
 head_text_is : (h : Head) → head_text h ≡ flat_map line (head_rows h)
 head_text_is h =
-    ap (λ (t : List ℕ). line (codes "uma" ∷ codes "1" ∷ []) ++ (line (codes "workers" ∷ decimal h.workers ∷ []) ++ (line (codes "domains" ∷ decimal h.domains ∷ []) ++ t))) (behind_domains h)
+    ap (λ (t : List ℕ). line (codes "workers" ∷ decimal h.workers ∷ []) ++ (line (codes "domains" ∷ decimal h.domains ∷ []) ++ t)) (behind_domains h)
 
 ops_text_is : (zones : List ZoneHead) (w : ℕ) (lists : List (List Op)) → ops_text zones w lists ≡ flat_map line (ops_rows zones w lists)
 ops_text_is zones w [] = refl
 ops_text_is zones w (ops ∷ lists) =
     joined (map (op_fields zones w) ops) (ops_rows zones (w + 1) lists) _ _ (each_row (op_line zones w) (op_fields zones w) (λ op. refl) ops) (ops_text_is zones (w + 1) lists)
 
-between_line_is : (between : Between) → between_line between ≡ line (between_row between)
-between_line_is (Give giver slot taker slot2) = refl
-
 rounds_text_is : (zones : List ZoneHead) (rounds : List Round) → rounds_text zones rounds ≡ flat_map line (rounds_rows zones rounds)
 rounds_text_is zones [] = refl
 rounds_text_is zones (r ∷ []) = ops_text_is zones 0 r.ops
 rounds_text_is zones (r ∷ next ∷ rounds) =
-    joined (ops_rows zones 0 r.ops) ((codes "round" ∷ []) ∷ (map between_row r.between ++ rounds_rows zones (next ∷ rounds))) _ _ (ops_text_is zones 0 r.ops)
+    joined (ops_rows zones 0 r.ops) ((codes "round" ∷ []) ∷ (map (between_fields zones) r.between ++ rounds_rows zones (next ∷ rounds))) _ _ (ops_text_is zones 0 r.ops)
     (ap (λ (t : List ℕ). line (codes "round" ∷ []) ++ t)
-    (joined (map between_row r.between) (rounds_rows zones (next ∷ rounds)) _ _ (each_row between_line between_row between_line_is r.between) (rounds_text_is zones (next ∷ rounds))))
+    (joined (map (between_fields zones) r.between) (rounds_rows zones (next ∷ rounds)) _ _ (each_row (between_line zones) (between_fields zones) (λ between. refl) r.between) (rounds_text_is zones (next ∷ rounds))))
 
 pub text_is : (t : Trace) → canonical_text t ≡ flat_map line (trace_rows t)
 text_is t =
-    joined (head_rows t.head) (rounds_rows t.head.zones t.rounds ++ (codes "end" ∷ []) ∷ []) _ _ (head_text_is t.head)
-    (joined (rounds_rows t.head.zones t.rounds) ((codes "end" ∷ []) ∷ []) _ _ (rounds_text_is t.head.zones t.rounds) (one_row (codes "end" ∷ [])))
+    ap (λ (more : List ℕ). first_line t.version ++ more)
+    (joined (head_rows t.head) (rounds_rows t.head.zones t.rounds ++ (codes "end" ∷ []) ∷ []) _ _ (head_text_is t.head)
+    (joined (rounds_rows t.head.zones t.rounds) ((codes "end" ∷ []) ∷ []) _ _ (rounds_text_is t.head.zones t.rounds) (one_row (codes "end" ∷ []))))
 
 -- ---- words
 
@@ -220,13 +220,19 @@ zones_right h fits = mapped (λ (z : ZoneHead). zone_fields h.zones z.parent z) 
 head_right : (h : Head) → HeadFits h → AllByRecursion IsRow (head_rows h)
 head_right h fits =
     let zones : List (List (List ℕ)) = map (λ (z : ZoneHead). zone_fields h.zones z.parent z) h.zones in
-    let uma : IsRow (codes "uma" ∷ codes "1" ∷ []) = row_of (codes "uma") (codes "1" ∷ []) refl (IsWord-from_is_word (codes "1") refl, tt) in
     let workers : IsRow (codes "workers" ∷ decimal h.workers ∷ []) = row_of (codes "workers") (decimal h.workers ∷ []) refl (number_word h.workers (omega (arith, fits.workers)), tt) in
     let domains : IsRow (codes "domains" ∷ decimal h.domains ∷ []) = row_of (codes "domains") (decimal h.domains ∷ []) refl (number_word h.domains (omega (arith, fits.domains)), tt) in
     let others : AllByRecursion IsRow (clock_rows h.clock ++ (detail_rows h.detail ++ (zones ++ names_rows h.names))) =
     appended IsRow (clock_rows h.clock) (detail_rows h.detail ++ (zones ++ names_rows h.names)) (clock_right h.clock fits.clock)
     (appended IsRow (detail_rows h.detail) (zones ++ names_rows h.names) (detail_right h.detail)
-    (appended IsRow zones (names_rows h.names) (zones_right h fits) (names_right h h.names fits.names))) in (uma, (workers, (domains, others)))
+    (appended IsRow zones (names_rows h.names) (zones_right h fits) (names_right h h.names fits.names))) in (workers, (domains, others))
+
+version_is_word : (version : Version) → IsWord (version_word version)
+version_is_word versions.One = IsWord-from_is_word (codes "1") refl
+version_is_word versions.Two = IsWord-from_is_word (codes "2") refl
+
+first_right : (version : Version) → IsRow (first_row version)
+first_right version = row_of (codes "uma") (version_word version ∷ []) refl (version_is_word version, tt)
 
 -- ---- rows of the rounds
 
@@ -264,8 +270,10 @@ ops_right h w (ops ∷ lists) names le fits =
     (mapped (op_fields h.zones w) ops (λ k d lt. op_right h w names (omega arith) (get_or ops k d) (each k d lt)))
     (ops_right h (w + 1) lists names (omega arith) (All-tail (All (OpFits h)) ops lists fits))
 
-between_right : (h : Head) → h.workers ≤ 16 → (between : Between) → BetweenFits h between → IsRow (between_row between)
-between_right h le (Give giver slot taker slot2) fits =
+between_right : (h : Head) → AreNamed h.zones → h.workers ≤ 16 → (between : Between) → BetweenFits h between → IsRow (between_fields h.zones between)
+between_right h names le (SetMax zone limit) fits =
+    row_of (codes "setmax") (zone_name h.zones zone ∷ decimal limit ∷ []) refl (names zone fits.0, (number_word limit (omega (arith, fits.1)), tt))
+between_right h names le (Give giver slot taker slot2) fits =
     row_of (codes "give") (decimal giver ∷ decimal slot ∷ decimal taker ∷ decimal slot2 ∷ []) refl
     (number_word giver (omega (arith, fits.0)), (number_word slot (omega (arith, fits.1)), (number_word taker (omega (arith, fits.2)), (number_word slot2 (omega (arith, fits.3)), tt))))
 
@@ -277,14 +285,16 @@ rounds_right h [] names le fits = tt
 rounds_right h (r ∷ []) names le fits = round_right h r names le (All-head (RoundFits h) r [] fits)
 rounds_right h (r ∷ next ∷ rounds) names le fits =
     let here : RoundFits h r = All-head (RoundFits h) r (next ∷ rounds) fits in
-    let moves : AllByRecursion IsRow (map between_row r.between) = mapped between_row r.between (λ k d lt. between_right h le (get_or r.between k d) (here.between k d lt)) in
-    let later : AllByRecursion IsRow (map between_row r.between ++ rounds_rows h.zones (next ∷ rounds)) =
-    appended IsRow (map between_row r.between) (rounds_rows h.zones (next ∷ rounds)) moves (rounds_right h (next ∷ rounds) names le (All-tail (RoundFits h) r (next ∷ rounds) fits)) in
-    appended IsRow (ops_rows h.zones 0 r.ops) ((codes "round" ∷ []) ∷ (map between_row r.between ++ rounds_rows h.zones (next ∷ rounds))) (round_right h r names le here) (row_of (codes "round") [] refl tt, later)
+    let moves : AllByRecursion IsRow (map (between_fields h.zones) r.between) = mapped (between_fields h.zones) r.between (λ k d lt. between_right h names le (get_or r.between k d) (here.between k d lt)) in
+    let later : AllByRecursion IsRow (map (between_fields h.zones) r.between ++ rounds_rows h.zones (next ∷ rounds)) =
+    appended IsRow (map (between_fields h.zones) r.between) (rounds_rows h.zones (next ∷ rounds)) moves (rounds_right h (next ∷ rounds) names le (All-tail (RoundFits h) r (next ∷ rounds) fits)) in
+    appended IsRow (ops_rows h.zones 0 r.ops) ((codes "round" ∷ []) ∷ (map (between_fields h.zones) r.between ++ rounds_rows h.zones (next ∷ rounds))) (round_right h r names le here) (row_of (codes "round") [] refl tt, later)
 
 pub rows_right : (t : Trace) → IsValid t → All IsRow (trace_rows t)
 rows_right t valid =
     let rounds = rounds_right t.head t.rounds (are_named t.head valid.head) (omega (arith, valid.head.workers)) valid.rounds in
-    All-from_recursion IsRow (trace_rows t)
-    (appended IsRow (head_rows t.head) (rounds_rows t.head.zones t.rounds ++ (codes "end" ∷ []) ∷ []) (head_right t.head valid.head)
-    (appended IsRow (rounds_rows t.head.zones t.rounds) ((codes "end" ∷ []) ∷ []) rounds (row_of (codes "end") [] refl tt, tt)))
+    All-from_recursion IsRow (trace_rows t) (
+      first_right t.version,
+      appended IsRow (head_rows t.head) (rounds_rows t.head.zones t.rounds ++ (codes "end" ∷ []) ∷ []) (head_right t.head valid.head)
+          (appended IsRow (rounds_rows t.head.zones t.rounds) ((codes "end" ∷ []) ∷ []) rounds (row_of (codes "end") [] refl tt, tt)),
+    )

@@ -10,7 +10,7 @@ use Rattle.text_lines.specs.Number.{number_of}
 use Rattle.text_lines.proofs.Numbers.{number_of_again}
 use Rattle.zone_stats.specs.Name.{IsName}
 use Rattle.trace_text.specs.declared.between.Between.{Between}
-use Rattle.trace_text.specs.declared.between.Between.TheVariants.{Give}
+use Rattle.trace_text.specs.declared.between.Between.TheVariants.{Give, SetMax}
 use Rattle.trace_text.specs.declared.head.ClockHead.{ClockHead}
 use Rattle.trace_text.specs.declared.head.Head.{Head}
 use Rattle.trace_text.specs.declared.head.NamesHead.{NamesHead}
@@ -30,13 +30,14 @@ use Rattle.trace_text.specs.declared.trace_reading.word.Word.{Word}
 use Rattle.trace_text.specs.declared.trace_reading.word.Word.TheVariants as words
 use Rattle.trace_text.specs.declared.trace_reading.word.WorkWord.TheVariants as by_self
 use Rattle.trace_text.specs.declared.trace_reading.word.ZoneWord.TheVariants as in_zone
-use Rattle.trace_print.specs.CanonicalText.{kind_word, zone_fields, arg_fields, reserve_fields, op_fields}
+use Rattle.trace_print.specs.CanonicalText.{kind_word, zone_fields, arg_fields, reserve_fields, op_fields, between_fields}
 use Rattle.trace_text.specs.NamedZones.{zone_name}
+use Rattle.trace_text.specs.declared.version.Version.{Version}
+use Rattle.trace_text.specs.Lines.{Moves}
 use Rattle.trace_text.specs.Limits.{IsWithin, last_slot}
 use Rattle.schedule_text.specs.ScheduleGrammar.{start_in, window_in}
-use Rattle.trace_text.specs.TraceLine.{word_named, is_within, may_follow, name_in, kind_in, worker_in, slot_in, options, arg_in, said_by, says}
-use Rattle.trace_text.specs.Valid.{ClockFits, PrimaryFits, KegFits, ZoneFits, NamesFits, HeadFits, OpFits, BetweenFits}
-use Rattle.trace_print.proofs.CanonicalRows.{between_row}
+use Rattle.trace_text.specs.TraceLine.{word_named, is_known, is_within, may_follow, name_in, kind_in, worker_in, slot_in, options, arg_in, said_by, says}
+use Rattle.trace_text.specs.Valid.{ClockFits, PrimaryFits, KegFits, ZoneFits, NamesFits, HeadFits, OpFits, BetweenFits, IsKnown}
 use Rattle.trace_text.proofs.Names.{is_name_from_IsName}
 use Rattle.trace_text.proofs.RowZones.{nowhere}
 
@@ -62,7 +63,7 @@ names_saids (Some n) = said.Names n ∷ []
 
 abbrev pub head_saids : Head → List Said
 head_saids h =
-    said.Uma ∷ said.Workers h.workers ∷ said.Domains h.domains
+    said.Workers h.workers ∷ said.Domains h.domains
     ∷ (clock_saids h.clock ++ (detail_saids h.detail ++ (map (λ (z : ZoneHead). zone_saying h.zones z.parent z) h.zones ++ names_saids h.names)))
 
 abbrev pub op_saying : List ZoneHead → ℕ → Op → Said
@@ -82,14 +83,19 @@ abbrev pub ops_saids : List ZoneHead → ℕ → List (List Op) → List Said
 ops_saids zones w [] = []
 ops_saids zones w (ops ∷ lists) = map (op_saying zones w) ops ++ ops_saids zones (w + 1) lists
 
+abbrev pub between_saying : List ZoneHead → Between → Said
+between_saying zones (Give giver slot taker slot2) = said.Give giver slot taker slot2
+between_saying zones (SetMax zone limit) = said.SetMax (zone_name zones zone) limit
+
 abbrev pub rounds_saids : List ZoneHead → List Round → List Said
 rounds_saids zones [] = []
 rounds_saids zones (r ∷ []) = ops_saids zones 0 r.ops
 rounds_saids zones (r ∷ next ∷ rounds) =
-    ops_saids zones 0 r.ops ++ (said.Round ∷ (map said.Give r.between ++ rounds_saids zones (next ∷ rounds)))
+    ops_saids zones 0 r.ops ++ (said.Round ∷ (map (between_saying zones) r.between ++ rounds_saids zones (next ∷ rounds)))
 
-abbrev pub trace_saids : Trace → List Said
-trace_saids t = head_saids t.head ++ (rounds_saids t.head.zones t.rounds ++ said.End ∷ [])
+-- behind the first line
+abbrev pub other_saids : Trace → List Said
+other_saids t = head_saids t.head ++ (rounds_saids t.head.zones t.rounds ++ said.End ∷ [])
 
 -- ---- one field
 
@@ -134,35 +140,35 @@ window_says c fits =
 -- ---- the line by its word
 
 -- a line with a word that may stand there says what the fields behind it do
-by_word : (stage : Stage) (workers : ℕ) (first : List ℕ) (rest : List (List ℕ)) (word : Word) (r : Result Said TraceKind)
-    → word_named first ≡ Some word → may_follow stage word ≡ true → said_by workers word rest ≡ r → says stage workers (first ∷ rest) ≡ r
-by_word stage workers first rest word r named follows is = rw (named, follows) is
+by_word : (version : Version) (stage : Stage) (workers : ℕ) (first : List ℕ) (rest : List (List ℕ)) (word : Word) (r : Result Said TraceKind)
+    → word_named first ≡ Some word → is_known version word ≡ true → may_follow stage word ≡ true → said_by workers word rest ≡ r → says version stage workers (first ∷ rest) ≡ r
+by_word version stage workers first rest word r named has follows is = rw (named, has, follows) is
 
 -- ---- the header lines
 
 -- the counts, the clock and `detail`
-pub workers_row_says : (stage : Stage) (workers count : ℕ) → may_follow stage (words.Head heads.Workers) ≡ true → IsWithin 1 16 count
-    → says stage workers (codes "workers" ∷ decimal count ∷ []) ≡ Ok (said.Workers count)
-workers_row_says stage workers count follows inside =
-    by_word stage workers (codes "workers") (decimal count ∷ []) (words.Head heads.Workers) (Ok (said.Workers count)) refl follows
+pub workers_row_says : (version : Version) (stage : Stage) (workers count : ℕ) → may_follow stage (words.Head heads.Workers) ≡ true → IsWithin 1 16 count
+    → says version stage workers (codes "workers" ∷ decimal count ∷ []) ≡ Ok (said.Workers count)
+workers_row_says version stage workers count follows inside =
+    by_word version stage workers (codes "workers") (decimal count ∷ []) (words.Head heads.Workers) (Ok (said.Workers count)) refl refl follows
     (rw (number_within_says 1 16 count inside.0 inside.1 (omega arith)) refl)
 
-pub domains_row_says : (stage : Stage) (workers count : ℕ) → may_follow stage (words.Head heads.Domains) ≡ true → IsWithin 1 4 count
-    → says stage workers (codes "domains" ∷ decimal count ∷ []) ≡ Ok (said.Domains count)
-domains_row_says stage workers count follows inside =
-    by_word stage workers (codes "domains") (decimal count ∷ []) (words.Head heads.Domains) (Ok (said.Domains count)) refl follows
+pub domains_row_says : (version : Version) (stage : Stage) (workers count : ℕ) → may_follow stage (words.Head heads.Domains) ≡ true → IsWithin 1 4 count
+    → says version stage workers (codes "domains" ∷ decimal count ∷ []) ≡ Ok (said.Domains count)
+domains_row_says version stage workers count follows inside =
+    by_word version stage workers (codes "domains") (decimal count ∷ []) (words.Head heads.Domains) (Ok (said.Domains count)) refl refl follows
     (rw (number_within_says 1 4 count inside.0 inside.1 (omega arith)) refl)
 
-pub clock_row_says : (stage : Stage) (workers : ℕ) (c : ClockHead) → may_follow stage (words.Head heads.Clock) ≡ true → ClockFits c
-    → says stage workers (codes "clock" ∷ decimal c.start ∷ decimal c.window ∷ []) ≡ Ok (said.Clock c)
-clock_row_says stage workers c follows fits =
-    by_word stage workers (codes "clock") (decimal c.start ∷ decimal c.window ∷ []) (words.Head heads.Clock) (Ok (said.Clock c)) refl follows
+pub clock_row_says : (version : Version) (stage : Stage) (workers : ℕ) (c : ClockHead) → may_follow stage (words.Head heads.Clock) ≡ true → ClockFits c
+    → says version stage workers (codes "clock" ∷ decimal c.start ∷ decimal c.window ∷ []) ≡ Ok (said.Clock c)
+clock_row_says version stage workers c follows fits =
+    by_word version stage workers (codes "clock") (decimal c.start ∷ decimal c.window ∷ []) (words.Head heads.Clock) (Ok (said.Clock c)) refl refl follows
     (rw (start_says c fits, window_says c fits) refl)
 
-pub detail_row_says : (stage : Stage) (workers : ℕ) → may_follow stage (words.Head heads.Detail) ≡ true
-    → says stage workers (codes "detail" ∷ []) ≡ Ok said.Detail
-detail_row_says stage workers follows =
-    by_word stage workers (codes "detail") [] (words.Head heads.Detail) (Ok said.Detail) refl follows refl
+pub detail_row_says : (version : Version) (stage : Stage) (workers : ℕ) → may_follow stage (words.Head heads.Detail) ≡ true
+    → says version stage workers (codes "detail" ∷ []) ≡ Ok said.Detail
+detail_row_says version stage workers follows =
+    by_word version stage workers (codes "detail") [] (words.Head heads.Detail) (Ok said.Detail) refl refl follows refl
 
 -- each zone at a place has a name
 abbrev pub AreNamed : List ZoneHead → Type 0
@@ -183,12 +189,12 @@ record SharedFits (z : ZoneHead) : Type 0 where
   limit : z.limit ≤ 1000000
 
 -- a `zone` row
-primary_says : (stage : Stage) (workers : ℕ) (zones : List ZoneHead) (z : ZoneHead) → may_follow stage (words.Head heads.Zone) ≡ true
-    → SharedFits z → PrimaryFits z → z.parent ≡ None → says stage workers (zone_fields zones None z) ≡ Ok (said.Zone z)
-primary_says stage workers zones z follows fits primary none =
+primary_says : (version : Version) (stage : Stage) (workers : ℕ) (zones : List ZoneHead) (z : ZoneHead) → may_follow stage (words.Head heads.Zone) ≡ true
+    → SharedFits z → PrimaryFits z → z.parent ≡ None → says version stage workers (zone_fields zones None z) ≡ Ok (said.Zone z)
+primary_says version stage workers zones z follows fits primary none =
     let made : Option ℕ → ZoneHead = λ parent. record { name = z.name; parent = parent; size = z.size; slabs = z.slabs; bucket = z.bucket; limit = z.limit; reserve = z.reserve; kind = z.kind } in
     let rest : List (List ℕ) = z.name ∷ decimal z.size ∷ decimal z.slabs ∷ decimal z.bucket ∷ decimal z.limit ∷ decimal z.reserve ∷ kind_word z.kind ∷ [] in
-    by_word stage workers (codes "zone") rest (words.Head heads.Zone) (Ok (said.Zone z)) refl follows
+    by_word version stage workers (codes "zone") rest (words.Head heads.Zone) (Ok (said.Zone z)) refl refl follows
     (rw (
       name_says z.name fits.name,
       number_within_says 8 4096 z.size primary.size.0 primary.size.1 (omega arith),
@@ -201,11 +207,11 @@ primary_says stage workers zones z follows fits primary none =
     (ap (λ (parent : Option ℕ). Ok (said.Zone (made parent))) (sym none)))
 
 -- a `second` row
-second_says : (stage : Stage) (workers : ℕ) (zones : List ZoneHead) (parent : ℕ) (z : ZoneHead) → may_follow stage (words.Head heads.Second) ≡ true
-    → SharedFits z → IsName (zone_name zones parent) → says stage workers (zone_fields zones (Some parent) z) ≡ Ok (zone_saying zones (Some parent) z)
-second_says stage workers zones parent z follows fits named =
+second_says : (version : Version) (stage : Stage) (workers : ℕ) (zones : List ZoneHead) (parent : ℕ) (z : ZoneHead) → may_follow stage (words.Head heads.Second) ≡ true
+    → SharedFits z → IsName (zone_name zones parent) → says version stage workers (zone_fields zones (Some parent) z) ≡ Ok (zone_saying zones (Some parent) z)
+second_says version stage workers zones parent z follows fits named =
     let rest : List (List ℕ) = z.name ∷ zone_name zones parent ∷ decimal z.bucket ∷ decimal z.limit ∷ kind_word z.kind ∷ [] in
-    by_word stage workers (codes "second") rest (words.Head heads.Second) (Ok (zone_saying zones (Some parent) z)) refl follows
+    by_word version stage workers (codes "second") rest (words.Head heads.Second) (Ok (zone_saying zones (Some parent) z)) refl refl follows
     (rw (
       name_says z.name fits.name,
       name_says (zone_name zones parent) named,
@@ -215,25 +221,25 @@ second_says stage workers zones parent z follows fits named =
     ) refl)
 
 -- the row of a zone, by its parent
-zone_by_parent : (stage : Stage) (workers : ℕ) (zones : List ZoneHead) (place : ℕ) (z : ZoneHead) (parent : Option ℕ) → is_within 3 6 stage ≡ true
+zone_by_parent : (version : Version) (stage : Stage) (workers : ℕ) (zones : List ZoneHead) (place : ℕ) (z : ZoneHead) (parent : Option ℕ) → is_within 3 6 stage ≡ true
     → AreNamed zones → place < length zones → SharedFits z → KegFits zones place parent z → z.parent ≡ parent
-    → says stage workers (zone_fields zones parent z) ≡ Ok (zone_saying zones parent z)
-zone_by_parent stage workers zones place z None follows named inside fits keg is = primary_says stage workers zones z follows fits keg is
-zone_by_parent stage workers zones place z (Some parent) follows named inside fits keg is =
-    second_says stage workers zones parent z follows fits (named parent (omega (arith, keg.earlier)))
+    → says version stage workers (zone_fields zones parent z) ≡ Ok (zone_saying zones parent z)
+zone_by_parent version stage workers zones place z None follows named inside fits keg is = primary_says version stage workers zones z follows fits keg is
+zone_by_parent version stage workers zones place z (Some parent) follows named inside fits keg is =
+    second_says version stage workers zones parent z follows fits (named parent (omega (arith, keg.earlier)))
 
-pub zone_row_says : (stage : Stage) (workers : ℕ) (h : Head) (place : ℕ) (z : ZoneHead) → is_within 3 6 stage ≡ true → AreNamed h.zones
-    → place < length h.zones → ZoneFits h place z → says stage workers (zone_fields h.zones z.parent z) ≡ Ok (zone_saying h.zones z.parent z)
-zone_row_says stage workers h place z follows named inside fits =
-    zone_by_parent stage workers h.zones place z z.parent follows named inside
+pub zone_row_says : (version : Version) (stage : Stage) (workers : ℕ) (h : Head) (place : ℕ) (z : ZoneHead) → is_within 3 6 stage ≡ true → AreNamed h.zones
+    → place < length h.zones → ZoneFits h place z → says version stage workers (zone_fields h.zones z.parent z) ≡ Ok (zone_saying h.zones z.parent z)
+zone_row_says version stage workers h place z follows named inside fits =
+    zone_by_parent version stage workers h.zones place z z.parent follows named inside
     (record { name = fits.name; bucket = fits.bucket; limit = fits.limit }) fits.keg refl
 
 -- the `names` row
-pub names_row_says : (stage : Stage) (workers : ℕ) (h : Head) (n : NamesHead) → may_follow stage (words.Head heads.Names) ≡ true → NamesFits h n
-    → says stage workers (codes "names" ∷ n.name ∷ decimal n.rows ∷ decimal n.slabs ∷ decimal n.bucket ∷ []) ≡ Ok (said.Names n)
-names_row_says stage workers h n follows fits =
+pub names_row_says : (version : Version) (stage : Stage) (workers : ℕ) (h : Head) (n : NamesHead) → may_follow stage (words.Head heads.Names) ≡ true → NamesFits h n
+    → says version stage workers (codes "names" ∷ n.name ∷ decimal n.rows ∷ decimal n.slabs ∷ decimal n.bucket ∷ []) ≡ Ok (said.Names n)
+names_row_says version stage workers h n follows fits =
     let rest : List (List ℕ) = n.name ∷ decimal n.rows ∷ decimal n.slabs ∷ decimal n.bucket ∷ [] in
-    by_word stage workers (codes "names") rest (words.Head heads.Names) (Ok (said.Names n)) refl follows
+    by_word version stage workers (codes "names") rest (words.Head heads.Names) (Ok (said.Names n)) refl refl follows
     (rw (
       name_says n.name fits.name,
       number_within_says 1 4096 n.rows fits.rows.0 fits.rows.1 (omega arith),
@@ -256,12 +262,12 @@ arg_says arg true is fits = ap (λ (n : ℕ). Ok n) (sym (eqb-true arg 0 is))
 arg_says arg false is fits = number_within_says 0 254 arg (omega arith) fits (omega arith)
 
 -- an `alloc` row
-alloc_row_says : (stage : Stage) (workers : ℕ) (zones : List ZoneHead) (w zone slot arg : ℕ) (reserve : Bool) → is_within 3 9 stage ≡ true
+alloc_row_says : (version : Version) (stage : Stage) (workers : ℕ) (zones : List ZoneHead) (w zone slot arg : ℕ) (reserve : Bool) → is_within 3 9 stage ≡ true
     → worker_in workers (decimal w) ≡ Ok w → IsName (zone_name zones zone) → slot ≤ last_slot → arg ≤ 254
-    → says stage workers (op_fields zones w (Alloc zone slot arg reserve)) ≡ Ok (op_saying zones w (Alloc zone slot arg reserve))
-alloc_row_says stage workers zones w zone slot arg reserve follows worker named slot_is arg_is =
+    → says version stage workers (op_fields zones w (Alloc zone slot arg reserve)) ≡ Ok (op_saying zones w (Alloc zone slot arg reserve))
+alloc_row_says version stage workers zones w zone slot arg reserve follows worker named slot_is arg_is =
     let rest : List (List ℕ) = decimal w ∷ zone_name zones zone ∷ decimal slot ∷ (arg_fields arg ++ reserve_fields reserve) in
-    by_word stage workers (codes "alloc") rest (words.Zone in_zone.Alloc) (Ok (op_saying zones w (Alloc zone slot arg reserve))) refl follows
+    by_word version stage workers (codes "alloc") rest (words.Zone in_zone.Alloc) (Ok (op_saying zones w (Alloc zone slot arg reserve))) refl refl follows
     (rw (
       options_say (eqb arg 0) (decimal arg) reserve,
       worker,
@@ -271,58 +277,61 @@ alloc_row_says stage workers zones w zone slot arg reserve follows worker named 
     ) refl)
 
 -- a row of a worker
-pub op_row_says : (stage : Stage) (workers : ℕ) (h : Head) (w : ℕ) (op : Op) → is_within 3 9 stage ≡ true → w < workers → workers ≤ 2 ^ 64
-    → AreNamed h.zones → OpFits h op → says stage workers (op_fields h.zones w op) ≡ Ok (op_saying h.zones w op)
-op_row_says stage workers h w (Alloc zone slot arg reserve) follows below few named fits =
-    alloc_row_says stage workers h.zones w zone slot arg reserve follows (worker_says workers w below few) (named zone fits.0) fits.1 fits.2
-op_row_says stage workers h w (Free slot) follows below few named fits =
-    by_word stage workers (codes "free") (decimal w ∷ decimal slot ∷ []) (words.Work by_self.Free) (Ok (said.Work w (Free slot))) refl follows
+pub op_row_says : (version : Version) (stage : Stage) (workers : ℕ) (h : Head) (w : ℕ) (op : Op) → is_within 3 9 stage ≡ true → w < workers → workers ≤ 2 ^ 64
+    → AreNamed h.zones → OpFits h op → says version stage workers (op_fields h.zones w op) ≡ Ok (op_saying h.zones w op)
+op_row_says version stage workers h w (Alloc zone slot arg reserve) follows below few named fits =
+    alloc_row_says version stage workers h.zones w zone slot arg reserve follows (worker_says workers w below few) (named zone fits.0) fits.1 fits.2
+op_row_says version stage workers h w (Free slot) follows below few named fits =
+    by_word version stage workers (codes "free") (decimal w ∷ decimal slot ∷ []) (words.Work by_self.Free) (Ok (said.Work w (Free slot))) refl refl follows
     (rw (worker_says workers w below few, slot_says slot fits) refl)
-op_row_says stage workers h w Enter follows below few named fits =
-    by_word stage workers (codes "enter") (decimal w ∷ []) (words.Work by_self.Enter) (Ok (said.Work w Enter)) refl follows
+op_row_says version stage workers h w Enter follows below few named fits =
+    by_word version stage workers (codes "enter") (decimal w ∷ []) (words.Work by_self.Enter) (Ok (said.Work w Enter)) refl refl follows
     (rw (worker_says workers w below few) refl)
-op_row_says stage workers h w Exit follows below few named fits =
-    by_word stage workers (codes "exit") (decimal w ∷ []) (words.Work by_self.Exit) (Ok (said.Work w Exit)) refl follows
+op_row_says version stage workers h w Exit follows below few named fits =
+    by_word version stage workers (codes "exit") (decimal w ∷ []) (words.Work by_self.Exit) (Ok (said.Work w Exit)) refl refl follows
     (rw (worker_says workers w below few) refl)
-op_row_says stage workers h w (Bind key value) follows below few named fits =
-    by_word stage workers (codes "bind") (decimal w ∷ decimal key ∷ decimal value ∷ []) (words.Work by_self.Bind) (Ok (said.Work w (Bind key value))) refl follows
+op_row_says version stage workers h w (Bind key value) follows below few named fits =
+    by_word version stage workers (codes "bind") (decimal w ∷ decimal key ∷ decimal value ∷ []) (words.Work by_self.Bind) (Ok (said.Work w (Bind key value))) refl refl follows
     (rw (worker_says workers w below few, number_says key fits.1, number_says value fits.2) refl)
-op_row_says stage workers h w (Unbind key) follows below few named fits =
-    by_word stage workers (codes "unbind") (decimal w ∷ decimal key ∷ []) (words.Work by_self.Unbind) (Ok (said.Work w (Unbind key))) refl follows
+op_row_says version stage workers h w (Unbind key) follows below few named fits =
+    by_word version stage workers (codes "unbind") (decimal w ∷ decimal key ∷ []) (words.Work by_self.Unbind) (Ok (said.Work w (Unbind key))) refl refl follows
     (rw (worker_says workers w below few, number_says key fits.1) refl)
-op_row_says stage workers h w (Look key) follows below few named fits =
-    by_word stage workers (codes "look") (decimal w ∷ decimal key ∷ []) (words.Work by_self.Look) (Ok (said.Work w (Look key))) refl follows
+op_row_says version stage workers h w (Look key) follows below few named fits =
+    by_word version stage workers (codes "look") (decimal w ∷ decimal key ∷ []) (words.Work by_self.Look) (Ok (said.Work w (Look key))) refl refl follows
     (rw (worker_says workers w below few, number_says key fits.1) refl)
-op_row_says stage workers h w (Trim zone) follows below few named fits =
-    by_word stage workers (codes "trim") (decimal w ∷ zone_name h.zones zone ∷ []) (words.Zone in_zone.Trim) (Ok (op_saying h.zones w (Trim zone))) refl follows
+op_row_says version stage workers h w (Trim zone) follows below few named fits =
+    by_word version stage workers (codes "trim") (decimal w ∷ zone_name h.zones zone ∷ []) (words.Zone in_zone.Trim) (Ok (op_saying h.zones w (Trim zone))) refl refl follows
     (rw (worker_says workers w below few, name_says (zone_name h.zones zone) (named zone fits)) refl)
-op_row_says stage workers h w (Drain zone) follows below few named fits =
-    by_word stage workers (codes "drain") (decimal w ∷ zone_name h.zones zone ∷ []) (words.Zone in_zone.Drain) (Ok (op_saying h.zones w (Drain zone))) refl follows
+op_row_says version stage workers h w (Drain zone) follows below few named fits =
+    by_word version stage workers (codes "drain") (decimal w ∷ zone_name h.zones zone ∷ []) (words.Zone in_zone.Drain) (Ok (op_saying h.zones w (Drain zone))) refl refl follows
     (rw (worker_says workers w below few, name_says (zone_name h.zones zone) (named zone fits)) refl)
-op_row_says stage workers h w (DrainSeat zone) follows below few named fits =
-    by_word stage workers (codes "drainseat") (decimal w ∷ zone_name h.zones zone ∷ []) (words.Zone in_zone.DrainSeat) (Ok (op_saying h.zones w (DrainSeat zone))) refl follows
+op_row_says version stage workers h w (DrainSeat zone) follows below few named fits =
+    by_word version stage workers (codes "drainseat") (decimal w ∷ zone_name h.zones zone ∷ []) (words.Zone in_zone.DrainSeat) (Ok (op_saying h.zones w (DrainSeat zone))) refl refl follows
     (rw (worker_says workers w below few, name_says (zone_name h.zones zone) (named zone fits)) refl)
-op_row_says stage workers h w (Prealloc zone items) follows below few named fits =
-    by_word stage workers (codes "prealloc") (decimal w ∷ zone_name h.zones zone ∷ decimal items ∷ []) (words.Zone in_zone.Prealloc) (Ok (op_saying h.zones w (Prealloc zone items))) refl follows
+op_row_says version stage workers h w (Prealloc zone items) follows below few named fits =
+    by_word version stage workers (codes "prealloc") (decimal w ∷ zone_name h.zones zone ∷ decimal items ∷ []) (words.Zone in_zone.Prealloc) (Ok (op_saying h.zones w (Prealloc zone items))) refl refl follows
     (rw (worker_says workers w below few, name_says (zone_name h.zones zone) (named zone fits.0), number_within_says 0 262144 items (omega arith) fits.1 (omega arith)) refl)
 
 -- ---- between the rounds
 
--- a `give` row
-pub between_row_says : (stage : Stage) (workers : ℕ) (h : Head) (b : Between) → may_follow stage words.Give ≡ true → h.workers ≤ workers → workers ≤ 2 ^ 64
-    → BetweenFits h b → says stage workers (between_row b) ≡ Ok (said.Give b)
-between_row_says stage workers h (Give giver slot taker slot2) follows enough few fits =
-    by_word stage workers (codes "give") (decimal giver ∷ decimal slot ∷ decimal taker ∷ decimal slot2 ∷ []) words.Give (Ok (said.Give (Give giver slot taker slot2))) refl follows
+-- a `give` row, and a `setmax` row where the version has it
+pub between_row_says : (version : Version) (stage : Stage) (workers : ℕ) (h : Head) (b : Between) → is_within 9 9 stage ≡ true → IsKnown version (Moves b) → h.workers ≤ workers → workers ≤ 2 ^ 64
+    → AreNamed h.zones → BetweenFits h b → says version stage workers (between_fields h.zones b) ≡ Ok (between_saying h.zones b)
+between_row_says version stage workers h (Give giver slot taker slot2) follows has enough few named fits =
+    by_word version stage workers (codes "give") (decimal giver ∷ decimal slot ∷ decimal taker ∷ decimal slot2 ∷ []) words.Give (Ok (said.Give giver slot taker slot2)) refl refl follows
     (rw (
       worker_says workers giver (omega (arith, fits.0)) few,
       slot_says slot fits.1,
       worker_says workers taker (omega (arith, fits.2)) few,
       slot_says slot2 fits.3,
     ) refl)
+between_row_says version stage workers h (SetMax zone limit) follows has enough few named fits =
+    by_word version stage workers (codes "setmax") (zone_name h.zones zone ∷ decimal limit ∷ []) words.SetMax (Ok (between_saying h.zones (SetMax zone limit))) refl has follows
+    (rw (name_says (zone_name h.zones zone) (named zone fits.0), number_within_says 0 1000000 limit (omega arith) fits.1 (omega arith)) refl)
 
 -- the rows of one word
-pub round_row_says : (stage : Stage) (workers : ℕ) → may_follow stage words.Round ≡ true → says stage workers (codes "round" ∷ []) ≡ Ok said.Round
-round_row_says stage workers follows = by_word stage workers (codes "round") [] words.Round (Ok said.Round) refl follows refl
+pub round_row_says : (version : Version) (stage : Stage) (workers : ℕ) → may_follow stage words.Round ≡ true → says version stage workers (codes "round" ∷ []) ≡ Ok said.Round
+round_row_says version stage workers follows = by_word version stage workers (codes "round") [] words.Round (Ok said.Round) refl refl follows refl
 
-pub end_row_says : (stage : Stage) (workers : ℕ) → may_follow stage words.End ≡ true → says stage workers (codes "end" ∷ []) ≡ Ok said.End
-end_row_says stage workers follows = by_word stage workers (codes "end") [] words.End (Ok said.End) refl follows refl
+pub end_row_says : (version : Version) (stage : Stage) (workers : ℕ) → may_follow stage words.End ≡ true → says version stage workers (codes "end" ∷ []) ≡ Ok said.End
+end_row_says version stage workers follows = by_word version stage workers (codes "end") [] words.End (Ok said.End) refl refl follows refl

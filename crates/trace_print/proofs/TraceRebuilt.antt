@@ -1,6 +1,6 @@
 -- What rows say one after another, and what stands behind them: a header, and the lines below it.
 use Rattle.std.proofs.Common.{◌≡◌, ℕ, ◌≤◌, Bool, true, leb, List, [], ◌∷◌, ◌++◌, Option, None, Ok, refl, sym, ap, subst, ◌∙◌, arith}
-use Rattle.std.specs.Prelude.{is_some}
+use Rattle.std.specs.Prelude.{All, is_some}
 use Rattle.std.proofs.lemmas.Bool.{le-leb, and_from}
 use Rattle.trace_text.specs.declared.head.ClockHead.{ClockHead}
 use Rattle.trace_text.specs.declared.head.Head.{Head}
@@ -8,11 +8,11 @@ use Rattle.trace_text.specs.declared.head.NamesHead.{NamesHead}
 use Rattle.trace_text.specs.declared.head.ZoneHead.{ZoneHead}
 use Rattle.trace_text.specs.declared.trace_reading.entry.Entry.{Entry}
 use Rattle.trace_text.specs.declared.trace_reading.said.Said.{Said}
-use Rattle.trace_text.specs.Grammar.{stage_of, last_stage, workers_after, workers_of, domains_after, clock_after, detail_after, names_after, new_zone, zones_of, head_of, entry_of, entries_of, line_of, done, clash_after}
+use Rattle.trace_text.specs.Grammar.{stage_of, last_stage, version_after, version_of, workers_after, workers_of, domains_after, clock_after, detail_after, names_after, new_zone, zones_of, head_of, entry_of, entries_of, line_of, done, clash_after}
 use Rattle.trace_text.specs.Lines.{Line}
 use Rattle.trace_text.specs.Reading.{held, in_section}
 use Rattle.trace_text.specs.TraceLine.{says, rank, is_within}
-use Rattle.trace_text.specs.Valid.{LinesFit}
+use Rattle.trace_text.specs.Valid.{IsKnown, LinesFit}
 use Rattle.trace_text.proofs.TraceTests.{IsClear, no_clash}
 
 -- said one after another, behind those
@@ -24,16 +24,17 @@ behind (s ∷ more) before = behind more (s ∷ before)
 abbrev pub SaysAll : List Said → List (List (List ℕ)) → List Said → Type 0
 SaysAll before [] [] = Unit {0}
 SaysAll before (r ∷ rows) (s ∷ saids) =
-    (says (last_stage before) (workers_of before) r ≡ Ok s) × (clash_after before s ≡ None) × SaysAll (s ∷ before) rows saids
+    (says (version_of before) (last_stage before) (workers_of before) r ≡ Ok s) × (clash_after before s ≡ None) × SaysAll (s ∷ before) rows saids
 SaysAll before [] (s ∷ saids) = ⊥
 SaysAll before (r ∷ rows) [] = ⊥
 
--- Behind these lines there are this header and these entries, each of the lines that are still to come fits, and the last line
--- is one from this place in the order of a text to that one.
+-- Behind these lines there are this header and these entries, each of the lines that are still to come fits, the version has it, and
+-- the last line is one from this place in the order of a text to that one.
 pub record Stands (before : List Said) (h : Head) (entries : List Entry) (rest : List Line) (low high : ℕ) : Type 0 where
   pub head_is : head_of before ≡ h
   pub entries_are : entries_of before ≡ entries
   pub fit : LinesFit (done before) rest
+  pub known : All (IsKnown (version_of before)) rest
   pub above : low ≤ rank (last_stage before)
   pub below : rank (last_stage before) ≤ high
 
@@ -75,7 +76,7 @@ pub stands_within : {before : List Said} {h : Head} {entries : List Entry} {rest
 stands_within {before = before} {low = low} {high = high} from to less more stands =
     let above : low ≤ rank (last_stage before) = stands.above in
     let below : rank (last_stage before) ≤ high = stands.below in
-    record { head_is = stands.head_is; entries_are = stands.entries_are; fit = stands.fit; above = omega arith; below = omega arith }
+    record { head_is = stands.head_is; entries_are = stands.entries_are; fit = stands.fit; known = stands.known; above = omega arith; below = omega arith }
 
 -- the next line may follow the last one
 pub may_stand : {before : List Said} {h : Head} {entries : List Entry} {rest : List Line} {low high : ℕ} (from to : ℕ) → from ≤ low → high ≤ to
@@ -114,6 +115,7 @@ pub record Adds (before : List Said) (s : Said) (h g : Head) (added : List Entry
   pub head_is : and_so s h ≡ g
   pub entry_is : entry_of h.zones s ≡ added
   pub fit : LinesFit (line_of added ++ done before) left
+  pub known : All (IsKnown (version_after s (version_of before))) left
   pub above : low ≤ rank (stage_of s)
   pub below : rank (stage_of s) ≤ high
 
@@ -125,13 +127,14 @@ stands_next {before = before} {s = s} {entries = entries} {added = added} {left 
       head_is = ap (and_so s) stands.head_is ∙ adds.head_is;
       entries_are = ap (λ (es : List Entry). es ++ entry_of (zones_of before) s) stands.entries_are ∙ ap (λ (es : List Entry). entries ++ es) entry;
       fit = subst (λ (es : List Entry). LinesFit (line_of es ++ done before) left) (sym entry) adds.fit;
+      known = adds.known;
       above = adds.above;
       below = adds.below;
     }
 
 -- a row that says this line is heard
 pub next_line : {before : List Said} {h g : Head} {entries added : List Entry} {rest left : List Line} {low high from to : ℕ} (row : List (List ℕ)) (s : Said)
-    → Stands before h entries rest low high → says (last_stage before) (workers_of before) row ≡ Ok s → Adds before s h g added left from to
+    → Stands before h entries rest low high → says (version_of before) (last_stage before) (workers_of before) row ≡ Ok s → Adds before s h g added left from to
     → Hears before (row ∷ []) (s ∷ []) g (entries ++ added) left from to
 next_line {before = before} {h = h} row s stands says adds =
     record { says_all = (says, clear_behind before s h stands.head_is adds.clear, tt); stands = stands_next stands adds }

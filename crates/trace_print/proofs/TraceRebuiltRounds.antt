@@ -5,7 +5,7 @@ use Rattle.std.proofs.lemmas.Bool.{eqb-true}
 use Rattle.std.proofs.lemmas.List.{append-nil}
 use Rattle.std.proofs.lemmas.List.Elements.{All-head, All-tail}
 use Rattle.trace_text.specs.declared.between.Between.{Between}
-use Rattle.trace_text.specs.declared.between.Between.TheVariants.{Give}
+use Rattle.trace_text.specs.declared.between.Between.TheVariants.{Give, SetMax}
 use Rattle.trace_text.specs.declared.head.Head.{Head}
 use Rattle.trace_text.specs.declared.head.ZoneHead.{ZoneHead}
 use Rattle.trace_text.specs.declared.op.Op.{Op}
@@ -15,16 +15,17 @@ use Rattle.trace_text.specs.declared.trace_reading.entry.Entry.{Entry}
 use Rattle.trace_text.specs.declared.trace_reading.entry.Entry.TheVariants as entries
 use Rattle.trace_text.specs.declared.trace_reading.said.Said.{Said}
 use Rattle.trace_text.specs.declared.trace_reading.said.Said.TheVariants as said
-use Rattle.trace_print.specs.CanonicalText.{op_fields}
+use Rattle.trace_print.specs.CanonicalText.{between_fields, op_fields}
 use Rattle.trace_text.specs.NamedZones.{zone_name}
-use Rattle.trace_text.specs.Grammar.{stage_of, last_stage, workers_of, entry_of, done, zone_named}
+use Rattle.trace_text.specs.Grammar.{stage_of, last_stage, version_after, version_of, workers_of, entry_of, done, zone_named}
+use Rattle.trace_text.specs.declared.version.Version.{Version}
 use Rattle.trace_text.specs.Lines.{Line, Does, Moves, worker_lines, lines_of}
 use Rattle.trace_text.specs.Reading.{held, in_section}
 use Rattle.trace_text.specs.TraceLine.{rank}
-use Rattle.trace_text.specs.Valid.{HeadFits, OpFits, BetweenFits, RoundFits, LastRoundEnds, LineFits, LinesFit}
-use Rattle.trace_print.proofs.CanonicalRows.{between_row, ops_rows, rounds_rows}
+use Rattle.trace_text.specs.Valid.{HeadFits, OpFits, BetweenFits, RoundFits, LastRoundEnds, LineFits, LinesFit, IsKnown}
+use Rattle.trace_print.proofs.CanonicalRows.{ops_rows, rounds_rows}
 use Rattle.trace_print.proofs.RoundEntries.{ops_entries, rounds_entries}
-use Rattle.trace_print.proofs.RowSaid.{op_saying, ops_saids, rounds_saids, op_row_says, between_row_says, round_row_says, end_row_says, zones_are_named}
+use Rattle.trace_print.proofs.RowSaid.{between_saying, op_saying, ops_saids, rounds_saids, op_row_says, between_row_says, round_row_says, end_row_says, zones_are_named}
 use Rattle.trace_text.proofs.RowZones.{zone_found, zones_differ}
 use Rattle.trace_print.proofs.TraceRebuilt.{Stands, Hears, Adds, IsClearBehind, and_so, behind, part, hears_nothing, hears_append, stands_within, may_stand, next_line}
 
@@ -181,6 +182,20 @@ op_keeps_head h w (Drain zone) = same_head h
 op_keeps_head h w (DrainSeat zone) = same_head h
 op_keeps_head h w (Prealloc zone items) = same_head h
 
+-- nor does it say a version
+op_keeps_version : (zones : List ZoneHead) (w : ℕ) (op : Op) (version : Version) → version_after (op_saying zones w op) version ≡ version
+op_keeps_version zones w (Alloc zone slot arg reserve) version = refl
+op_keeps_version zones w (Free slot) version = refl
+op_keeps_version zones w Enter version = refl
+op_keeps_version zones w Exit version = refl
+op_keeps_version zones w (Bind key value) version = refl
+op_keeps_version zones w (Unbind key) version = refl
+op_keeps_version zones w (Look key) version = refl
+op_keeps_version zones w (Trim zone) version = refl
+op_keeps_version zones w (Drain zone) version = refl
+op_keeps_version zones w (DrainSeat zone) version = refl
+op_keeps_version zones w (Prealloc zone items) version = refl
+
 -- it stands among the lines of the workers
 op_place : (zones : List ZoneHead) (w : ℕ) (op : Op) → rank (stage_of (op_saying zones w op)) ≡ 8
 op_place zones w (Alloc zone slot arg reserve) = refl
@@ -220,13 +235,17 @@ op_step h w op before earlier rest head lt fits stands =
     let workers : workers_of before ≡ h.workers = workers_are before h earlier (Does w op ∷ rest) 3 9 stands in
     let place : rank (stage_of (op_saying h.zones w op)) ≡ 8 = op_place h.zones w op in
     let most : h.workers ≤ 16 = head.workers.1 in
+    let P : Version → Type 0 = λ version. All (IsKnown version) rest in
+    let known : P (version_after (op_saying h.zones w op) (version_of before)) =
+    subst P (sym (op_keeps_version h.zones w op (version_of before))) (All-tail (IsKnown (version_of before)) (Does w op) rest stands.known) in
     next_line (op_fields h.zones w op) (op_saying h.zones w op) stands
-    (op_row_says (last_stage before) (workers_of before) h w op (may_stand 3 9 (omega arith) (omega arith) stands) (omega arith) (omega arith) (zones_are_named h head) fits)
+    (op_row_says (version_of before) (last_stage before) (workers_of before) h w op (may_stand 3 9 (omega arith) (omega arith) stands) (omega arith) (omega arith) (zones_are_named h head) fits)
     (record {
       clear = op_is_clear h w op (done before) head fits stands.fit.0;
       head_is = op_keeps_head h w op;
       entry_is = op_entry h w op head fits;
       fit = stands.fit.1;
+      known = known;
       above = omega arith;
       below = omega arith;
     })
@@ -249,9 +268,9 @@ give_finds_free : (lines : List Line) (giver slot taker slot2 : ℕ) → is_some
 give_finds_free lines giver slot taker slot2 full free =
     rw (not_to_itself lines giver slot taker slot2 (eqb giver taker) (eqb slot slot2) refl refl full free, free) refl
 
-give_adds : (h : Head) (b : Between) (before : List Said) (rest : List Line) → LineFits (done before) (Moves b) → LinesFit (Moves b ∷ done before) rest
-    → Adds before (said.Give b) h h (entries.Moves b ∷ []) rest 9 9
-give_adds h (Give giver slot taker slot2) before rest line fit = record {
+between_adds : (h : Head) (b : Between) (before : List Said) (rest : List Line) → HeadFits h → BetweenFits h b → LineFits (done before) (Moves b) → LinesFit (Moves b ∷ done before) rest
+    → All (IsKnown (version_of before)) rest → Adds before (between_saying h.zones b) h h (entries.Moves b ∷ []) rest 9 9
+between_adds h (Give giver slot taker slot2) before rest head fits line fit known = record {
   clear = record {
     clock = refl;
     names = refl;
@@ -266,30 +285,52 @@ give_adds h (Give giver slot taker slot2) before rest line fit = record {
   head_is = same_head h;
   entry_is = refl;
   fit = fit;
+  known = known;
+  above = omega arith;
+  below = omega arith;
+}
+between_adds h (SetMax zone limit) before rest head fits line fit known = record {
+  clear = record {
+    clock = refl;
+    names = refl;
+    name = refl;
+    zone = zone_is_not_lacking h zone head fits.0;
+    most = refl;
+    filled = refl;
+    empty = refl;
+    opened = refl;
+    closed = refl;
+  };
+  head_is = same_head h;
+  entry_is = rw (zone_is_there h zone head fits.0) refl;
+  fit = fit;
+  known = known;
   above = omega arith;
   below = omega arith;
 }
 
-give_step : (h : Head) (b : Between) (before : List Said) (earlier : List Entry) (rest : List Line) → HeadFits h → BetweenFits h b
+between_step : (h : Head) (b : Between) (before : List Said) (earlier : List Entry) (rest : List Line) → HeadFits h → BetweenFits h b
     → Stands before h earlier (Moves b ∷ rest) 9 9
-    → Hears before (between_row b ∷ []) (said.Give b ∷ []) h (earlier ++ entries.Moves b ∷ []) rest 9 9
-give_step h b before earlier rest head fits stands =
+    → Hears before (between_fields h.zones b ∷ []) (between_saying h.zones b ∷ []) h (earlier ++ entries.Moves b ∷ []) rest 9 9
+between_step h b before earlier rest head fits stands =
     let workers : workers_of before ≡ h.workers = workers_are before h earlier (Moves b ∷ rest) 9 9 stands in
     let most : h.workers ≤ 16 = head.workers.1 in
-    next_line (between_row b) (said.Give b) stands
-    (between_row_says (last_stage before) (workers_of before) h b (may_stand 9 9 (omega arith) (omega arith) stands) (omega arith) (omega arith) fits)
-    (give_adds h b before rest stands.fit.0 stands.fit.1)
+    let known = All-head (IsKnown (version_of before)) (Moves b) rest stands.known in
+    next_line (between_fields h.zones b) (between_saying h.zones b) stands
+    (between_row_says (version_of before) (last_stage before) (workers_of before) h b (may_stand 9 9 (omega arith) (omega arith) stands) known (omega arith) (omega arith) (zones_are_named h head) fits)
+    (between_adds h b before rest head fits stands.fit.0 stands.fit.1 (All-tail (IsKnown (version_of before)) (Moves b) rest stands.known))
 
 round_step : (h : Head) (before : List Said) (earlier : List Entry) (rest : List Line) → Stands before h earlier rest 3 9
     → Hears before ((codes "round" ∷ []) ∷ []) (said.Round ∷ []) h (earlier ++ entries.Round ∷ []) rest 9 9
 round_step h before earlier rest stands =
     next_line (codes "round" ∷ []) said.Round stands
-    (round_row_says (last_stage before) (workers_of before) (may_stand 3 9 (omega arith) (omega arith) stands))
+    (round_row_says (version_of before) (last_stage before) (workers_of before) (may_stand 3 9 (omega arith) (omega arith) stands))
     (record {
       clear = record { clock = refl; names = refl; name = refl; zone = refl; most = refl; filled = refl; empty = refl; opened = refl; closed = refl };
       head_is = same_head h;
       entry_is = refl;
       fit = stands.fit;
+      known = stands.known;
       above = omega arith;
       below = omega arith;
     })
@@ -299,12 +340,13 @@ pub end_step : (h : Head) (before : List Said) (earlier : List Entry) → Stands
     → Hears before ((codes "end" ∷ []) ∷ []) (said.End ∷ []) h (earlier ++ []) [] 10 10
 end_step h before earlier stands =
     next_line (codes "end" ∷ []) said.End stands
-    (end_row_says (last_stage before) (workers_of before) (may_stand 3 9 (omega arith) (omega arith) stands))
+    (end_row_says (version_of before) (last_stage before) (workers_of before) (may_stand 3 9 (omega arith) (omega arith) stands))
     (record {
       clear = record { clock = refl; names = refl; name = refl; zone = refl; most = refl; filled = refl; empty = refl; opened = refl; closed = refl };
       head_is = same_head h;
       entry_is = refl;
       fit = stands.fit;
+      known = stands.known;
       above = omega arith;
       below = omega arith;
     })
@@ -353,13 +395,14 @@ lists_step h w (ops ∷ lists) before earlier rest head all fits stands =
     (lists_step h (w + 1) lists (behind (map (op_saying h.zones w) ops) before) (earlier ++ map (entries.Does w) ops) rest head (omega arith) (All-tail (All (OpFits h)) ops lists fits) first.stands)
 
 -- the lines between two rounds
-gives_step : (h : Head) (gives : List Between) (before : List Said) (earlier : List Entry) (rest : List Line) → HeadFits h → All (BetweenFits h) gives
-    → Stands before h earlier (map Moves gives ++ rest) 9 9
-    → Hears before (map between_row gives) (map said.Give gives) h (earlier ++ map entries.Moves gives) rest 9 9
-gives_step h [] before earlier rest head fits stands = hears_no_more stands
-gives_step h (b ∷ gives) before earlier rest head fits stands =
-    let first = give_step h b before earlier (map Moves gives ++ rest) head (All-head (BetweenFits h) b gives fits) stands in
-    hears_more earlier (entries.Moves b ∷ []) (map entries.Moves gives) first (gives_step h gives (said.Give b ∷ before) (earlier ++ entries.Moves b ∷ []) rest head (All-tail (BetweenFits h) b gives fits) first.stands)
+betweens_step : (h : Head) (betweens : List Between) (before : List Said) (earlier : List Entry) (rest : List Line) → HeadFits h → All (BetweenFits h) betweens
+    → Stands before h earlier (map Moves betweens ++ rest) 9 9
+    → Hears before (map (between_fields h.zones) betweens) (map (between_saying h.zones) betweens) h (earlier ++ map entries.Moves betweens) rest 9 9
+betweens_step h [] before earlier rest head fits stands = hears_no_more stands
+betweens_step h (b ∷ betweens) before earlier rest head fits stands =
+    let first = between_step h b before earlier (map Moves betweens ++ rest) head (All-head (BetweenFits h) b betweens fits) stands in
+    hears_more earlier (entries.Moves b ∷ []) (map entries.Moves betweens) first
+    (betweens_step h betweens (between_saying h.zones b ∷ before) (earlier ++ entries.Moves b ∷ []) rest head (All-tail (BetweenFits h) b betweens fits) first.stands)
 
 -- ---- the rounds
 
@@ -371,18 +414,18 @@ rounds_step h r [] before earlier head fits last stands =
     let round : RoundFits h r = All-head (RoundFits h) r [] fits in
     let ops : List Line = worker_lines 0 r.ops in
     let same : (ops ++ map Moves r.between) ++ [] ≡ ops ++ [] =
-    append-nil (ops ++ map Moves r.between) ∙ ap (λ (gives : List Between). ops ++ map Moves gives) last in
+    append-nil (ops ++ map Moves r.between) ∙ ap (λ (betweens : List Between). ops ++ map Moves betweens) last in
     lists_step h 0 r.ops before earlier [] head (omega (arith, round.workers)) round.ops (stands_as (ops ++ []) same stands)
 rounds_step h r (next ∷ rounds) before earlier head fits last stands =
     let round : RoundFits h r = All-head (RoundFits h) r (next ∷ rounds) fits in
     let more : List Line = lines_of (next ∷ rounds) in
-    let gives : List Line = map Moves r.between in
-    let split = append_assoc (worker_lines 0 r.ops) gives more in
-    let one = lists_step h 0 r.ops before earlier (gives ++ more) head (omega (arith, round.workers)) round.ops (stands_as (worker_lines 0 r.ops ++ (gives ++ more)) split stands) in
+    let betweens : List Line = map Moves r.between in
+    let split = append_assoc (worker_lines 0 r.ops) betweens more in
+    let one = lists_step h 0 r.ops before earlier (betweens ++ more) head (omega (arith, round.workers)) round.ops (stands_as (worker_lines 0 r.ops ++ (betweens ++ more)) split stands) in
     let ops : List Entry = earlier ++ ops_entries 0 r.ops in
     let begun : List Entry = ops ++ entries.Round ∷ [] in
-    let two = round_step h _ ops (gives ++ more) one.stands in
-    let three = gives_step h r.between _ begun more head round.between two.stands in
+    let two = round_step h _ ops (betweens ++ more) one.stands in
+    let three = betweens_step h r.between _ begun more head round.between two.stands in
     let four = rounds_step h next rounds _ (begun ++ map entries.Moves r.between) head (All-tail (RoundFits h) r (next ∷ rounds) fits) last (stands_within 3 9 (omega arith) (omega arith) three.stands) in
     hears_more earlier (ops_entries 0 r.ops) (entries.Round ∷ (map entries.Moves r.between ++ rounds_entries (next ∷ rounds))) one
     (hears_more ops (entries.Round ∷ []) (map entries.Moves r.between ++ rounds_entries (next ∷ rounds)) two

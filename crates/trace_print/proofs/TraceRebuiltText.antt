@@ -1,5 +1,5 @@
 -- The canonical text of a valid trace is a text of it.
-use Rattle.std.proofs.Common.{◌≡◌, ℕ, Bool, true, false, List, [], ◌∷◌, ◌++◌, Option, Some, None, Ok, refl, sym, ap, ap₂, subst, ◌∙◌, append_assoc}
+use Rattle.std.proofs.Common.{◌≡◌, ℕ, Bool, true, false, List, [], ◌∷◌, ◌++◌, Option, Some, None, Ok, refl, sym, ap, ap₂, subst, ◌∙◌, append_assoc, arith}
 use Rattle.std.specs.Prelude.{All, codes}
 use Rattle.std.specs.List.{slice_split, flat_map}
 use Rattle.std.proofs.lemmas.List.{append-nil}
@@ -19,18 +19,21 @@ use Rattle.trace_text.specs.declared.trace_reading.word.HeadWord.TheVariants as 
 use Rattle.trace_text.specs.declared.trace_reading.word.Word.{Word}
 use Rattle.trace_text.specs.declared.trace_reading.word.Word.TheVariants as words
 use Rattle.text_lines.specs.CanonicalLine.{line}
-use Rattle.trace_text.specs.Grammar.{last_stage, workers_of, is_round, rounds_in, sayings, trace_of, trace_test}
+use Rattle.trace_text.specs.declared.version.Version.{Version}
+use Rattle.trace_text.specs.declared.version.Version.TheVariants as versions
+use Rattle.trace_text.proofs.TraceSaying.{says_right}
+use Rattle.trace_text.specs.Grammar.{last_stage, version_after, version_of, version_or_first, workers_of, is_round, rounds_in, sayings, trace_of, trace_test}
 use Rattle.trace_text.specs.Lines.{lines_of}
 use Rattle.trace_print.specs.TextLaws.{ValidTracesHaveTexts}
-use Rattle.trace_text.specs.TraceLine.{may_follow, placed, said_by, says, word_named, word_or_wrong}
+use Rattle.trace_text.specs.TraceLine.{is_known, known, may_follow, placed, said_by, says, version_in, word_named, word_or_wrong}
 use Rattle.trace_text.specs.Valid.{HeadFits, IsValid, LastRoundEnds, RoundFits}
-use Rattle.trace_print.proofs.CanonicalRows.{rounds_rows, trace_rows}
+use Rattle.trace_print.proofs.CanonicalRows.{first_row, head_rows, other_rows, rounds_rows, trace_rows}
 use Rattle.trace_print.proofs.RoundEntries.{rounds_entries, rounds_rebuilt}
 use Rattle.trace_print.proofs.RowFields.{text_is, rows_right}
-use Rattle.trace_print.proofs.RowSaid.{rounds_saids}
+use Rattle.trace_print.proofs.RowSaid.{head_saids, other_saids, rounds_saids}
 use Rattle.trace_print.proofs.RowText.{PassAll, behind as line_behind, numbered, right_rows}
 use Rattle.trace_print.proofs.TraceRebuilt.{SaysAll, Stands, Hears, behind, hears_append}
-use Rattle.trace_print.proofs.TraceRebuiltHead.{other_head_rows, other_head_saids, head_step}
+use Rattle.trace_print.proofs.TraceRebuiltHead.{head_step}
 use Rattle.trace_print.proofs.TraceRebuiltRounds.{rounds_step, end_step}
 
 -- ---- what all rows say
@@ -40,29 +43,38 @@ rounds_heard : (h : Head) (rounds : List Round) (before : List Said) (earlier : 
 rounds_heard h [] before earlier head fits last stands = absurd last
 rounds_heard h (r ∷ rounds) before earlier head fits last stands = rounds_step h r rounds before earlier head fits last stands
 
--- the rows behind the first line
-abbrev pub other_rows : Trace → List (List (List ℕ))
-other_rows t = other_head_rows t.head ++ (rounds_rows t.head.zones t.rounds ++ (codes "end" ∷ []) ∷ [])
-
-abbrev pub other_saids : Trace → List Said
-other_saids t = other_head_saids t.head ++ (rounds_saids t.head.zones t.rounds ++ said.End ∷ [])
-
 -- each row of a valid trace says its line, and behind them stand its header and the lines of its rounds
-pub trace_heard : (t : Trace) → IsValid t → Hears (said.Uma ∷ []) (other_rows t) (other_saids t) t.head (rounds_entries t.rounds ++ []) [] 10 10
+pub trace_heard : (t : Trace) → IsValid t → Hears (said.Uma t.version ∷ []) (other_rows t) (other_saids t) t.head (rounds_entries t.rounds ++ []) [] 10 10
 trace_heard t valid =
-    let head = head_step t.head (lines_of t.rounds) valid.head valid.lines in
-    let rounds = rounds_heard t.head t.rounds (behind (other_head_saids t.head) (said.Uma ∷ [])) [] valid.head valid.rounds valid.last head.stands in
+    let head = head_step t.version t.head (lines_of t.rounds) valid.head valid.lines valid.known in
+    let rounds = rounds_heard t.head t.rounds (behind (head_saids t.head) (said.Uma t.version ∷ [])) [] valid.head valid.rounds valid.last head.stands in
     let last = end_step t.head _ (rounds_entries t.rounds) rounds.stands in
     hears_append head (hears_append rounds last)
 
+-- only the first line says a version
+says_no_version : (version : Version) (stage : Stage) (workers : ℕ) (row : List (List ℕ)) (s : Said) (old : Version) → says version stage workers row ≡ Ok s → version_after s old ≡ old
+says_no_version version stage workers row (said.Uma other) old e = absurd (let place = (says_right version stage workers row (said.Uma other) e).place in omega arith)
+says_no_version version stage workers row s old e = refl
+
+version_stays : (before : List Said) (rows : List (List (List ℕ))) (saids : List Said) → SaysAll before rows saids → version_of (behind saids before) ≡ version_of before
+version_stays before [] [] says_all = refl
+version_stays before [] (s ∷ saids) says_all = absurd says_all
+version_stays before (row ∷ rows) [] says_all = absurd says_all
+version_stays before (row ∷ rows) (s ∷ saids) says_all =
+    version_stays (s ∷ before) rows saids says_all.2 ∙ says_no_version (version_of before) (last_stage before) (workers_of before) row s (version_of before) says_all.0
+
 -- what they say gives the trace back
-pub trace_rebuilt : (t : Trace) → IsValid t → trace_of (behind (other_saids t) (said.Uma ∷ [])) ≡ t
+pub trace_rebuilt : (t : Trace) → IsValid t → trace_of (behind (other_saids t) (said.Uma t.version ∷ [])) ≡ t
 trace_rebuilt t valid =
     let stands = (trace_heard t valid).stands in
-    let made : Head → List Entry → Trace = λ h es. record { head = h; rounds = rounds_in h.workers (slice_split is_round es) } in
-    let with_rounds : List Round → Trace = λ rounds. record { head = t.head; rounds = rounds } in
+    let before : List Said = behind (other_saids t) (said.Uma t.version ∷ []) in
+    let version : version_of before ≡ t.version = version_stays (said.Uma t.version ∷ []) (other_rows t) (other_saids t) (trace_heard t valid).says_all in
+    let made : Head → List Entry → Trace = λ h es. record { version = version_of before; head = h; rounds = rounds_in h.workers (slice_split is_round es) } in
+    let with_rounds : List Round → Trace = λ rounds. record { version = version_of before; head = t.head; rounds = rounds } in
+    let with_version : Version → Trace = λ v. record { version = v; head = t.head; rounds = t.rounds } in
     ap₂ made stands.head_is (stands.entries_are ∙ append-nil (rounds_entries t.rounds))
     ∙ ap with_rounds (rounds_rebuilt t.head t.rounds valid.rounds valid.last)
+    ∙ ap with_version version
 
 -- ---- behind `end` nothing is said
 
@@ -79,38 +91,44 @@ nothing_follows (words.Work word) = refl
 nothing_follows (words.Zone word) = refl
 nothing_follows words.Round = refl
 nothing_follows words.Give = refl
+nothing_follows words.SetMax = refl
 nothing_follows words.End = refl
 
-no_word_follows : (o : Option Word) (workers : ℕ) (rest : List (List ℕ)) (s : Said)
-    → (word_or_wrong o >>= (λ (word : Word). placed (may_follow stages.End word) >>= (λ fits. said_by workers word rest))) ≡ Ok s → ⊥
-no_word_follows None workers rest s e = cc
-no_word_follows (Some word) workers rest s e = let none = rw (nothing_follows word) at e in cc
+unplaced_says_nothing : (has : Bool) (workers : ℕ) (word : Word) (rest : List (List ℕ)) (s : Said)
+    → (known has >>= (λ is. placed false >>= (λ fits. said_by workers word rest))) ≡ Ok s → ⊥
+unplaced_says_nothing true workers word rest s e = cc
+unplaced_says_nothing false workers word rest s e = cc
 
-nothing_is_said : (workers : ℕ) (row : List (List ℕ)) (s : Said) → says stages.End workers row ≡ Ok s → ⊥
-nothing_is_said workers [] s e = cc
-nothing_is_said workers (first ∷ rest) s e = no_word_follows (word_named first) workers rest s e
+no_word_follows : (version : Version) (o : Option Word) (workers : ℕ) (rest : List (List ℕ)) (s : Said)
+    → (word_or_wrong o >>= (λ (word : Word). known (is_known version word) >>= (λ is. placed (may_follow stages.End word) >>= (λ fits. said_by workers word rest)))) ≡ Ok s → ⊥
+no_word_follows version None workers rest s e = cc
+no_word_follows version (Some word) workers rest s e = let none = rw (nothing_follows word) at e in unplaced_says_nothing (is_known version word) workers word rest s none
 
-not_behind_end : (stage : Stage) (workers : ℕ) (row : List (List ℕ)) (s : Said) → says stage workers row ≡ Ok s → stage ≡ stages.End → ⊥
-not_behind_end stage workers row s says_it end =
-    nothing_is_said workers row s (subst (λ (g : Stage). says g workers row ≡ Ok s) end says_it)
+nothing_is_said : (version : Version) (workers : ℕ) (row : List (List ℕ)) (s : Said) → says version stages.End workers row ≡ Ok s → ⊥
+nothing_is_said version workers [] s e = cc
+nothing_is_said version workers (first ∷ rest) s e = no_word_follows version (word_named first) workers rest s e
+
+not_behind_end : (version : Version) (stage : Stage) (workers : ℕ) (row : List (List ℕ)) (s : Said) → says version stage workers row ≡ Ok s → stage ≡ stages.End → ⊥
+not_behind_end version stage workers row s says_it end =
+    nothing_is_said version workers row s (subst (λ (g : Stage). says version g workers row ≡ Ok s) end says_it)
 
 -- the row `end` says just that
 end_or_place : (fits : Bool) (s : Said) → (placed fits >>= (λ done. Ok said.End)) ≡ Ok s → s ≡ said.End
 end_or_place true s e = cc
 end_or_place false s e = absurd cc
 
-end_is_said : (stage : Stage) (workers : ℕ) (row : List (List ℕ)) (s : Said) → is_end row ≡ true → says stage workers row ≡ Ok s → s ≡ said.End
-end_is_said stage workers [] s is e = absurd cc
-end_is_said stage workers (word ∷ []) s is e =
+end_is_said : (version : Version) (stage : Stage) (workers : ℕ) (row : List (List ℕ)) (s : Said) → is_end row ≡ true → says version stage workers row ≡ Ok s → s ≡ said.End
+end_is_said version stage workers [] s is e = absurd cc
+end_is_said version stage workers (word ∷ []) s is e =
     let word_is : word ≡ codes "end" = (bytes_eq-Decides word (codes "end")).0 is in
-    end_or_place (may_follow stage words.End) s (subst (λ (w : List ℕ). says stage workers (w ∷ []) ≡ Ok s) word_is e)
-end_is_said stage workers (word ∷ next ∷ more) s is e = absurd cc
+    end_or_place (may_follow stage words.End) s (subst (λ (w : List ℕ). says version stage workers (w ∷ []) ≡ Ok s) word_is e)
+end_is_said version stage workers (word ∷ next ∷ more) s is e = absurd cc
 
 -- ---- each row passes its test
 
 -- behind a row that says this
 next_sayings : (last : TextLine) (earlier : List TextLine) (row : List (List ℕ)) (s : Said)
-    → says (last_stage (sayings (last ∷ earlier))) (workers_of (sayings (last ∷ earlier))) row ≡ Ok s
+    → says (version_of (sayings (last ∷ earlier))) (last_stage (sayings (last ∷ earlier))) (workers_of (sayings (last ∷ earlier))) row ≡ Ok s
     → sayings (line_behind (last ∷ earlier) row ∷ last ∷ earlier) ≡ s ∷ sayings (last ∷ earlier)
 next_sayings last earlier row s says_it = rw says_it refl
 
@@ -119,9 +137,9 @@ abbrev KnowsEnd : TextLine → List TextLine → Type 0
 KnowsEnd last earlier = is_end last.fields ≡ true → last_stage (sayings (last ∷ earlier)) ≡ stages.End
 
 knows_next : (last : TextLine) (earlier : List TextLine) (row : List (List ℕ)) (s : Said)
-    → says (last_stage (sayings (last ∷ earlier))) (workers_of (sayings (last ∷ earlier))) row ≡ Ok s → KnowsEnd (line_behind (last ∷ earlier) row) (last ∷ earlier)
+    → says (version_of (sayings (last ∷ earlier))) (last_stage (sayings (last ∷ earlier))) (workers_of (sayings (last ∷ earlier))) row ≡ Ok s → KnowsEnd (line_behind (last ∷ earlier) row) (last ∷ earlier)
 knows_next last earlier row s says_it ends =
-    let said_is : s ≡ said.End = end_is_said (last_stage (sayings (last ∷ earlier))) (workers_of (sayings (last ∷ earlier))) row s ends says_it in
+    let said_is : s ≡ said.End = end_is_said (version_of (sayings (last ∷ earlier))) (last_stage (sayings (last ∷ earlier))) (workers_of (sayings (last ∷ earlier))) row s ends says_it in
     ap (λ (b : List Said). last_stage b) (next_sayings last earlier row s says_it)
     ∙ ap (λ (x : Said). last_stage (x ∷ sayings (last ∷ earlier))) said_is
 
@@ -129,7 +147,7 @@ row_passes : (last : TextLine) (earlier : List TextLine) (row : List (List ℕ))
     → SaysAll (sayings (last ∷ earlier)) (row ∷ []) (s ∷ []) → trace_test (last ∷ earlier) (line_behind (last ∷ earlier) row) ≡ None
 row_passes last earlier row s knows says_all =
     let before : List Said = sayings (last ∷ earlier) in
-    let unended : is_end last.fields ≡ false = false_from_ne_true (is_end last.fields) (λ e. not_behind_end (last_stage before) (workers_of before) row s says_all.0 (knows e)) in
+    let unended : is_end last.fields ≡ false = false_from_ne_true (is_end last.fields) (λ e. not_behind_end (version_of before) (last_stage before) (workers_of before) row s says_all.0 (knows e)) in
     rw (unended, says_all.0, says_all.1) refl
 
 -- the rows pass, and so they are understood
@@ -160,28 +178,37 @@ numbered_append (row ∷ rows) others earlier = numbered_append rows others (lin
 ends_with_end : (rows : List (List (List ℕ))) (earlier : List TextLine) → is_ended (numbered (rows ++ (codes "end" ∷ []) ∷ []) earlier) ≡ true
 ends_with_end rows earlier = ap (λ (lines : List TextLine). is_ended lines) (numbered_append rows ((codes "end" ∷ []) ∷ []) earlier)
 
--- the first line
-abbrev first_row : List (List ℕ)
-first_row = codes "uma" ∷ codes "1" ∷ []
+-- the first line says its version
+first_says : (version : Version) → version_or_first (version_in (first_row version)) ≡ version
+first_says versions.One = refl
+first_says versions.Two = refl
 
-trace_understood : (t : Trace) → IsValid t → Understood (other_rows t) (other_saids t) (line_behind [] first_row) []
-trace_understood t valid = understood (other_rows t) (other_saids t) (line_behind [] first_row) [] (λ e. absurd cc) (trace_heard t valid).says_all
+first_passes : (version : Version) → trace_test [] (line_behind [] (first_row version)) ≡ None
+first_passes versions.One = refl
+first_passes versions.Two = refl
+
+trace_understood : (t : Trace) → IsValid t → Understood (other_rows t) (other_saids t) (line_behind [] (first_row t.version)) []
+trace_understood t valid =
+    let P : Version → Type 0 = λ version. SaysAll (said.Uma version ∷ []) (other_rows t) (other_saids t) in
+    understood (other_rows t) (other_saids t) (line_behind [] (first_row t.version)) [] (λ e. absurd cc) (subst P (sym (first_says t.version)) (trace_heard t valid).says_all)
 
 trace_ends : (t : Trace) → is_ended (numbered (trace_rows t) []) ≡ true
 trace_ends t =
-    let front : List (List (List ℕ)) = other_head_rows t.head ++ rounds_rows t.head.zones t.rounds in
+    let front : List (List (List ℕ)) = head_rows t.head ++ rounds_rows t.head.zones t.rounds in
     let last : List (List (List ℕ)) = (codes "end" ∷ []) ∷ [] in
-    let whole : other_rows t ≡ front ++ last = sym (append_assoc (other_head_rows t.head) (rounds_rows t.head.zones t.rounds) last) in
-    ap (λ (rows : List (List (List ℕ))). is_ended (numbered rows (line_behind [] first_row ∷ []))) whole ∙ ends_with_end front (line_behind [] first_row ∷ [])
+    let whole : other_rows t ≡ front ++ last = sym (append_assoc (head_rows t.head) (rounds_rows t.head.zones t.rounds) last) in
+    ap (λ (rows : List (List (List ℕ))). is_ended (numbered rows (line_behind [] (first_row t.version) ∷ []))) whole ∙ ends_with_end front (line_behind [] (first_row t.version) ∷ [])
 
 -- each valid trace has a text: its canonical one is a text of it
 pub valid_has_text : ValidTracesHaveTexts
 valid_has_text t valid =
     let spoke : List TextLine = numbered (trace_rows t) [] in
     let known = trace_understood t valid in
-    let right : IsRightText trace_test (flat_map line (trace_rows t)) spoke = right_rows trace_test (trace_rows t) (rows_right t valid) (refl, known.pass) (trace_ends t) in
+    let right : IsRightText trace_test (flat_map line (trace_rows t)) spoke = right_rows trace_test (trace_rows t) (rows_right t valid) (first_passes t.version, known.pass) (trace_ends t) in
     record {
       spoke = spoke;
       right = subst (λ (bytes : List ℕ). IsRightText trace_test bytes spoke) (sym (text_is t)) right;
-      trace_is = sym (ap (λ (before : List Said). trace_of before) known.sayings_are ∙ trace_rebuilt t valid);
+      trace_is = sym (ap (λ (before : List Said). trace_of before) known.sayings_are
+          ∙ ap (λ (version : Version). trace_of (behind (other_saids t) (said.Uma version ∷ []))) (first_says t.version)
+          ∙ trace_rebuilt t valid);
     }

@@ -1,6 +1,6 @@
 -- The rows of the zones of a valid header: each says its zone, and clashes with none before it.
 use Rattle.std.proofs.Common.{◌≡◌, ℕ, ◌+◌, ◌<◌, ◌≤◌, Bool, true, false, cond, eqb, leb, List, [], ◌∷◌, ◌++◌, length, get_or, map, Option, Some, None, refl, sym, ap, subst, ◌∙◌, arith, append_assoc}
-use Rattle.std.specs.Prelude.{◌&&◌, not, is_some, IfSome, count_by, slice_get}
+use Rattle.std.specs.Prelude.{All, ◌&&◌, not, is_some, IfSome, count_by, slice_get}
 use Rattle.std.specs.List.{sum_by}
 use Rattle.std.specs.Option.{option_map_or}
 use Rattle.std.proofs.lemmas.Bool.{lt-leb, eq-eqb}
@@ -17,9 +17,9 @@ use Rattle.trace_text.specs.declared.trace_reading.said.Said.{Said}
 use Rattle.trace_text.specs.declared.trace_reading.said.Said.TheVariants as said
 use Rattle.trace_print.specs.CanonicalText.{zone_fields}
 use Rattle.trace_text.specs.NamedZones.{zone_name}
-use Rattle.trace_text.specs.Grammar.{last_stage, workers_of, done, is_smr, zone_named, primary_named, second_zone}
+use Rattle.trace_text.specs.Grammar.{last_stage, version_of, workers_of, done, is_smr, zone_named, primary_named, second_zone}
 use Rattle.trace_text.specs.Lines.{Line}
-use Rattle.trace_text.specs.Valid.{ZoneFits, NamesFits, KegFits, KindFits, SecondaryFits, HeadFits, LinesFit, sharer_count}
+use Rattle.trace_text.specs.Valid.{ZoneFits, NamesFits, KegFits, KindFits, SecondaryFits, HeadFits, IsKnown, LinesFit, sharer_count}
 use Rattle.trace_print.proofs.CanonicalRows.{names_rows}
 use Rattle.trace_print.proofs.RowSaid.{zone_saying, zone_row_says, names_saids, names_row_says, zones_are_named}
 use Rattle.trace_text.proofs.HeadZones.{called, slice_get_front}
@@ -120,9 +120,9 @@ name_is_new h front more z fits e =
     ap (λ (o : Option ℕ). is_some o) (zone_not_named_yet front z more differ)
 
 zone_adds : (h : Head) (front more : List ZoneHead) (z : ZoneHead) (parent : Option ℕ) (before : List Said) (rest : List Line) → HeadFits h → h.zones ≡ front ++ z ∷ more
-    → z.parent ≡ parent → KegFits h.zones (length front) parent z → LinesFit (done before) rest
+    → z.parent ≡ parent → KegFits h.zones (length front) parent z → LinesFit (done before) rest → All (IsKnown (version_of before)) rest
     → Adds before (zone_saying h.zones parent z) (part h h.clock h.detail front None) (part h h.clock h.detail (front ++ z ∷ []) None) [] rest 3 6
-zone_adds h front more z None before rest fits e is keg fit =
+zone_adds h front more z None before rest fits e is keg fit known =
     let zone = zone_at h front more z fits e in
     let room : length front < 16 = omega (arith, zone_inside h.zones front more z e, zones_are_few h fits) in
     record {
@@ -140,10 +140,11 @@ zone_adds h front more z None before rest fits e is keg fit =
       head_is = refl;
       entry_is = refl;
       fit = fit;
+      known = known;
       above = omega arith;
       below = omega arith;
     }
-zone_adds h front more z (Some p) before rest fits e is keg fit =
+zone_adds h front more z (Some p) before rest fits e is keg fit known =
     let zone = zone_at h front more z fits e in
     let inside : length front < length h.zones = zone_inside h.zones front more z e in
     let room : length front < 16 = omega (arith, zones_are_few h fits) in
@@ -165,6 +166,7 @@ zone_adds h front more z (Some p) before rest fits e is keg fit =
       head_is = ap (λ (zs : List ZoneHead). part h h.clock h.detail (front ++ zs) None) (second_is front p (zone_name h.zones p) z (get_or h.zones p nowhere) over is);
       entry_is = refl;
       fit = fit;
+      known = known;
       above = omega arith;
       below = omega arith;
     }
@@ -176,8 +178,8 @@ zone_step h front more z before rest fits e stands =
     let zone = zone_at h front more z fits e in
     let follows = may_stand 3 6 (omega arith) (omega arith) stands in
     next_line (zone_fields h.zones z.parent z) (zone_saying h.zones z.parent z) stands
-    (zone_row_says (last_stage before) (workers_of before) h (length front) z follows (zones_are_named h fits) (zone_inside h.zones front more z e) zone)
-    (zone_adds h front more z z.parent before rest fits e refl zone.keg stands.fit)
+    (zone_row_says (version_of before) (last_stage before) (workers_of before) h (length front) z follows (zones_are_named h fits) (zone_inside h.zones front more z e) zone)
+    (zone_adds h front more z z.parent before rest fits e refl zone.keg stands.fit stands.known)
 
 -- ---- the rows of all zones, behind the first ones
 
@@ -216,7 +218,7 @@ names_by h (Some n) before rest fits is stands =
     let names : NamesFits h n = subst P is fits.names in
     let clock : is_some h.clock ≡ true = names.clock in
     next_line _ (said.Names n) stands
-    (names_row_says (last_stage before) (workers_of before) h n follows names)
+    (names_row_says (version_of before) (last_stage before) (workers_of before) h n follows names)
     (record {
       clear = record {
         clock = rw clock refl;
@@ -232,6 +234,7 @@ names_by h (Some n) before rest fits is stands =
       head_is = ap (λ (zs : List ZoneHead). part h h.clock h.detail zs (Some n)) (append-nil h.zones);
       entry_is = refl;
       fit = stands.fit;
+      known = stands.known;
       above = omega arith;
       below = omega arith;
     })

@@ -1,11 +1,13 @@
--- The canonical text on a worked row.
+-- The canonical text on worked rows.
 use Rattle.std.proofs.Common.{◌≡◌, [], ◌∷◌, None, refl, false}
 use Rattle.std.specs.Prelude.{codes}
 use Rattle.std.specs.Fmt.{digits}
+use Rattle.trace_text.specs.declared.between.Between.TheVariants.{Give, SetMax}
 use Rattle.trace_text.specs.declared.head.ZoneHead.{ZoneHead}
 use Rattle.trace_text.specs.declared.head.ZoneKind.TheVariants.{Plain}
 use Rattle.trace_text.specs.declared.op.Op.TheVariants.{Alloc, Free}
 use Rattle.trace_text.specs.declared.trace.Trace.{Trace}
+use Rattle.trace_text.specs.declared.version.Version.TheVariants as versions
 use Rattle.trace_print.specs.CanonicalText.{canonical_text}
 
 box : ZoneHead
@@ -13,6 +15,7 @@ box = record { name = codes "box"; parent = None; size = 256; slabs = 4; bucket 
 
 three_allocs_and_a_free : Trace
 three_allocs_and_a_free = record {
+  version = versions.One;
   head = record { workers = 1; domains = 1; clock = None; detail = false; zones = box ∷ []; names = None };
   rounds = record { ops = (Alloc 0 0 0 false ∷ Alloc 0 1 0 false ∷ Alloc 0 2 0 false ∷ Free 1 ∷ []) ∷ []; between = [] } ∷ [];
 }
@@ -21,3 +24,16 @@ text_of_three_allocs_and_a_free : canonical_text three_allocs_and_a_free
     ≡ codes "uma 1\nworkers 1\ndomains 1\nzone box 256 4 4 0 0 plain\nalloc 0 box 0\nalloc 0 box 1\nalloc 0 box 2\nfree 0 1\nend\n"
 unfolding digits three_allocs_and_a_free box
 text_of_three_allocs_and_a_free = refl
+
+-- version 2, with a limit that changes and a move between two rounds
+a_lower_limit : Trace
+a_lower_limit = record {
+  version = versions.Two;
+  head = record { workers = 1; domains = 1; clock = None; detail = false; zones = box ∷ []; names = None };
+  rounds = record { ops = (Alloc 0 0 0 false ∷ []) ∷ []; between = SetMax 0 2 ∷ Give 0 0 0 1 ∷ [] } ∷ record { ops = (Free 1 ∷ []) ∷ []; between = [] } ∷ [];
+}
+
+text_of_a_lower_limit : canonical_text a_lower_limit
+    ≡ codes "uma 2\nworkers 1\ndomains 1\nzone box 256 4 4 0 0 plain\nalloc 0 box 0\nround\nsetmax box 2\ngive 0 0 0 1\nfree 0 1\nend\n"
+unfolding digits a_lower_limit box
+text_of_a_lower_limit = refl

@@ -1,4 +1,4 @@
--- The canonical text of any trace: header lines in their order, then the rounds, then `end`. Each line is its fields
+-- The canonical text of any trace: its version, the header lines in their order, then the rounds, then `end`. Each line is its fields
 -- with one space between two of them, and LF. Nothing is skipped, and what has a default is left out (own).
 use Rattle.std.specs.Prelude.{ℕ, ◌+◌, List, [], ◌∷◌, ◌++◌, Bool, true, false, Option, Some, None, codes, if◌then◌else◌, ◌==◌}
 use Rattle.std.specs.List.{flat_map}
@@ -13,10 +13,19 @@ use Rattle.trace_text.specs.declared.head.ZoneKind.TheVariants.{Plain, Smr}
 use Rattle.trace_text.specs.declared.op.Op.{Op}
 use Rattle.trace_text.specs.declared.op.Op.TheVariants.{Alloc, Free, Enter, Exit, Bind, Unbind, Look, Trim, Drain, DrainSeat, Prealloc}
 use Rattle.trace_text.specs.declared.between.Between.{Between}
-use Rattle.trace_text.specs.declared.between.Between.TheVariants.{Give}
+use Rattle.trace_text.specs.declared.between.Between.TheVariants.{Give, SetMax}
 use Rattle.trace_text.specs.declared.round.Round.{Round}
 use Rattle.trace_text.specs.declared.trace.Trace.{Trace}
+use Rattle.trace_text.specs.declared.version.Version.{Version}
+use Rattle.trace_text.specs.declared.version.Version.TheVariants as versions
 use Rattle.trace_text.specs.NamedZones.{zone_name}
+
+abbrev pub version_word : Version → List ℕ
+version_word versions.One = codes "1"
+version_word versions.Two = codes "2"
+
+abbrev pub first_line : Version → List ℕ
+first_line version = line (codes "uma" ∷ version_word version ∷ [])
 
 abbrev pub kind_word : ZoneKind → List ℕ
 kind_word Plain = codes "plain"
@@ -46,9 +55,8 @@ names_text (Some n) = line (codes "names" ∷ n.name ∷ decimal n.rows ∷ deci
 
 abbrev pub head_text : Head → List ℕ
 head_text h =
-    line (codes "uma" ∷ codes "1" ∷ []) ++ (line (codes "workers" ∷ decimal h.workers ∷ [])
-    ++ (line (codes "domains" ∷ decimal h.domains ∷ []) ++ (clock_text h.clock ++ (detail_text h.detail
-    ++ (flat_map (zone_line h.zones) h.zones ++ names_text h.names)))))
+    line (codes "workers" ∷ decimal h.workers ∷ []) ++ (line (codes "domains" ∷ decimal h.domains ∷ [])
+    ++ (clock_text h.clock ++ (detail_text h.detail ++ (flat_map (zone_line h.zones) h.zones ++ names_text h.names))))
 
 -- the fields `arg N`, left out at 0
 abbrev pub arg_fields : ℕ → List (List ℕ)
@@ -80,15 +88,20 @@ abbrev pub ops_text : List ZoneHead → ℕ → List (List Op) → List ℕ
 ops_text zones w [] = []
 ops_text zones w (ops ∷ lists) = flat_map (op_line zones w) ops ++ ops_text zones (w + 1) lists
 
-abbrev pub between_line : Between → List ℕ
-between_line (Give giver slot taker slot2) = line (codes "give" ∷ decimal giver ∷ decimal slot ∷ decimal taker ∷ decimal slot2 ∷ [])
+-- the fields of a line between two rounds
+abbrev pub between_fields : List ZoneHead → Between → List (List ℕ)
+between_fields zones (Give giver slot taker slot2) = codes "give" ∷ decimal giver ∷ decimal slot ∷ decimal taker ∷ decimal slot2 ∷ []
+between_fields zones (SetMax zone limit) = codes "setmax" ∷ zone_name zones zone ∷ decimal limit ∷ []
+
+abbrev pub between_line : List ZoneHead → Between → List ℕ
+between_line zones between = line (between_fields zones between)
 
 -- the rounds; a `round` line and what stands between two rounds follow all but the last
 abbrev pub rounds_text : List ZoneHead → List Round → List ℕ
 rounds_text zones [] = []
 rounds_text zones (r ∷ []) = ops_text zones 0 r.ops
 rounds_text zones (r ∷ next ∷ rounds) =
-    ops_text zones 0 r.ops ++ (line (codes "round" ∷ []) ++ (flat_map between_line r.between ++ rounds_text zones (next ∷ rounds)))
+    ops_text zones 0 r.ops ++ (line (codes "round" ∷ []) ++ (flat_map (between_line zones) r.between ++ rounds_text zones (next ∷ rounds)))
 
 abbrev pub canonical_text : Trace → List ℕ
-canonical_text t = head_text t.head ++ (rounds_text t.head.zones t.rounds ++ line (codes "end" ∷ []))
+canonical_text t = first_line t.version ++ (head_text t.head ++ (rounds_text t.head.zones t.rounds ++ line (codes "end" ∷ [])))

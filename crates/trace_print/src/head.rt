@@ -1,14 +1,24 @@
 //! The header lines.
 ghost use Rattle.std.specs.Prelude.{◌≡◌, ◌++◌, ◌∷◌, [], OnOk, codes, decimal};
 ghost use Rattle.text_lines.specs.CanonicalLine.{line};
-ghost use Rattle.trace_print.specs.CanonicalText.{head_text, clock_text, detail_text, names_text};
+ghost use Rattle.trace_print.specs.CanonicalText.{first_line, head_text, clock_text, detail_text, names_text};
 
 use crate::zones::push_zones;
 use std::alloc::{AllocError, Global};
 use text_lines::{push_field, push_line, push_numbers};
-use trace_text::{ClockHead, Head, NamesHead};
+use trace_text::{ClockHead, Head, NamesHead, Version};
 
-/// Appends the header lines, in their order.
+/// Appends the first line, which says the version.
+pub fn push_version(text: &mut Vec<u8>, version: Version) -> Result<(), AllocError>
+    ensures { OnOk result (text.new.items ≡ text.old.items ++ first_line version) }
+{
+    text.extend_from_slice(match version {
+        Version::One => b"uma 1\n",
+        Version::Two => b"uma 2\n",
+    })
+}
+
+/// Appends the other header lines, in their order.
 #[tactic(auto, using(crate::proofs::AppendedLines::head_appended))]
 pub fn push_head(alloc: Global, text: &mut Vec<u8>, head: &Head) -> Result<(), AllocError>
     ensures { OnOk result (text.new.items ≡ text.old.items ++ head_text head.now) }
@@ -21,17 +31,15 @@ pub fn push_head(alloc: Global, text: &mut Vec<u8>, head: &Head) -> Result<(), A
     Ok(())
 }
 
-/// Appends the first line and those of the workers and the domains.
+/// Appends the lines of the workers and the domains.
 fn push_counts(
     alloc: Global,
     text: &mut Vec<u8>,
     workers: u32,
     domains: u8,
 ) -> Result<(), AllocError>
-    ensures { OnOk result (text.new.items ≡ text.old.items ++ (line (codes "uma" ∷ codes "1" ∷ [])
-        ++ (line (codes "workers" ∷ decimal workers ∷ []) ++ line (codes "domains" ∷ decimal domains ∷ [])))) }
+    ensures { OnOk result (text.new.items ≡ text.old.items ++ (line (codes "workers" ∷ decimal workers ∷ []) ++ line (codes "domains" ∷ decimal domains ∷ []))) }
 {
-    text.extend_from_slice(b"uma 1\n")?;
     push_line(alloc, text, b"workers", &[u128::from(workers)])?;
     push_line(alloc, text, b"domains", &[u128::from(domains)])?;
     Ok(())

@@ -1,7 +1,7 @@
 -- Lines of two workers may change places: what a line needs, and what it changes, is its own worker's.
 use Rattle.std.proofs.Common.{◌≡◌, ℕ, Bool, true, false, cond, List, [], ◌∷◌, ◌++◌, map, Option, None, refl, sym, ap, ap₂, ◌∙◌, eqb-true, ne_eqb}
 use Rattle.std.specs.Prelude.{is_some, ◌==◌, ◌&&◌}
-use Rattle.trace_text.specs.declared.between.Between.TheVariants.{Give}
+use Rattle.trace_text.specs.declared.between.Between.TheVariants.{Give, SetMax}
 use Rattle.trace_text.specs.declared.op.Op.{Op}
 use Rattle.trace_text.specs.declared.op.Op.TheVariants.{Alloc, Free, Enter, Exit, Bind, Unbind, Look, Trim, Drain, DrainSeat, Prealloc}
 use Rattle.trace_text.specs.Lines.{Line, Does, Moves}
@@ -40,6 +40,7 @@ line_fits : (line : Line) (a b : List Line) → Same a b → LineFits a line →
 line_fits (Does w op) a b same fits = does_fit w op a b (same w) fits
 line_fits (Moves (Give giver from taker to)) a b same fits =
     (ap is_some (sym ((same giver).slots from)) ∙ fits.0, sym ((same taker).slots to) ∙ fits.1)
+line_fits (Moves (SetMax zone limit)) a b same fits = tt
 
 -- one line more leaves the same after both
 next_same : (line : Line) (a b : List Line) → Same a b → Same (line ∷ a) (line ∷ b)
@@ -51,6 +52,7 @@ next_same (Moves (Give giver from taker to)) a b same = λ w. record {
   slots = λ slot. ap₂ (λ (h k : Option ℕ). cond ((taker == w) && (to == slot)) h (cond ((giver == w) && (from == slot)) None k)) ((same giver).slots from) ((same w).slots slot);
   inside = (same w).inside;
 }
+next_same (Moves (SetMax zone limit)) a b same = λ w. record { slots = λ slot. (same w).slots slot; inside = (same w).inside }
 
 lines_fit : (lines a b : List Line) → Same a b → LinesFit a lines → LinesFit b lines
 lines_fit [] a b same fits = tt

@@ -9,7 +9,6 @@ use Rattle.text_lines.specs.TextLines.{TextLine, after_earlier, fields_of, is_sk
 use Rattle.text_lines.specs.declared.refused.TraceKind.{TraceKind}
 use Rattle.trace_text.specs.declared.op.Op.{Op}
 use Rattle.trace_text.specs.declared.between.Between.{Between}
-use Rattle.trace_text.specs.declared.round.Round.{Round}
 use Rattle.trace_text.specs.declared.head.ZoneHead.{ZoneHead}
 use Rattle.trace_text.specs.declared.trace.Trace.{Trace}
 use Rattle.trace_text.specs.declared.trace_reading.said.Said.{Said}
@@ -17,7 +16,7 @@ use Rattle.trace_text.specs.declared.trace_reading.said.Said.TheVariants as said
 use Rattle.trace_text.specs.declared.trace_reading.said.ZoneWork.{ZoneWork}
 use Rattle.trace_text.specs.declared.trace_reading.entry.Entry.{Entry}
 use Rattle.trace_text.specs.declared.trace_reading.entry.Entry.TheVariants as entries
-use Rattle.trace_text.specs.Grammar.{IsTraceText, and_said, entries_of, entry_in, entry_of, give_in, is_round, last_stage, op_by, ops_in, rounds_in, sayings, trace_of, workers_of, zone_named, zones_of}
+use Rattle.trace_text.specs.Grammar.{and_said, entries_of, entry_in, entry_of, limit_in, between_in, is_round, last_stage, op_by, ops_in, rounds_in, sayings, version_of, workers_of, zone_named, zones_of}
 use Rattle.trace_text.specs.TraceLine.{says}
 use Rattle.trace_text.specs.Lines.{Line, Does, Moves, lines_of, worker_lines}
 use Rattle.trace_text.specs.TraceLaws.{TracesAreNoLonger}
@@ -77,17 +76,22 @@ sayings_few [] = omega arith
 sayings_few (line ∷ []) = omega arith
 sayings_few (line ∷ last ∷ before) =
     let earlier = sayings (last ∷ before) in
-    said_by (says (last_stage earlier) (workers_of earlier) line.fields) earlier (length (last ∷ before)) (sayings_few (last ∷ before))
+    said_by (says (version_of earlier) (last_stage earlier) (workers_of earlier) line.fields) earlier (length (last ∷ before)) (sayings_few (last ∷ before))
 
 in_zone : (worker : ℕ) (work : ZoneWork) (zone : Option ℕ) → length (entry_in worker work zone) ≤ 1
 in_zone worker work None = omega arith
 in_zone worker work (Some zone) = omega arith
 
+one_limit : (limit : ℕ) (zone : Option ℕ) → length (limit_in limit zone) ≤ 1
+one_limit limit None = omega arith
+one_limit limit (Some zone) = omega arith
+
 one_entry : (zones : List ZoneHead) (s : Said) → length (entry_of zones s) ≤ 1
 one_entry zones (said.Work worker op) = omega arith
 one_entry zones (said.InZone worker zone work) = in_zone worker work (zone_named zones zone)
 one_entry zones said.Round = omega arith
-one_entry zones (said.Give between) = omega arith
+one_entry zones (said.Give giver slot taker slot2) = omega arith
+one_entry zones (said.SetMax zone limit) = one_limit limit (zone_named zones zone)
 one_entry zones other = omega arith
 
 one_more : (count total more : ℕ) → total ≡ count + more → more ≤ 1 → (limit : ℕ) → count ≤ limit → total ≤ suc limit
@@ -169,11 +173,11 @@ last_sum whole front ops is le = omega arith
 first_sum : (whole ops gives part parts : ℕ) → whole ≤ ops + parts → ops + gives ≤ part → whole ≤ part + parts
 first_sum whole ops gives part parts le few = omega arith
 
-ops_and_gives : (part : List Entry) → ops_from 0 part + length (flat_map give_in part) ≤ length part
+ops_and_gives : (part : List Entry) → ops_from 0 part + length (flat_map between_in part) ≤ length part
 ops_and_gives [] = omega arith
-ops_and_gives (entries.Does v op ∷ part) = at_most_one (cond (nat_le 0 v) 1 0) (ops_from 0 part) (length (flat_map give_in part)) (length part) (bit_few (nat_le 0 v)) (ops_and_gives part)
-ops_and_gives (entries.Moves between ∷ part) = let rest = ops_and_gives part in one_give (ops_from 0 part) (length (flat_map give_in part)) (length part) rest
-ops_and_gives (entries.Round ∷ part) = let rest = ops_and_gives part in less_by_one (ops_from 0 part + length (flat_map give_in part)) (length part) rest
+ops_and_gives (entries.Does v op ∷ part) = at_most_one (cond (nat_le 0 v) 1 0) (ops_from 0 part) (length (flat_map between_in part)) (length part) (bit_few (nat_le 0 v)) (ops_and_gives part)
+ops_and_gives (entries.Moves between ∷ part) = let rest = ops_and_gives part in one_give (ops_from 0 part) (length (flat_map between_in part)) (length part) rest
+ops_and_gives (entries.Round ∷ part) = let rest = ops_and_gives part in less_by_one (ops_from 0 part + length (flat_map between_in part)) (length part) rest
 
 -- how many lines all parts have
 abbrev entry_count : List (List Entry) → ℕ
@@ -193,14 +197,14 @@ round_lines workers part [] =
     last_sum (length (lines_of (rounds_in workers (part ∷ [])))) (length front) (ops_from 0 part) (append_three front [] []) (workers_few 0 workers part)
 round_lines workers part (next ∷ parts) =
     let front = worker_lines 0 (ops_in workers part) in
-    let gives : List Between = flat_map give_in next in
+    let gives : List Between = flat_map between_in next in
     let rest = lines_of (rounds_in workers (next ∷ parts)) in
     three_sums (length ((front ++ map Moves gives) ++ rest)) (length front) (length (map Moves gives)) (length rest) (ops_from 0 part) (length gives) (length next) (ops_from 0 next) (entry_count parts)
     (append_three front (map Moves gives) rest) (workers_few 0 workers part) (length-map gives Moves) (round_lines workers next parts) (ops_and_gives next)
 
 first_part : (parts : List (List Entry)) (workers : ℕ) → length (lines_of (rounds_in workers parts)) ≤ entry_count parts
 first_part [] workers = omega arith
-first_part (part ∷ parts) workers = first_sum (length (lines_of (rounds_in workers (part ∷ parts)))) (ops_from 0 part) (length (flat_map give_in part)) (length part) (entry_count parts) (round_lines workers part parts) (ops_and_gives part)
+first_part (part ∷ parts) workers = first_sum (length (lines_of (rounds_in workers (part ∷ parts)))) (ops_from 0 part) (length (flat_map between_in part)) (length part) (entry_count parts) (round_lines workers part parts) (ops_and_gives part)
 
 onto_count : (entry : Entry) (parts : List (List Entry)) → entry_count (onto_first entry parts) ≤ suc (entry_count parts)
 onto_count entry [] = omega arith

@@ -1,11 +1,12 @@
 -- A line that is told behind others: it stands in its place, its numbers are in their ranges, and no test of it is failed.
-use Rattle.std.proofs.Common.{List, [], ◌∷◌, sym, subst}
+use Rattle.std.proofs.Common.{◌≡◌, true, List, [], ◌∷◌, sym, subst}
 use Rattle.std.specs.Prelude.{is_some}
 use Rattle.trace_text.specs.declared.trace_reading.said.Said.{Said}
 use Rattle.trace_text.specs.declared.trace_reading.said.Said.TheVariants as said
-use Rattle.trace_text.specs.Grammar.{clock_of, is_filled_by, is_open_by, last_stage, names_of, workers_of, zones_of}
+use Rattle.trace_text.specs.declared.version.Version.{Version}
+use Rattle.trace_text.specs.Grammar.{clock_of, is_filled_by, is_open_by, last_stage, names_of, version_of, workers_of, zones_of}
 use Rattle.trace_text.proofs.HeadLines.{HeadIsRead}
-use Rattle.trace_text.proofs.TraceSaying.{NumbersFit, StandsBehind, says_right}
+use Rattle.trace_text.proofs.TraceSaying.{NumbersFit, StandsBehind, is_known_saying, says_right}
 use Rattle.trace_text.proofs.TraceTests.{IsClear, clear_without_clash}
 use Rattle.trace_text.proofs.TraceTold.{Told}
 
@@ -15,6 +16,7 @@ abbrev pub ClashesWithNone : List Said → Said → Type 0
 ClashesWithNone before s = IsClear (is_some (clock_of before)) (is_some (names_of before)) (zones_of before) (is_filled_by before) (is_open_by before) s
 
 pub record Behind (before : List Said) (s : Said) : Type 0 where
+  pub known : is_known_saying (version_of before) s ≡ true
   pub place : StandsBehind (last_stage before) s
   pub own : HeadIsRead s
   pub numbers : NumbersFit (workers_of before) s
@@ -22,8 +24,9 @@ pub record Behind (before : List Said) (s : Said) : Type 0 where
 
 pub behind : (last : Said) (before : List Said) (s : Said) → Told (s ∷ last ∷ before) → Behind (last ∷ before) s
 behind last before s t =
-    let right = says_right (last_stage (last ∷ before)) (workers_of (last ∷ before)) t.0.fields s t.0.says_it in
+    let right = says_right (version_of (last ∷ before)) (last_stage (last ∷ before)) (workers_of (last ∷ before)) t.0.fields s t.0.says_it in
     record {
+      known = right.known;
       place = right.place;
       own = right.own;
       numbers = right.numbers;
@@ -31,8 +34,8 @@ behind last before s t =
     }
 
 -- what holds of no lines and of the first line, and of one line more behind those of which it holds, holds of all lines that are told
-pub by_lines : (P : List Said → Type 0) → P [] → P (said.Uma ∷ []) → ((before : List Said) (s : Said) → Told before → Behind before s → P before → P (s ∷ before))
+pub by_lines : (P : List Said → Type 0) → P [] → ((version : Version) → P (said.Uma version ∷ [])) → ((before : List Said) (s : Said) → Told before → Behind before s → P before → P (s ∷ before))
     → (before : List Said) → Told before → P before
 by_lines P none first more [] t = none
-by_lines P none first more (s ∷ []) t = let Q : Said → Type 0 = λ x. P (x ∷ []) in subst Q (sym t) first
+by_lines P none first more (s ∷ []) t = let Q : Said → Type 0 = λ x. P (x ∷ []) in subst Q (sym t.1) (first t.0)
 by_lines P none first more (s ∷ last ∷ before) t = more (last ∷ before) s t.2 (behind last before s t) (by_lines P none first more (last ∷ before) t.2)

@@ -1,5 +1,5 @@
--- The lines below the header of lines that are told: their numbers are in their ranges, what they name is there, `give` lines stand behind
--- a `round` line, and each line fits the slots and sections before it.
+-- The lines below the header of lines that are told: their numbers are in their ranges, what they name is there, the version has them,
+-- `give` and `setmax` lines stand behind a `round` line, and each line fits the slots and sections before it.
 use Rattle.std.proofs.Common.{◌≡◌, ℕ, ◌<◌, ◌≤◌, Bool, true, false, eqb, leb, List, [], ◌∷◌, ◌++◌, length, Option, Some, None, refl, sym, ap, subst, ◌∙◌, arith}
 use Rattle.std.specs.Prelude.{◌&&◌, All, IsSome, is_some}
 use Rattle.std.specs.List.{flat_map}
@@ -9,7 +9,7 @@ use Rattle.std.proofs.lemmas.List.{append-nil, length-append}
 use Rattle.std.proofs.lemmas.List.Concat.{flat_map-append}
 use Rattle.std.proofs.lemmas.List.Elements.{All-append, All-nil, All-push, All-same, All-weaker}
 use Rattle.std.proofs.lemmas.List.Quantifiers.{position-Some}
-use Rattle.trace_text.specs.declared.between.Between.TheVariants.{Give}
+use Rattle.trace_text.specs.declared.between.Between.TheVariants.{Give, SetMax}
 use Rattle.trace_text.specs.declared.head.ClockHead.{ClockHead}
 use Rattle.trace_text.specs.declared.head.Head.{Head}
 use Rattle.trace_text.specs.declared.head.NamesHead.{NamesHead}
@@ -22,14 +22,15 @@ use Rattle.trace_text.specs.declared.trace_reading.said.Said.{Said}
 use Rattle.trace_text.specs.declared.trace_reading.said.Said.TheVariants as said
 use Rattle.trace_text.specs.declared.trace_reading.said.ZoneWork.{ZoneWork}
 use Rattle.trace_text.specs.declared.trace_reading.said.ZoneWork.TheVariants as works
-use Rattle.trace_text.specs.Grammar.{clock_after, clock_of, done, entries_of, entry_in, entry_of, finds_filled, head_of, last_stage, line_of, names_after, names_of, new_zone, stage_of, work_op, workers_after, workers_of, zone_named, zones_of}
+use Rattle.trace_text.specs.declared.version.Version.{Version}
+use Rattle.trace_text.specs.Grammar.{clock_after, clock_of, done, entries_of, entry_in, entry_of, finds_filled, head_of, last_stage, limit_in, line_of, names_after, names_of, new_zone, stage_of, version_of, work_op, workers_after, workers_of, zone_named, zones_of}
 use Rattle.trace_text.specs.Lines.{Line, Does}
 use Rattle.trace_text.specs.Reading.{held, in_section}
 use Rattle.trace_text.specs.Limits.{IsWithin}
 use Rattle.trace_text.specs.TraceLine.{rank}
-use Rattle.trace_text.specs.Valid.{LineFits, LinesFit, OpFits}
-use Rattle.trace_text.proofs.TraceBehind.{Behind, ClashesWithNone, by_lines}
-use Rattle.trace_text.proofs.TraceParts.{FitsHead, GivesStand, entry_line}
+use Rattle.trace_text.specs.Valid.{LineFits, LinesFit, OpFits, changes_limits}
+use Rattle.trace_text.proofs.TraceBehind.{Behind, ClashesWithNone, behind, by_lines}
+use Rattle.trace_text.proofs.TraceParts.{FitsHead, BetweensStand, HasEntry, entry_line}
 use Rattle.trace_text.proofs.TraceSaying.{OpNumbersFit, WorkNumbersFit}
 use Rattle.trace_text.proofs.TraceTold.{Told}
 
@@ -40,7 +41,7 @@ abbrev pub is_in_head : List Said → Bool
 is_in_head before = leb (rank (last_stage before)) 7
 
 none_more : (before : List Said) (s : Said) → Behind before s → (is_in_head before ≡ true → entries_of before ≡ []) → leb (rank (stage_of s)) 7 ≡ true → entries_of (s ∷ before) ≡ []
-none_more before said.Uma b none e = absurd (let p = b.place in omega arith)
+none_more before (said.Uma version) b none e = absurd (let p = b.place in omega arith)
 none_more before (said.Workers count) b none e = append-nil (entries_of before) ∙ none (let place = b.place in le-leb (rank (last_stage before)) 7 (omega arith))
 none_more before (said.Domains count) b none e = append-nil (entries_of before) ∙ none (let place = b.place in le-leb (rank (last_stage before)) 7 (omega arith))
 none_more before (said.Clock clock) b none e = append-nil (entries_of before) ∙ none (let place = b.place in le-leb (rank (last_stage before)) 7 (omega arith))
@@ -51,12 +52,13 @@ none_more before (said.Names names) b none e = append-nil (entries_of before) �
 none_more before (said.Work worker op) b none e = absurd cc
 none_more before (said.InZone worker zone work) b none e = absurd cc
 none_more before said.Round b none e = absurd cc
-none_more before (said.Give between) b none e = absurd cc
+none_more before (said.Give giver slot taker slot2) b none e = absurd cc
+none_more before (said.SetMax zone limit) b none e = absurd cc
 none_more before said.End b none e = absurd cc
 
 -- no line below the header stands behind nothing but header lines
 pub head_has_none : (before : List Said) → Told before → is_in_head before ≡ true → entries_of before ≡ []
-head_has_none = by_lines (λ before. is_in_head before ≡ true → entries_of before ≡ []) (λ e. refl) (λ e. refl) (λ before s t b none. none_more before s b none)
+head_has_none = by_lines (λ before. is_in_head before ≡ true → entries_of before ≡ []) (λ e. refl) (λ version e. refl) (λ before s t b none. none_more before s b none)
 
 -- ---- what the header says only grows
 
@@ -85,6 +87,7 @@ still_fits old new g (entries.Moves (Give giver slot taker slot2)) f =
     let P : ℕ → Type 0 = λ n. giver < n in
     let Q : ℕ → Type 0 = λ n. taker < n in
     (subst P g.workers f.0, f.1, subst Q g.workers f.2, f.3)
+still_fits old new g (entries.Moves (SetMax zone limit)) f = let more : zone < length new.zones = let a = f.0 in let b = g.zones in omega arith in (more, f.1)
 still_fits old new g entries.Round f = tt
 
 pub clock_kept : (s : Said) (before : Option ClockHead) → IsSome before → IsSome (clock_after s before)
@@ -131,14 +134,20 @@ named_there : (zones : List ZoneHead) (name : List ℕ) (zone : ℕ) → zone_na
 named_there [] name zone e = absurd cc
 named_there (z ∷ zones) name zone e = (position-Some (λ (x : ZoneHead). bytes_eq x.name name) (z ∷ zones) zone z e).0
 
+limit_fits : (h : Head) (limit : ℕ) (o : Option ℕ) → limit ≤ 1000000 → ((zone : ℕ) → o ≡ Some zone → zone < length h.zones) → All (FitsHead h) (limit_in limit o)
+limit_fits h limit None le there = All-nil (FitsHead h)
+limit_fits h limit (Some zone) le there = All-push (FitsHead h) [] (entries.Moves (SetMax zone limit)) (All-nil (FitsHead h)) (there zone refl, le)
+
 entry_fits : (before : List Said) (s : Said) → Behind before s → All (FitsHead (head_of before)) (entry_of (zones_of before) s)
 entry_fits before (said.Work worker op) b =
     All-push (FitsHead (head_of before)) [] (entries.Does worker op) (All-nil (FitsHead (head_of before))) (b.numbers.0, op_fits before worker op b.numbers.1 b.clashes)
 entry_fits before (said.InZone worker zone work) b =
     in_zone_fits (head_of before) worker work (zone_named (zones_of before) zone) b.numbers.0 b.numbers.1 (λ place e. named_there (zones_of before) zone place e)
 entry_fits before said.Round b = All-push (FitsHead (head_of before)) [] entries.Round (All-nil (FitsHead (head_of before))) tt
-entry_fits before (said.Give (Give giver slot taker slot2)) b =
+entry_fits before (said.Give giver slot taker slot2) b =
     All-push (FitsHead (head_of before)) [] (entries.Moves (Give giver slot taker slot2)) (All-nil (FitsHead (head_of before))) b.numbers
+entry_fits before (said.SetMax zone limit) b =
+    limit_fits (head_of before) limit (zone_named (zones_of before) zone) b.numbers (λ place e. named_there (zones_of before) zone place e)
 entry_fits before other b = All-nil (FitsHead (head_of before))
 
 -- ---- all lines' own
@@ -153,12 +162,46 @@ fit_more before other t b fit =
 
 pub entries_fit : (before : List Said) → Told before → All (FitsHead (head_of before)) (entries_of before)
 entries_fit =
-    by_lines (λ before. All (FitsHead (head_of before)) (entries_of before)) (All-nil (FitsHead (head_of []))) (All-nil (FitsHead (head_of (said.Uma ∷ []))))
+    by_lines (λ before. All (FitsHead (head_of before)) (entries_of before)) (All-nil (FitsHead (head_of []))) (λ version. All-nil (FitsHead (head_of (said.Uma version ∷ []))))
     (λ before s t b fit. fit_more before s t b (All-append (FitsHead (head_of before)) (entries_of before) (entry_of (zones_of before) s) fit (entry_fits before s b)))
 
--- ---- where `give` lines stand
+-- ---- each line is one that the version has
 
--- a `round` line is the last one, or `give` lines stand behind it
+in_zone_known : (version : Version) (worker : ℕ) (work : ZoneWork) (o : Option ℕ) → All (HasEntry version) (entry_in worker work o)
+in_zone_known version worker work None = All-nil (HasEntry version)
+in_zone_known version worker work (Some zone) = All-push (HasEntry version) [] (entries.Does worker (work_op work zone)) (All-nil (HasEntry version)) tt
+
+limit_known : (version : Version) (limit : ℕ) (o : Option ℕ) → changes_limits version ≡ true → All (HasEntry version) (limit_in limit o)
+limit_known version limit None is = All-nil (HasEntry version)
+limit_known version limit (Some zone) is = All-push (HasEntry version) [] (entries.Moves (SetMax zone limit)) (All-nil (HasEntry version)) is
+
+entry_known : (before : List Said) (s : Said) → Behind before s → All (HasEntry (version_of before)) (entry_of (zones_of before) s)
+entry_known before (said.Work worker op) b = All-push (HasEntry (version_of before)) [] (entries.Does worker op) (All-nil (HasEntry (version_of before))) tt
+entry_known before (said.InZone worker zone work) b = in_zone_known (version_of before) worker work (zone_named (zones_of before) zone)
+entry_known before said.Round b = All-push (HasEntry (version_of before)) [] entries.Round (All-nil (HasEntry (version_of before))) tt
+entry_known before (said.Give giver slot taker slot2) b =
+    All-push (HasEntry (version_of before)) [] (entries.Moves (Give giver slot taker slot2)) (All-nil (HasEntry (version_of before))) tt
+entry_known before (said.SetMax zone limit) b = limit_known (version_of before) limit (zone_named (zones_of before) zone) b.known
+entry_known before other b = All-nil (HasEntry (version_of before))
+
+-- only the first line says the version
+version_kept : (before : List Said) (s : Said) → Behind before s → version_of before ≡ version_of (s ∷ before)
+version_kept before (said.Uma version) b = absurd (let p = b.place in omega arith)
+version_kept before other b = refl
+
+known_more : (before : List Said) (s : Said) → Behind before s → All (HasEntry (version_of before)) (entries_of before) → All (HasEntry (version_of (s ∷ before))) (entries_of (s ∷ before))
+known_more before s b all =
+    let P : Version → Type 0 = λ version. All (HasEntry version) (entries_of (s ∷ before)) in
+    subst P (version_kept before s b) (All-append (HasEntry (version_of before)) (entries_of before) (entry_of (zones_of before) s) all (entry_known before s b))
+
+pub entries_known : (before : List Said) → Told before → All (HasEntry (version_of before)) (entries_of before)
+entries_known =
+    by_lines (λ before. All (HasEntry (version_of before)) (entries_of before)) (All-nil (HasEntry (version_of []))) (λ version. All-nil (HasEntry version))
+    (λ before s t b all. known_more before s b all)
+
+-- ---- where the lines between two rounds stand
+
+-- a `round` line is the last one, or lines between two rounds stand behind it
 abbrev begun_by : Bool → List Entry → Bool
 begun_by begun [] = begun
 begun_by begun (entries.Does w op ∷ more) = begun_by false more
@@ -171,31 +214,50 @@ begun_by-append begun (entries.Does w op ∷ more) ys = begun_by-append false mo
 begun_by-append begun (entries.Moves between ∷ more) ys = begun_by-append true more ys
 begun_by-append begun (entries.Round ∷ more) ys = begun_by-append true more ys
 
-stand-append : (begun : Bool) (xs ys : List Entry) → GivesStand begun xs → GivesStand (begun_by begun xs) ys → GivesStand begun (xs ++ ys)
+stand-append : (begun : Bool) (xs ys : List Entry) → BetweensStand begun xs → BetweensStand (begun_by begun xs) ys → BetweensStand begun (xs ++ ys)
 stand-append begun [] ys g h = h
 stand-append begun (entries.Does w op ∷ more) ys g h = stand-append false more ys g h
 stand-append begun (entries.Moves between ∷ more) ys g h = (g.0, stand-append true more ys g.1 h)
 stand-append begun (entries.Round ∷ more) ys g h = stand-append true more ys g h
 
-begun_last : (before : List Said) → IsWithin 9 9 (rank (last_stage before)) → begun_by false (entries_of before) ≡ true
-begun_last [] e = absurd (omega arith)
-begun_last (said.Round ∷ before) e = begun_by-append false (entries_of before) (entries.Round ∷ [])
-begun_last (said.Give between ∷ before) e = begun_by-append false (entries_of before) (entries.Moves between ∷ [])
-begun_last (other ∷ before) e = absurd (omega arith)
+begun_limit : (begun : Bool) (limit : ℕ) (o : Option ℕ) → is_some o ≡ true → begun_by begun (limit_in limit o) ≡ true
+begun_limit begun limit None there = absurd cc
+begun_limit begun limit (Some zone) there = refl
 
-in_zone_stands : (begun : Bool) (worker : ℕ) (work : ZoneWork) (o : Option ℕ) → GivesStand begun (entry_in worker work o)
+-- a `setmax` line that is told names a zone
+limit_last : (zone : List ℕ) (limit : ℕ) (before : List Said) → Told (said.SetMax zone limit ∷ before) → begun_by false (entries_of (said.SetMax zone limit ∷ before)) ≡ true
+limit_last zone limit [] t = absurd (let first = t.1 in cc)
+limit_last zone limit (last ∷ before) t =
+    let earlier : List Said = last ∷ before in
+    let place : Option ℕ = zone_named (zones_of earlier) zone in
+    let there : is_some place ≡ true = not-false (is_some place) (behind last before (said.SetMax zone limit) t).clashes.zone in
+    begun_by-append false (entries_of earlier) (limit_in limit place) ∙ begun_limit (begun_by false (entries_of earlier)) limit place there
+
+begun_last : (before : List Said) → Told before → IsWithin 9 9 (rank (last_stage before)) → begun_by false (entries_of before) ≡ true
+begun_last [] t e = absurd (omega arith)
+begun_last (said.Round ∷ before) t e = begun_by-append false (entries_of before) (entries.Round ∷ [])
+begun_last (said.Give giver slot taker slot2 ∷ before) t e = begun_by-append false (entries_of before) (entries.Moves (Give giver slot taker slot2) ∷ [])
+begun_last (said.SetMax zone limit ∷ before) t e = limit_last zone limit before t
+begun_last (other ∷ before) t e = absurd (omega arith)
+
+in_zone_stands : (begun : Bool) (worker : ℕ) (work : ZoneWork) (o : Option ℕ) → BetweensStand begun (entry_in worker work o)
 in_zone_stands begun worker work None = tt
 in_zone_stands begun worker work (Some zone) = tt
 
-entry_stands : (before : List Said) (s : Said) → Behind before s → GivesStand (begun_by false (entries_of before)) (entry_of (zones_of before) s)
-entry_stands before (said.Give between) b = (begun_last before b.place, tt)
-entry_stands before (said.InZone worker zone work) b = in_zone_stands (begun_by false (entries_of before)) worker work (zone_named (zones_of before) zone)
-entry_stands before other b = tt
+limit_stands : (begun : Bool) (limit : ℕ) (o : Option ℕ) → begun ≡ true → BetweensStand begun (limit_in limit o)
+limit_stands begun limit None is = tt
+limit_stands begun limit (Some zone) is = (is, tt)
 
-pub gives_stand : (before : List Said) → Told before → GivesStand false (entries_of before)
-gives_stand =
-    by_lines (λ before. GivesStand false (entries_of before)) tt tt
-    (λ before s t b stand. stand-append false (entries_of before) (entry_of (zones_of before) s) stand (entry_stands before s b))
+entry_stands : (before : List Said) (s : Said) → Told before → Behind before s → BetweensStand (begun_by false (entries_of before)) (entry_of (zones_of before) s)
+entry_stands before (said.Give giver slot taker slot2) t b = (begun_last before t b.place, tt)
+entry_stands before (said.SetMax zone limit) t b = limit_stands (begun_by false (entries_of before)) limit (zone_named (zones_of before) zone) (begun_last before t b.place)
+entry_stands before (said.InZone worker zone work) t b = in_zone_stands (begun_by false (entries_of before)) worker work (zone_named (zones_of before) zone)
+entry_stands before other t b = tt
+
+pub betweens_stand : (before : List Said) → Told before → BetweensStand false (entries_of before)
+betweens_stand =
+    by_lines (λ before. BetweensStand false (entries_of before)) tt (λ version. tt)
+    (λ before s t b stand. stand-append false (entries_of before) (entry_of (zones_of before) s) stand (entry_stands before s t b))
 
 -- ---- the slots and sections before a line
 
@@ -216,8 +278,13 @@ in_zone_done : (worker : ℕ) (work : ZoneWork) (o : Option ℕ) (earlier : List
 in_zone_done worker work None earlier = refl
 in_zone_done worker work (Some zone) earlier = refl
 
+limit_done : (limit : ℕ) (o : Option ℕ) (earlier : List Line) → onto (flat_map entry_line (limit_in limit o)) earlier ≡ line_of (limit_in limit o) ++ earlier
+limit_done limit None earlier = refl
+limit_done limit (Some zone) earlier = refl
+
 entry_done : (zones : List ZoneHead) (s : Said) (earlier : List Line) → onto (flat_map entry_line (entry_of zones s)) earlier ≡ line_of (entry_of zones s) ++ earlier
 entry_done zones (said.InZone worker zone work) earlier = in_zone_done worker work (zone_named zones zone) earlier
+entry_done zones (said.SetMax zone limit) earlier = limit_done limit (zone_named zones zone) earlier
 entry_done zones other earlier = refl
 
 -- what was done is what the lines below the header do
@@ -250,10 +317,15 @@ in_zone_line_fits : (earlier : List Line) (worker : ℕ) (name : List ℕ) (work
 in_zone_line_fits earlier worker name work None e = tt
 in_zone_line_fits earlier worker name work (Some zone) e = (work_line_fits earlier worker name work zone e, tt)
 
+limit_line_fits : (earlier : List Line) (limit : ℕ) (o : Option ℕ) → LinesFit earlier (flat_map entry_line (limit_in limit o))
+limit_line_fits earlier limit None = tt
+limit_line_fits earlier limit (Some zone) = (tt, tt)
+
 entry_line_fits : (before : List Said) (s : Said) → Behind before s → LinesFit (done before) (flat_map entry_line (entry_of (zones_of before) s))
 entry_line_fits before (said.Work worker op) b = (op_line_fits before worker op b.numbers.1 b.clashes, tt)
 entry_line_fits before (said.InZone worker zone work) b = in_zone_line_fits (done before) worker zone work (zone_named (zones_of before) zone) b.clashes.filled
-entry_line_fits before (said.Give (Give giver slot taker slot2)) b =
+entry_line_fits before (said.SetMax zone limit) b = limit_line_fits (done before) limit (zone_named (zones_of before) zone)
+entry_line_fits before (said.Give giver slot taker slot2) b =
     let to = or_parts (eqb giver taker && eqb slot slot2) (is_some (held (done before) taker slot2)) b.clashes.filled in
     ((not-false (is_some (held (done before) giver slot)) b.clashes.empty, none_held (held (done before) taker slot2) to.1), tt)
 entry_line_fits before other b = tt
@@ -267,4 +339,4 @@ line_more before s b fit =
     subst Q (sym (flat_map-append entry_line (entries_of before) (entry_of (zones_of before) s))) (fit-append [] old new fit (subst P (sym (done_is before)) (entry_line_fits before s b)))
 
 pub lines_fit : (before : List Said) → Told before → LinesFit [] (flat_map entry_line (entries_of before))
-lines_fit = by_lines (λ before. LinesFit [] (flat_map entry_line (entries_of before))) tt tt (λ before s t b fit. line_more before s b fit)
+lines_fit = by_lines (λ before. LinesFit [] (flat_map entry_line (entries_of before))) tt (λ version. tt) (λ before s t b fit. line_more before s b fit)

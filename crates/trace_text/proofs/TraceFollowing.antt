@@ -1,16 +1,16 @@
 -- What a line says is what is wrong with it or nothing, and leads from the state before it to the one after it.
 use Rattle.std.proofs.Common.{◌≡◌, ℕ, ◌+◌, ◌*◌, ◌≤◌, get_or, length, inl, inr, Bool, true, false, List, [], ◌∷◌, ◌++◌, Option, Some, None, Result, Ok, Err, refl, sym, ap, ◌∙◌, subst}
-use Rattle.std.specs.Prelude.{All, codes, is_some, OnOk, IfErr, ◌&&◌, ◌||◌, ◌==◌, not}
+use Rattle.std.specs.Prelude.{All, is_some, OnOk, IfErr, ◌&&◌, ◌||◌, ◌==◌, not}
 use Rattle.std.proofs.lemmas.Bool.{cases_lt}
 use Rattle.std.proofs.lemmas.List.{get_or_past}
 use Rattle.text_lines.specs.declared.refused.TraceKind.{TraceKind}
 use Rattle.text_lines.specs.declared.refused.TraceKind.TheVariants as kinds
 use Rattle.text_lines.specs.declared.refused.LineRefused.{LineRefused}
 use Rattle.text_lines.specs.declared.refused.LineRefused.TheVariants as refusals
-use Rattle.text_lines.specs.Fields.{is_head, wrong}
+use Rattle.text_lines.specs.Fields.{wrong}
 use Rattle.text_lines.specs.TextLines.{TextLine, is_ended}
 use Rattle.text_lines.specs.Taking.{Takes}
-use Rattle.trace_text.specs.declared.between.Between.TheVariants.{Give}
+use Rattle.trace_text.specs.declared.between.Between.TheVariants.{Give, SetMax}
 use Rattle.trace_text.specs.declared.head.ZoneHead.{ZoneHead}
 use Rattle.trace_text.specs.declared.op.Op.{Op}
 use Rattle.trace_text.specs.declared.op.Op.TheVariants as ops
@@ -23,12 +23,14 @@ use Rattle.trace_text.specs.declared.trace_reading.said.ZoneWork.{ZoneWork}
 use Rattle.trace_text.specs.declared.trace_reading.said.ZoneWork.TheVariants as works
 use Rattle.trace_text.specs.declared.trace_reading.stage.Stage.TheVariants as stages
 use Rattle.trace_text.specs.declared.trace_reading.tables.Tables.{Tables}
-use Rattle.trace_text.specs.Grammar.{head_wrong, stage_of, workers_after, domains_after, clock_after, detail_after, names_after, new_zone, last_stage, workers_of, zones_of, entry_of, entry_in, zone_named, line_of, done, finds_filled, finds_empty, finds_open, finds_closed, clash_after, is_filled_by, is_open_by, sayings, and_said, tells, trace_test}
+use Rattle.trace_text.specs.declared.version.Version.{Version}
+use Rattle.trace_text.specs.declared.version.Version.TheVariants as versions
+use Rattle.trace_text.specs.Grammar.{head_wrong, stage_of, version_after, version_of, version_or_first, workers_after, domains_after, clock_after, detail_after, names_after, new_zone, last_stage, workers_of, zones_of, entry_of, entry_in, limit_in, zone_named, line_of, done, finds_filled, finds_empty, finds_open, finds_closed, clash_after, is_filled_by, is_open_by, sayings, and_said, tells, trace_test}
 use Rattle.trace_text.specs.Limits.{last_slot, slots}
 use Rattle.trace_text.specs.Reading.{held, in_section}
 use Rattle.trace_text.specs.TraceHeard.{Hears, MarksAll, clash_found}
 use Rattle.trace_text.specs.TraceKnown.{Knows, KnowsSaid, KnowsTables, is_start, is_last}
-use Rattle.trace_text.specs.TraceLine.{says}
+use Rattle.trace_text.specs.TraceLine.{says, version_in}
 use Rattle.trace_text.specs.TraceShown.{slot_at, open_at, filled_by, filled_after, opened_after, NamesFit}
 use Rattle.trace_text.specs.TraceTables.{AreEmpty}
 use Rattle.trace_text.proofs.TraceClash.{same_clash}
@@ -44,7 +46,7 @@ abbrev pub SameSections : (ℕ → Bool) → (ℕ → Bool) → Type 0
 SameSections p q = (w : ℕ) → p w ≡ q w
 
 same_filled : (a b : ℕ → ℕ → Bool) → SameSlots a b → (n : ℕ) (s : Said) → NamesFit n s → finds_filled a s ≡ finds_filled b s
-same_filled a b same n said.Uma fit = refl
+same_filled a b same n (said.Uma version) fit = refl
 same_filled a b same n (said.Workers count) fit = refl
 same_filled a b same n (said.Domains count) fit = refl
 same_filled a b same n (said.Clock clock) fit = refl
@@ -59,11 +61,12 @@ same_filled a b same n (said.InZone w zone works.Drain) fit = refl
 same_filled a b same n (said.InZone w zone works.DrainSeat) fit = refl
 same_filled a b same n (said.InZone w zone (works.Prealloc items)) fit = refl
 same_filled a b same n said.Round fit = refl
-same_filled a b same n (said.Give (Give giver slot taker slot2)) fit = ap (λ x. (giver == taker && slot == slot2) || x) (same taker slot2 fit.3)
+same_filled a b same n (said.Give giver slot taker slot2) fit = ap (λ x. (giver == taker && slot == slot2) || x) (same taker slot2 fit.3)
+same_filled a b same n (said.SetMax zone limit) fit = refl
 same_filled a b same n said.End fit = refl
 
 same_empty : (a b : ℕ → ℕ → Bool) → SameSlots a b → (n : ℕ) (s : Said) → NamesFit n s → finds_empty a s ≡ finds_empty b s
-same_empty a b same n said.Uma fit = refl
+same_empty a b same n (said.Uma version) fit = refl
 same_empty a b same n (said.Workers count) fit = refl
 same_empty a b same n (said.Domains count) fit = refl
 same_empty a b same n (said.Clock clock) fit = refl
@@ -84,7 +87,8 @@ same_empty a b same n (said.Work w (ops.DrainSeat zone)) fit = refl
 same_empty a b same n (said.Work w (ops.Prealloc zone items)) fit = refl
 same_empty a b same n (said.InZone w zone work) fit = refl
 same_empty a b same n said.Round fit = refl
-same_empty a b same n (said.Give (Give giver slot taker slot2)) fit = ap not (same giver slot fit.1)
+same_empty a b same n (said.Give giver slot taker slot2) fit = ap not (same giver slot fit.1)
+same_empty a b same n (said.SetMax zone limit) fit = refl
 same_empty a b same n said.End fit = refl
 
 open_op : (p q : ℕ → Bool) → SameSections p q → (w : ℕ) (op : Op) → (finds_open p (said.Work w op) ≡ finds_open q (said.Work w op)) × (finds_closed p (said.Work w op) ≡ finds_closed q (said.Work w op))
@@ -101,7 +105,7 @@ open_op p q same w (ops.DrainSeat zone) = (refl, refl)
 open_op p q same w (ops.Prealloc zone items) = (refl, refl)
 
 same_open : (p q : ℕ → Bool) → SameSections p q → (s : Said) → (finds_open p s ≡ finds_open q s) × (finds_closed p s ≡ finds_closed q s)
-same_open p q same said.Uma = (refl, refl)
+same_open p q same (said.Uma version) = (refl, refl)
 same_open p q same (said.Workers count) = (refl, refl)
 same_open p q same (said.Domains count) = (refl, refl)
 same_open p q same (said.Clock clock) = (refl, refl)
@@ -112,7 +116,8 @@ same_open p q same (said.Names names) = (refl, refl)
 same_open p q same (said.Work w op) = open_op p q same w op
 same_open p q same (said.InZone w zone work) = (refl, refl)
 same_open p q same said.Round = (refl, refl)
-same_open p q same (said.Give between) = (refl, refl)
+same_open p q same (said.Give giver slot taker slot2) = (refl, refl)
+same_open p q same (said.SetMax zone limit) = (refl, refl)
 same_open p q same said.End = (refl, refl)
 
 same_found : (reader : TraceReader) (before : List Said) (n : ℕ) (s : Said) → NamesFit n s → KnowsSaid reader before → clash_found reader s ≡ clash_after before s
@@ -131,14 +136,19 @@ abbrev pub FirstFits : List Entry → Type 0
 FirstFits [] = Unit {0}
 FirstFits (entries.Does w op ∷ more) = Unit {0}
 FirstFits (entries.Moves (Give giver from taker to) ∷ more) = from ≤ last_slot
+FirstFits (entries.Moves (SetMax zone limit) ∷ more) = Unit {0}
 FirstFits (entries.Round ∷ more) = Unit {0}
 
 in_zone_first : (w : ℕ) (work : ZoneWork) (place : Option ℕ) → FirstFits (entry_in w work place)
 in_zone_first w work None = tt
 in_zone_first w work (Some place) = tt
 
+limit_first : (limit : ℕ) (place : Option ℕ) → FirstFits (limit_in limit place)
+limit_first limit None = tt
+limit_first limit (Some place) = tt
+
 first_fits : (n : ℕ) (zones : List ZoneHead) (s : Said) → NamesFit n s → FirstFits (entry_of zones s)
-first_fits n zones said.Uma fit = tt
+first_fits n zones (said.Uma version) fit = tt
 first_fits n zones (said.Workers count) fit = tt
 first_fits n zones (said.Domains count) fit = tt
 first_fits n zones (said.Clock clock) fit = tt
@@ -149,7 +159,8 @@ first_fits n zones (said.Names names) fit = tt
 first_fits n zones (said.Work w op) fit = tt
 first_fits n zones (said.InZone w zone work) fit = in_zone_first w work (zone_named zones zone)
 first_fits n zones said.Round fit = tt
-first_fits n zones (said.Give (Give giver slot taker slot2)) fit = fit.1
+first_fits n zones (said.Give giver slot taker slot2) fit = fit.1
+first_fits n zones (said.SetMax zone limit) fit = limit_first limit (zone_named zones zone)
 first_fits n zones said.End fit = tt
 
 op_filled_as : (op : Op) (slot : ℕ) (x y : Bool) → x ≡ y → filled_by op slot x ≡ filled_by op slot y
@@ -158,6 +169,7 @@ op_filled_as op slot x y e = ap (filled_by op slot) e
 filled_as : (e : Entry) (more : List Entry) (a b : ℕ → ℕ → Bool) → SameSlots a b → FirstFits (e ∷ more) → (w slot : ℕ) → slot ≤ last_slot → filled_after e a w slot ≡ filled_after e b w slot
 filled_as (entries.Does v op) more a b same fit w slot le = rw (same w slot le) refl
 filled_as (entries.Moves (Give giver from taker to)) more a b same fit w slot le = rw (same giver from fit, same w slot le) refl
+filled_as (entries.Moves (SetMax zone limit)) more a b same fit w slot le = same w slot le
 filled_as entries.Round more a b same fit w slot le = same w slot le
 
 opened_as : (e : Entry) (p q : ℕ → Bool) → SameSections p q → (w : ℕ) → opened_after e p w ≡ opened_after e q w
@@ -183,23 +195,26 @@ empty_tables tables empty = record {
   opened = λ w. none_set tables.sections.items empty.closed w;
 }
 
-pub knows_none : (reader : TraceReader) → reader.stage ≡ stages.Start → reader.workers ≡ 0 → reader.domains ≡ 0 → reader.clock ≡ None → reader.detail ≡ false → reader.zones ≡ [] → reader.names ≡ None
+pub knows_none : (reader : TraceReader) → reader.stage ≡ stages.Start → reader.version ≡ versions.One → reader.workers ≡ 0 → reader.domains ≡ 0 → reader.clock ≡ None → reader.detail ≡ false → reader.zones ≡ [] → reader.names ≡ None
     → reader.entries.items ≡ [] → AreEmpty reader.tables → Knows reader []
-knows_none reader stage workers domains clock detail zones names entries empty = record {
-  said = record { stage = stage; workers = workers; domains = domains; clock = clock; detail = detail; zones = zones; names = names; entries = entries; tables = empty_tables reader.tables empty };
+knows_none reader stage version workers domains clock detail zones names entries empty = record {
+  said = record { stage = stage; version = version; workers = workers; domains = domains; clock = clock; detail = detail; zones = zones; names = names; entries = entries; tables = empty_tables reader.tables empty };
   begun = ap is_start stage;
   ended = ap is_last stage;
 }
 
 -- the first line
-pub begins : (old new : TraceReader) (number : ℕ) (fields : List (List ℕ)) → is_start old.stage ≡ true → is_head (codes "uma") fields ≡ true → new ≡ record old { stage = stages.Uma }
+pub begins : (old new : TraceReader) (number : ℕ) (fields : List (List ℕ)) (version : Version) → is_start old.stage ≡ true → version_in fields ≡ Some version
+    → new ≡ record old { stage = stages.Uma; version = version }
     → Takes trace_test Knows old number fields (Ok tt) new
-begins old new number fields start head is [] shown =
-    let e : head_wrong (is_head (codes "uma") fields) ≡ None = ap head_wrong head in
+begins old new number fields version start head is [] shown =
+    let e : head_wrong (is_some (version_in fields)) ≡ None = ap (λ (o : Option Version). head_wrong (is_some o)) head in
     let P : TraceReader → Type 0 = λ r. Knows r (record { number = number; fields = fields } ∷ []) in
     let s = shown.said in
-    let known : KnowsSaid (record old { stage = stages.Uma }) (said.Uma ∷ []) = record {
+    let first : version ≡ version_or_first (version_in fields) = sym (ap version_or_first head) in
+    let known : KnowsSaid (record old { stage = stages.Uma; version = version }) (said.Uma (version_or_first (version_in fields)) ∷ []) = record {
       stage = refl;
+      version = first;
       workers = s.workers;
       domains = s.domains;
       clock = s.clock;
@@ -210,11 +225,11 @@ begins old new number fields start head is [] shown =
       tables = record { filled = s.tables.filled; opened = s.tables.opened };
     } in
     (e, subst P (sym is) (record { said = known; begun = refl; ended = sym (head_no_end fields e) }))
-begins old new number fields start head is (last ∷ before) shown = absurd (let some = shown.begun in cc)
+begins old new number fields version start head is (last ∷ before) shown = absurd (let some = shown.begun in cc)
 
-pub bad_head : (old new : TraceReader) (number : ℕ) (fields : List (List ℕ)) → is_start old.stage ≡ true → is_head (codes "uma") fields ≡ false
+pub bad_head : (old new : TraceReader) (number : ℕ) (fields : List (List ℕ)) → is_start old.stage ≡ true → version_in fields ≡ None
     → Takes trace_test Knows old number fields (Err (refusals.Kind kinds.Head)) new
-bad_head old new number fields start head [] shown = ap head_wrong head
+bad_head old new number fields start head [] shown = ap (λ (o : Option Version). head_wrong (is_some o)) head
 bad_head old new number fields start head (last ∷ before) shown = absurd (let some = shown.begun in cc)
 
 pub after_end : (old new : TraceReader) (number : ℕ) (fields : List (List ℕ)) → old.stage ≡ stages.End → Takes trace_test Knows old number fields (Err (refusals.Kind kinds.After)) new
@@ -241,6 +256,7 @@ said_next old new before n s fit hears knows =
     let tables = tables_next old.tables new.tables before (entry_of (zones_of before) s) (first_fits n (zones_of before) s fit) (subst P knows.zones hears.marks) knows.tables in
     record {
       stage = hears.stage;
+      version = hears.version ∙ ap (version_after s) knows.version;
       workers = hears.workers ∙ ap (workers_after s) knows.workers;
       domains = hears.domains ∙ ap (domains_after s) knows.domains;
       clock = hears.clock ∙ ap (clock_after s) knows.clock;
@@ -254,7 +270,7 @@ said_next old new before n s fit hears knows =
 -- ---- a line taken in, or refused
 
 begun_by : (s : Said) → is_start (stage_of s) ≡ false
-begun_by said.Uma = refl
+begun_by (said.Uma version) = refl
 begun_by (said.Workers count) = refl
 begun_by (said.Domains count) = refl
 begun_by (said.Clock clock) = refl
@@ -265,7 +281,8 @@ begun_by (said.Names names) = refl
 begun_by (said.Work worker op) = refl
 begun_by (said.InZone worker zone work) = refl
 begun_by said.Round = refl
-begun_by (said.Give between) = refl
+begun_by (said.Give giver slot taker slot2) = refl
+begun_by (said.SetMax zone limit) = refl
 begun_by said.End = refl
 
 -- behind the first line
@@ -280,20 +297,20 @@ behind_some reader (last ∷ before) begun unended knows P f = f last before (re
 
 -- what the fields say, by the state
 says_there : (reader : TraceReader) (before : List Said) (fields : List (List ℕ)) → KnowsSaid reader before
-    → says reader.stage reader.workers fields ≡ says (last_stage before) (workers_of before) fields
-says_there reader before fields knows = rw (knows.stage, knows.workers) refl
+    → says reader.version reader.stage reader.workers fields ≡ says (version_of before) (last_stage before) (workers_of before) fields
+says_there reader before fields knows = rw (knows.version, knows.stage, knows.workers) refl
 
 tested : (last : TextLine) (before : List TextLine) (line : TextLine) → is_ended (last ∷ before) ≡ false → trace_test (last ∷ before) line ≡ wrong (tells (sayings (last ∷ before)) line.fields)
 tested last before line unended = rw unended refl
 
 heard : (old new : TraceReader) (number : ℕ) (fields : List (List ℕ)) (n : ℕ) (s : Said)
-    → is_start old.stage ≡ false → is_last old.stage ≡ false → says old.stage old.workers fields ≡ Ok s → NamesFit n s → clash_found old s ≡ None → Hears s old new
+    → is_start old.stage ≡ false → is_last old.stage ≡ false → says old.version old.stage old.workers fields ≡ Ok s → NamesFit n s → clash_found old s ≡ None → Hears s old new
     → Takes trace_test Knows old number fields (Ok tt) new
 heard old new number fields n s begun unended is fit none hears lines shown =
     behind_some old lines begun unended shown (λ all. (trace_test all (record { number = number; fields = fields }) ≡ None) × Knows new (record { number = number; fields = fields } ∷ all)) (λ last before behind.
     let line : TextLine = record { number = number; fields = fields } in
     let earlier : List Said = sayings (last ∷ before) in
-    let says_it : says (last_stage earlier) (workers_of earlier) fields ≡ Ok s = sym (says_there old earlier fields behind.knows) ∙ is in
+    let says_it : says (version_of earlier) (last_stage earlier) (workers_of earlier) fields ≡ Ok s = sym (says_there old earlier fields behind.knows) ∙ is in
     let no_clash : clash_after earlier s ≡ None = sym (same_found old earlier n s fit behind.knows) ∙ none in
     let tells_it : tells earlier fields ≡ Ok s = rw (says_it, no_clash) refl in
     let all : sayings (line ∷ last ∷ before) ≡ s ∷ earlier = ap (λ r. and_said r earlier) says_it in
@@ -302,12 +319,12 @@ heard old new number fields n s begun unended is fit none hears lines shown =
       record {
         said = subst P (sym all) (said_next old new earlier n s fit hears behind.knows);
         begun = ap is_start hears.stage ∙ begun_by s;
-        ended = ap is_last hears.stage ∙ sym (end_is_told (last_stage earlier) (workers_of earlier) fields s says_it);
+        ended = ap is_last hears.stage ∙ sym (end_is_told (version_of earlier) (last_stage earlier) (workers_of earlier) fields s says_it);
       },
     ))
 
 pub takes : (old new : TraceReader) (number : ℕ) (fields : List (List ℕ)) (n : ℕ) (s : Said) (r : Result (Unit {0}) LineRefused)
-    → is_start old.stage ≡ false → is_last old.stage ≡ false → says old.stage old.workers fields ≡ Ok s → NamesFit n s → clash_found old s ≡ None
+    → is_start old.stage ≡ false → is_last old.stage ≡ false → says old.version old.stage old.workers fields ≡ Ok s → NamesFit n s → clash_found old s ≡ None
     → OnOk r (Hears s old new) → IfErr r (λ refused. refused ≡ refusals.Memory)
     → Takes trace_test Knows old number fields r new
 takes old new number fields n s (Ok done) begun unended is fit none hears memory = heard old new number fields n s begun unended is fit none hears
@@ -315,22 +332,22 @@ takes old new number fields n s (Err refusals.Memory) begun unended is fit none 
 takes old new number fields n s (Err (refusals.Kind why)) begun unended is fit none hears memory = absurd cc
 
 pub clashes : (old new : TraceReader) (number : ℕ) (fields : List (List ℕ)) (n : ℕ) (s : Said) (why : TraceKind)
-    → is_start old.stage ≡ false → is_last old.stage ≡ false → says old.stage old.workers fields ≡ Ok s → NamesFit n s → clash_found old s ≡ Some why
+    → is_start old.stage ≡ false → is_last old.stage ≡ false → says old.version old.stage old.workers fields ≡ Ok s → NamesFit n s → clash_found old s ≡ Some why
     → Takes trace_test Knows old number fields (Err (refusals.Kind why)) new
 clashes old new number fields n s why begun unended is fit found lines shown =
     behind_some old lines begun unended shown (λ all. trace_test all (record { number = number; fields = fields }) ≡ Some why) (λ last before behind.
     let earlier : List Said = sayings (last ∷ before) in
-    let says_it : says (last_stage earlier) (workers_of earlier) fields ≡ Ok s = sym (says_there old earlier fields behind.knows) ∙ is in
+    let says_it : says (version_of earlier) (last_stage earlier) (workers_of earlier) fields ≡ Ok s = sym (says_there old earlier fields behind.knows) ∙ is in
     let clash : clash_after earlier s ≡ Some why = sym (same_found old earlier n s fit behind.knows) ∙ found in
     let tells_it : tells earlier fields ≡ Err why = rw (says_it, clash) refl in
     tested last before (record { number = number; fields = fields }) behind.unended ∙ ap wrong tells_it)
 
 pub says_wrong : (old new : TraceReader) (number : ℕ) (fields : List (List ℕ)) (why : TraceKind)
-    → is_start old.stage ≡ false → is_last old.stage ≡ false → says old.stage old.workers fields ≡ Err why
+    → is_start old.stage ≡ false → is_last old.stage ≡ false → says old.version old.stage old.workers fields ≡ Err why
     → Takes trace_test Knows old number fields (Err (refusals.Kind why)) new
 says_wrong old new number fields why begun unended is lines shown =
     behind_some old lines begun unended shown (λ all. trace_test all (record { number = number; fields = fields }) ≡ Some why) (λ last before behind.
     let earlier : List Said = sayings (last ∷ before) in
-    let says_it : says (last_stage earlier) (workers_of earlier) fields ≡ Err why = sym (says_there old earlier fields behind.knows) ∙ is in
+    let says_it : says (version_of earlier) (last_stage earlier) (workers_of earlier) fields ≡ Err why = sym (says_there old earlier fields behind.knows) ∙ is in
     let tells_it : tells earlier fields ≡ Err why = rw says_it refl in
     tested last before (record { number = number; fields = fields }) behind.unended ∙ ap wrong tells_it)

@@ -11,6 +11,7 @@ use Rattle.trace_text.specs.declared.head.ZoneHead.{ZoneHead}
 use Rattle.trace_text.specs.declared.trace_reading.said.Said.{Said}
 use Rattle.trace_text.specs.declared.trace_reading.said.Said.TheVariants as said
 use Rattle.trace_text.specs.declared.trace_reading.stage.Stage.TheVariants as stages
+use Rattle.trace_text.specs.declared.version.Version.{Version}
 use Rattle.trace_text.specs.Grammar.{stage_of, last_stage, workers_after, workers_of, domains_after, domains_of, clock_after, clock_of, names_after, names_of, new_zone, zones_of, head_of, fills_keg, primary_named}
 use Rattle.trace_text.specs.Limits.{IsWithin}
 use Rattle.trace_text.specs.TraceLine.{rank}
@@ -122,8 +123,8 @@ holds_at_start = record {
   unnamed = λ le. refl;
 }
 
-holds_at_first : HeadHolds (said.Uma ∷ [])
-holds_at_first = record {
+holds_at_first : (version : Version) → HeadHolds (said.Uma version ∷ [])
+holds_at_first version = record {
   workers = λ le. absurd (omega arith);
   domains = λ le. absurd (omega arith);
   clock = tt;

@@ -1,4 +1,4 @@
--- A right text's rounds: the last one ends without `give` lines, each fits the header, and where the lines fit in their own order,
+-- A right text's rounds: the last one ends with nothing behind it, each fits the header, the version has their lines, and where the lines fit in their own order,
 -- they still fit with each round's operations in order of workers.
 use Rattle.std.proofs.Common.{◌≡◌, ℕ, zero, suc, ◌+◌, ◌<◌, Bool, true, false, cond, List, [], ◌∷◌, ◌++◌, map, get_or, refl, sym, ap, subst, ◌∙◌, append_assoc, append-nil, eq-eqb, ne_eqb, arith}
 use Rattle.std.specs.Prelude.{All, ◌==◌}
@@ -11,11 +11,12 @@ use Rattle.trace_text.specs.declared.head.Head.{Head}
 use Rattle.trace_text.specs.declared.op.Op.{Op}
 use Rattle.trace_text.specs.declared.trace_reading.entry.Entry.{Entry}
 use Rattle.trace_text.specs.declared.trace_reading.entry.Entry.TheVariants as entries
-use Rattle.trace_text.specs.Grammar.{is_round, op_by, give_in, ops_in, rounds_in}
-use Rattle.trace_text.specs.Lines.{Line, Does, Moves, lines_of}
-use Rattle.trace_text.specs.Valid.{OpFits, BetweenFits, RoundFits, LastRoundEnds, LinesFit}
+use Rattle.trace_text.specs.declared.version.Version.{Version}
+use Rattle.trace_text.specs.Grammar.{is_round, op_by, between_in, ops_in, rounds_in}
+use Rattle.trace_text.specs.Lines.{Line, Does, Moves, lines_of, worker_lines}
+use Rattle.trace_text.specs.Valid.{OpFits, BetweenFits, RoundFits, LastRoundEnds, LinesFit, IsKnown}
 use Rattle.trace_text.proofs.LineOrder.{StillFit}
-use Rattle.trace_text.proofs.TraceParts.{entry_line, FitsHead, GivesStand}
+use Rattle.trace_text.proofs.TraceParts.{entry_line, FitsHead, BetweensStand, HasEntry}
 use Rattle.trace_text.proofs.WorkerOrder.{lines_from, IsWith, joins_its_own}
 
 -- ---- the last round
@@ -52,13 +53,13 @@ ops_fit h w (entries.Does v op ∷ part) all =
 ops_fit h w (entries.Moves between ∷ part) all = ops_fit h w part (All-tail (FitsHead h) (entries.Moves between) part all)
 ops_fit h w (entries.Round ∷ part) all = ops_fit h w part (All-tail (FitsHead h) entries.Round part all)
 
-gives_fit : (h : Head) (part : List Entry) → All (FitsHead h) part → All (BetweenFits h) (flat_map give_in part)
-gives_fit h [] all = All-nil (BetweenFits h)
-gives_fit h (entries.Does v op ∷ part) all = gives_fit h part (All-tail (FitsHead h) (entries.Does v op) part all)
-gives_fit h (entries.Moves between ∷ part) all =
-    All-cons (BetweenFits h) between (flat_map give_in part) (All-head (FitsHead h) (entries.Moves between) part all)
-    (gives_fit h part (All-tail (FitsHead h) (entries.Moves between) part all))
-gives_fit h (entries.Round ∷ part) all = gives_fit h part (All-tail (FitsHead h) entries.Round part all)
+betweens_fit : (h : Head) (part : List Entry) → All (FitsHead h) part → All (BetweenFits h) (flat_map between_in part)
+betweens_fit h [] all = All-nil (BetweenFits h)
+betweens_fit h (entries.Does v op ∷ part) all = betweens_fit h part (All-tail (FitsHead h) (entries.Does v op) part all)
+betweens_fit h (entries.Moves between ∷ part) all =
+    All-cons (BetweenFits h) between (flat_map between_in part) (All-head (FitsHead h) (entries.Moves between) part all)
+    (betweens_fit h part (All-tail (FitsHead h) (entries.Moves between) part all))
+betweens_fit h (entries.Round ∷ part) all = betweens_fit h part (All-tail (FitsHead h) entries.Round part all)
 
 -- what holds of each line holds of each line of each part
 onto_all : (P : Entry → Type 0) (x : Entry) (parts : List (List Entry)) → P x → All (All P) parts → All (All P) (onto_first x parts)
@@ -91,12 +92,46 @@ rounds_of_parts h (part ∷ []) all =
     (All-nil (RoundFits h))
 rounds_of_parts h (part ∷ next ∷ parts) all =
     let more : All (All (FitsHead h)) (next ∷ parts) = All-tail (All (FitsHead h)) part (next ∷ parts) all in
-    All-cons (RoundFits h) (record { ops = ops_in h.workers part; between = flat_map give_in next }) (rounds_in h.workers (next ∷ parts))
-    (round_fits h part (flat_map give_in next) (All-head (All (FitsHead h)) part (next ∷ parts) all) (gives_fit h next (All-head (All (FitsHead h)) next parts more)))
+    All-cons (RoundFits h) (record { ops = ops_in h.workers part; between = flat_map between_in next }) (rounds_in h.workers (next ∷ parts))
+    (round_fits h part (flat_map between_in next) (All-head (All (FitsHead h)) part (next ∷ parts) all) (betweens_fit h next (All-head (All (FitsHead h)) next parts more)))
     (rounds_of_parts h (next ∷ parts) more)
 
 pub rounds_fit : (h : Head) (entries : List Entry) → All (FitsHead h) entries → All (RoundFits h) (rounds_in h.workers (slice_split is_round entries))
 rounds_fit h lines all = rounds_of_parts h (slice_split is_round lines) (of_parts (FitsHead h) lines all)
+
+-- ---- the version has each line
+
+known_betweens : (version : Version) (part : List Entry) → All (HasEntry version) part → All (IsKnown version) (map Moves (flat_map between_in part))
+known_betweens version [] all = All-nil (IsKnown version)
+known_betweens version (entries.Does v op ∷ part) all = known_betweens version part (All-tail (HasEntry version) (entries.Does v op) part all)
+known_betweens version (entries.Moves between ∷ part) all =
+    All-cons (IsKnown version) (Moves between) (map Moves (flat_map between_in part)) (All-head (HasEntry version) (entries.Moves between) part all)
+    (known_betweens version part (All-tail (HasEntry version) (entries.Moves between) part all))
+known_betweens version (entries.Round ∷ part) all = known_betweens version part (All-tail (HasEntry version) entries.Round part all)
+
+known_ops : (version : Version) (w : ℕ) (ops : List Op) → All (IsKnown version) (map (Does w) ops)
+known_ops version w [] = All-nil (IsKnown version)
+known_ops version w (op ∷ ops) = All-cons (IsKnown version) (Does w op) (map (Does w) ops) tt (known_ops version w ops)
+
+known_workers : (version : Version) (w : ℕ) (lists : List (List Op)) → All (IsKnown version) (worker_lines w lists)
+known_workers version w [] = All-nil (IsKnown version)
+known_workers version w (ops ∷ lists) = All-append (IsKnown version) (map (Does w) ops) (worker_lines (w + 1) lists) (known_ops version w ops) (known_workers version (w + 1) lists)
+
+known_parts : (version : Version) (workers : ℕ) (parts : List (List Entry)) → All (All (HasEntry version)) parts → All (IsKnown version) (lines_of (rounds_in workers parts))
+known_parts version workers [] all = All-nil (IsKnown version)
+known_parts version workers (part ∷ []) all =
+    let own : List Line = worker_lines 0 (ops_in workers part) in
+    All-append (IsKnown version) (own ++ []) [] (All-append (IsKnown version) own [] (known_workers version 0 (ops_in workers part)) (All-nil (IsKnown version))) (All-nil (IsKnown version))
+known_parts version workers (part ∷ next ∷ parts) all =
+    let more : All (All (HasEntry version)) (next ∷ parts) = All-tail (All (HasEntry version)) part (next ∷ parts) all in
+    let own : List Line = worker_lines 0 (ops_in workers part) in
+    let betweens : List Line = map Moves (flat_map between_in next) in
+    All-append (IsKnown version) (own ++ betweens) (lines_of (rounds_in workers (next ∷ parts)))
+    (All-append (IsKnown version) own betweens (known_workers version 0 (ops_in workers part)) (known_betweens version next (All-head (All (HasEntry version)) next parts more)))
+    (known_parts version workers (next ∷ parts) more)
+
+pub lines_known : (version : Version) (workers : ℕ) (entries : List Entry) → All (HasEntry version) entries → All (IsKnown version) (lines_of (rounds_in workers (slice_split is_round entries)))
+lines_known version workers lines all = known_parts version workers (slice_split is_round lines) (of_parts (HasEntry version) lines all)
 
 -- ---- the order of workers
 
@@ -108,10 +143,10 @@ nobody_does : (k n : ℕ) → lines_from k n (λ w. flat_map (op_by w) []) ≡ [
 nobody_does k zero = refl
 nobody_does k (suc n) = nobody_does (k + 1) n
 
--- the lines of these parts: of each its `give` lines, and then its operations in order of workers
+-- the lines of these parts: of each those that stand between two rounds, and then its operations in order of workers
 abbrev ordered : ℕ → List (List Entry) → List Line
 ordered workers [] = []
-ordered workers (part ∷ parts) = map Moves (flat_map give_in part) ++ (grouped workers part ++ ordered workers parts)
+ordered workers (part ∷ parts) = map Moves (flat_map between_in part) ++ (grouped workers part ++ ordered workers parts)
 
 does_more : (w : ℕ) (op : Op) (part : List Entry) → IsWith w op (λ v. flat_map (op_by v) part) (λ v. flat_map (op_by v) (entries.Does w op ∷ part))
 does_more w op part = record {
@@ -119,54 +154,54 @@ does_more w op part = record {
   others = λ v ne. rw (ne_eqb w v (λ e. ne (sym e))) refl;
 }
 
--- the `give` lines of the first of these parts
-abbrev first_gives : List (List Entry) → List Between
-first_gives [] = []
-first_gives (part ∷ parts) = flat_map give_in part
+-- the lines of the first of these parts that stand between two rounds
+abbrev first_betweens : List (List Entry) → List Between
+first_betweens [] = []
+first_betweens (part ∷ parts) = flat_map between_in part
 
--- an operation before the first part, which has no `give` lines
-does_first : (workers w : ℕ) (op : Op) (parts : List (List Entry)) → w < workers → first_gives parts ≡ []
+-- an operation before the first part, which has no lines between two rounds
+does_first : (workers w : ℕ) (op : Op) (parts : List (List Entry)) → w < workers → first_betweens parts ≡ []
     → StillFit (Does w op ∷ ordered workers parts) (ordered workers (onto_first (entries.Does w op) parts))
 does_first workers w op [] lt none before fits =
     let P : List Line → Type 0 = λ lines. LinesFit before (Does w op ∷ (lines ++ [])) in
     joins_its_own (λ v. flat_map (op_by v) []) (λ v. flat_map (op_by v) (entries.Does w op ∷ [])) w op [] (does_more w op []) 0 workers (omega arith) (omega arith) before
     (subst P (sym (nobody_does 0 workers)) fits)
 does_first workers w op (part ∷ parts) lt none before fits =
-    let P : List Between → Type 0 = λ gives. LinesFit before (Does w op ∷ (map Moves gives ++ (grouped workers part ++ ordered workers parts))) in
-    let Q : List Between → Type 0 = λ gives. LinesFit before (map Moves gives ++ (grouped workers (entries.Does w op ∷ part) ++ ordered workers parts)) in
+    let P : List Between → Type 0 = λ betweens. LinesFit before (Does w op ∷ (map Moves betweens ++ (grouped workers part ++ ordered workers parts))) in
+    let Q : List Between → Type 0 = λ betweens. LinesFit before (map Moves betweens ++ (grouped workers (entries.Does w op ∷ part) ++ ordered workers parts)) in
     subst Q (sym none)
     (joins_its_own (λ v. flat_map (op_by v) part) (λ v. flat_map (op_by v) (entries.Does w op ∷ part)) w op (ordered workers parts) (does_more w op part) 0 workers (omega arith) (omega arith) before
     (subst P none fits))
 
--- a `give` line before the first part
-gives_first : (workers : ℕ) (between : Between) (parts : List (List Entry))
+-- a line between two rounds before the first part
+betweens_first : (workers : ℕ) (between : Between) (parts : List (List Entry))
     → StillFit (Moves between ∷ ordered workers parts) (ordered workers (onto_first (entries.Moves between) parts))
-gives_first workers between [] before fits =
+betweens_first workers between [] before fits =
     let P : List Line → Type 0 = λ lines. LinesFit before (Moves between ∷ (lines ++ [])) in
     subst P (sym (nobody_does 0 workers)) fits
-gives_first workers between (part ∷ parts) before fits = fits
+betweens_first workers between (part ∷ parts) before fits = fits
 
--- an operation adds no `give` lines to the first part
-still_none : (w : ℕ) (op : Op) (parts : List (List Entry)) → first_gives (onto_first (entries.Does w op) parts) ≡ first_gives parts
+-- an operation adds none to the first part
+still_none : (w : ℕ) (op : Op) (parts : List (List Entry)) → first_betweens (onto_first (entries.Does w op) parts) ≡ first_betweens parts
 still_none w op [] = refl
 still_none w op (part ∷ parts) = refl
 
-no_gives : (lines : List Entry) → GivesStand false lines → first_gives (slice_split is_round lines) ≡ []
-no_gives [] stand = refl
-no_gives (entries.Does w op ∷ more) stand = still_none w op (slice_split is_round more) ∙ no_gives more stand
-no_gives (entries.Moves between ∷ more) stand = absurd (false≢true stand.0)
-no_gives (entries.Round ∷ more) stand = refl
+no_betweens : (lines : List Entry) → BetweensStand false lines → first_betweens (slice_split is_round lines) ≡ []
+no_betweens [] stand = refl
+no_betweens (entries.Does w op ∷ more) stand = still_none w op (slice_split is_round more) ∙ no_betweens more stand
+no_betweens (entries.Moves between ∷ more) stand = absurd (false≢true stand.0)
+no_betweens (entries.Round ∷ more) stand = refl
 
-fit_in_order : (h : Head) (begun : Bool) (lines : List Entry) → All (FitsHead h) lines → GivesStand begun lines
+fit_in_order : (h : Head) (begun : Bool) (lines : List Entry) → All (FitsHead h) lines → BetweensStand begun lines
     → StillFit (flat_map entry_line lines) (ordered h.workers (slice_split is_round lines))
 fit_in_order h begun [] all stand before fits =
     let P : List Line → Type 0 = λ lines. LinesFit before (lines ++ []) in
     subst P (sym (nobody_does 0 h.workers)) tt
 fit_in_order h begun (entries.Does w op ∷ more) all stand before fits =
-    does_first h.workers w op (slice_split is_round more) (All-head (FitsHead h) (entries.Does w op) more all).0 (no_gives more stand) before
+    does_first h.workers w op (slice_split is_round more) (All-head (FitsHead h) (entries.Does w op) more all).0 (no_betweens more stand) before
     (fits.0, fit_in_order h false more (All-tail (FitsHead h) (entries.Does w op) more all) stand (Does w op ∷ before) fits.1)
 fit_in_order h begun (entries.Moves between ∷ more) all stand before fits =
-    gives_first h.workers between (slice_split is_round more) before
+    betweens_first h.workers between (slice_split is_round more) before
     (fits.0, fit_in_order h true more (All-tail (FitsHead h) (entries.Moves between) more all) stand.1 (Moves between ∷ before) fits.1)
 fit_in_order h begun (entries.Round ∷ more) all stand before fits =
     let P : List Line → Type 0 = λ lines. LinesFit before (lines ++ ordered h.workers (slice_split is_round more)) in
@@ -176,16 +211,16 @@ fit_in_order h begun (entries.Round ∷ more) all stand before fits =
 lines_of_rounds : (workers : ℕ) (part : List Entry) (parts : List (List Entry)) → lines_of (rounds_in workers (part ∷ parts)) ≡ grouped workers part ++ ordered workers parts
 lines_of_rounds workers part [] = ap (λ (lines : List Line). lines ++ []) (append-nil (grouped workers part))
 lines_of_rounds workers part (next ∷ parts) =
-    append_assoc (grouped workers part) (map Moves (flat_map give_in next)) (lines_of (rounds_in workers (next ∷ parts)))
-    ∙ ap (λ (lines : List Line). grouped workers part ++ (map Moves (flat_map give_in next) ++ lines)) (lines_of_rounds workers next parts)
+    append_assoc (grouped workers part) (map Moves (flat_map between_in next)) (lines_of (rounds_in workers (next ∷ parts)))
+    ∙ ap (λ (lines : List Line). grouped workers part ++ (map Moves (flat_map between_in next) ++ lines)) (lines_of_rounds workers next parts)
 
-lines_in_order : (workers : ℕ) (parts : List (List Entry)) → first_gives parts ≡ [] → ordered workers parts ≡ lines_of (rounds_in workers parts)
+lines_in_order : (workers : ℕ) (parts : List (List Entry)) → first_betweens parts ≡ [] → ordered workers parts ≡ lines_of (rounds_in workers parts)
 lines_in_order workers [] none = refl
 lines_in_order workers (part ∷ parts) none =
-    ap (λ (gives : List Between). map Moves gives ++ (grouped workers part ++ ordered workers parts)) none ∙ sym (lines_of_rounds workers part parts)
+    ap (λ (betweens : List Between). map Moves betweens ++ (grouped workers part ++ ordered workers parts)) none ∙ sym (lines_of_rounds workers part parts)
 
-pub lines_still_fit : (h : Head) (entries : List Entry) → All (FitsHead h) entries → GivesStand false entries → LinesFit [] (flat_map entry_line entries)
+pub lines_still_fit : (h : Head) (entries : List Entry) → All (FitsHead h) entries → BetweensStand false entries → LinesFit [] (flat_map entry_line entries)
     → LinesFit [] (lines_of (rounds_in h.workers (slice_split is_round entries)))
 lines_still_fit h lines all stand fits =
     let P : List Line → Type 0 = λ lines. LinesFit [] lines in
-    subst P (lines_in_order h.workers (slice_split is_round lines) (no_gives lines stand)) (fit_in_order h false lines all stand [] fits)
+    subst P (lines_in_order h.workers (slice_split is_round lines) (no_betweens lines stand)) (fit_in_order h false lines all stand [] fits)

@@ -3,8 +3,9 @@ use Rattle.std.proofs.Common.{◌≡◌, ◌<◌, List, [], ◌∷◌, Bool, tru
 use Rattle.trace_text.specs.declared.head.Head.{Head}
 use Rattle.trace_text.specs.declared.trace_reading.entry.Entry.{Entry}
 use Rattle.trace_text.specs.declared.trace_reading.entry.Entry.TheVariants as entries
+use Rattle.trace_text.specs.declared.version.Version.{Version}
 use Rattle.trace_text.specs.Lines.{Line, Does, Moves}
-use Rattle.trace_text.specs.Valid.{OpFits, BetweenFits}
+use Rattle.trace_text.specs.Valid.{OpFits, BetweenFits, IsKnown}
 
 -- the line that it is, if it is more than a `round` line
 abbrev pub entry_line : Entry → List Line
@@ -18,9 +19,15 @@ FitsHead h (entries.Does w op) = (w < h.workers) × OpFits h op
 FitsHead h (entries.Moves between) = BetweenFits h between
 FitsHead h entries.Round = Unit {0}
 
--- A `give` line stands behind a `round` line, with only `give` lines between the two. The truth value says that so it is at the beginning.
-abbrev pub GivesStand : Bool → List Entry → Type 0
-GivesStand begun [] = Unit {0}
-GivesStand begun (entries.Does w op ∷ more) = GivesStand false more
-GivesStand begun (entries.Moves between ∷ more) = (begun ≡ true) × GivesStand true more
-GivesStand begun (entries.Round ∷ more) = GivesStand true more
+-- the version has such a line
+abbrev pub HasEntry : Version → Entry → Type 0
+HasEntry version (entries.Does w op) = Unit {0}
+HasEntry version (entries.Moves between) = IsKnown version (Moves between)
+HasEntry version entries.Round = Unit {0}
+
+-- A line between two rounds stands behind a `round` line, with only such lines between the two. The truth value says that so it is at the beginning.
+abbrev pub BetweensStand : Bool → List Entry → Type 0
+BetweensStand begun [] = Unit {0}
+BetweensStand begun (entries.Does w op ∷ more) = BetweensStand false more
+BetweensStand begun (entries.Moves between ∷ more) = (begun ≡ true) × BetweensStand true more
+BetweensStand begun (entries.Round ∷ more) = BetweensStand true more

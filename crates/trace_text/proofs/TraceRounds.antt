@@ -5,7 +5,7 @@ use Rattle.std.proofs.lemmas.List.{get_or-map, length-map}
 use Rattle.std.proofs.lemmas.List.FromFn.{map-range_with_len_more}
 use Rattle.trace_text.specs.declared.round.Round.{Round}
 use Rattle.trace_text.specs.declared.trace_reading.entry.Entry.{Entry}
-use Rattle.trace_text.specs.Grammar.{op_by, give_in, ops_in, rounds_in}
+use Rattle.trace_text.specs.Grammar.{op_by, between_in, ops_in, rounds_in}
 
 -- what one more worker does
 pub ops_in_more : (workers : ℕ) (part : List Entry) → ops_in (workers + 1) part ≡ ops_in workers part ++ flat_map (op_by workers) part ∷ []
@@ -13,7 +13,7 @@ ops_in_more workers part = map-range_with_len_more (λ worker. flat_map (op_by w
 
 -- the round of a part, where this part follows it
 round_in : ℕ → List Entry → List Entry → Round
-round_in workers part next = record { ops = ops_in workers part; between = flat_map give_in next }
+round_in workers part next = record { ops = ops_in workers part; between = flat_map between_in next }
 
 -- the first of the rounds that are left is that of the part at this place
 rounds_in-drop : (workers : ℕ) (parts : List (List Entry)) (i : ℕ) (d : List Entry) → i < length parts
@@ -29,7 +29,7 @@ pub rounds_more : {X : Type 0} (part_of : X → List Entry) (workers : ℕ) (xs 
     → i < length xs
     → rounds ++ rounds_in workers (drop i (map part_of xs)) ≡ all
     → next ≡ get_or (map part_of xs) (i + 1) []
-    → round ≡ record { ops = ops_in workers (part_of (get_or xs i d)); between = flat_map give_in next }
+    → round ≡ record { ops = ops_in workers (part_of (get_or xs i d)); between = flat_map between_in next }
     → (rounds ++ round ∷ []) ++ rounds_in workers (drop (i + 1) (map part_of xs)) ≡ all
 unfolding round_in
 rounds_more part_of workers xs i d next rounds all round below so_far next_is round_is =

@@ -1,8 +1,10 @@
 -- The grammar on worked rows: what lines say, what is wrong with a line behind others, and the rounds.
-use Rattle.std.proofs.Common.{◌≡◌, ℕ, List, [], ◌∷◌, Some, None, Err, refl, false}
+use Rattle.std.proofs.Common.{◌≡◌, ℕ, List, [], ◌∷◌, Some, None, Ok, Err, refl, false}
 use Rattle.std.specs.Prelude.{codes}
+use Rattle.std.specs.Fmt.{digits}
+use Rattle.text_lines.specs.Number.{number_of}
 use Rattle.text_lines.specs.declared.refused.TraceKind.TheVariants as kinds
-use Rattle.trace_text.specs.declared.between.Between.TheVariants.{Give}
+use Rattle.trace_text.specs.declared.between.Between.TheVariants.{Give, SetMax}
 use Rattle.trace_text.specs.declared.head.ZoneHead.{ZoneHead}
 use Rattle.trace_text.specs.declared.head.ZoneKind.TheVariants.{Plain}
 use Rattle.trace_text.specs.declared.op.Op.TheVariants as ops
@@ -12,8 +14,9 @@ use Rattle.trace_text.specs.declared.trace_reading.said.SecondHead.{SecondHead}
 use Rattle.trace_text.specs.declared.trace_reading.said.ZoneWork.TheVariants as works
 use Rattle.trace_text.specs.declared.trace_reading.word.Word.TheVariants as words
 use Rattle.trace_text.specs.declared.trace_reading.word.HeadWord.TheVariants as heads
+use Rattle.trace_text.specs.declared.version.Version.TheVariants as versions
 use Rattle.trace_text.specs.Grammar.{clash_after, last_stage, rounds_of}
-use Rattle.trace_text.specs.TraceLine.{alloc_said, may_follow}
+use Rattle.trace_text.specs.TraceLine.{alloc_said, may_follow, says}
 
 box : ZoneHead
 box = record { name = codes "box"; parent = None; size = 256; slabs = 4; bucket = 4; limit = 0; reserve = 0; kind = Plain }
@@ -23,10 +26,10 @@ second name = record { name = name; of = codes "box"; bucket = 4; limit = 0; kin
 
 -- four lines, the last one first, without a clock and with one
 four : List Said
-four = said.Zone box ∷ said.Domains 1 ∷ said.Workers 1 ∷ said.Uma ∷ []
+four = said.Zone box ∷ said.Domains 1 ∷ said.Workers 1 ∷ said.Uma versions.One ∷ []
 
 five : List Said
-five = said.Zone box ∷ said.Clock (record { start = 1; window = 8 }) ∷ said.Domains 1 ∷ said.Workers 1 ∷ said.Uma ∷ []
+five = said.Zone box ∷ said.Clock (record { start = 1; window = 8 }) ∷ said.Domains 1 ∷ said.Workers 1 ∷ said.Uma versions.One ∷ []
 
 asks : ℕ → Said
 asks slot = said.InZone 0 (codes "box") (works.Alloc slot 0 false)
@@ -44,12 +47,30 @@ bad_lines :
     × (clash_after (asks 0 ∷ four) (asks 0) ≡ Some kinds.SlotBusy)
     × (clash_after (said.Work 0 (ops.Free 0) ∷ asks 0 ∷ four) (asks 0) ≡ None)
     × (clash_after four (said.Work 0 (ops.Free 0)) ≡ Some kinds.SlotEmpty)
-    × (clash_after (said.Round ∷ four) (said.Give (Give 0 0 0 0)) ≡ Some kinds.SlotBusy)
-    × (clash_after (said.Give (Give 0 0 0 7) ∷ said.Round ∷ asks 0 ∷ four) (said.Work 0 (ops.Free 0)) ≡ Some kinds.SlotEmpty)
-    × (clash_after (said.Give (Give 0 0 0 7) ∷ said.Round ∷ asks 0 ∷ four) (said.Work 0 (ops.Free 7)) ≡ None)
+    × (clash_after (said.Round ∷ four) (said.Give 0 0 0 0) ≡ Some kinds.SlotBusy)
+    × (clash_after (said.Give 0 0 0 7 ∷ said.Round ∷ asks 0 ∷ four) (said.Work 0 (ops.Free 0)) ≡ Some kinds.SlotEmpty)
+    × (clash_after (said.Give 0 0 0 7 ∷ said.Round ∷ asks 0 ∷ four) (said.Work 0 (ops.Free 7)) ≡ None)
     × (may_follow (last_stage four) words.Give ≡ false)
 unfolding four five asks box
 bad_lines = (refl, refl, refl, refl, refl, refl, refl, refl, refl, refl, refl, refl, refl, refl, refl, refl)
+
+-- a limit that changes, of version 2 and behind a `round` line: its word is tested before its place, and its zone last
+lowers : List ℕ → List ℕ → List (List ℕ)
+lowers zone limit = codes "setmax" ∷ zone ∷ limit ∷ []
+
+bad_limits :
+    (says versions.One (last_stage (said.Round ∷ four)) 1 (lowers (codes "box") (codes "2")) ≡ Err kinds.Word)
+    × (says versions.One (last_stage four) 1 (lowers (codes "box") (codes "2")) ≡ Err kinds.Word)
+    × (says versions.Two (last_stage four) 1 (lowers (codes "box") (codes "2")) ≡ Err kinds.Place)
+    × (says versions.Two (last_stage (said.Round ∷ four)) 1 (codes "setmax" ∷ codes "b*x" ∷ []) ≡ Err kinds.Fields)
+    × (says versions.Two (last_stage (said.Round ∷ four)) 1 (lowers (codes "b*x") (codes "02")) ≡ Err kinds.Name)
+    × (says versions.Two (last_stage (said.Round ∷ four)) 1 (lowers (codes "bax") (codes "02")) ≡ Err kinds.Number)
+    × (says versions.Two (last_stage (said.Round ∷ four)) 1 (lowers (codes "bax") (codes "1000001")) ≡ Err kinds.Range)
+    × (says versions.Two (last_stage (said.Round ∷ four)) 1 (lowers (codes "box") (codes "1000000")) ≡ Ok (said.SetMax (codes "box") 1000000))
+    × (clash_after (said.Round ∷ four) (said.SetMax (codes "bax") 2) ≡ Some kinds.NoZone)
+    × (clash_after (said.Round ∷ four) (said.SetMax (codes "box") 2) ≡ None)
+unfolding number_of digits lowers four box
+bad_limits = (refl, refl, refl, refl, refl, refl, refl, refl, refl, refl)
 
 -- seven secondary zones, and an eighth
 seven : List Said
@@ -66,9 +87,9 @@ a_second_of_a_second : clash_after (said.Second (second (codes "bag")) ∷ four)
 unfolding four second box
 a_second_of_a_second = refl
 
--- two workers, a round, a move, and what follows
-two_rounds : rounds_of (said.End ∷ said.Work 1 (ops.Free 7) ∷ said.Give (Give 0 0 1 7) ∷ said.Round ∷ asks 0 ∷ said.Zone box ∷ said.Domains 1 ∷ said.Workers 2 ∷ said.Uma ∷ [])
-    ≡ record { ops = (ops.Alloc 0 0 0 false ∷ []) ∷ [] ∷ []; between = Give 0 0 1 7 ∷ [] }
+-- two workers, a round, a lower limit, a move, and what follows
+two_rounds : rounds_of (said.End ∷ said.Work 1 (ops.Free 7) ∷ said.Give 0 0 1 7 ∷ said.SetMax (codes "box") 2 ∷ said.Round ∷ asks 0 ∷ said.Zone box ∷ said.Domains 1 ∷ said.Workers 2 ∷ said.Uma versions.One ∷ [])
+    ≡ record { ops = (ops.Alloc 0 0 0 false ∷ []) ∷ [] ∷ []; between = SetMax 0 2 ∷ Give 0 0 1 7 ∷ [] }
     ∷ record { ops = [] ∷ (ops.Free 7 ∷ []) ∷ []; between = [] } ∷ []
 unfolding asks box
 two_rounds = refl

@@ -10,7 +10,6 @@ use Rattle.text_lines.specs.Fields.{◌>>=◌, no_field, one_field, two_fields, 
 use Rattle.text_lines.specs.Number.{number_of}
 use Rattle.text_lines.specs.TextLines.{is_end}
 use Rattle.text_lines.proofs.Numbers.{IsNumber-from_number_of}
-use Rattle.trace_text.specs.declared.between.Between.TheVariants.{Give}
 use Rattle.trace_text.specs.declared.op.Op.{Op}
 use Rattle.trace_text.specs.declared.op.Op.TheVariants as ops
 use Rattle.trace_text.specs.declared.trace_reading.said.Said.{Said}
@@ -26,11 +25,12 @@ use Rattle.trace_text.specs.declared.trace_reading.word.WorkWord.{WorkWord}
 use Rattle.trace_text.specs.declared.trace_reading.word.WorkWord.TheVariants as by_self
 use Rattle.trace_text.specs.declared.trace_reading.word.ZoneWord.{ZoneWord}
 use Rattle.trace_text.specs.declared.trace_reading.word.ZoneWord.TheVariants as in_zone
+use Rattle.trace_text.specs.declared.version.Version.{Version}
 use Rattle.trace_text.specs.Grammar.{stage_of}
 use Rattle.trace_text.specs.Limits.{IsWithin, last_slot}
 use Rattle.trace_text.specs.TraceKnown.{is_last}
-use Rattle.trace_text.specs.TraceLine.{word_named, word_or_wrong, rank, may_follow, is_within, placed, name_in, worker_in, slot_in, clock_in, zone_in, second_in, names_in, head_said, alloc_fields, arg_in, alloc_said, worker_and_zone, prealloc_said, zone_said, only_worker, worker_and_key, free_said, bind_said, work_said, give_said, said_by, says}
-use Rattle.trace_text.specs.Valid.{ClockFits}
+use Rattle.trace_text.specs.TraceLine.{word_named, word_or_wrong, rank, may_follow, is_within, placed, name_in, worker_in, slot_in, clock_in, zone_in, second_in, names_in, head_said, alloc_fields, arg_in, alloc_said, worker_and_zone, prealloc_said, zone_said, only_worker, worker_and_key, free_said, bind_said, work_said, give_said, setmax_said, said_by, says, is_known, known}
+use Rattle.trace_text.specs.Valid.{ClockFits, changes_limits}
 use Rattle.trace_text.proofs.HeadLines.{HeadIsRead, ZoneIsRead, SecondIsRead, NamesAreRead, within_fits, clock_is_read, zone_is_read, second_is_read, names_are_read}
 use Rattle.schedule_text.proofs.ScheduleFollowing.{ends_line, is_end_by, not_last}
 use Rattle.schedule_text.proofs.Steps.{bound, step, any, where_true, is_some_value, is_true}
@@ -39,14 +39,15 @@ use Rattle.schedule_text.proofs.Steps.{bound, step, any, where_true, is_some_val
 
 -- the first and the last place in the order of a text that the line before may have
 abbrev pub earliest : Said → ℕ
-earliest said.Uma = 1
+earliest (said.Uma version) = 1
 earliest (said.Workers count) = 1
 earliest (said.Domains count) = 2
-earliest (said.Give between) = 9
+earliest (said.Give giver slot taker slot2) = 9
+earliest (said.SetMax zone limit) = 9
 earliest other = 3
 
 abbrev pub latest : Said → ℕ
-latest said.Uma = 0
+latest (said.Uma version) = 0
 latest (said.Workers count) = 1
 latest (said.Domains count) = 2
 latest (said.Clock clock) = 3
@@ -88,10 +89,17 @@ WorkNumbersFit other = Unit {0}
 abbrev pub NumbersFit : ℕ → Said → Type 0
 NumbersFit workers (said.Work worker op) = (worker < workers) × OpNumbersFit op
 NumbersFit workers (said.InZone worker zone work) = (worker < workers) × WorkNumbersFit work
-NumbersFit workers (said.Give (Give giver slot taker slot2)) = (giver < workers) × (slot ≤ last_slot) × (taker < workers) × (slot2 ≤ last_slot)
+NumbersFit workers (said.Give giver slot taker slot2) = (giver < workers) × (slot ≤ last_slot) × (taker < workers) × (slot2 ≤ last_slot)
+NumbersFit workers (said.SetMax zone limit) = limit ≤ 1000000
 NumbersFit workers other = Unit {0}
 
-pub record SaysRight (stage : Stage) (workers : ℕ) (fields : List (List ℕ)) (s : Said) : Type 0 where
+-- the version has a line that says this
+abbrev pub is_known_saying : Version → Said → Bool
+is_known_saying version (said.SetMax zone limit) = changes_limits version
+is_known_saying version other = true
+
+pub record SaysRight (version : Version) (stage : Stage) (workers : ℕ) (fields : List (List ℕ)) (s : Said) : Type 0 where
+  pub known : is_known_saying version s ≡ true
   pub place : StandsBehind stage s
   pub ends : is_end fields ≡ is_last (stage_of s)
   pub own : HeadIsRead s
@@ -120,6 +128,7 @@ is_end_word words.End = true
 is_end_word word = false
 
 record SaidBy (workers : ℕ) (word : Word) (rest : List (List ℕ)) (s : Said) : Type 0 where
+  known : (version : Version) → is_known_saying version s ≡ is_known version word
   place : (stage : Stage) → follows stage s ≡ may_follow stage word
   ends : is_last (stage_of s) ≡ ends_line (is_end_word word) rest
   own : HeadIsRead s
@@ -129,26 +138,26 @@ head_by : (workers : ℕ) (word : HeadWord) (rest : List (List ℕ)) → IfOk (h
 head_by workers heads.Uma rest = tt
 head_by workers heads.Workers rest =
     any _ (one_field rest) _ (λ field.
-    step (IsWithin 1 16) _ (number_within 1 16 field) _ (within_fits 1 16 field) (λ count own. record { place = λ stage. refl; ends = not_last rest; own = own; numbers = tt }))
+    step (IsWithin 1 16) _ (number_within 1 16 field) _ (within_fits 1 16 field) (λ count own. record { known = λ version. refl; place = λ stage. refl; ends = not_last rest; own = own; numbers = tt }))
 head_by workers heads.Domains rest =
     any _ (one_field rest) _ (λ field.
-    step (IsWithin 1 4) _ (number_within 1 4 field) _ (within_fits 1 4 field) (λ count own. record { place = λ stage. refl; ends = not_last rest; own = own; numbers = tt }))
+    step (IsWithin 1 4) _ (number_within 1 4 field) _ (within_fits 1 4 field) (λ count own. record { known = λ version. refl; place = λ stage. refl; ends = not_last rest; own = own; numbers = tt }))
 head_by workers heads.Clock rest =
-    step ClockFits _ (clock_in rest) _ (clock_is_read rest) (λ clock own. record { place = λ stage. refl; ends = not_last rest; own = own; numbers = tt })
-head_by workers heads.Detail rest = any _ (no_field rest) _ (λ none. record { place = λ stage. refl; ends = not_last rest; own = tt; numbers = tt })
+    step ClockFits _ (clock_in rest) _ (clock_is_read rest) (λ clock own. record { known = λ version. refl; place = λ stage. refl; ends = not_last rest; own = own; numbers = tt })
+head_by workers heads.Detail rest = any _ (no_field rest) _ (λ none. record { known = λ version. refl; place = λ stage. refl; ends = not_last rest; own = tt; numbers = tt })
 head_by workers heads.Zone rest =
-    step ZoneIsRead _ (zone_in rest) _ (zone_is_read rest) (λ zone own. record { place = λ stage. refl; ends = not_last rest; own = own; numbers = tt })
+    step ZoneIsRead _ (zone_in rest) _ (zone_is_read rest) (λ zone own. record { known = λ version. refl; place = λ stage. refl; ends = not_last rest; own = own; numbers = tt })
 head_by workers heads.Second rest =
-    step SecondIsRead _ (second_in rest) _ (second_is_read rest) (λ second own. record { place = λ stage. refl; ends = not_last rest; own = own; numbers = tt })
+    step SecondIsRead _ (second_in rest) _ (second_is_read rest) (λ second own. record { known = λ version. refl; place = λ stage. refl; ends = not_last rest; own = own; numbers = tt })
 head_by workers heads.Names rest =
-    step NamesAreRead _ (names_in rest) _ (names_are_read rest) (λ names own. record { place = λ stage. refl; ends = not_last rest; own = own; numbers = tt })
+    step NamesAreRead _ (names_in rest) _ (names_are_read rest) (λ names own. record { known = λ version. refl; place = λ stage. refl; ends = not_last rest; own = own; numbers = tt })
 
 free_by : (workers : ℕ) (rest : List (List ℕ)) → IfOk (free_said workers rest) (SaidBy workers (words.Work by_self.Free) rest)
 free_by workers rest =
     any _ (two_fields rest) _ (λ parts.
     step (λ n. n < workers) _ (worker_in workers parts.0) _ (worker_fits workers parts.0) (λ worker lt.
     step (IsWithin 0 last_slot) _ (slot_in parts.1) _ (within_fits 0 last_slot parts.1) (λ slot in'.
-    record { place = λ stage. refl; ends = not_last rest; own = tt; numbers = (lt, in'.1) })))
+    record { known = λ version. refl; place = λ stage. refl; ends = not_last rest; own = tt; numbers = (lt, in'.1) })))
 
 bind_by : (workers : ℕ) (rest : List (List ℕ)) → IfOk (bind_said workers rest) (SaidBy workers (words.Work by_self.Bind) rest)
 bind_by workers rest =
@@ -156,7 +165,7 @@ bind_by workers rest =
     step (λ n. n < workers) _ (worker_in workers parts.0) _ (worker_fits workers parts.0) (λ worker lt.
     step (λ n. n < 2 ^ 64) _ (number_in parts.1) _ (number_fits parts.1) (λ key low.
     step (λ n. n < 2 ^ 64) _ (number_in parts.2) _ (number_fits parts.2) (λ value low'.
-    record { place = λ stage. refl; ends = not_last rest; own = tt; numbers = (lt, (low, low')) }))))
+    record { known = λ version. refl; place = λ stage. refl; ends = not_last rest; own = tt; numbers = (lt, (low, low')) }))))
 
 only_fits : (workers : ℕ) (rest : List (List ℕ)) → IfOk (only_worker workers rest) (λ n. n < workers)
 only_fits workers rest = any _ (one_field rest) _ (λ field. worker_fits workers field)
@@ -170,14 +179,14 @@ key_fits workers rest =
 work_by : (workers : ℕ) (word : WorkWord) (rest : List (List ℕ)) → IfOk (work_said workers word rest) (SaidBy workers (words.Work word) rest)
 work_by workers by_self.Free rest = free_by workers rest
 work_by workers by_self.Enter rest =
-    step (λ n. n < workers) _ (only_worker workers rest) _ (only_fits workers rest) (λ worker lt. record { place = λ stage. refl; ends = not_last rest; own = tt; numbers = (lt, tt) })
+    step (λ n. n < workers) _ (only_worker workers rest) _ (only_fits workers rest) (λ worker lt. record { known = λ version. refl; place = λ stage. refl; ends = not_last rest; own = tt; numbers = (lt, tt) })
 work_by workers by_self.Exit rest =
-    step (λ n. n < workers) _ (only_worker workers rest) _ (only_fits workers rest) (λ worker lt. record { place = λ stage. refl; ends = not_last rest; own = tt; numbers = (lt, tt) })
+    step (λ n. n < workers) _ (only_worker workers rest) _ (only_fits workers rest) (λ worker lt. record { known = λ version. refl; place = λ stage. refl; ends = not_last rest; own = tt; numbers = (lt, tt) })
 work_by workers by_self.Bind rest = bind_by workers rest
 work_by workers by_self.Unbind rest =
-    step (λ (p : ℕ × ℕ). (p.0 < workers) × (p.1 < 2 ^ 64)) _ (worker_and_key workers rest) _ (key_fits workers rest) (λ parts fit. record { place = λ stage. refl; ends = not_last rest; own = tt; numbers = fit })
+    step (λ (p : ℕ × ℕ). (p.0 < workers) × (p.1 < 2 ^ 64)) _ (worker_and_key workers rest) _ (key_fits workers rest) (λ parts fit. record { known = λ version. refl; place = λ stage. refl; ends = not_last rest; own = tt; numbers = fit })
 work_by workers by_self.Look rest =
-    step (λ (p : ℕ × ℕ). (p.0 < workers) × (p.1 < 2 ^ 64)) _ (worker_and_key workers rest) _ (key_fits workers rest) (λ parts fit. record { place = λ stage. refl; ends = not_last rest; own = tt; numbers = fit })
+    step (λ (p : ℕ × ℕ). (p.0 < workers) × (p.1 < 2 ^ 64)) _ (worker_and_key workers rest) _ (key_fits workers rest) (λ parts fit. record { known = λ version. refl; place = λ stage. refl; ends = not_last rest; own = tt; numbers = fit })
 
 alloc_by : (workers : ℕ) (rest : List (List ℕ)) → IfOk (alloc_said workers rest) (SaidBy workers (words.Zone in_zone.Alloc) rest)
 alloc_by workers rest =
@@ -186,7 +195,7 @@ alloc_by workers rest =
     any _ (name_in parts.0.1) _ (λ zone.
     step (IsWithin 0 last_slot) _ (slot_in parts.0.2) _ (within_fits 0 last_slot parts.0.2) (λ slot in'.
     step (IsWithin 0 254) _ (arg_in parts.1.0) _ (arg_fits parts.1.0) (λ arg low.
-    record { place = λ stage. refl; ends = not_last rest; own = tt; numbers = (lt, (in'.1, low.1)) })))))
+    record { known = λ version. refl; place = λ stage. refl; ends = not_last rest; own = tt; numbers = (lt, (in'.1, low.1)) })))))
 
 zone_fits : (workers : ℕ) (rest : List (List ℕ)) → IfOk (worker_and_zone workers rest) (λ p. p.0 < workers)
 zone_fits workers rest =
@@ -200,16 +209,16 @@ prealloc_by workers rest =
     step (λ n. n < workers) _ (worker_in workers parts.0) _ (worker_fits workers parts.0) (λ worker lt.
     any _ (name_in parts.1) _ (λ zone.
     step (IsWithin 0 262144) _ (number_within 0 262144 parts.2) _ (within_fits 0 262144 parts.2) (λ items few.
-    record { place = λ stage. refl; ends = not_last rest; own = tt; numbers = (lt, few.1) }))))
+    record { known = λ version. refl; place = λ stage. refl; ends = not_last rest; own = tt; numbers = (lt, few.1) }))))
 
 zone_by : (workers : ℕ) (word : ZoneWord) (rest : List (List ℕ)) → IfOk (zone_said workers word rest) (SaidBy workers (words.Zone word) rest)
 zone_by workers in_zone.Alloc rest = alloc_by workers rest
 zone_by workers in_zone.Trim rest =
-    step (λ (p : ℕ × List ℕ). p.0 < workers) _ (worker_and_zone workers rest) _ (zone_fits workers rest) (λ parts lt. record { place = λ stage. refl; ends = not_last rest; own = tt; numbers = (lt, tt) })
+    step (λ (p : ℕ × List ℕ). p.0 < workers) _ (worker_and_zone workers rest) _ (zone_fits workers rest) (λ parts lt. record { known = λ version. refl; place = λ stage. refl; ends = not_last rest; own = tt; numbers = (lt, tt) })
 zone_by workers in_zone.Drain rest =
-    step (λ (p : ℕ × List ℕ). p.0 < workers) _ (worker_and_zone workers rest) _ (zone_fits workers rest) (λ parts lt. record { place = λ stage. refl; ends = not_last rest; own = tt; numbers = (lt, tt) })
+    step (λ (p : ℕ × List ℕ). p.0 < workers) _ (worker_and_zone workers rest) _ (zone_fits workers rest) (λ parts lt. record { known = λ version. refl; place = λ stage. refl; ends = not_last rest; own = tt; numbers = (lt, tt) })
 zone_by workers in_zone.DrainSeat rest =
-    step (λ (p : ℕ × List ℕ). p.0 < workers) _ (worker_and_zone workers rest) _ (zone_fits workers rest) (λ parts lt. record { place = λ stage. refl; ends = not_last rest; own = tt; numbers = (lt, tt) })
+    step (λ (p : ℕ × List ℕ). p.0 < workers) _ (worker_and_zone workers rest) _ (zone_fits workers rest) (λ parts lt. record { known = λ version. refl; place = λ stage. refl; ends = not_last rest; own = tt; numbers = (lt, tt) })
 zone_by workers in_zone.Prealloc rest = prealloc_by workers rest
 
 give_by : (workers : ℕ) (rest : List (List ℕ)) → IfOk (give_said workers rest) (SaidBy workers words.Give rest)
@@ -219,15 +228,23 @@ give_by workers rest =
     step (IsWithin 0 last_slot) _ (slot_in parts.1) _ (within_fits 0 last_slot parts.1) (λ slot in'.
     step (λ n. n < workers) _ (worker_in workers parts.2) _ (worker_fits workers parts.2) (λ taker lt'.
     step (IsWithin 0 last_slot) _ (slot_in parts.3) _ (within_fits 0 last_slot parts.3) (λ slot2 in2.
-    record { place = λ stage. refl; ends = not_last rest; own = tt; numbers = (lt, in'.1, lt', in2.1) })))))
+    record { known = λ version. refl; place = λ stage. refl; ends = not_last rest; own = tt; numbers = (lt, in'.1, lt', in2.1) })))))
+
+setmax_by : (workers : ℕ) (rest : List (List ℕ)) → IfOk (setmax_said rest) (SaidBy workers words.SetMax rest)
+setmax_by workers rest =
+    any _ (two_fields rest) _ (λ parts.
+    any _ (name_in parts.0) _ (λ zone.
+    step (IsWithin 0 1000000) _ (number_within 0 1000000 parts.1) _ (within_fits 0 1000000 parts.1) (λ limit low.
+    record { known = λ version. refl; place = λ stage. refl; ends = not_last rest; own = tt; numbers = low.1 })))
 
 by_word : (workers : ℕ) (word : Word) (rest : List (List ℕ)) → IfOk (said_by workers word rest) (SaidBy workers word rest)
 by_word workers (words.Head word) rest = head_by workers word rest
 by_word workers (words.Work word) rest = work_by workers word rest
 by_word workers (words.Zone word) rest = zone_by workers word rest
-by_word workers words.Round rest = any _ (no_field rest) _ (λ none. record { place = λ stage. refl; ends = not_last rest; own = tt; numbers = tt })
+by_word workers words.Round rest = any _ (no_field rest) _ (λ none. record { known = λ version. refl; place = λ stage. refl; ends = not_last rest; own = tt; numbers = tt })
 by_word workers words.Give rest = give_by workers rest
-by_word workers words.End [] = record { place = λ stage. refl; ends = refl; own = tt; numbers = tt }
+by_word workers words.SetMax rest = setmax_by workers rest
+by_word workers words.End [] = record { known = λ version. refl; place = λ stage. refl; ends = refl; own = tt; numbers = tt }
 by_word workers words.End (field ∷ rest) = tt
 
 -- ---- the word
@@ -277,18 +294,21 @@ word_is_end first =
     (before_end (is (codes "prealloc")) b (words.Zone in_zone.Prealloc) _ (apart first (codes "prealloc") refl) refl
     (before_end (is (codes "round")) b words.Round _ (apart first (codes "round") refl) refl
     (before_end (is (codes "give")) b words.Give _ (apart first (codes "give") refl) refl
-    (at_end b _ others)))))))))))))
+    (before_end (is (codes "setmax")) b words.SetMax _ (apart first (codes "setmax") refl) refl
+    (at_end b _ others))))))))))))))
 
 -- ---- the line
 
-pub says_right : (stage : Stage) (workers : ℕ) (fields : List (List ℕ)) (s : Said) → says stage workers fields ≡ Ok s → SaysRight stage workers fields s
-says_right stage workers [] s e = absurd cc
-says_right stage workers (first ∷ rest) s e =
-    let a = bound (word_or_wrong (word_named first)) (λ word. placed (may_follow stage word) >>= λ fits. said_by workers word rest) s e in
-    let b = bound (placed (may_follow stage a.0)) (λ fits. said_by workers a.0 rest) s a.2 in
+pub says_right : (version : Version) (stage : Stage) (workers : ℕ) (fields : List (List ℕ)) (s : Said) → says version stage workers fields ≡ Ok s → SaysRight version stage workers fields s
+says_right version stage workers [] s e = absurd cc
+says_right version stage workers (first ∷ rest) s e =
+    let a = bound (word_or_wrong (word_named first)) (λ word. known (is_known version word) >>= λ is. (placed (may_follow stage word) >>= λ fits. said_by workers word rest)) s e in
+    let k = bound (known (is_known version a.0)) (λ is. placed (may_follow stage a.0) >>= λ fits. said_by workers a.0 rest) s a.2 in
+    let b = bound (placed (may_follow stage a.0)) (λ fits. said_by workers a.0 rest) s k.2 in
     let by : SaidBy workers a.0 rest s = IfOk-at_ok (SaidBy workers a.0 rest) b.2 (by_word workers a.0 rest) in
     let word_is : is_end_word a.0 ≡ bytes_eq first (codes "end") = word_is_end first a.0 (is_some_value (word_named first) kinds.Word a.0 a.1) in
     record {
+      known = by.known version ∙ (is_true (is_known version a.0) tt k.0 kinds.Word k.1).0;
       place = stands_behind stage s (by.place stage ∙ (is_true (may_follow stage a.0) tt b.0 kinds.Place b.1).0);
       ends = is_end_by first rest ∙ (ap (λ b. ends_line b rest) (sym word_is) ∙ sym by.ends);
       own = by.own;

@@ -1,7 +1,7 @@
 -- Which slots are filled and who is in a section after one line more.
 use Rattle.std.proofs.Common.{◌≡◌, ℕ, Bool, true, false, cond, List, [], ◌∷◌, ◌++◌, Option, Some, None, refl}
 use Rattle.std.specs.Prelude.{is_some, ◌&&◌, ◌==◌}
-use Rattle.trace_text.specs.declared.between.Between.TheVariants.{Give}
+use Rattle.trace_text.specs.declared.between.Between.TheVariants.{Give, SetMax}
 use Rattle.trace_text.specs.declared.op.Op.{Op}
 use Rattle.trace_text.specs.declared.op.Op.TheVariants.{Alloc, Free, Enter, Exit, Bind, Unbind, Look, Trim, Drain, DrainSeat, Prealloc}
 use Rattle.trace_text.specs.declared.trace_reading.entry.Entry.{Entry}
@@ -36,6 +36,7 @@ filled_next (entries.Moves (Give giver from taker to)) lines w slot =
       some_if ((taker == w) && (to == slot)) (held lines giver from) (cond ((giver == w) && (from == slot)) None (held lines w slot)),
       some_if ((giver == w) && (from == slot)) None (held lines w slot),
     ) refl
+filled_next (entries.Moves (SetMax zone limit)) lines w slot = refl
 filled_next entries.Round lines w slot = refl
 
 pub opened_next : (e : Entry) (lines : List Line) (w : ℕ) → in_section (line_of (e ∷ []) ++ lines) w ≡ opened_after e (λ v. in_section lines v) w

@@ -1,17 +1,18 @@
 -- The lines of a right text are told, and the last one is `end`.
 use Rattle.std.proofs.Common.{◌≡◌, ℕ, Bool, true, false, List, [], ◌∷◌, length, Option, Some, None, Result, Ok, Err, refl, sym, ap, subst, ◌∙◌, cond}
-use Rattle.std.specs.Prelude.{codes, ◌↔◌, ◌+◌, not}
+use Rattle.std.specs.Prelude.{is_some, ◌↔◌, ◌+◌, not}
 use Rattle.std.specs.List.{list_all}
 use Rattle.text_lines.specs.declared.refused.TraceKind.{TraceKind}
 use Rattle.text_lines.specs.declared.refused.TraceKind.TheVariants as kinds
-use Rattle.text_lines.specs.Fields.{wrong, is_head}
+use Rattle.text_lines.specs.Fields.{wrong}
 use Rattle.text_lines.specs.TextLines.{TextLine, Test, AreRight, IsRightText, fields_of, is_allowed, is_end, is_ended, is_skipped, spoken}
 use Rattle.trace_text.specs.declared.trace_reading.said.Said.{Said}
 use Rattle.trace_text.specs.declared.trace_reading.stage.Stage.{Stage}
 use Rattle.trace_text.specs.declared.trace_reading.stage.Stage.TheVariants as stages
-use Rattle.trace_text.specs.Grammar.{and_said, clash_after, head_wrong, last_stage, or_clash, sayings, stage_of, tells, trace_test, workers_of}
+use Rattle.trace_text.specs.declared.version.Version.{Version}
+use Rattle.trace_text.specs.Grammar.{and_said, clash_after, head_wrong, last_stage, or_clash, sayings, stage_of, tells, trace_test, version_of, version_or_first, workers_of}
 use Rattle.trace_text.specs.TraceKnown.{is_last}
-use Rattle.trace_text.specs.TraceLine.{says}
+use Rattle.trace_text.specs.TraceLine.{says, version_in}
 use Rattle.schedule_text.proofs.Steps.{bound}
 use Rattle.trace_text.proofs.TraceSaying.{says_right}
 use Rattle.trace_text.proofs.TraceTold.{IsSaid, Told}
@@ -54,15 +55,15 @@ not_after false o e = e
 
 -- of a line behind others
 pub record SaidBehind (last : TextLine) (before : List TextLine) (line : TextLine) (s : Said) : Type 0 where
-  pub says_it : says (last_stage (sayings (last ∷ before))) (workers_of (sayings (last ∷ before))) line.fields ≡ Ok s
+  pub says_it : says (version_of (sayings (last ∷ before))) (last_stage (sayings (last ∷ before))) (workers_of (sayings (last ∷ before))) line.fields ≡ Ok s
   pub fits : clash_after (sayings (last ∷ before)) s ≡ None
   pub all : sayings (line ∷ last ∷ before) ≡ s ∷ sayings (last ∷ before)
 
-tells_parts : (before : List Said) (fields : List (List ℕ)) (s : Said) → tells before fields ≡ Ok s → (says (last_stage before) (workers_of before) fields ≡ Ok s) × (clash_after before s ≡ None)
+tells_parts : (before : List Said) (fields : List (List ℕ)) (s : Said) → tells before fields ≡ Ok s → (says (version_of before) (last_stage before) (workers_of before) fields ≡ Ok s) × (clash_after before s ≡ None)
 tells_parts before fields s e =
-    let b = bound (says (last_stage before) (workers_of before) fields) (λ x. or_clash (clash_after before x) x) s e in
+    let b = bound (says (version_of before) (last_stage before) (workers_of before) fields) (λ x. or_clash (clash_after before x) x) s e in
     let c = no_clash (clash_after before b.0) b.0 s b.2 in
-    let P : Said → Type 0 = λ x. (says (last_stage before) (workers_of before) fields ≡ Ok x) × (clash_after before x ≡ None) in
+    let P : Said → Type 0 = λ x. (says (version_of before) (last_stage before) (workers_of before) fields ≡ Ok x) × (clash_after before x ≡ None) in
     subst P c.1 (b.1, c.0)
 
 pub said_behind : (last : TextLine) (before : List TextLine) (line : TextLine) → trace_test (last ∷ before) line ≡ None → (s : Said) × SaidBehind last before line s
@@ -82,7 +83,7 @@ sayings_some : (line : TextLine) (before : List TextLine) → sayings (line ∷ 
 sayings_some line [] e = cc
 sayings_some line (last ∷ before) e =
     let earlier : List Said = sayings (last ∷ before) in
-    and_said_some (says (last_stage earlier) (workers_of earlier) line.fields) earlier (sayings_some last before) e
+    and_said_some (says (version_of earlier) (last_stage earlier) (workers_of earlier) line.fields) earlier (sayings_some last before) e
 
 told_next : (earlier : List Said) (s : Said) → (earlier ≡ [] → ⊥) → IsSaid earlier s → clash_after earlier s ≡ None → Told earlier → Told (s ∷ earlier)
 told_next [] s some is fits t = absurd (some refl)
@@ -90,7 +91,7 @@ told_next (last ∷ before) s some is fits t = (is, fits, t)
 
 pub passing_told : (lines : List TextLine) → Passes trace_test lines → Told (sayings lines)
 passing_told [] p = tt
-passing_told (line ∷ []) p = refl
+passing_told (line ∷ []) p = (version_or_first (version_in line.fields), refl)
 passing_told (line ∷ last ∷ before) p =
     let b = said_behind last before line p.0 in
     let is : IsSaid (sayings (last ∷ before)) b.0 = record { fields = line.fields; says_it = b.1.says_it } in
@@ -113,10 +114,10 @@ end_stage_is stages.Works e = absurd cc
 end_stage_is stages.Between e = absurd cc
 
 -- a line says `end` where it is an `end` line
-pub end_is_told : (stage : Stage) (workers : ℕ) (fields : List (List ℕ)) (s : Said) → says stage workers fields ≡ Ok s → is_end fields ≡ is_last (stage_of s)
-end_is_told stage workers fields s e = (says_right stage workers fields s e).ends
+pub end_is_told : (version : Version) (stage : Stage) (workers : ℕ) (fields : List (List ℕ)) (s : Said) → says version stage workers fields ≡ Ok s → is_end fields ≡ is_last (stage_of s)
+end_is_told version stage workers fields s e = (says_right version stage workers fields s e).ends
 
-pub head_no_end : (fields : List (List ℕ)) → head_wrong (is_head (codes "uma") fields) ≡ None → is_end fields ≡ false
+pub head_no_end : (fields : List (List ℕ)) → head_wrong (is_some (version_in fields)) ≡ None → is_end fields ≡ false
 head_no_end [] e = absurd cc
 head_no_end (word ∷ []) e = absurd cc
 head_no_end (word ∷ version ∷ rest) e = refl
@@ -128,7 +129,7 @@ ended_is_told (line ∷ []) p = head_no_end line.fields p.0
 ended_is_told (line ∷ last ∷ before) p =
     let b = said_behind last before line p.0 in
     let earlier : List Said = sayings (last ∷ before) in
-    end_is_told (last_stage earlier) (workers_of earlier) line.fields b.0 b.1.says_it ∙ sym (ap (λ (all : List Said). is_last (last_stage all)) b.1.all)
+    end_is_told (version_of earlier) (last_stage earlier) (workers_of earlier) line.fields b.0 b.1.says_it ∙ sym (ap (λ (all : List Said). is_last (last_stage all)) b.1.all)
 
 pub ended_where_end : (lines : List TextLine) → Passes trace_test lines → (is_ended lines ≡ true) ↔ (last_stage (sayings lines) ≡ stages.End)
 ended_where_end lines p =

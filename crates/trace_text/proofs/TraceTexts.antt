@@ -5,14 +5,14 @@ use Rattle.text_lines.specs.TextLines.{TextLine}
 use Rattle.text_lines.proofs.OneVerdict.{one_right_reading}
 use Rattle.trace_text.specs.declared.trace.Trace.{Trace}
 use Rattle.trace_text.specs.declared.trace_reading.said.Said.{Said}
-use Rattle.trace_text.specs.Grammar.{IsTraceText, entries_of, head_of, sayings, trace_of, trace_test, workers_of}
+use Rattle.trace_text.specs.Grammar.{IsTraceText, entries_of, head_of, sayings, trace_of, trace_test, version_of, workers_of}
 use Rattle.trace_text.specs.TraceLaws.{TextsAreOfOneTrace, TextsAreOfValidTraces}
 use Rattle.trace_text.specs.declared.trace_reading.reader.TraceReader.{TraceReader}
 use Rattle.trace_text.specs.TraceKnown.{Knows, KnowsSaid, trace_by}
 use Rattle.trace_text.specs.Valid.{IsValid}
-use Rattle.trace_text.proofs.TraceEntries.{entries_fit, gives_stand, lines_fit}
+use Rattle.trace_text.proofs.TraceEntries.{entries_fit, entries_known, betweens_stand, lines_fit}
 use Rattle.trace_text.proofs.TraceHead.{head_fits}
-use Rattle.trace_text.proofs.TraceOrder.{last_round, lines_still_fit, rounds_fit}
+use Rattle.trace_text.proofs.TraceOrder.{last_round, lines_known, lines_still_fit, rounds_fit}
 use Rattle.trace_text.proofs.TraceSpoken.{told}
 
 pub one_trace : TextsAreOfOneTrace
@@ -25,18 +25,19 @@ valid_trace bytes trace text =
     let before : List Said = sayings text.spoke in
     let all = told bytes text.spoke text.right in
     let fit = entries_fit before all.0 in
-    let lines = lines_still_fit (head_of before) (entries_of before) fit (gives_stand before all.0) (lines_fit before all.0) in
+    let lines = lines_still_fit (head_of before) (entries_of before) fit (betweens_stand before all.0) (lines_fit before all.0) in
     let P : Trace → Type 0 = λ t. IsValid t in
     subst P (sym text.trace_is) (record {
       head = head_fits before all.0 all.1;
       rounds = rounds_fit (head_of before) (entries_of before) fit;
       last = last_round (workers_of before) (entries_of before);
       lines = lines;
+      known = lines_known (version_of before) (workers_of before) (entries_of before) (entries_known before all.0);
     })
 
 -- the state after the lines of a right text is that of the text's trace
 trace_same : (reader : TraceReader) (before : List Said) → KnowsSaid reader before → trace_by reader ≡ trace_of before
-trace_same reader before k = rw (k.workers, k.domains, k.clock, k.detail, k.zones, k.names, k.entries) refl
+trace_same reader before k = rw (k.version, k.workers, k.domains, k.clock, k.detail, k.zones, k.names, k.entries) refl
 
 pub read_trace : (bytes : List ℕ) (reader : TraceReader) (trace : Trace) → ShowsText trace_test Knows bytes reader → trace ≡ trace_by reader → IsTraceText bytes trace
 read_trace bytes reader trace shown is = record { spoke = shown.0; right = shown.1; trace_is = is ∙ trace_same reader (sayings shown.0) shown.2.said }

@@ -1,14 +1,14 @@
--- The grammar of traces (own): `uma 1`, the other header lines, then what the workers do, then `end`. The test of a line looks at what
--- the earlier lines said, of which the last one comes first.
-use Rattle.std.specs.Prelude.{ℕ, ◌≡◌, List, [], ◌∷◌, ◌++◌, map, length, Bool, true, false, ◌&&◌, ◌||◌, ◌==◌, not, nat_le, if◌then◌else◌, Option, Some, None, Result, Ok, Err, codes, is_some, position, slice_get}
+-- The grammar of traces (own): `uma 1` or `uma 2`, the other header lines, then what the workers do, then `end`. The test of a line
+-- looks at what the earlier lines said, of which the last one comes first. Limits change in version 2 alone.
+use Rattle.std.specs.Prelude.{ℕ, ◌≡◌, List, [], ◌∷◌, ◌++◌, map, length, Bool, true, false, ◌&&◌, ◌||◌, ◌==◌, not, nat_le, if◌then◌else◌, Option, Some, None, Result, Ok, Err, is_some, position, slice_get}
 use Rattle.std.specs.List.{flat_map, slice_split, range_with_len}
 use Rattle.std.specs.Str.{bytes_eq}
 use Rattle.text_lines.specs.declared.refused.TraceKind.{TraceKind}
 use Rattle.text_lines.specs.declared.refused.TraceKind.TheVariants as kinds
-use Rattle.text_lines.specs.Fields.{◌>>=◌, wrong, is_head}
+use Rattle.text_lines.specs.Fields.{◌>>=◌, wrong}
 use Rattle.text_lines.specs.TextLines.{TextLine, is_ended, IsRightText}
 use Rattle.trace_text.specs.declared.between.Between.{Between}
-use Rattle.trace_text.specs.declared.between.Between.TheVariants.{Give}
+use Rattle.trace_text.specs.declared.between.Between.TheVariants.{Give, SetMax}
 use Rattle.trace_text.specs.declared.head.ClockHead.{ClockHead}
 use Rattle.trace_text.specs.declared.head.Head.{Head}
 use Rattle.trace_text.specs.declared.head.NamesHead.{NamesHead}
@@ -19,6 +19,8 @@ use Rattle.trace_text.specs.declared.op.Op.{Op}
 use Rattle.trace_text.specs.declared.op.Op.TheVariants as ops
 use Rattle.trace_text.specs.declared.round.Round.{Round}
 use Rattle.trace_text.specs.declared.trace.Trace.{Trace}
+use Rattle.trace_text.specs.declared.version.Version.{Version}
+use Rattle.trace_text.specs.declared.version.Version.TheVariants as versions
 use Rattle.trace_text.specs.declared.trace_reading.entry.Entry.{Entry}
 use Rattle.trace_text.specs.declared.trace_reading.entry.Entry.TheVariants as entries
 use Rattle.trace_text.specs.declared.trace_reading.said.Said.{Said}
@@ -30,13 +32,13 @@ use Rattle.trace_text.specs.declared.trace_reading.stage.Stage.{Stage}
 use Rattle.trace_text.specs.declared.trace_reading.stage.Stage.TheVariants as stages
 use Rattle.trace_text.specs.Lines.{Line, Does, Moves}
 use Rattle.trace_text.specs.Reading.{held, in_section}
-use Rattle.trace_text.specs.TraceLine.{says}
+use Rattle.trace_text.specs.TraceLine.{says, version_in}
 use Rattle.trace_text.specs.Valid.{sharer_count}
 
 -- ---- what the earlier lines said: the header
 
 abbrev pub stage_of : Said → Stage
-stage_of said.Uma = stages.Uma
+stage_of (said.Uma version) = stages.Uma
 stage_of (said.Workers count) = stages.Workers
 stage_of (said.Domains count) = stages.Domains
 stage_of (said.Clock clock) = stages.Clock
@@ -47,13 +49,23 @@ stage_of (said.Names names) = stages.Names
 stage_of (said.Work worker op) = stages.Works
 stage_of (said.InZone worker zone work) = stages.Works
 stage_of said.Round = stages.Between
-stage_of (said.Give between) = stages.Between
+stage_of (said.Give giver slot taker slot2) = stages.Between
+stage_of (said.SetMax zone limit) = stages.Between
 stage_of said.End = stages.End
 
 -- what the last line was
 abbrev pub last_stage : List Said → Stage
 last_stage [] = stages.Start
 last_stage (last ∷ before) = stage_of last
+
+-- the version
+abbrev pub version_after : Said → Version → Version
+version_after (said.Uma version) before = version
+version_after other before = before
+
+abbrev pub version_of : List Said → Version
+version_of [] = versions.One
+version_of (s ∷ before) = version_after s (version_of before)
 
 -- how many workers there are
 abbrev pub workers_after : Said → ℕ → ℕ
@@ -148,12 +160,17 @@ abbrev pub entry_in : ℕ → ZoneWork → Option ℕ → List Entry
 entry_in worker work None = []
 entry_in worker work (Some zone) = entries.Does worker (work_op work zone) ∷ []
 
+abbrev pub limit_in : ℕ → Option ℕ → List Entry
+limit_in limit None = []
+limit_in limit (Some zone) = entries.Moves (SetMax zone limit) ∷ []
+
 -- what a line adds to those below the header
 abbrev pub entry_of : List ZoneHead → Said → List Entry
 entry_of zones (said.Work worker op) = entries.Does worker op ∷ []
 entry_of zones (said.InZone worker zone work) = entry_in worker work (zone_named zones zone)
 entry_of zones said.Round = entries.Round ∷ []
-entry_of zones (said.Give between) = entries.Moves between ∷ []
+entry_of zones (said.Give giver slot taker slot2) = entries.Moves (Give giver slot taker slot2) ∷ []
+entry_of zones (said.SetMax zone limit) = limit_in limit (zone_named zones zone)
 entry_of zones other = []
 
 -- the lines below the header, in order
@@ -161,7 +178,7 @@ abbrev pub entries_of : List Said → List Entry
 entries_of [] = []
 entries_of (s ∷ before) = entries_of before ++ entry_of (zones_of before) s
 
--- those lines that fill and empty slots, or enter and leave sections
+-- those lines that aren't `round` lines
 abbrev pub line_of : List Entry → List Line
 line_of [] = []
 line_of (entries.Does worker op ∷ more) = Does worker op ∷ []
@@ -205,6 +222,7 @@ takes_name zones other = false
 abbrev pub lacks_zone : List ZoneHead → Said → Bool
 lacks_zone zones (said.Second second) = not (is_some (primary_named zones second.of))
 lacks_zone zones (said.InZone worker zone work) = not (is_some (zone_named zones zone))
+lacks_zone zones (said.SetMax zone limit) = not (is_some (zone_named zones zone))
 lacks_zone zones other = false
 
 -- a keg has eight zones at most
@@ -222,13 +240,13 @@ passes_most zones other = false
 -- A filled slot is to be filled. A `give` from a slot to itself counts as this.
 abbrev pub finds_filled : (ℕ → ℕ → Bool) → Said → Bool
 finds_filled is_filled (said.InZone worker zone (works.Alloc slot arg reserve)) = is_filled worker slot
-finds_filled is_filled (said.Give (Give giver slot taker slot2)) = (giver == taker && slot == slot2) || is_filled taker slot2
+finds_filled is_filled (said.Give giver slot taker slot2) = (giver == taker && slot == slot2) || is_filled taker slot2
 finds_filled is_filled other = false
 
 -- an empty slot is to be emptied
 abbrev pub finds_empty : (ℕ → ℕ → Bool) → Said → Bool
 finds_empty is_filled (said.Work worker (ops.Free slot)) = not (is_filled worker slot)
-finds_empty is_filled (said.Give (Give giver slot taker slot2)) = not (is_filled giver slot)
+finds_empty is_filled (said.Give giver slot taker slot2) = not (is_filled giver slot)
 finds_empty is_filled other = false
 
 abbrev pub finds_open : (ℕ → Bool) → Said → Bool
@@ -271,6 +289,11 @@ clash_after before s =
 
 -- ---- all lines
 
+-- the version that the first line says
+abbrev pub version_or_first : Option Version → Version
+version_or_first (Some version) = version
+version_or_first None = versions.One
+
 -- what these lines said, the last one first
 abbrev pub and_said : Result Said TraceKind → List Said → List Said
 and_said (Ok s) before = s ∷ before
@@ -278,9 +301,9 @@ and_said (Err why) before = before
 
 abbrev pub sayings : List TextLine → List Said
 sayings [] = []
-sayings (line ∷ []) = said.Uma ∷ []
+sayings (line ∷ []) = said.Uma (version_or_first (version_in line.fields)) ∷ []
 sayings (line ∷ last ∷ before) =
-    let earlier = sayings (last ∷ before) in and_said (says (last_stage earlier) (workers_of earlier) line.fields) earlier
+    let earlier = sayings (last ∷ before) in and_said (says (version_of earlier) (last_stage earlier) (workers_of earlier) line.fields) earlier
 
 abbrev pub or_clash : Option TraceKind → Said → Result Said TraceKind
 or_clash None s = Ok s
@@ -289,7 +312,7 @@ or_clash (Some kind) s = Err kind
 -- what a line with these fields says behind lines that said this, or the first thing that is wrong with it
 abbrev pub tells : List Said → List (List ℕ) → Result Said TraceKind
 tells before fields = do
-  s ← says (last_stage before) (workers_of before) fields
+  s ← says (version_of before) (last_stage before) (workers_of before) fields
   or_clash (clash_after before s) s
 
 abbrev pub head_wrong : Bool → Option TraceKind
@@ -297,7 +320,7 @@ head_wrong is = if is then None else Some kinds.Head
 
 -- what is wrong with a line that isn't skipped, or nothing
 abbrev pub trace_test : List TextLine → TextLine → Option TraceKind
-trace_test [] line = head_wrong (is_head (codes "uma") line.fields)
+trace_test [] line = head_wrong (is_some (version_in line.fields))
 trace_test (last ∷ before) line =
     if is_ended (last ∷ before) then Some kinds.After else
     wrong (tells (sayings (last ∷ before)) line.fields)
@@ -312,26 +335,27 @@ abbrev pub op_by : ℕ → Entry → List Op
 op_by worker (entries.Does v op) = if v == worker then (op ∷ []) else []
 op_by worker other = []
 
-abbrev pub give_in : Entry → List Between
-give_in (entries.Moves between) = between ∷ []
-give_in other = []
+abbrev pub between_in : Entry → List Between
+between_in (entries.Moves between) = between ∷ []
+between_in other = []
 
 -- what each of so many workers does in this part, in order
 abbrev pub ops_in : ℕ → List Entry → List (List Op)
 ops_in workers part = map (λ worker. flat_map (op_by worker) part) (range_with_len 0 workers)
 
--- The `round` lines cut the lines into parts. A round has the operations of a part and the `give` lines of the next one.
+-- The `round` lines cut the lines into parts. A round has the operations of a part, and the lines of the next one that stand between
+-- two rounds.
 abbrev pub rounds_in : ℕ → List (List Entry) → List Round
 rounds_in workers [] = []
 rounds_in workers (part ∷ []) = record { ops = ops_in workers part; between = [] } ∷ []
 rounds_in workers (part ∷ next ∷ parts) =
-    record { ops = ops_in workers part; between = flat_map give_in next } ∷ rounds_in workers (next ∷ parts)
+    record { ops = ops_in workers part; between = flat_map between_in next } ∷ rounds_in workers (next ∷ parts)
 
 abbrev pub rounds_of : List Said → List Round
 rounds_of before = rounds_in (workers_of before) (slice_split is_round (entries_of before))
 
 abbrev pub trace_of : List Said → Trace
-trace_of before = record { head = head_of before; rounds = rounds_of before }
+trace_of before = record { version = version_of before; head = head_of before; rounds = rounds_of before }
 
 -- the bytes are a text of this trace
 pub record IsTraceText (bytes : List ℕ) (trace : Trace) : Type 0 where

@@ -4,7 +4,7 @@
 use Rattle.std.specs.Prelude.{ℕ, List, [], ◌∷◌, Bool, true, false, Option, Some, None, if◌then◌else◌, ◌==◌, ◌&&◌}
 use Rattle.trace_text.specs.declared.op.Op.{Op}
 use Rattle.trace_text.specs.declared.op.Op.TheVariants.{Alloc, Free, Enter, Exit}
-use Rattle.trace_text.specs.declared.between.Between.TheVariants.{Give}
+use Rattle.trace_text.specs.declared.between.Between.TheVariants.{Give, SetMax}
 use Rattle.trace_text.specs.Lines.{Line, Does, Moves}
 
 -- what the slot holds after an operation of its worker, where it held `before`: the zone whose alloc filled it
@@ -21,6 +21,7 @@ held (Does v op ∷ earlier) w slot = if v == w then held_after op slot (held ea
 held (Moves (Give giver from taker to) ∷ earlier) w slot =
     if (taker == w) && (to == slot) then held earlier giver from
     else if (giver == w) && (from == slot) then None else held earlier w slot
+held (Moves (SetMax zone limit) ∷ earlier) w slot = held earlier w slot
 
 abbrev pub open_after : Op → Bool → Bool
 open_after Enter before = true

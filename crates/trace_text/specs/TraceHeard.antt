@@ -5,7 +5,7 @@ use Rattle.trace_text.specs.declared.trace_reading.entry.Entry.{Entry}
 use Rattle.trace_text.specs.declared.trace_reading.reader.TraceReader.{TraceReader}
 use Rattle.trace_text.specs.declared.trace_reading.said.Said.{Said}
 use Rattle.trace_text.specs.declared.trace_reading.tables.Tables.{Tables}
-use Rattle.trace_text.specs.Grammar.{stage_of, workers_after, domains_after, clock_after, detail_after, names_after, new_zone, entry_of, clash}
+use Rattle.trace_text.specs.Grammar.{stage_of, version_after, workers_after, domains_after, clock_after, detail_after, names_after, new_zone, entry_of, clash}
 use Rattle.trace_text.specs.TraceShown.{slot_at, open_at}
 use Rattle.trace_text.specs.TraceTables.{Marks}
 
@@ -17,6 +17,7 @@ clash_found reader s =
 -- what the header says is as it was
 pub record KeepsHead (old new : TraceReader) : Type 0 where
   pub stage : new.stage ≡ old.stage
+  pub version : new.version ≡ old.version
   pub workers : new.workers ≡ old.workers
   pub domains : new.domains ≡ old.domains
   pub clock : new.clock ≡ old.clock
@@ -43,6 +44,7 @@ MarksAll (entry ∷ more) old new = Marks entry old new
 -- what a line behind the first one says is taken in
 pub record Hears (s : Said) (old new : TraceReader) : Type 0 where
   pub stage : new.stage ≡ stage_of s
+  pub version : new.version ≡ version_after s old.version
   pub workers : new.workers ≡ workers_after s old.workers
   pub domains : new.domains ≡ domains_after s old.domains
   pub clock : new.clock ≡ clock_after s old.clock

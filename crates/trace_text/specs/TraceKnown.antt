@@ -7,7 +7,7 @@ use Rattle.trace_text.specs.declared.trace_reading.said.Said.{Said}
 use Rattle.trace_text.specs.declared.trace_reading.stage.Stage.{Stage}
 use Rattle.trace_text.specs.declared.trace_reading.stage.Stage.TheVariants as stages
 use Rattle.trace_text.specs.declared.trace.Trace.{Trace}
-use Rattle.trace_text.specs.Grammar.{is_round, rounds_in, last_stage, workers_of, domains_of, clock_of, has_detail, zones_of, names_of, entries_of, sayings, is_filled_by, is_open_by}
+use Rattle.trace_text.specs.Grammar.{is_round, rounds_in, last_stage, version_of, workers_of, domains_of, clock_of, has_detail, zones_of, names_of, entries_of, sayings, is_filled_by, is_open_by}
 use Rattle.trace_text.specs.Limits.{last_slot, most_workers}
 use Rattle.trace_text.specs.TraceShown.{slot_at, open_at}
 use Rattle.trace_text.specs.TraceTables.{AreWhole}
@@ -37,6 +37,7 @@ pub record KnowsTables (slots sections : List Bool) (before : List Said) : Type 
 -- the state is the one after lines that said this, the last one first
 pub record KnowsSaid (reader : TraceReader) (before : List Said) : Type 0 where
   pub stage : reader.stage ≡ last_stage before
+  pub version : reader.version ≡ version_of before
   pub workers : reader.workers ≡ workers_of before
   pub domains : reader.domains ≡ domains_of before
   pub clock : reader.clock ≡ clock_of before
@@ -55,6 +56,7 @@ pub record Knows (reader : TraceReader) (lines : List TextLine) : Type 0 where
 -- the trace that the state is of, once the last line was `end`
 abbrev pub trace_by : TraceReader → Trace
 trace_by reader = record {
+  version = reader.version;
   head = record { workers = reader.workers; domains = reader.domains; clock = reader.clock; detail = reader.detail; zones = reader.zones; names = reader.names };
   rounds = rounds_in reader.workers (slice_split is_round reader.entries.items);
 }

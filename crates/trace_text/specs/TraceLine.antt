@@ -1,5 +1,5 @@
 -- One line of a trace (own): its word, where the word may stand, and what the fields behind it say. What is wrong with it is told in
--- this order: the word, its place, the count of fields, and then each field from left to right by all its own tests.
+-- this order: the word, which the version has, its place, the count of fields, and then each field from left to right by all its own tests.
 use Rattle.std.specs.Prelude.{ℕ, List, [], ◌∷◌, length, Bool, true, false, ◌&&◌, nat_le, nat_lt, if◌then◌else◌, Option, Some, None, Result, Ok, Err, codes}
 use Rattle.std.specs.List.{list_all}
 use Rattle.std.specs.Str.{bytes_eq}
@@ -7,7 +7,6 @@ use Rattle.text_lines.specs.declared.refused.TraceKind.{TraceKind}
 use Rattle.text_lines.specs.declared.refused.TraceKind.TheVariants as kinds
 use Rattle.text_lines.specs.Fields.{◌>>=◌, no_field, one_field, two_fields, three_fields, four_fields, five_fields, number_in, ranged, number_within}
 use Rattle.zone_stats.specs.Name.{is_name_character}
-use Rattle.trace_text.specs.declared.between.Between.TheVariants.{Give}
 use Rattle.trace_text.specs.declared.head.ClockHead.{ClockHead}
 use Rattle.trace_text.specs.declared.head.NamesHead.{NamesHead}
 use Rattle.trace_text.specs.declared.head.ZoneHead.{ZoneHead}
@@ -28,8 +27,24 @@ use Rattle.trace_text.specs.declared.trace_reading.word.WorkWord.{WorkWord}
 use Rattle.trace_text.specs.declared.trace_reading.word.WorkWord.TheVariants as by_self
 use Rattle.trace_text.specs.declared.trace_reading.word.ZoneWord.{ZoneWord}
 use Rattle.trace_text.specs.declared.trace_reading.word.ZoneWord.TheVariants as in_zone
+use Rattle.trace_text.specs.declared.version.Version.{Version}
+use Rattle.trace_text.specs.declared.version.Version.TheVariants as versions
 use Rattle.trace_text.specs.Limits.{last_slot}
+use Rattle.trace_text.specs.Valid.{changes_limits}
 use Rattle.schedule_text.specs.ScheduleGrammar.{start_in, window_in}
+
+-- ---- the first line
+
+abbrev pub version_named : List ℕ → Option Version
+version_named field =
+    if bytes_eq field (codes "1") then Some versions.One else
+    if bytes_eq field (codes "2") then Some versions.Two else
+    None
+
+-- the version that a first line with these fields says: `uma 1` or `uma 2`
+abbrev pub version_in : List (List ℕ) → Option Version
+version_in (word ∷ version ∷ []) = if bytes_eq word (codes "uma") then version_named version else None
+version_in other = None
 
 -- ---- the word
 
@@ -49,6 +64,7 @@ word_named field =
     if bytes_eq field (codes "prealloc") then Some (words.Zone in_zone.Prealloc) else
     if bytes_eq field (codes "round") then Some words.Round else
     if bytes_eq field (codes "give") then Some words.Give else
+    if bytes_eq field (codes "setmax") then Some words.SetMax else
     if bytes_eq field (codes "end") then Some words.End else
     if bytes_eq field (codes "uma") then Some (words.Head heads.Uma) else
     if bytes_eq field (codes "workers") then Some (words.Head heads.Workers) else
@@ -63,6 +79,14 @@ word_named field =
 abbrev pub word_or_wrong : Option Word → Result Word TraceKind
 word_or_wrong (Some word) = Ok word
 word_or_wrong None = Err kinds.Word
+
+-- the version has this word: version 1 has none that changes a limit
+abbrev pub is_known : Version → Word → Bool
+is_known version words.SetMax = changes_limits version
+is_known version word = true
+
+abbrev pub known : Bool → Result Unit TraceKind
+known is = if is then Ok tt else Err kinds.Word
 
 -- ---- its place, by what the last line before it was
 
@@ -85,8 +109,8 @@ abbrev pub is_within : ℕ → ℕ → Stage → Bool
 is_within low high stage = nat_le low (rank stage) && nat_le (rank stage) high
 
 -- One `workers` line stands behind the first line and one `domains` line behind that. At most one `clock` line, at most one `detail`
--- line, the zones and at most one `names` line follow in this order, and then what the workers do. A `give` line stands behind a
--- `round` line, with no others than `give` lines between the two.
+-- line, the zones and at most one `names` line follow in this order, and then what the workers do. A `give` or `setmax` line stands
+-- behind a `round` line, with no others than such lines between the two.
 abbrev pub may_follow : Stage → Word → Bool
 may_follow stage (words.Head heads.Uma) = false
 may_follow stage (words.Head heads.Workers) = is_within 1 1 stage
@@ -100,6 +124,7 @@ may_follow stage (words.Work word) = is_within 3 9 stage
 may_follow stage (words.Zone word) = is_within 3 9 stage
 may_follow stage words.Round = is_within 3 9 stage
 may_follow stage words.Give = is_within 9 9 stage
+may_follow stage words.SetMax = is_within 9 9 stage
 may_follow stage words.End = is_within 3 9 stage
 
 abbrev pub placed : Bool → Result Unit TraceKind
@@ -334,7 +359,15 @@ give_said workers fields = do
   slot ← slot_in parts.1
   taker ← worker_in workers parts.2
   slot2 ← slot_in parts.3
-  Ok (said.Give (Give giver slot taker slot2))
+  Ok (said.Give giver slot taker slot2)
+
+-- ZONE N
+abbrev pub setmax_said : List (List ℕ) → Result Said TraceKind
+setmax_said fields = do
+  parts ← two_fields fields
+  zone ← name_in parts.0
+  limit ← number_within 0 1000000 parts.1
+  Ok (said.SetMax zone limit)
 
 -- ---- the line
 
@@ -347,14 +380,16 @@ said_by workers words.Round fields = do
   none ← no_field fields
   Ok said.Round
 said_by workers words.Give fields = give_said workers fields
+said_by workers words.SetMax fields = setmax_said fields
 said_by workers words.End fields = do
   none ← no_field fields
   Ok said.End
 
 -- what a line with these fields says behind the first line, or the first thing that is wrong with it
-abbrev pub says : Stage → ℕ → List (List ℕ) → Result Said TraceKind
-says stage workers [] = Err kinds.Word
-says stage workers (first ∷ rest) = do
+abbrev pub says : Version → Stage → ℕ → List (List ℕ) → Result Said TraceKind
+says version stage workers [] = Err kinds.Word
+says version stage workers (first ∷ rest) = do
   word ← word_or_wrong (word_named first)
+  is ← known (is_known version word)
   fits ← placed (may_follow stage word)
   said_by workers word rest

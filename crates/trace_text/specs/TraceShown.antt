@@ -1,6 +1,6 @@
 -- The running state of a trace's reading (own): a table of all workers' slots, one worker's behind the other's, and one of sections.
 use Rattle.std.specs.Prelude.{ℕ, ◌<◌, ◌≤◌, ◌+◌, ◌*◌, List, Bool, true, false, ◌&&◌, ◌==◌, if◌then◌else◌, slice_index_or}
-use Rattle.trace_text.specs.declared.between.Between.TheVariants.{Give}
+use Rattle.trace_text.specs.declared.between.Between.TheVariants.{Give, SetMax}
 use Rattle.trace_text.specs.declared.op.Op.{Op}
 use Rattle.trace_text.specs.declared.op.Op.TheVariants.{Alloc, Free}
 use Rattle.trace_text.specs.declared.trace_reading.entry.Entry.{Entry}
@@ -32,6 +32,7 @@ filled_after (entries.Does v op) is_filled w slot = if v == w then filled_by op 
 filled_after (entries.Moves (Give giver from taker to)) is_filled w slot =
     if (taker == w) && (to == slot) then is_filled giver from
     else if (giver == w) && (from == slot) then false else is_filled w slot
+filled_after (entries.Moves (SetMax zone limit)) is_filled w slot = is_filled w slot
 filled_after entries.Round is_filled w slot = is_filled w slot
 
 -- the same of sections
@@ -55,5 +56,5 @@ abbrev pub NamesFit : ℕ → Said → Type 0
 NamesFit workers (said.Workers count) = count ≤ most_workers
 NamesFit workers (said.Work worker op) = (worker < workers) × OpSlotFits op
 NamesFit workers (said.InZone worker zone work) = (worker < workers) × WorkSlotFits work
-NamesFit workers (said.Give (Give giver slot taker slot2)) = (giver < workers) × (slot ≤ last_slot) × (taker < workers) × (slot2 ≤ last_slot)
+NamesFit workers (said.Give giver slot taker slot2) = (giver < workers) × (slot ≤ last_slot) × (taker < workers) × (slot2 ≤ last_slot)
 NamesFit workers other = Unit {0}

@@ -1,6 +1,6 @@
 -- The tables of a trace's reading (own): which slots are filled, and which workers are in a section.
 use Rattle.std.specs.Prelude.{ℕ, ◌≡◌, ◌<◌, ◌≤◌, ◌*◌, All, length, false}
-use Rattle.trace_text.specs.declared.between.Between.TheVariants.{Give}
+use Rattle.trace_text.specs.declared.between.Between.TheVariants.{Give, SetMax}
 use Rattle.trace_text.specs.declared.trace_reading.entry.Entry.{Entry}
 use Rattle.trace_text.specs.declared.trace_reading.entry.Entry.TheVariants as entries
 use Rattle.trace_text.specs.declared.trace_reading.tables.Tables.{Tables}
@@ -22,6 +22,7 @@ pub record AreEmpty (tables : Tables) : Type 0 where
 abbrev pub EntryFits : Entry → Type 0
 EntryFits (entries.Does worker op) = (worker < most_workers) × OpSlotFits op
 EntryFits (entries.Moves (Give giver slot taker slot2)) = (giver < most_workers) × (slot ≤ last_slot) × (taker < most_workers) × (slot2 ≤ last_slot)
+EntryFits (entries.Moves (SetMax zone limit)) = Unit {0}
 EntryFits entries.Round = Unit {0}
 
 -- the line was done to the tables

@@ -1,5 +1,5 @@
 -- Valid traces: those that stand for some text of the trace grammar (own). Each fact is one test of a line.
-use Rattle.std.specs.Prelude.{ℕ, ◌^◌, ◌%◌, ◌<◌, ◌≤◌, ◌≡◌, ◌≢◌, List, [], ◌∷◌, ◌++◌, length, map, All, AllPairs, count_by, slice_get, true, false, Option, Some, None, IsSome, IfSome, ◌==◌}
+use Rattle.std.specs.Prelude.{ℕ, ◌^◌, ◌%◌, ◌<◌, ◌≤◌, ◌≡◌, ◌≢◌, List, [], ◌∷◌, ◌++◌, length, map, All, AllPairs, count_by, slice_get, Bool, true, false, Option, Some, None, IsSome, IfSome, ◌==◌}
 use Rattle.std.specs.Option.{option_map_or}
 use Rattle.zone_stats.specs.Name.{IsName}
 use Rattle.trace_text.specs.declared.head.ClockHead.{ClockHead}
@@ -11,9 +11,11 @@ use Rattle.trace_text.specs.declared.head.ZoneKind.TheVariants.{Plain, Smr}
 use Rattle.trace_text.specs.declared.op.Op.{Op}
 use Rattle.trace_text.specs.declared.op.Op.TheVariants.{Alloc, Free, Enter, Exit, Bind, Unbind, Look, Trim, Drain, DrainSeat, Prealloc}
 use Rattle.trace_text.specs.declared.between.Between.{Between}
-use Rattle.trace_text.specs.declared.between.Between.TheVariants.{Give}
+use Rattle.trace_text.specs.declared.between.Between.TheVariants.{Give, SetMax}
 use Rattle.trace_text.specs.declared.round.Round.{Round}
 use Rattle.trace_text.specs.declared.trace.Trace.{Trace}
+use Rattle.trace_text.specs.declared.version.Version.{Version}
+use Rattle.trace_text.specs.declared.version.Version.TheVariants as versions
 use Rattle.trace_text.specs.Limits.{IsWithin, last_slot}
 use Rattle.trace_text.specs.Lines.{Line, Does, Moves, lines_of}
 use Rattle.trace_text.specs.Reading.{held, in_section}
@@ -96,6 +98,7 @@ OpFits h (Prealloc zone items) = (zone < length h.zones) × (items ≤ 262144)
 abbrev pub BetweenFits : Head → Between → Type 0
 BetweenFits h (Give giver slot taker slot2) =
     (giver < h.workers) × (slot ≤ last_slot) × (taker < h.workers) × (slot2 ≤ last_slot)
+BetweenFits h (SetMax zone limit) = (zone < length h.zones) × (limit ≤ 1000000)
 
 pub record RoundFits (h : Head) (r : Round) : Type 0 where
   pub workers : length r.ops ≡ h.workers
@@ -116,14 +119,27 @@ LineFits before (Does w Enter) = in_section before w ≡ false
 LineFits before (Does w Exit) = in_section before w ≡ true
 LineFits before (Does w op) = Unit {0}
 LineFits before (Moves (Give giver from taker to)) = IsSome (held before giver from) × (held before taker to ≡ None)
+LineFits before (Moves (SetMax zone limit)) = Unit {0}
 
 -- each line fits the lines before it
 abbrev pub LinesFit : List Line → List Line → Type 0
 LinesFit before [] = Unit {0}
 LinesFit before (next ∷ lines) = LineFits before next × LinesFit (next ∷ before) lines
 
+-- limits change between two rounds in version 2 alone
+abbrev pub changes_limits : Version → Bool
+changes_limits versions.One = false
+changes_limits versions.Two = true
+
+-- the version has such a line
+abbrev pub IsKnown : Version → Line → Type 0
+IsKnown version (Does w op) = Unit {0}
+IsKnown version (Moves (Give giver from taker to)) = Unit {0}
+IsKnown version (Moves (SetMax zone limit)) = changes_limits version ≡ true
+
 pub record IsValid (t : Trace) : Type 0 where
   pub head : HeadFits t.head
   pub rounds : All (RoundFits t.head) t.rounds
   pub last : LastRoundEnds t.rounds
   pub lines : LinesFit [] (lines_of t.rounds)
+  pub known : All (IsKnown t.version) (lines_of t.rounds)

@@ -25,6 +25,7 @@ mod round;
 mod trace;
 mod trace_laws;
 mod trace_reading;
+mod version;
 
 pub use between::{Between, Betweens};
 pub use head::{ClockHead, Head, NamesHead, ZoneHead, ZoneHeads, ZoneKind};
@@ -39,3 +40,4 @@ pub use text_lines::{ParseRefused, TraceKind, TraceRefused, parse_number};
 pub use trace::Trace;
 pub use trace_laws::{texts_are_of_one_trace, texts_are_of_valid_traces, traces_are_no_longer};
 pub use trace_reading::parse;
+pub use version::Version;

@@ -9,6 +9,7 @@ pub mod EntrySteps
 pub mod GiveSteps
 pub mod GiveSums
 pub mod LedgerSteps
+pub mod LimitSteps
 pub mod LineCounts
 pub mod Midway
 pub mod Moving

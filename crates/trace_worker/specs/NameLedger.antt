@@ -1,8 +1,8 @@
 -- What a bind or an unbind counts in the seat of the names' zone (own).
-use Rattle.std.specs.Prelude.{◌≡◌, ◌⊎◌, ◌+◌, ◌<◌, ◌^◌, ℕ, Bool, true, false}
+use Rattle.std.specs.Prelude.{◌≡◌, ◌⊎◌, ◌+◌, ◌≤◌, ◌<◌, ◌^◌, ℕ, Bool, true, false}
 use Rattle.zone_stats.specs.declared.ledger.SeatLedger.{SeatLedger}
 use Rattle.zone_stats.specs.declared.refusal.Refusal.{Refusal}
-use Rattle.zone_stats.specs.declared.refusal.Refusal.TheVariants.{Full, Init}
+use Rattle.zone_stats.specs.declared.refusal.Refusal.TheVariants.{AtLimit, Full, Init}
 use Rattle.zone_stats.specs.LedgerSteps.{HasRoom, CountsAlloc, CountsTurned, CountsFree}
 
 -- a bind counts a request and a free
@@ -10,8 +10,9 @@ pub record HasRoomToBind (ledger : SeatLedger) : Type 0 where
   pub now : HasRoom ledger
   pub later : ledger.requests + 1 < 2 ^ 63
 
--- What the zone of names refuses, which has so many slabs at most, and neither a limit nor a reserve: it has all its slabs, or its hooks refused an entry without words.
+-- What the zone of names refuses, which has so many slabs at most and no reserve: it has all its slabs, or its hooks refused an entry without words, or its fetch found a limit, and as many entries outside or more. It is made without a limit; that none was set no clause says.
 abbrev pub NamesRefuse : ℕ → Refusal → Type 0
+NamesRefuse slabs (AtLimit out limit) = (limit ≤ out) × (0 < limit)
 NamesRefuse slabs (Full most made) = most ≡ slabs
 NamesRefuse slabs (Init code) = code ≡ 255
 NamesRefuse slabs refusal = ⊥

@@ -43,8 +43,8 @@ picked false false full reserved k n e = (refl, refl, cc)
 refused : (refusal : Refusal) (n : ℕ) → Gives n ≡ Refuses refusal → ⊥
 refused refusal n e = cc
 
-below : (found : Found) → found.out ≤ found.limit ⊎ (found.limit ≡ 0) → is_at_limit found ≡ false → IsBelowLimit found
-below found within clear = record { within = λ limited. elim within [ inl most ↦ grind (arith, nat_tests) | inr none ↦ omega arith ] }
+below : (found : Found) → is_at_limit found ≡ false → IsBelowLimit found
+below found clear = record { within = λ limited. grind (arith, nat_tests) }
 
 given_some : (found : Found) (wish : Wish) (free : ℕ) → 1 ≤ wish.most → IsBelowLimit found → 1 ≤ given found wish free
 given_some found wish free most below = let limit = below.within in grind (arith, nat_tests)
@@ -68,16 +68,16 @@ counted found wish n ends false at =
     let found_free = picked (free_with found by.0 == 0) (nat_le (free_with found by.0) found.reserve && not wish.reserve) _ _ (given found wish (free_with found by.0)) n by.2 in
     (by.0, at, found_free.2)
 
-some : (found : Found) (wish : Wish) (n : ℕ) → 1 ≤ wish.most → found.out ≤ found.limit ⊎ (found.limit ≡ 0) → EndsAs found wish (Gives n) → (1 ≤ n) × (n ≤ wish.most)
-some found wish n most within ends =
+some : (found : Found) (wish : Wish) (n : ℕ) → 1 ≤ wish.most → EndsAs found wish (Gives n) → (1 ≤ n) × (n ≤ wish.most)
+some found wish n most ends =
     let c = counted found wish n ends (is_at_limit found) refl in
     let free = free_with found c.0 in
-    rw c.2 (given_some found wish free most (below found within c.1), given_most found wish free most)
+    rw c.2 (given_some found wish free most (below found c.1), given_most found wish free most)
 
-limited : (found : Found) (wish : Wish) (n : ℕ) → 0 < found.limit → found.out ≤ found.limit → EndsAs found wish (Gives n) → found.out + n ≤ found.limit
-limited found wish n above within ends =
+limited : (found : Found) (wish : Wish) (n : ℕ) → 0 < found.limit → EndsAs found wish (Gives n) → found.out + n ≤ found.limit
+limited found wish n above ends =
     let c = counted found wish n ends (is_at_limit found) refl in
-    rw c.2 (given_limit found wish (free_with found c.0) above ((below found (inl within) c.1).within above))
+    rw c.2 (given_limit found wish (free_with found c.0) above ((below found c.1).within above))
 
 not_at : (found : Found) → IsBelowLimit found → is_at_limit found ≡ false
 not_at found lower = elim (cases_lt 0 found.limit) [
@@ -163,13 +163,13 @@ why true kept full reserved refusal k e = inl (refl, cc)
 why false true full reserved refusal k e = inr (refl, refl, cc)
 why false false full reserved refusal k e = absurd cc
 
-pub names_limit : (found : Found) (wish : Wish) (out limit : ℕ) → is_at_limit found ≡ true → EndsAs found wish (Refuses (AtLimit out limit)) → (out ≡ found.out) × (limit ≡ found.limit) × (out ≡ limit) × (0 < limit)
+pub names_limit : (found : Found) (wish : Wish) (out limit : ℕ) → is_at_limit found ≡ true → EndsAs found wish (Refuses (AtLimit out limit)) → (out ≡ found.out) × (limit ≡ found.limit) × (limit ≤ out) × (0 < limit)
 names_limit found wish out limit at ends =
     let is = ends.at_limit at in
     let same_out : out ≡ found.out = cc in
     let same_limit : limit ≡ found.limit = cc in
-    let both = both_true (nat_lt 0 found.limit) (found.out == found.limit) at in
-    (same_out, same_limit, omega (arith, same_out, same_limit, same_number found.out found.limit both.1), omega (arith, same_limit, above 0 found.limit both.0))
+    let both = both_true (nat_lt 0 found.limit) (nat_le found.limit found.out) at in
+    (same_out, same_limit, omega (arith, same_out, same_limit, at_most found.limit found.out both.1), omega (arith, same_limit, above 0 found.limit both.0))
 
 pub names_slabs : (found : Found) (wish : Wish) (slabs in_all made : ℕ) → IsEnough found slabs → outcome_with found wish slabs ≡ Refuses (Full in_all made) → (in_all ≡ found.cap) × (made + found.slabs ≡ found.made + in_all)
 names_slabs found wish slabs in_all made enough ends =

@@ -15,7 +15,7 @@ use Rattle.uma_keg.specs.Outs.{out_of}
 use Rattle.uma_keg.specs.Fetch.{Wish, is_at_limit, IsNewSlabs, outcome_with, Outcome, Refuses, Gives, EndsAs}
 use Rattle.uma_keg.specs.BringSlab.{RefusesSlab}
 use Rattle.uma_keg.specs.BringSlabs.{found_in, BringsSlabs, StopsAtSlab}
-use Rattle.uma_keg.specs.Keg.{places_in, zones_in, stored_in, buried_in, out_in, limit_in, reserve_in, IsSameKeg}
+use Rattle.uma_keg.specs.Keg.{places_in, zones_in, stored_in, buried_in, out_in, limit_in, reserve_in, IsSameKeg, IsWithinLimit}
 use Rattle.uma_keg.specs.TakeItem.{MayTake, SamePlaces, KeepsItems}
 use Rattle.uma_keg.specs.TakeItems.{TakesItems, TakesInto, StopsAtItem}
 use Rattle.uma_keg.specs.Fetched.{wish_of, Proceeds, FetchesInto, RefusesFirst, IsUnmoved, RefusesFetch, IsOfKeg}
@@ -203,14 +203,26 @@ pub record IsReady {T K : Type 0} {g : _} {h : _} (old mid : Keg T K g h) (ask :
   pub on : Proceeds old ask (Gives count) mid
   pub given : IsGiven ask.most (free_count (places_in mid)) (out_in mid ask.zone) (limit_in mid ask.zone) count
 
+-- a zone below its limit is so still once slabs are in
+pub still_below : {T K : Type 0} {g : _} {h : _} (old mid : Keg T K g h) (zone : ℕ) → zones_in mid ≡ zones_in old → limit_in mid zone ≡ limit_in old zone → (0 < limit_in old zone → out_in old zone < limit_in old zone) → 0 < limit_in mid zone → out_in mid zone < limit_in mid zone
+still_below old mid zone zones limit below above =
+    let out : out_in mid zone ≡ out_in old zone = ap (λ zs. out_of zs zone) zones in
+    let less : out_in old zone < limit_in old zone = below (omega (arith, above, limit)) in
+    omega (arith, less, out, limit)
+
+-- a fetch that gives no more than its numbers allow leaves at most the limit outside
+pub within_taken : {T K : Type 0} {g : _} {h : _} (mid new : Keg T K g h) (zone count taken : ℕ) → out_in new zone ≡ out_in mid zone + taken → taken ≤ count → limit_in new zone ≡ limit_in mid zone → (0 < limit_in mid zone → out_in mid zone + count ≤ limit_in mid zone) → IsWithinLimit new zone
+within_taken mid new zone count taken out few limit allowed above =
+    let most : out_in mid zone + count ≤ limit_in mid zone = allowed (omega (arith, above, limit)) in
+    omega (arith, most, out, few, limit)
+
 pub is_ready : {T K : Type 0} {g : _} {h : _} (old mid : Keg T K g h) (ask : FetchAsk) (count : ℕ) → is_at_limit (found_in old ask.zone) ≡ false → (0 < limit_in old ask.zone → out_in old ask.zone < limit_in old ask.zone) → (brings : (slabs : ℕ) × BringsSlabs old ask.domain slabs mid × ((zone : ℕ) → IsNewSlabs (found_in old zone) slabs)) → zones_in mid ≡ zones_in old → ((zone : ℕ) → limit_in mid zone ≡ limit_in old zone) → IsSameKeg old mid
     → outcome_with (found_in mid ask.zone) (wish_of ask) 0 ≡ Gives count → 1 ≤ ask.most → IsReady old mid ask count
 is_ready old mid ask count clear below brings zones limits same gives some =
-    let out : out_in mid ask.zone ≡ out_in old ask.zone = ap (λ zs. out_of zs ask.zone) zones in
     let limit : limit_in mid ask.zone ≡ limit_in old ask.zone = limits ask.zone in
     record {
       on = proceeds old mid ask brings.0 (Gives count) clear brings.1 (brings.2 ask.zone) same zones limit gives;
-      given = is_given mid ask.zone (wish_of ask) count gives some (λ above. let less : out_in old ask.zone < limit_in old ask.zone = below (omega (arith, above, limit)) in omega (arith, less, out, limit));
+      given = is_given mid ask.zone (wish_of ask) count gives some (still_below old mid ask.zone zones limit below);
     }
 
 -- a zone at its limit is refused

@@ -79,8 +79,6 @@ ZonesLaw-given zones home rights limits n zone law is out = rw is (record {
   eight_rights = law.eight_rights;
   eight_limits = law.eight_limits;
   absent = λ z below no. omega (arith, law.absent z below no, out_accepted zones n zone z out);
-  no_limit = law.no_limit;
-  bounded = λ z below limited. omega (arith, law.bounded z below limited, out_accepted zones n zone z out);
 })
 
 pub out_given : (zones home : List (Option ℕ)) (n zone : ℕ) → home ≡ set zones n None → slice_get zones n ≡ Some (Some zone) → out_of home zone + 1 ≡ out_of zones zone

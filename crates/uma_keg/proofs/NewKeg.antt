@@ -1,5 +1,5 @@
 -- A new keg keeps the law of kegs.
-use Rattle.std.proofs.Common.{◌≡◌, ◌*◌, ℕ, false, List, [], ◌∷◌, Option, Some, None, is_some, length, replicate, refl, inl, inr, arith, sym, ap, ◌∙◌}
+use Rattle.std.proofs.Common.{◌≡◌, ◌*◌, ℕ, false, List, [], ◌∷◌, Option, Some, None, is_some, length, replicate, refl, inl, inr, sym, ap, ◌∙◌}
 use Rattle.std.proofs.lemmas.Bool.{cases_lt}
 use Rattle.std.proofs.lemmas.List.{get_or-replicate, get_or_past, length-replicate}
 use Rattle.uma_keg.specs.declared.home_items.HomeItems.{HomeItems}
@@ -32,6 +32,4 @@ ZonesLaw-new numbers zones rights out away = rw (out, away) (record {
   eight_rights = refl;
   eight_limits = refl;
   absent = λ zone below home. out_none numbers zone;
-  no_limit = λ zone below home. get_or-replicate 8 zone 0 0 below;
-  bounded = λ zone below limited. omega (arith, out_none numbers zone);
 })

@@ -71,21 +71,13 @@ out_taken zones away n zone is home = rw is (omega (arith, out_issued zones n zo
 pub outs_taken : (zones away : List (Option ℕ)) (n zone other : ℕ) → away ≡ set zones n (Some zone) → IsHome zones n → other ≢ zone → out_of away other ≡ out_of zones other
 outs_taken zones away n zone other is home ne = rw is (omega (arith, out_issued zones n zone other home, tick_other zone other ne))
 
-pub ZonesLaw-taken : (zones away rights : List (Option ℕ)) (limits : List ℕ) (n zone : ℕ) → ZonesLaw zones rights limits → away ≡ set zones n (Some zone) → IsHome zones n → IsHome rights zone → (0 < get_or limits zone 0 → out_of zones zone < get_or limits zone 0) → ZonesLaw away rights limits
-ZonesLaw-taken zones away rights limits n zone law is home exists below = record {
+pub ZonesLaw-taken : (zones away rights : List (Option ℕ)) (limits : List ℕ) (n zone : ℕ) → ZonesLaw zones rights limits → away ≡ set zones n (Some zone) → IsHome zones n → IsHome rights zone → ZonesLaw away rights limits
+ZonesLaw-taken zones away rights limits n zone law is home exists = record {
   eight_rights = law.eight_rights;
   eight_limits = law.eight_limits;
   absent = λ z within no. elim (cases_eq z zone) [
     | inl at ↦ let gone : IsHome rights z = rw at exists in absurd (no gone)
     | inr other ↦ outs_taken zones away n zone z is home other ∙ law.absent z within no
-  ];
-  no_limit = law.no_limit;
-  bounded = λ z within limited. elim (cases_eq z zone) [
-    | inl at ↦
-        let above : 0 < get_or limits zone 0 = rw (← at) limited in
-        let less = below above in
-        rw at (omega (arith, less, out_taken zones away n zone is home))
-    | inr other ↦ omega (arith, law.bounded z within limited, outs_taken zones away n zone z is home other)
   ];
 }
 

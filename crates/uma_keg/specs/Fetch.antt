@@ -19,9 +19,9 @@ pub record Wish : Type 0 where
   pub most : ℕ
   pub reserve : Bool
 
--- the zone has a limit, and is at it
+-- the zone has a limit, and as many items outside or more
 abbrev pub is_at_limit : Found → Bool
-is_at_limit found = nat_lt 0 found.limit && (found.out == found.limit)
+is_at_limit found = nat_lt 0 found.limit && nat_le found.limit found.out
 
 -- the free items once so many slabs more are in
 abbrev pub free_with : Found → ℕ → ℕ
@@ -60,13 +60,13 @@ pub record EndsAs (found : Found) (wish : Wish) (outcome : Outcome) : Type 0 whe
   pub at_limit : is_at_limit found ≡ true → outcome ≡ Refuses (AtLimit found.out found.limit)
   pub below_limit : is_at_limit found ≡ false → (slabs : ℕ) × IsNewSlabs found slabs × (outcome ≡ outcome_with found wish slabs)
 
--- the fetch is allowed: below the limit, which the zone doesn't exceed
+-- the fetch is allowed: the zone has no limit, or fewer items outside
 pub record IsBelowLimit (found : Found) : Type 0 where
   pub within : 0 < found.limit → found.out < found.limit
 
 -- 1. The least count of new slabs is one alone.
 -- 2. A fetch that gives items gives at least one and no more than were asked for.
--- 3. It doesn't exceed the limit.
+-- 3. It leaves at most the limit outside, where the zone has one.
 -- 4. Below the limit, a fetch gives items where some are free beyond the reserve, or where some are free and it has the right to the reserve.
 -- 5. Where no more slabs are in than may be, there is such a count, so each fetch has an end by its numbers, and one alone.
 -- 6. The right to the reserve changes the end of a fetch only where it would be refused as Reserved: then it gives one item.
@@ -75,8 +75,8 @@ pub record FetchLaw : Type 0 where
   pub some_count : (found : Found) → found.slabs ≤ found.cap → (slabs : ℕ) × IsNewSlabs found slabs
   pub some_end : (found : Found) (wish : Wish) → found.slabs ≤ found.cap → (outcome : Outcome) × EndsAs found wish outcome
   pub one_end : (found : Found) (wish : Wish) (outcome other : Outcome) → EndsAs found wish outcome → EndsAs found wish other → outcome ≡ other
-  pub some : (found : Found) (wish : Wish) (n : ℕ) → 1 ≤ wish.most → found.out ≤ found.limit ⊎ (found.limit ≡ 0) → EndsAs found wish (Gives n) → (1 ≤ n) × (n ≤ wish.most)
-  pub limit : (found : Found) (wish : Wish) (n : ℕ) → 0 < found.limit → found.out ≤ found.limit → EndsAs found wish (Gives n) → found.out + n ≤ found.limit
+  pub some : (found : Found) (wish : Wish) (n : ℕ) → 1 ≤ wish.most → EndsAs found wish (Gives n) → (1 ≤ n) × (n ≤ wish.most)
+  pub limit : (found : Found) (wish : Wish) (n : ℕ) → 0 < found.limit → EndsAs found wish (Gives n) → found.out + n ≤ found.limit
   pub complete : (found : Found) (wish : Wish) (slabs : ℕ) → IsBelowLimit found → IsNewSlabs found slabs → (found.reserve < free_with found slabs) ⊎ ((0 < free_with found slabs) × (wish.reserve ≡ true)) → EndsAs found wish (Gives (given found wish (free_with found slabs)))
   pub reserve : (found : Found) (most : ℕ) (without with_right : Outcome) → EndsAs found (record { most = most; reserve = false }) without → EndsAs found (record { most = most; reserve = true }) with_right
       → (with_right ≡ without) ⊎ ((free : ℕ) × (0 < free) × (free ≤ found.reserve) × (without ≡ Refuses (Reserved free found.reserve)) × (with_right ≡ Gives 1))

@@ -95,13 +95,13 @@ IsOfKeg (Reserved free reserve) = Unit {0}
 IsOfKeg _ = ⊥
 
 -- What a refusal tells the caller of the keg before the fetch and of the hooks, whatever its steps were:
--- 1. The zone has a limit, and as many items outside.
+-- 1. The zone has a limit, and as many items outside or more.
 -- 2. Some items are free, none beyond the reserve, and the fetch has no right to it.
 -- 3. As many slabs are in as may be; those made are the earlier ones and those that are new.
 -- 4. The keg's own hooks refuse some raw body, or the fetch's hooks refuse some body in its zone, which isn't 0. So with hooks that refuse none it doesn't come.
 -- 5. No fetch runs ctor.
 abbrev pub NamesWhatItFound : {T K : Type 0} {g : _} {h : _} → Keg T K g h → K → FetchAsk → FetchRefused → Type 0
-NamesWhatItFound old hooks ask (Refused (AtLimit out limit)) = (out ≡ out_in old ask.zone) × (limit ≡ limit_in old ask.zone) × (out ≡ limit) × (0 < limit)
+NamesWhatItFound old hooks ask (Refused (AtLimit out limit)) = (out ≡ out_in old ask.zone) × (limit ≡ limit_in old ask.zone) × (limit ≤ out) × (0 < limit)
 NamesWhatItFound old hooks ask (Refused (Reserved free reserve)) = (reserve ≡ reserve_in old) × (0 < free) × (free ≤ reserve) × (ask.reserve ≡ false)
 NamesWhatItFound old hooks ask (Refused (Full slabs made)) = (slabs ≡ (places_in old).cap) × (made + slab_count (places_in old) ≡ (places_in old).made + slabs)
 NamesWhatItFound {T} {K} {g} {h} old hooks ask (Refused (Init code)) = ((n : ℕ) × RefusesNumber old n code) ⊎ ((ask.zone ≢ 0) × (body : T) × (h.refuses_init hooks body ask.zone ≡ Some code))

@@ -97,6 +97,6 @@ pub record IsSameKeg {T K : Type 0} {g : _} {h : _} (old new : Keg T K g h) : Ty
   pub reserve : reserve_in new ≡ reserve_in old
   pub hooks : hooks_in new ≡ hooks_in old
 
--- no zone has more items outside than its limit, where that is above 0
-abbrev pub IsWithinLimits : {T K : Type 0} {g : _} {h : _} → Keg T K g h → Type 0
-IsWithinLimits keg = (zone : ℕ) → zone < 8 → 0 < limit_in keg zone → out_in keg zone ≤ limit_in keg zone
+-- the zone has no limit, or at most as many items outside
+abbrev pub IsWithinLimit : {T K : Type 0} {g : _} {h : _} → Keg T K g h → ℕ → Type 0
+IsWithinLimit keg zone = 0 < limit_in keg zone → out_in keg zone ≤ limit_in keg zone

@@ -1,5 +1,5 @@
--- The law of a keg: its places, its book of numbers, its items and its zones agree between any two calls. That an item is in its keg or has one holder outside, and that a limit bounds the items outside in its zone, are rules of FreeBSD's uma(9); that the limit is exact is own.
-use Rattle.std.specs.Prelude.{◌≡◌, ◌≤◌, ◌<◌, ◌*◌, ◌/◌, ℕ, Bool, true, false, List, Option, Some, None, is_some, length, slice_index_or}
+-- The law of a keg: its places, its book of numbers, its items and its zones agree between any two calls. That an item is in its keg or has one holder outside is the rule of FreeBSD's uma(9).
+use Rattle.std.specs.Prelude.{◌≡◌, ◌<◌, ◌*◌, ◌/◌, ℕ, Bool, true, false, List, Option, Some, None, is_some, length, slice_index_or}
 use Rattle.deed_book.specs.BookLaw.{IsHome}
 use Rattle.uma_life.specs.declared.stored.Stored.{Stored}
 use Rattle.uma_life.specs.Stored.{stored_no, stored_domain, stored_origin}
@@ -41,11 +41,8 @@ abbrev pub AreOfOrigin : {T : Type 0} {g : _} → List ℕ → HomeItems T g →
 AreOfOrigin {T} {g} origin home_items = (n : ℕ) (item : Stored T g) → item_at home_items n ≡ Some item → stored_origin item ≡ origin
 
 -- 1. There are eight rights and as many limits.
--- 2. No item is outside in a zone that doesn't exist, and it has no limit. A zone exists exactly where its right is at home.
--- 3. A limit above 0 isn't exceeded.
+-- 2. No item is outside in a zone that doesn't exist. A zone exists exactly where its right is at home.
 pub record ZonesLaw (zones rights : List (Option ℕ)) (limits : List ℕ) : Type 0 where
   pub eight_rights : length rights ≡ 8
   pub eight_limits : length limits ≡ 8
   pub absent : (zone : ℕ) → zone < 8 → (IsHome rights zone → ⊥) → out_of zones zone ≡ 0
-  pub no_limit : (zone : ℕ) → zone < 8 → (IsHome rights zone → ⊥) → slice_index_or limits zone 0 ≡ 0
-  pub bounded : (zone : ℕ) → zone < 8 → 0 < slice_index_or limits zone 0 → out_of zones zone ≤ slice_index_or limits zone 0

@@ -19,3 +19,4 @@ pub mod TakeItems
 pub mod BringSlabs
 pub mod Fetched
 pub mod CountsFound
+pub mod SetLimit

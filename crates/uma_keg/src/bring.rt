@@ -3,7 +3,7 @@ ghost use Rattle.uma_life.specs.Hook.{Hook};
 ghost use Rattle.uma_life.specs.Sum.{AreBelow};
 ghost use Rattle.uma_places.specs.Places.{slab_count};
 ghost use Rattle.uma_keg.specs.BringSlab.{BringsSlab, RefusesSlab};
-ghost use Rattle.uma_keg.specs.Keg.{places_in, zones_in, rights_in, stored_in, limit_in, fetches_in, buried_in, total_in, IsSameKeg, IsWithinLimits};
+ghost use Rattle.uma_keg.specs.Keg.{places_in, zones_in, rights_in, stored_in, limit_in, fetches_in, buried_in, total_in, IsSameKeg};
 
 use crate::fetch_refused::FetchRefused;
 use crate::keg::Keg;
@@ -35,7 +35,6 @@ impl<T: Body, K: Hooks<T>> Keg<T, K> {
         ensures limits { (zone : ℕ) → limit_in self.new zone ≡ limit_in self.old zone }
         ensures fetches { (zone : ℕ) → fetches_in self.new zone ≡ fetches_in self.old zone }
         ensures same { IsSameKeg self.old self.new }
-        ensures within { IsWithinLimits self.new }
     {
         if !self.has_tally_room() {
             return Err(FetchRefused::Memory);
@@ -61,7 +60,6 @@ impl<T: Body, K: Hooks<T>> Keg<T, K> {
         ensures limits { (zone : ℕ) → limit_in self.new zone ≡ limit_in self.old zone }
         ensures fetches { (zone : ℕ) → fetches_in self.new zone ≡ fetches_in self.old zone }
         ensures same { IsSameKeg self.old self.new }
-        ensures within { IsWithinLimits self.new }
     {
         let KegCounts {
             slabs,

@@ -3,7 +3,7 @@ ghost use Rattle.uma_life.specs.Sum.{AreBelow};
 ghost use Rattle.uma_places.specs.Places.{slab_count, free_count};
 ghost use Rattle.uma_keg.specs.Fetch.{IsNewSlabs};
 ghost use Rattle.uma_keg.specs.BringSlabs.{found_in, BringsSlabs, StopsAtSlab};
-ghost use Rattle.uma_keg.specs.Keg.{places_in, zones_in, rights_in, limit_in, fetches_in, reserve_in, buried_in, IsSameKeg, IsWithinLimits};
+ghost use Rattle.uma_keg.specs.Keg.{places_in, zones_in, rights_in, limit_in, fetches_in, reserve_in, buried_in, IsSameKeg};
 
 use crate::fetch_refused::FetchRefused;
 use crate::keg::Keg;
@@ -29,7 +29,6 @@ impl<T: Body, K: Hooks<T>> Keg<T, K> {
         ensures limits { (zone : ℕ) → limit_in self.new zone ≡ limit_in self.old zone }
         ensures fetches { (zone : ℕ) → fetches_in self.new zone ≡ fetches_in self.old zone }
         ensures same { IsSameKeg self.old self.new }
-        ensures within { IsWithinLimits self.new }
     {
         while self.wants_slab() {
             self.bring_slab(rt, alloc, domain)?;

@@ -4,7 +4,7 @@ ghost use Rattle.uma_bucket.specs.Bucket.{items_of, size_of};
 ghost use Rattle.uma_keg.specs.Fetch.{is_at_limit, outcome_with, Refuses, Gives};
 ghost use Rattle.uma_keg.specs.BringSlabs.{found_in};
 ghost use Rattle.uma_keg.specs.Fetched.{wish_of, Fetches, FetchesInto, RefusesFetch, NamesWhatItFound, GivesItems, IsOfKeg, refusals_after};
-ghost use Rattle.uma_keg.specs.Keg.{zones_in, out_in, rights_in, limit_in, fetches_in, refusals_in, buried_in, total_in, HasZone, IsSameKeg, IsWithinLimits};
+ghost use Rattle.uma_keg.specs.Keg.{zones_in, out_in, rights_in, limit_in, fetches_in, refusals_in, buried_in, total_in, HasZone, IsWithinLimit, IsSameKeg};
 
 use crate::fetch_ask::FetchAsk;
 use crate::fetch_refused::FetchRefused;
@@ -21,12 +21,12 @@ impl<T: Body, K: Hooks<T>> Keg<T, K> {
     /// Takes items out of the keg for a zone, at most as many as are asked for, and puts them into the bucket. Answers
     /// how many, which is at least one.
     ///
-    /// A zone at its limit is refused. Else slabs are brought in until an item is free beyond the reserve, or as many
-    /// are in as may be. Then `Full` where no item is free. Where none is beyond the reserve, a request with the right to
-    /// it gets one, and any other is refused as `Reserved`. Else it gets as many as lie beyond the reserve and within
-    /// the limit. `Init` where `keg_init` refuses an item of a new slab, or the zone's `zone_init` the first item; a later
-    /// one that is refused ends the fetch. `Memory` where memory is wanting, or one of the sums of hooks is at 2^120. It
-    /// waits for `raw` and `bury` alone.
+    /// A zone with a limit, and as many items outside or more, is refused. Else slabs are brought in until an item is free
+    /// beyond the reserve, or as many are in as may be. Then `Full` where no item is free. Where none is beyond the
+    /// reserve, a request with the right to it gets one, and any other is refused as `Reserved`. Else it gets as many as
+    /// lie beyond the reserve and within the limit. `Init` where `keg_init` refuses an item of a new slab, or the zone's
+    /// `zone_init` the first item; a later one that is refused ends the fetch. `Memory` where memory is wanting, or one of
+    /// the sums of hooks is at 2^120. It waits for `raw` and `bury` alone.
     ///
     /// However it ends, its answer is put at the end of the zone's list, which contracts alone see.
     ///
@@ -50,6 +50,7 @@ impl<T: Body, K: Hooks<T>> Keg<T, K> {
         ensures sums_full { (((hook : Hook) → total_in self.old hook < 2 ^ 120) → ⊥) → result ≡ Err FetchRefused.Memory }
         ensures none { OnErr result (items_of into.new ≡ items_of into.old) }
         ensures size { size_of into.new ≡ size_of into.old }
+        ensures within { OnOk result (IsWithinLimit self.new ask.zone) }
         ensures out { IfOk result (λ count. out_in self.new ask.zone ≡ out_in self.old ask.zone + count) }
         ensures zones { OnErr result (zones_in self.new ≡ zones_in self.old) }
         ensures outs { (zone : ℕ) → zone ≢ ask.zone → out_in self.new zone ≡ out_in self.old zone }
@@ -60,7 +61,6 @@ impl<T: Body, K: Hooks<T>> Keg<T, K> {
         ensures limits { (zone : ℕ) → limit_in self.new zone ≡ limit_in self.old zone }
         ensures buried { OnOk result (buried_in self.new ≡ buried_in self.old) }
         ensures same { IsSameKeg self.old self.new }
-        ensures within { IsWithinLimits self.new }
     {
         let end = self.fetch_items(rt, alloc, hooks, ask, into);
         list_end(&mut self.fetches, ask.zone, end);
@@ -85,6 +85,7 @@ impl<T: Body, K: Hooks<T>> Keg<T, K> {
         ensures sums_full { (((hook : Hook) → total_in self.old hook < 2 ^ 120) → ⊥) → result ≡ Err FetchRefused.Memory }
         ensures none { OnErr result (items_of into.new ≡ items_of into.old) }
         ensures size { size_of into.new ≡ size_of into.old }
+        ensures within { OnOk result (IsWithinLimit self.new ask.zone) }
         ensures out { IfOk result (λ count. out_in self.new ask.zone ≡ out_in self.old ask.zone + count) }
         ensures zones { OnErr result (zones_in self.new ≡ zones_in self.old) }
         ensures outs { (zone : ℕ) → zone ≢ ask.zone → out_in self.new zone ≡ out_in self.old zone }
@@ -93,7 +94,6 @@ impl<T: Body, K: Hooks<T>> Keg<T, K> {
         ensures fetches { (zone : ℕ) → fetches_in self.new zone ≡ fetches_in self.old zone }
         ensures buried { OnOk result (buried_in self.new ≡ buried_in self.old) }
         ensures same { IsSameKeg self.old self.new }
-        ensures within { IsWithinLimits self.new }
     {
         if !self.has_tally_room() {
             return Err(FetchRefused::Memory);
@@ -110,7 +110,7 @@ impl<T: Body, K: Hooks<T>> Keg<T, K> {
         }
     }
 
-    /// Refuses a zone that is at its limit.
+    /// Refuses a zone that is at its limit, or above one that was lowered.
     fn check_limit(&self, zone: u8) -> Result<(), Refusal>
         requires { zone < 8 }
         ensures clear { OnOk result (is_at_limit (found_in self.now zone) ≡ false) }
@@ -119,7 +119,7 @@ impl<T: Body, K: Hooks<T>> Keg<T, K> {
     {
         let out = self.out(zone);
         let limit = self.limit(zone);
-        if limit > 0 && out == limit {
+        if limit > 0 && out >= limit {
             return Err(Refusal::AtLimit { out, limit });
         }
         Ok(())
@@ -128,7 +128,8 @@ impl<T: Body, K: Hooks<T>> Keg<T, K> {
     /// How many items a fetch gets that isn't at the limit, once no further slab is brought in, where `zone_init` refuses
     /// none; or why it gets none.
     fn count_given(&self, ask: FetchAsk) -> Result<u32, Refusal>
-        requires { ask.zone < 8 }
+        requires in_range { ask.zone < 8 }
+        requires below { 0 < limit_in self.now ask.zone → out_in self.now ask.zone < limit_in self.now ask.zone }
         ensures gives { IfOk result (λ count. outcome_with (found_in self.now ask.zone) (wish_of ask) 0 ≡ Gives count) }
         ensures refuses { IfErr result (λ refusal. outcome_with (found_in self.now ask.zone) (wish_of ask) 0 ≡ Refuses refusal) }
         ensures which { IfErr result IsOfKeg }

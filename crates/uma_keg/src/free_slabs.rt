@@ -2,7 +2,7 @@ ghost use Rattle.std.specs.Prelude.{◌≡◌, ◌≤◌, ◌<◌, ◌+◌, ◌�
 ghost use Rattle.uma_places.specs.Places.{free_count};
 ghost use Rattle.uma_places.specs.Dropping.{IsUsedUp, HasNoneWhollyFree};
 ghost use Rattle.uma_keg.specs.FreeSlabs.{FreesSlab, FreesSlabs, GivesNoMore, slabs_to_free};
-ghost use Rattle.uma_keg.specs.Keg.{places_in, zones_in, rights_in, stored_in, limit_in, fetches_in, reserve_in, buried_in, IsSameKeg, IsWithinLimits};
+ghost use Rattle.uma_keg.specs.Keg.{places_in, zones_in, rights_in, stored_in, limit_in, fetches_in, reserve_in, buried_in, IsSameKeg};
 
 use crate::keg::Keg;
 use std::sync::Wait;
@@ -27,7 +27,6 @@ impl<T: Body, K: Hooks<T>> Keg<T, K> {
         ensures limits { (zone : ℕ) → limit_in self.new zone ≡ limit_in self.old zone }
         ensures fetches { (zone : ℕ) → fetches_in self.new zone ≡ fetches_in self.old zone }
         ensures same { IsSameKeg self.old self.new }
-        ensures within { IsWithinLimits self.new }
     {
         let KegCounts { per_slab, .. } = self.places.counts();
         let mut count = 0;
@@ -61,7 +60,6 @@ impl<T: Body, K: Hooks<T>> Keg<T, K> {
         ensures limits { (zone : ℕ) → limit_in self.new zone ≡ limit_in self.old zone }
         ensures fetches { (zone : ℕ) → fetches_in self.new zone ≡ fetches_in self.old zone }
         ensures same { IsSameKeg self.old self.new }
-        ensures within { IsWithinLimits self.new }
     {
         let index = self.places.drop_slab()?;
         let slab_items = self.home_items.remove(index);

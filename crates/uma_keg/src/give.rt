@@ -5,7 +5,7 @@ ghost use Rattle.uma_life.specs.Cached.{cached_body, cached_no, cached_zone, cac
 ghost use Rattle.uma_life.specs.Stored.{stored_body};
 ghost use Rattle.uma_life.specs.Hook.{ZoneFini, after};
 ghost use Rattle.uma_places.specs.Places.{Gives, CountsOneOut};
-ghost use Rattle.uma_keg.specs.Keg.{places_in, zones_in, out_in, table_in, rights_in, stored_in, limit_in, fetches_in, buried_in, IsSameKeg, IsWithinLimits};
+ghost use Rattle.uma_keg.specs.Keg.{places_in, zones_in, out_in, table_in, rights_in, stored_in, limit_in, fetches_in, buried_in, IsSameKeg};
 
 use crate::keg::Keg;
 use uma_life::{Body, Cached, Hooks};
@@ -30,7 +30,6 @@ impl<T: Body, K: Hooks<T>> Keg<T, K> {
         ensures fetches { (zone : ℕ) → fetches_in self.new zone ≡ fetches_in self.old zone }
         ensures buried { buried_in self.new ≡ buried_in self.old }
         ensures same { IsSameKeg self.old self.new }
-        ensures within { IsWithinLimits self.new }
     {
         let (stored, deed) = item.give_back(hooks);
         let no = self.outside.accept(deed);

@@ -27,7 +27,7 @@ use uma_places::{KegCounts, KegRefused, Places};
 /// 1. A place of a slab that is in is free exactly where the item of its number is at home, and used exactly where the
 ///    number is outside, in the book of the keg's numbers. An item at home has its number, and its slab's domain.
 /// 2. A zone exists exactly where its right is at home in the book of the keg's rights. One that doesn't exist has no
-///    item outside and no limit, and no zone has more than its limit, where that is above 0.
+///    item outside.
 /// 3. In the sums of the buried hooks come in pairs.
 /// 4. The items at home, and the book of the keg's numbers, are of the origin of the keg's hooks.
 ///
@@ -81,7 +81,7 @@ fn no_fetches() -> [Log<Result<u32, FetchRefused>>; 8]
 }
 
 impl<T: Body, K: Hooks<T>> Keg<T, K> {
-    ghost use Rattle.uma_keg.specs.Keg.{places_in, zones_in, out_in, table_in, book_in, rights_in, HasZone, stored_in, limit_in, fetches_in, reserve_in, size_in, hooks_in, buried_in, IsSameKeg, IsWithinLimits};
+    ghost use Rattle.uma_keg.specs.Keg.{places_in, zones_in, out_in, table_in, book_in, rights_in, HasZone, stored_in, limit_in, fetches_in, reserve_in, size_in, hooks_in, buried_in, IsSameKeg};
 
     /// A keg of items of `size` bytes, 8 to 4,096, with room for `slabs` slabs, 1 to 1,024, of which none is in, and of
     /// no zone. With it come its eight rights to a zone, whose numbers are 7 down to 0.
@@ -167,15 +167,13 @@ impl<T: Body, K: Hooks<T>> Keg<T, K> {
     pub fn out(&self, zone: u8) -> u64
         ensures out { zone < 8 → result ≡ out_in self.now zone }
         ensures no_zone { (HasZone self.now zone → ⊥) → result ≡ 0 }
-        ensures within { 0 < limit_in self.now zone → result ≤ limit_in self.now zone }
     {
         if zone < 8 { self.outside.out(zone) } else { 0 }
     }
 
-    /// The limit of a zone, where 0 is none. 0 for a zone that doesn't exist.
+    /// The limit of a zone, where 0 is none.
     pub fn limit(&self, zone: u8) -> u64
-        ensures limit { result ≡ limit_in self.now zone }
-        ensures no_zone { (HasZone self.now zone → ⊥) → result ≡ 0 }
+        ensures { result ≡ limit_in self.now zone }
     {
         if zone < 8 {
             self.limits[zone as usize]
@@ -205,8 +203,8 @@ impl<T: Body, K: Hooks<T>> Keg<T, K> {
         Snapshot::of(&self.rights)
     }
 
-    /// Adds a zone by a right that came with this keg, and answers its index, which is the right's number. At most
-    /// `limit` of its items are outside, where that is above 0.
+    /// Adds a zone with this limit, where 0 is none, by a right that came with this keg. Answers its index, which is the
+    /// right's number.
     pub fn add_zone(&mut self, right: Deed, limit: u64) -> u8
         requires { deed_table right ≡ book_table (rights_in self.old) }
         ensures index { result ≡ no_of right }
@@ -221,7 +219,6 @@ impl<T: Body, K: Hooks<T>> Keg<T, K> {
         ensures stored { (n : ℕ) → stored_in self.new n ≡ stored_in self.old n }
         ensures buried { buried_in self.new ≡ buried_in self.old }
         ensures same { IsSameKeg self.old self.new }
-        ensures within { IsWithinLimits self.new }
     {
         let (no, _) = self.rights.accept(right);
         self.limits[no as usize] = limit;

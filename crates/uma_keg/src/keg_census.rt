@@ -5,7 +5,7 @@ ghost use Rattle.uma_life.specs.Live.{live_table};
 ghost use Rattle.uma_life.specs.Sum.{sum_of};
 ghost use Rattle.uma_keg.specs.Lent.{all_seen, lent_of, deed_of};
 ghost use Rattle.uma_keg.specs.Census.{census_counts, census_out, census_tally, census_table, counts_in};
-ghost use Rattle.uma_keg.specs.Keg.{places_in, zones_in, out_in, table_in, rights_in, HasZone, stored_in, limit_in, fetches_in, buried_in, total_in, IsSameKeg, IsWithinLimits};
+ghost use Rattle.uma_keg.specs.Keg.{places_in, zones_in, out_in, table_in, rights_in, HasZone, stored_in, limit_in, fetches_in, buried_in, total_in, IsSameKeg};
 
 use crate::census::Census;
 use crate::keg::Keg;
@@ -38,7 +38,6 @@ impl<T: Body, K: Hooks<T>> Keg<T, K> {
         ensures fetches { (zone : ℕ) → fetches_in self.new zone ≡ fetches_in self.old zone }
         ensures buried { buried_in self.new ≡ buried_in self.old }
         ensures same { IsSameKeg self.old self.new }
-        ensures within { IsWithinLimits self.new }
     {
         let back = recount(&mut self.outside, alloc, lives)?;
         Ok((self.counted(), back))

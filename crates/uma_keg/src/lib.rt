@@ -44,6 +44,7 @@ mod new_items;
 mod outside;
 mod recount;
 mod rights;
+mod set_limit;
 mod slab_items;
 mod take_item;
 mod take_items;

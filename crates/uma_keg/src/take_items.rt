@@ -4,7 +4,7 @@ ghost use Rattle.uma_bucket.specs.Bucket.{items_of, size_of};
 ghost use Rattle.uma_places.specs.Places.{free_count};
 ghost use Rattle.uma_keg.specs.TakeItem.{RefusesItem, KeepsItems};
 ghost use Rattle.uma_keg.specs.TakeItems.{TakesItems, TakesInto, StopsAtItem};
-ghost use Rattle.uma_keg.specs.Keg.{places_in, out_in, rights_in, limit_in, fetches_in, buried_in, HasZone, IsSameKeg, IsWithinLimits};
+ghost use Rattle.uma_keg.specs.Keg.{places_in, rights_in, limit_in, fetches_in, buried_in, HasZone, IsSameKeg};
 
 use crate::keg::Keg;
 use uma_bucket::Bucket;
@@ -23,7 +23,6 @@ impl<T: Body, K: Hooks<T>> Keg<T, K> {
         requires free { count ≤ free_count (places_in self.old) }
         requires exists { HasZone self.old zone }
         requires in_range { zone < 8 }
-        requires below { 0 < limit_in self.old zone → out_in self.old zone + count ≤ limit_in self.old zone }
         requires room { length (items_of into.old) + count ≤ size_of into.old }
         ensures takes { OnOk result (TakesInto self.old hooks.now zone count (items_of into.old) (items_of into.new) self.new) }
         ensures stops { IfErr result (λ (taken, code). StopsAtItem self.old hooks.now zone count taken code (items_of into.old) (items_of into.new) self.new) }
@@ -33,7 +32,6 @@ impl<T: Body, K: Hooks<T>> Keg<T, K> {
         ensures fetches { (other : ℕ) → fetches_in self.new other ≡ fetches_in self.old other }
         ensures buried { buried_in self.new ≡ buried_in self.old }
         ensures same { IsSameKeg self.old self.new }
-        ensures within { IsWithinLimits self.new }
     {
         for taken in 0..count {
             match self.take_item(hooks, zone) {

@@ -22,11 +22,12 @@ use Rattle.trace_worker.specs.Together.{AddsUp, AllNamed, AllStand, crew}
 use Rattle.trace_play.specs.declared.setting.Setting.{Setting}
 use Rattle.trace_play.specs.Setting.{IsSetUp}
 use Rattle.trace_play.specs.DoneBy.{done_by, is_by}
+use Rattle.trace_play.specs.Betweens.{DoRounds}
 use Rattle.trace_play.specs.Plays.{AllPlay}
 use Rattle.trace_play.specs.Rounds.{AllAsked, GaveUpAsBefore, IsBegun, Suits}
 use Rattle.uma_replay.specs.Hall.{AreDone, NamesDone}
 use Rattle.uma_replay.specs.Playing.{AreFirst, HaveEnded, gave_ups_of, namings_of}
-use Rattle.uma_replay.proofs.Playing.{played_of}
+use Rattle.uma_replay.proofs.Playing.{played_of, together_of}
 use Rattle.uma_replay.proofs.Runnings.{named_first, of_both}
 
 few_enough : (n : ℕ) → n ≤ 16777216 → n < 2 ^ 31
@@ -78,8 +79,8 @@ module _ {N H C S Part : Type 0} {h : Ghosts H Part} (names : NameGhosts N H C S
   pub named_of : (t : Trace) (s : Setting H Part h) (begun ended : List (Running N H C S Part h)) (workers : List (Worker H Part h)) (namings : List (Naming N H C S Part)) → IsSetUp t s → AreFirst names cache t.head.domains s.workers.items begun
       → length ended ≡ length begun → names.serves ≡ is_some t.head.names → (IsTrue names.serves → names.clock_of cache ≡ clock_id s.clock) → IfSome t.head.names (λ line. names.sizes_of cache ≡ sizes_for t.head line)
       → AllStand s.zones.items s.clock (reverse (lines_of t.rounds)) (crew ended) → AllNamed names cache (reverse (lines_of t.rounds)) ended → AllPlay names cache s.zones.items t.rounds begun ended
-      → workers ≡ crew ended → namings ≡ namings_of ended → NamesDone names t cache s.zones.items s.clock workers namings
-  named_of t s begun ended workers namings is first count served of_clock sizes stand named plays same same_namings =
+      → DoRounds names cache s.zones.items t.rounds begun ended → workers ≡ crew ended → namings ≡ namings_of ended → NamesDone names t cache s.zones.items s.clock workers namings
+  named_of t s begun ended workers namings is first count served of_clock sizes stand named plays did same same_namings =
       let P : List (Worker H Part h) → Type 0 = λ ws. NamesDone names t cache s.zones.items s.clock ws namings in
       let Q : List (Naming N H C S Part) → Type 0 = λ gs. NamesDone names t cache s.zones.items s.clock (crew ended) gs in
       subst P (sym same) (subst Q (sym same_namings) (record {
@@ -93,6 +94,7 @@ module _ {N H C S Part : Type 0} {h : Ghosts H Part} (names : NameGhosts N H C S
             let B : Naming N H C S Part → Type 0 = λ g. NamesStand names cache n (reverse (lines_of t.rounds)) both.running.worker.late g in
             subst A (ap (λ (x : Worker H Part h). x.late) both.is_worker) (subst B both.is_naming (named n both.running both.at));
         played = played_of names cache t s begun ended is first count (λ n w at. (stand.fits n w at).pass) plays;
+        together = together_of names cache t s begun ended is first (λ n w at. (stand.fits n w at).pass) did;
       }))
 
 most_workers : (count workers : ℕ) → count ≡ workers → workers ≤ 16 → count ≤ 16

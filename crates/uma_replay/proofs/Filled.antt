@@ -5,7 +5,7 @@ use Rattle.std.specs.Prelude.{◌==◌, ◌&&◌, IsSome}
 use Rattle.std.specs.Option.{option_map_or}
 use Rattle.trace_text.specs.declared.op.Op.{Op}
 use Rattle.trace_text.specs.declared.op.Op.TheVariants.{Alloc, Free, Enter, Exit, Bind, Unbind, Look, Trim, Drain, DrainSeat, Prealloc}
-use Rattle.trace_text.specs.declared.between.Between.TheVariants.{Give}
+use Rattle.trace_text.specs.declared.between.Between.TheVariants.{Give, SetMax}
 use Rattle.trace_text.specs.Lines.{Line, Does, Moves}
 use Rattle.trace_text.specs.Reading.{held, held_after}
 use Rattle.trace_text.specs.Valid.{LineFits}
@@ -43,6 +43,7 @@ NamesBelow workers size (Does w (Alloc zone slot arg reserve)) = (w < workers) �
 NamesBelow workers size (Does w (Free slot)) = (w < workers) × (slot < size)
 NamesBelow workers size (Does w op) = Unit {0}
 NamesBelow workers size (Moves (Give giver from taker to)) = (giver < workers) × (from < size) × (taker < workers) × (to < size)
+NamesBelow workers size (Moves (SetMax zone limit)) = Unit {0}
 
 -- ---- one line more
 
@@ -156,6 +157,9 @@ by_give workers size z lines giver from taker to zone is_giver is_from is_taker 
     ∙ but_cond z ((giver == m) && (from == j)) (held lines m j)) in
     omega (arith, first, second, was, gone_giver, gone_taker, is)
 
+by_limit : (workers size z : ℕ) (lines : List Line) (zone limit : ℕ) → filled_slots workers size z (Moves (SetMax zone limit) ∷ lines) ≡ filled_slots workers size z lines
+by_limit workers size z lines zone limit = over-same (filled_at z (Moves (SetMax zone limit) ∷ lines)) (filled_at z lines) workers size (λ m j. refl)
+
 -- ---- any line
 
 filled_zone : (slot : Option ℕ) → IsSome slot → (zone : ℕ) × (slot ≡ Some zone)
@@ -178,6 +182,7 @@ filled-more workers size z lines (Does w (Prealloc zone items)) below fits = ome
 filled-more workers size z lines (Moves (Give giver from taker to)) below fits =
     let found = filled_zone (held lines giver from) fits.0 in
     omega (arith, by_give workers size z lines giver from taker to found.0 below.0 below.1 below.2 below.3 found.1 fits.1)
+filled-more workers size z lines (Moves (SetMax zone limit)) below fits = omega (arith, by_limit workers size z lines zone limit)
 
 -- ---- all lines
 

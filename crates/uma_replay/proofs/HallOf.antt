@@ -36,7 +36,7 @@ use Rattle.uma_replay.specs.Reporting.{HaveKegs}
 use Rattle.uma_replay.proofs.Entries.{entries_most}
 use Rattle.uma_replay.proofs.KegSums.{shares}
 use Rattle.uma_replay.proofs.NamesFit.{counts_fit, names_ends}
-use Rattle.uma_replay.proofs.Playing.{played_stay}
+use Rattle.uma_replay.proofs.Playing.{played_stay, together_stay}
 use Rattle.uma_replay.proofs.Primaries.{keg_within}
 use Rattle.uma_replay.proofs.PlainStands.{StandsPlain, some_at}
 use Rattle.uma_replay.proofs.ReportStands.{HasPrimary, has_primary, stands_for}
@@ -178,6 +178,7 @@ module _ {N H C S Part : Type 0} {h : Ghosts H Part} (names : NameGhosts N H C S
         let P : ℕ → Type 0 = λ late. NamesStand names cache n (reverse (lines_of t.rounds)) late naming in
         subst P (sym (s.each n was.0 w was.1 at).late) (d.stand n was.0 naming was.1 at_naming);
     played = played_stay names cache t zones clock old new namings s d.played;
+    together = together_stay names cache t zones clock old new namings s d.together;
   }
 
   worker_at : (t : Trace) (workers : List (Worker H Part h)) (namings : List (Naming N H C S Part)) (n : ℕ) (naming : Naming N H C S Part) → length workers ≡ t.head.workers → length namings ≡ t.head.workers

@@ -6,6 +6,9 @@ pub mod HallOf
 pub mod KegLines
 pub mod KegSums
 pub mod KindCounts
+pub mod LimitLines
+mod LimitRows
+pub mod LinesWith
 pub mod NamesFit
 pub mod NameTotals
 pub mod OwnCounts

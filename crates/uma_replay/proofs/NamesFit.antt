@@ -1,10 +1,10 @@
 -- What the workers counted of the names fits the trace, and so does what a report has of their zone.
-use Rattle.std.proofs.Common.{◌≡◌, ℕ, suc, ◌+◌, ◌<◌, ◌≤◌, ◌^◌, List, [], ◌∷◌, length, Option, None, Some, refl, sym, ap, ◌∙◌, subst, arith}
+use Rattle.std.proofs.Common.{◌≡◌, ℕ, zero, suc, ◌+◌, ◌<◌, ◌≤◌, ◌^◌, List, [], ◌∷◌, length, Option, None, Some, refl, sym, ap, ◌∙◌, subst, arith}
 use Rattle.std.proofs.lemmas.Bool.{false≢true}
 use Rattle.std.proofs.lemmas.List.{length-map}
 use Rattle.std.proofs.lemmas.List.Sums.{sum_by-cons, count_by-le-length}
 use Rattle.std.proofs.lemmas.Option.{same_Some, slice_get_within}
-use Rattle.std.specs.Prelude.{IfSome, option_map, slice_get, sum_by}
+use Rattle.std.specs.Prelude.{Contains, IfSome, option_map, slice_get, sum_by}
 use Rattle.smr_clock.specs.declared.clock.Clock.{Clock}
 use Rattle.smr_clock.specs.declared.host.Host.{Ghosts}
 use Rattle.trace_text.specs.declared.head.ClockHead.{ClockHead}
@@ -36,23 +36,29 @@ use Rattle.uma_replay.specs.declared.name_sums.NameCount.TheVariants.{Hits, Miss
 use Rattle.uma_replay.specs.declared.names_part.NamesPart.{NamesPart}
 use Rattle.uma_replay.specs.Counting.{arg_count, entry_zone, is_bind, is_done, is_look, is_unbind, kind_count}
 use Rattle.uma_replay.specs.Hall.{NamesDone}
+use Rattle.uma_replay.specs.Limits.{KeepsOneOf, last_limit}
 use Rattle.uma_replay.specs.Names.{CountsFit, IsNamesPart, NamesClose, total_of}
-use Rattle.uma_replay.specs.Report.{LedgerFits, RefusalFits, line_title}
+use Rattle.uma_replay.specs.Report.{IsLineOf, LedgerFits, RefusalFits, line_title}
 use Rattle.uma_replay.specs.Reporting.{clock_line}
 use Rattle.uma_replay.proofs.Entries.{sum-both, sum-workers, sum-workers-le}
 use Rattle.uma_replay.proofs.KindCounts.{all_binds_are, binds_are, looks_are, no_args, unbinds_are}
+use Rattle.uma_replay.proofs.LimitLines.{unnamed_last}
 use Rattle.uma_replay.proofs.PlainStands.{all_lines, by_last, if_some, some_at}
 use Rattle.uma_replay.proofs.ReportStands.{ledger_found}
 use Rattle.uma_replay.proofs.WithNames.{NamesEnds}
 
 -- ---- one ledger
 
-refused_fits : (t : Trace) (n : ℕ) (line : NamesHead) (refusal : Refusal) → NamesRefuse line.slabs refusal → RefusalFits t n (length t.head.zones) (entry_zone line) refusal
-refused_fits t n line (Full slabs made) fits = fits
-refused_fits t n line (Init code) fits = (fits, refl)
-refused_fits t n line (AtLimit out limit) fits = absurd fits
-refused_fits t n line (Reserved free reserve) fits = absurd fits
-refused_fits t n line (Ctor code) fits = absurd fits
+none_set : (limit : ℕ) → Contains (0 ∷ []) limit → 0 < limit → ⊥
+none_set limit (zero, below, is) some = omega arith
+none_set limit (suc k, below, is) some = omega arith
+
+refused_fits : (t : Trace) (n : ℕ) (line : NamesHead) (l : SeatLedger) (refusal : Refusal) → KeepsOneOf (0 ∷ []) l → l.last ≡ Some refusal → NamesRefuse line.slabs refusal → RefusalFits t n (length t.head.zones) (entry_zone line) refusal
+refused_fits t n line l (Full slabs made) keeps is fits = fits
+refused_fits t n line l (Init code) keeps is fits = (fits, refl)
+refused_fits t n line l (AtLimit out limit) keeps is fits = absurd (none_set limit (keeps (AtLimit out limit) limit is refl) fits.1)
+refused_fits t n line l (Reserved free reserve) keeps is fits = absurd fits
+refused_fits t n line l (Ctor code) keeps is fits = absurd fits
 
 le_more : (fails turned args : ℕ) → fails ≤ turned → fails ≤ turned + args
 le_more fails turned args most = omega arith
@@ -60,8 +66,8 @@ le_more fails turned args most = omega arith
 none_le : (args fails : ℕ) → args ≡ 0 → args ≤ fails
 none_le args fails none = omega arith
 
-ledger_fits : (t : Trace) (n slabs refused : ℕ) (line : NamesHead) (l : SeatLedger) → IsValid t → slabs ≡ line.slabs → NameLedgerStands slabs n (all_lines t) refused l → LedgerFits t n (length t.head.zones) (entry_zone line) l
-ledger_fits t n slabs refused line l valid same stands =
+ledger_fits : (t : Trace) (n slabs refused : ℕ) (line : NamesHead) (l : SeatLedger) → IsValid t → KeepsOneOf (0 ∷ []) l → slabs ≡ line.slabs → NameLedgerStands slabs n (all_lines t) refused l → LedgerFits t n (length t.head.zones) (entry_zone line) l
+ledger_fits t n slabs refused line l valid keeps same stands =
     let z = length t.head.zones in
     let P : ℕ → Type 0 = λ count. (refusal : Refusal) → l.last ≡ Some refusal → NamesRefuse count refusal in
     let kept = subst P same stands.kept in
@@ -70,7 +76,7 @@ ledger_fits t n slabs refused line l valid same stands =
       law = l.law;
       some_args = le_more l.fails l.turned (arg_count t n z) stands.turned;
       all_args = none_le (arg_count t n z) l.fails (no_args t n valid);
-      kept = by_last t n z (entry_zone line) l.last (λ r is. refused_fits t n line r (kept r is));
+      kept = by_last t n z (entry_zone line) l.last (λ r is. refused_fits t n line l r keeps is (kept r is));
     }
 
 -- ---- sums of two lists side by side
@@ -187,7 +193,7 @@ module _ {N H C S Part : Type 0} {h : Ghosts H Part} (names : NameGhosts N H C S
   fits : (n : ℕ) (l : SeatLedger) → slice_get part.ledgers n ≡ Some l → LedgerFits t n (length t.head.zones) (entry_zone line) l
   fits n l at =
       let found = ledger_found counts_of_seat namings part.ledgers n l p.of_seats at in
-      ledger_fits t n (names.sizes_of cache).slabs found.0.counts.refused line l valid (ap (λ (s : NameSizes). s.slabs) sizes) (ledger_stands n l found.0 at found.1)
+      ledger_fits t n (names.sizes_of cache).slabs found.0.counts.refused line l valid (p.limits n l at) (ap (λ (s : NameSizes). s.slabs) sizes) (ledger_stands n l found.0 at found.1)
 
   in_time : (read write : ℕ) (o : Option ClockHead) → IfSome (option_map (λ (c : ClockHead). clock_line read write workers) o) (λ clock. part.counts.late ≤ clock.late)
   in_time read write None = tt
@@ -198,6 +204,7 @@ module _ {N H C S Part : Type 0} {h : Ghosts H Part} (names : NameGhosts N H C S
   pub names_ends : (read write : ℕ) (shown : Option ClockLine) → shown ≡ option_map (λ (c : ClockHead). clock_line read write workers) t.head.clock → NamesEnds t line part shown
   names_ends read write shown same =
       let A : HookLine → Type 0 = λ hooks. ShowsSame hooks.ctors (hooks.dtors + hooks.deferred + closes.linked) in
+      let L : ℕ → Type 0 = λ limit. IsLineOf limit (entry_zone line) part.ledgers part.line in
       let B : NamesLine → Type 0 = λ counts. counts.looks ≡ counts.hits + counts.misses + counts.late in
       let D : Option ClockLine → Type 0 = λ o. IfSome o (λ clock. part.counts.late ≤ clock.late) in
       let E : NamesLine → Type 0 = λ counts. counts.binds + counts.refused ≡ kind_count is_bind t in
@@ -206,7 +213,7 @@ module _ {N H C S Part : Type 0} {h : Ghosts H Part} (names : NameGhosts N H C S
       let I : NamesLine → Type 0 = λ counts. counts.binds ≤ total_allocs part.ledgers in
       record {
         fit = record { workers = one_each ∙ d.naming_count; each = λ n. if_some (slice_get part.ledgers n) (LedgerFits t n (length t.head.zones) (entry_zone line)) (fits n) };
-        line = (census_out census 0, (census_counts census).free, (λ over. absurd (false≢true over)), p.of_zone);
+        line = subst L (sym (unnamed_last t (entry_zone line) valid)) (census_out census 0, (census_counts census).free, (λ over. absurd (false≢true over)), p.of_zone);
         titled = ap line_title p.of_zone;
         hooks_named = ap (λ (l : HookLine). l.name) p.of_hooks;
         keg_named = ap (λ (l : KegLine). l.name) p.of_keg;

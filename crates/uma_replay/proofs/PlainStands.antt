@@ -19,6 +19,7 @@ use Rattle.zone_stats.specs.Line.{zone_line, total_allocs, total_frees, used_ite
 use Rattle.uma_life.specs.Trail.{ShowsSame}
 use Rattle.trace_worker.specs.LedgerStands.{LedgerStands, KeptFits}
 use Rattle.trace_play.specs.Kegs.{per_slab, primaries, index_of, rights_after}
+use Rattle.uma_replay.specs.Limits.{last_limit}
 use Rattle.uma_replay.specs.Report.{ZoneLedgersFit, LedgerFits, FreesFit, IsLineOf, RefusalFits, ledgers_at, KegAddsUp, UsesAreBuilt, ClockLineFits, line_title, head_title}
 use Rattle.uma_replay.proofs.Filled.{filled_slots}
 use Rattle.uma_replay.proofs.KegSums.{HaveOuts, items, keg_sum}
@@ -33,12 +34,12 @@ all_lines t = reverse (lines_of t.rounds)
 -- ---- one ledger
 
 by_refusal : (t : Trace) (n z : ℕ) (head : ZoneHead) (Names : Refusal → Type 0) (refusal : Refusal)
-    → ((r : Refusal) → is_ctor r ≡ false → Names r → RefusalFits t n z head r) → KeptFits Names n z (all_lines t) refusal → RefusalFits t n z head refusal
+    → (is_ctor refusal ≡ false → Names refusal → RefusalFits t n z head refusal) → KeptFits Names n z (all_lines t) refusal → RefusalFits t n z head refusal
 by_refusal t n z head Names (Ctor code) fit kept = (kept.0, asked_some t n z code kept.1)
-by_refusal t n z head Names (AtLimit out limit) fit kept = fit (AtLimit out limit) refl kept
-by_refusal t n z head Names (Reserved free reserve) fit kept = fit (Reserved free reserve) refl kept
-by_refusal t n z head Names (Full slabs made) fit kept = fit (Full slabs made) refl kept
-by_refusal t n z head Names (Init code) fit kept = fit (Init code) refl kept
+by_refusal t n z head Names (AtLimit out limit) fit kept = fit refl kept
+by_refusal t n z head Names (Reserved free reserve) fit kept = fit refl kept
+by_refusal t n z head Names (Full slabs made) fit kept = fit refl kept
+by_refusal t n z head Names (Init code) fit kept = fit refl kept
 
 pub by_last : (t : Trace) (n z : ℕ) (head : ZoneHead) (o : Option Refusal) → ((r : Refusal) → o ≡ Some r → RefusalFits t n z head r) → IfSome o (RefusalFits t n z head)
 by_last t n z head None each = tt
@@ -52,13 +53,13 @@ swap_all args others fails most same = omega arith
 
 -- what a ledger has to do with its worker's lines fits the trace, where what its refusals name of the zone does
 pub ledger_fits : (t : Trace) (n z : ℕ) (head : ZoneHead) (l : SeatLedger) (Names : Refusal → Type 0) → z < length t.head.zones
-    → ((r : Refusal) → is_ctor r ≡ false → Names r → RefusalFits t n z head r) → LedgerStands Names n z (all_lines t) l → LedgerFits t n z head l
+    → ((r : Refusal) → l.last ≡ Some r → is_ctor r ≡ false → Names r → RefusalFits t n z head r) → LedgerStands Names n z (all_lines t) l → LedgerFits t n z head l
 ledger_fits t n z head l Names below fit stands = record {
   requests = stands.requests ∙ requests_are t n z below;
   law = l.law;
   some_args = swap_args _ _ _ _ stands.some_args (args_are t n z);
   all_args = swap_all _ _ _ stands.all_args (args_are t n z);
-  kept = by_last t n z head l.last (λ r is. by_refusal t n z head Names r fit (stands.kept r is));
+  kept = by_last t n z head l.last (λ r is. by_refusal t n z head Names r (fit r is) (stands.kept r is));
 }
 
 -- ---- what is known at the end
@@ -75,7 +76,7 @@ pub record ZoneEnds (t : Trace) (report : Report) (size z : ℕ) (head : ZoneHea
   pub balance : live + total_frees ledgers ≡ total_allocs ledgers
   pub lent : live ≤ out
   pub secondary : IsSome head.parent → keg_free ≡ 0
-  pub at_line : slice_get report.lines z ≡ Some (zone_line head.name head.size head.limit ledgers out keg_free)
+  pub at_line : slice_get report.lines z ≡ Some (zone_line head.name head.size (last_limit (lines_of t.rounds) z head) ledgers out keg_free)
   pub hooks : HookLine
   pub at_hooks : slice_get report.hooks z ≡ Some hooks
   pub named : hooks.name ≡ head.name
@@ -150,17 +151,17 @@ all_items_of : (used live out keg_free : ℕ) → used ≡ live → live ≤ out
 all_items_of used live out keg_free is most = omega arith
 
 line_items : (t : Trace) (report : Report) (size z : ℕ) (head : ZoneHead) (out keg_free : ℕ) (e : ZoneEnds t report size z head out keg_free)
-    → items (zone_line head.name head.size head.limit e.ledgers out keg_free) ≡ keg_free + out
+    → items (zone_line head.name head.size (last_limit (lines_of t.rounds) z head) e.ledgers out keg_free) ≡ keg_free + out
 line_items t report size z head out keg_free e =
     all_items_of (used_items e.ledgers) e.live out keg_free (used_live e.live (total_allocs e.ledgers) (total_frees e.ledgers) e.balance) e.lent
 
 items_at : (t : Trace) (report : Report) (size z : ℕ) (head : ZoneHead) (out keg_free : ℕ) (e : ZoneEnds t report size z head out keg_free) (line : ZoneLine)
     → slice_get report.lines z ≡ Some line → items line ≡ keg_free + out
 items_at t report size z head out keg_free e line at =
-    ap items (same_Some line (zone_line head.name head.size head.limit e.ledgers out keg_free) (sym at ∙ e.at_line)) ∙ line_items t report size z head out keg_free e
+    ap items (same_Some line (zone_line head.name head.size (last_limit (lines_of t.rounds) z head) e.ledgers out keg_free) (sym at ∙ e.at_line)) ∙ line_items t report size z head out keg_free e
 
 zone_uses : (t : Trace) (report : Report) (size z : ℕ) (head : ZoneHead) (out keg_free : ℕ) (e : ZoneEnds t report size z head out keg_free)
-    → UsesAreBuilt (zone_line head.name head.size head.limit e.ledgers out keg_free) e.hooks
+    → UsesAreBuilt (zone_line head.name head.size (last_limit (lines_of t.rounds) z head) e.ledgers out keg_free) e.hooks
 zone_uses t report size z head out keg_free e =
     let used : used_items e.ledgers ≡ e.live = used_live e.live (total_allocs e.ledgers) (total_frees e.ledgers) e.balance in
     let P : ℕ → Type 0 = λ n. ShowsSame e.hooks.ctors (e.hooks.dtors + n + e.hooks.deferred) in
@@ -185,11 +186,11 @@ zone_frees t report size z head out keg_free valid most e =
     (frees_fit t size z e.live e.ledgers valid most e.workers e.counted e.filled e.balance)
 
 zone_line_of : (t : Trace) (report : Report) (size z : ℕ) (head : ZoneHead) (out keg_free : ℕ) → ZoneEnds t report size z head out keg_free
-    → IfSome (slice_get report.lines z) (IsLineOf head (ledgers_at report z))
+    → IfSome (slice_get report.lines z) (IsLineOf (last_limit (lines_of t.rounds) z head) head (ledgers_at report z))
 zone_line_of t report size z head out keg_free e =
-    let line = zone_line head.name head.size head.limit e.ledgers out keg_free in
-    let P : List SeatLedger → Type 0 = λ ls. IsLineOf head ls line in
-    if_at (slice_get report.lines z) (IsLineOf head (ledgers_at report z)) line e.at_line
+    let line = zone_line head.name head.size (last_limit (lines_of t.rounds) z head) e.ledgers out keg_free in
+    let P : List SeatLedger → Type 0 = λ ls. IsLineOf (last_limit (lines_of t.rounds) z head) head ls line in
+    if_at (slice_get report.lines z) (IsLineOf (last_limit (lines_of t.rounds) z head) head (ledgers_at report z)) line e.at_line
     (subst P (sym (ledgers_of t report size z head out keg_free e)) (out, keg_free, e.secondary, refl))
 
 -- ---- a keg
@@ -232,7 +233,7 @@ pub record StandsPlain (t : Trace) (first : Report) : Type 0 where
   pub zones : map line_title first.lines ≡ map head_title t.head.zones
   pub ledgers : (z : ℕ) (head : ZoneHead) → slice_get t.head.zones z ≡ Some head → ZoneLedgersFit t z head (ledgers_at first z)
   pub frees : (z : ℕ) → z < length t.head.zones → FreesFit t z (ledgers_at first z)
-  pub lines : (z : ℕ) (head : ZoneHead) → slice_get t.head.zones z ≡ Some head → IfSome (slice_get first.lines z) (IsLineOf head (ledgers_at first z))
+  pub lines : (z : ℕ) (head : ZoneHead) → slice_get t.head.zones z ≡ Some head → IfSome (slice_get first.lines z) (IsLineOf (last_limit (lines_of t.rounds) z head) head (ledgers_at first z))
   pub hook_names : map (λ (line : HookLine). line.name) first.hooks ≡ map (λ (head : ZoneHead). head.name) t.head.zones
   pub keg_names : map (λ (line : KegLine). line.name) first.kegs ≡ map (λ (place, head). head.name) (primaries t.head.zones 0)
   pub detail : first.detail ≡ t.head.detail
@@ -252,7 +253,7 @@ stands_plain t report size outs_of frees_of e =
       hook_count = e.hook_count;
       keg_count = e.keg_count;
       zones = same_images line_title head_title report.lines heads e.line_count
-          (λ k line head at_line at. ap line_title (same_Some line (zone_line head.name head.size head.limit (e.zone k head at).ledgers (outs_of k) (frees_of k)) (sym at_line ∙ (e.zone k head at).at_line)));
+          (λ k line head at_line at. ap line_title (same_Some line (zone_line head.name head.size (last_limit (lines_of t.rounds) k head) (e.zone k head at).ledgers (outs_of k) (frees_of k)) (sym at_line ∙ (e.zone k head at).at_line)));
       ledgers = λ z head at. ledgers_fit t report size z head (outs_of z) (frees_of z) (e.zone z head at);
       frees = λ z below. let found = some_at heads z below in
           zone_frees t report size z found.0 (outs_of z) (frees_of z) e.valid e.most (e.zone z found.0 found.1);
@@ -267,7 +268,7 @@ stands_plain t report size outs_of frees_of e =
           (keg_adds_up t report size outs_of frees_of k p head e (primary_is heads 0 k p head at) keg);
       uses = λ z below. let found = some_at heads z below in
           let zone = e.zone z found.0 found.1 in
-          let line = zone_line found.0.name found.0.size found.0.limit zone.ledgers (outs_of z) (frees_of z) in
+          let line = zone_line found.0.name found.0.size (last_limit (lines_of t.rounds) z found.0) zone.ledgers (outs_of z) (frees_of z) in
           if_at (slice_get report.lines z) (λ line. IfSome (slice_get report.hooks z) (UsesAreBuilt line)) line zone.at_line
           (if_at (slice_get report.hooks z) (UsesAreBuilt line) zone.hooks zone.at_hooks (zone_uses t report size z found.0 (outs_of z) (frees_of z) zone));
       clock = e.clock;

@@ -18,17 +18,26 @@ use Rattle.trace_worker.specs.Together.{crew}
 use Rattle.trace_worker.specs.Worker.{seen_of}
 use Rattle.trace_play.specs.declared.setting.Setting.{Setting}
 use Rattle.trace_play.specs.Setting.{IsSetUp}
+use Rattle.trace_play.specs.Betweens.{DoRounds}
 use Rattle.trace_play.specs.Plays.{AllPlay}
 use Rattle.trace_play.specs.Rounds.{AllAsked}
 use Rattle.trace_play.proofs.AfterRound.{in_crew}
 use Rattle.trace_play.proofs.RoundLists.{at_other}
-use Rattle.uma_replay.specs.Playing.{AllPlayed, AllStay, AreFirst, HaveEnded, Stays, gave_ups_of, namings_of}
+use Rattle.uma_replay.specs.Playing.{AllPlayed, AllStay, AreFirst, HaveEnded, HavePlayed, Stays, gave_ups_of, namings_of}
 use Rattle.uma_replay.proofs.Runnings.{of_both}
 use Rattle.uma_replay.proofs.Staying.{all_chain, found_before, stays_chain}
 
 module _ {H Part : Type 0} {h : Ghosts H Part} where
   stays_self : (clock : Clock H Part) (w : Worker H Part h) → IsOf clock w.pass → Stays clock w w
   stays_self clock w here = record { seats = refl; slots = refl; entered = refl; late = refl; here = here; phase = refl; seen = le_refl (seen_of w) }
+
+  all_stay_self : (clock : Clock H Part) (workers : List (Worker H Part h)) → ((n : ℕ) (w : Worker H Part h) → slice_get workers n ≡ Some w → IsOf clock w.pass) → AllStay clock workers workers
+  all_stay_self clock workers here = record {
+    count = refl;
+    each = λ n v w at at'.
+        let One : Worker H Part h → Type 0 = λ x. Stays clock v x in
+        subst One (same_Some v w (sym at ∙ at')) (stays_self clock v (here n v at));
+  }
 
 module _ {N H C S Part : Type 0} {h : Ghosts H Part} (names : NameGhosts N H C S Part) (cache : C) where
   -- of other zones and workers that are the same
@@ -37,6 +46,12 @@ module _ {N H C S Part : Type 0} {h : Ghosts H Part} (names : NameGhosts N H C S
       let P : List (CountedZone H Part h) → Type 0 = λ list. AllPlay names cache list rounds old new in
       let Q : List (Running N H C S Part h) → Type 0 = λ list. AllPlay names cache zones' rounds list new in
       subst P same_zones (subst Q same_old plays)
+
+  -- the same of all together
+  pub rounds_as : (rounds : List Round) (zones : List (CountedZone H Part h)) (old old' new : List (Running N H C S Part h)) → old' ≡ old → DoRounds names cache zones rounds old' new → DoRounds names cache zones rounds old new
+  rounds_as rounds zones old old' new same did =
+      let P : List (Running N H C S Part h) → Type 0 = λ list. DoRounds names cache zones rounds list new in
+      subst P same did
 
   -- when all rounds are done
   pub played_of : (t : Trace) (s : Setting H Part h) (begun ended : List (Running N H C S Part h)) → IsSetUp t s → AreFirst names cache t.head.domains s.workers.items begun → length ended ≡ length begun
@@ -56,6 +71,31 @@ module _ {N H C S Part : Type 0} {h : Ghosts H Part} (names : NameGhosts N H C S
         stays = let P : Worker H Part h → Type 0 = λ v. Stays s.clock v w in subst P (sym both.is_worker) (stays_self s.clock w (here n w at));
         naming_stays = sym both.is_naming;
       }
+
+  -- all together when all rounds are done
+  pub together_of : (t : Trace) (s : Setting H Part h) (begun ended : List (Running N H C S Part h)) → IsSetUp t s → AreFirst names cache t.head.domains s.workers.items begun
+      → ((n : ℕ) (w : Worker H Part h) → slice_get (crew ended) n ≡ Some w → IsOf s.clock w.pass) → DoRounds names cache s.zones.items t.rounds begun ended
+      → HavePlayed names cache t s.zones.items s.clock (crew ended) (namings_of ended)
+  together_of t s begun ended is first here did = record {
+    begun = begun;
+    are_new = λ n r at. (is.begin.each n r.worker (sym (ap (λ list. slice_get list n) first.are) ∙ in_crew n begun r at), first.each n r at);
+    ended = ended;
+    rounds = did;
+    stay = all_stay_self s.clock (crew ended) here;
+    namings_are = refl;
+  }
+
+  -- and since then
+  pub together_stay : (t : Trace) (zones : List (CountedZone H Part h)) (clock : Clock H Part) (old new : List (Worker H Part h)) (namings : List (Naming N H C S Part)) → AllStay clock old new → HavePlayed names cache t zones clock old namings
+      → HavePlayed names cache t zones clock new namings
+  together_stay t zones clock old new namings stay played = record {
+    begun = played.begun;
+    are_new = played.are_new;
+    ended = played.ended;
+    rounds = played.rounds;
+    stay = all_chain clock (crew played.ended) old new played.stay stay;
+    namings_are = played.namings_are;
+  }
 
   -- and since then
   pub played_stay : (t : Trace) (zones : List (CountedZone H Part h)) (clock : Clock H Part) (old new : List (Worker H Part h)) (namings : List (Naming N H C S Part)) → AllStay clock old new → AllPlayed names cache t zones clock old namings
@@ -85,12 +125,7 @@ module _ {N H C S Part : Type 0} {h : Ghosts H Part} where
       record {
         ended = ended;
         asked = asked;
-        stay = subst All (sym same) (record {
-          count = refl;
-          each = λ n v w at at'.
-              let One : Worker H Part h → Type 0 = λ x. Stays clock v x in
-              subst One (same_Some v w (sym at ∙ at')) (stays_self clock v (here n v at));
-        });
+        stay = subst All (sym same) (all_stay_self clock (crew ended) here);
         namings_are = same_namings;
         gave_ups_are = same_gave_ups;
       }

@@ -13,7 +13,7 @@ use Rattle.trace_text.specs.declared.head.ClockHead.{ClockHead}
 use Rattle.trace_text.specs.declared.head.Head.{Head}
 use Rattle.trace_text.specs.declared.head.ZoneHead.{ZoneHead}
 use Rattle.trace_text.specs.declared.trace.Trace.{Trace}
-use Rattle.trace_text.specs.Lines.{Line}
+use Rattle.trace_text.specs.Lines.{Line, lines_of}
 use Rattle.trace_text.specs.Valid.{IsValid, HeadFits, KegFits, ZoneFits, sharer_count}
 use Rattle.uma_keg.specs.declared.census.Census.{Census}
 use Rattle.uma_keg.specs.Census.{census_counts, census_out, census_outs}
@@ -43,6 +43,7 @@ use Rattle.trace_play.specs.Kegs.{keg_place, index_of, per_slab, primaries}
 use Rattle.trace_play.specs.Zones.{AreZones, IsZoneOf}
 use Rattle.trace_play.specs.Clock.{ReadsHands}
 use Rattle.trace_play.specs.Closes.{AllClose, KegCloses}
+use Rattle.uma_replay.specs.Limits.{KeepsOneOf, last_limit, limits_had}
 use Rattle.uma_replay.specs.Report.{RefusalFits, ClockLineFits}
 use Rattle.uma_replay.specs.Reporting.{IsReportOf, AreLedgersOf, keg_number, hook_line, keg_line, clock_line, shown_free}
 use Rattle.uma_replay.proofs.Entries.{clock_stands, sum-term}
@@ -56,13 +57,13 @@ module _ {H Part : Type 0} {h : Ghosts H Part} where
   -- ---- what a refusal names
 
   pub names_fit : (t : Trace) (n z : ℕ) (head : ZoneHead) (zone : CountedZone H Part h) → IsZoneOf t.head.zones t.head.domains z head zone
-      → (r : Refusal) → is_ctor r ≡ false → NamesZone zone r → RefusalFits t n z head r
-  names_fit t n z head zone is (AtLimit out limit) other names = (names.1.0 ∙ is.numbers.limit, names.1.1, names.1.2)
-  names_fit t n z head zone is (Reserved free kept) other names = (names.1.0 ∙ is.numbers.reserve, names.1.1, names.1.2)
-  names_fit t n z head zone is (Full slabs made) other names = names.1 ∙ is.numbers.cap
+      → (l : SeatLedger) → KeepsOneOf (limits_had (lines_of t.rounds) z head) l → (r : Refusal) → l.last ≡ Some r → is_ctor r ≡ false → NamesZone zone r → RefusalFits t n z head r
+  names_fit t n z head zone is l keeps (AtLimit out limit) last other names = (names.1.0, names.1.1, keeps (AtLimit out limit) limit last refl)
+  names_fit t n z head zone is l keeps (Reserved free kept) last other names = (names.1.0 ∙ is.numbers.reserve, names.1.1, names.1.2)
+  names_fit t n z head zone is l keeps (Full slabs made) last other names = names.1 ∙ is.numbers.cap
   -- no init of the replay refuses
-  names_fit t n z head zone is (Init code) other names = absurd (none-some code names.1.4)
-  names_fit t n z head zone is (Ctor code) other names = absurd (true≢false other)
+  names_fit t n z head zone is l keeps (Init code) last other names = absurd (none-some code names.1.4)
+  names_fit t n z head zone is l keeps (Ctor code) last other names = absurd (true≢false other)
 
 -- ---- ledgers and live items
 
@@ -122,7 +123,7 @@ module _ {H Part : Type 0} {h : Ghosts H Part} where
     pub window : (c : ClockHead) → t.head.clock ≡ Some c → (setup_of clock).about.window ≡ c.window
     pub closes : AllClose t.head zones workers censuses tallies deferred
     pub hands : ReadsHands clock workers read write
-    pub is : IsReportOf t.head workers censuses tallies deferred read write gave_up report
+    pub is : IsReportOf t workers censuses tallies deferred read write gave_up report
 
 -- ---- on numbers
 
@@ -295,7 +296,7 @@ module _ {H Part : Type 0} {h : Ghosts H Part} (t : Trace) (zones : List (Counte
         workers = sym (length-map own.0 Some) ∙ (sym (ap length are) ∙ (length-map workers (ledger_at z) ∙ l.count));
         fits = λ n ledger at_ledger.
             let one = one_ledger n z line own.0 ledger at are at_ledger in
-            ledger_fits t n z line ledger (NamesZone one.0) below (names_fit t n z line one.0 one.1) one.2;
+            ledger_fits t n z line ledger (NamesZone one.0) below (names_fit t n z line one.0 one.1 ledger (l.is.limits z line own.0 at own.1 n ledger at_ledger)) one.2;
         counted = λ n ledger at_ledger.
             let one = one_ledger n z line own.0 ledger at are at_ledger in
             record { requests = one.2.requests; frees = one.2.frees };
@@ -306,8 +307,8 @@ module _ {H Part : Type 0} {h : Ghosts H Part} (t : Trace) (zones : List (Counte
         lent = le_same _ _ _ lent (ap (census_out keg.census) keg.is_zone.index ∙ sym out);
         secondary = λ parent. free ∙ over_none line.parent (census_counts keg.census).free parent;
         at_line = shown.1 ∙ ap Some (l.is.lines.each z shown.0 shown.1 line own.0 keg.census at own.1 keg.at_census)
-            ∙ (ap (λ o. Some (zone_line line.name line.size line.limit own.0 o (shown_free line keg.census))) (sym out)
-            ∙ ap (λ f. Some (zone_line line.name line.size line.limit own.0 (out_at heads censuses z) f)) (sym free));
+            ∙ (ap (λ o. Some (zone_line line.name line.size (last_limit (lines_of t.rounds) z line) own.0 o (shown_free line keg.census))) (sym out)
+            ∙ ap (λ f. Some (zone_line line.name line.size (last_limit (lines_of t.rounds) z line) own.0 (out_at heads censuses z) f)) (sym free));
         hooks = hook_line line.name index keg.tally waiting.0;
         at_hooks = hooks.1 ∙ ap Some (l.is.hooks.each z hooks.0 hooks.1 waiting.0 waiting.1 line keg.tally at keg.at_tally);
         named = refl;

@@ -7,6 +7,7 @@ use Rattle.std.specs.Option.{option_map_or}
 use Rattle.trace_text.specs.declared.head.NamesHead.{NamesHead}
 use Rattle.trace_text.specs.declared.head.ZoneHead.{ZoneHead}
 use Rattle.trace_text.specs.declared.trace.Trace.{Trace}
+use Rattle.trace_text.specs.Lines.{lines_of}
 use Rattle.zone_stats.specs.declared.ledger.SeatLedger.{SeatLedger}
 use Rattle.zone_stats.specs.declared.report.ClockLine.{ClockLine}
 use Rattle.zone_stats.specs.declared.report.HookLine.{HookLine}
@@ -18,6 +19,7 @@ use Rattle.zone_stats.specs.Line.{total_allocs, total_fails}
 use Rattle.trace_play.specs.Kegs.{keg_place, primaries}
 use Rattle.uma_replay.specs.declared.names_part.NamesPart.{NamesPart}
 use Rattle.uma_replay.specs.Counting.{entry_zone, is_bind, is_look, is_unbind, kind_count, report_zones}
+use Rattle.uma_replay.specs.Limits.{last_limit}
 use Rattle.uma_replay.specs.Names.{with_names}
 use Rattle.uma_replay.specs.Report.{FreesFit, IsLineOf, KegAddsUp, LinksFew, NamesLineFits, NamesLineStands, StandsFor, UsesAreBuilt, ZoneLedgersFit, head_title, items_of_keg, ledgers_at, line_title}
 use Rattle.uma_replay.proofs.PlainStands.{StandsPlain, if_at, if_some, some_at}
@@ -90,7 +92,7 @@ items-front keg z (head ∷ heads) (line ∷ lines) more same =
 
 pub record NamesEnds (t : Trace) (n : NamesHead) (part : NamesPart) (clock : Option ClockLine) : Type 0 where
   pub fit : ZoneLedgersFit t (length t.head.zones) (entry_zone n) part.ledgers
-  pub line : IsLineOf (entry_zone n) part.ledgers part.line
+  pub line : IsLineOf (last_limit (lines_of t.rounds) (length t.head.zones) (entry_zone n)) (entry_zone n) part.ledgers part.line
   pub titled : line_title part.line ≡ head_title (entry_zone n)
   pub hooks_named : part.hooks.name ≡ n.name
   pub keg_named : part.keg.name ≡ n.name
@@ -121,6 +123,17 @@ weaker : {A : Type 0} (o : Option A) (P Q : A → Type 0) → ((a : A) → P a �
 weaker None P Q each holds = tt
 weaker (Some a) P Q each holds = each a holds
 
+limit_told : (o : Option ZoneLine) (limit : ℕ) (head : ZoneHead) (ledgers : List SeatLedger) → IfSome o (IsLineOf limit head ledgers) → IfSome o (λ line. line.limit ≡ limit)
+limit_told o limit head ledgers are = weaker o (IsLineOf limit head ledgers) (λ line. line.limit ≡ limit) (λ line is. ap (λ (l : ZoneLine). l.limit) is.3) are
+
+-- each line shows the limit that it is the line of
+limits_told : (t : Trace) (zones : List ZoneHead) (report : Report) → ((z : ℕ) → IfSome (slice_get zones z) (λ head. IfSome (slice_get report.lines z) (IsLineOf (last_limit (lines_of t.rounds) z head) head (ledgers_at report z))))
+    → (z : ℕ) → IfSome (slice_get zones z) (λ head. IfSome (slice_get report.lines z) (λ line. line.limit ≡ last_limit (lines_of t.rounds) z head))
+limits_told t zones report lines z =
+    weaker (slice_get zones z) (λ head. IfSome (slice_get report.lines z) (IsLineOf (last_limit (lines_of t.rounds) z head) head (ledgers_at report z)))
+    (λ head. IfSome (slice_get report.lines z) (λ line. line.limit ≡ last_limit (lines_of t.rounds) z head))
+    (λ head. limit_told (slice_get report.lines z) (last_limit (lines_of t.rounds) z head) head (ledgers_at report z)) (lines z)
+
 -- ---- the whole report
 
 module _ (t : Trace) (first : Report) (plain : StandsPlain t first) where
@@ -130,15 +143,17 @@ module _ (t : Trace) (first : Report) (plain : StandsPlain t first) where
       let heads = t.head.zones in
       let are : report_zones t.head ≡ heads = ap (λ o. heads ++ option_map_or (λ n. entry_zone n ∷ []) o []) is ∙ append-nil heads in
       let P : List ZoneHead → Type 0 = λ zs. (z : ℕ) → IfSome (slice_get zs z) (λ head. ZoneLedgersFit t z head (ledgers_at first z)) in
-      let Q : List ZoneHead → Type 0 = λ zs. (z : ℕ) → IfSome (slice_get zs z) (λ head. IfSome (slice_get first.lines z) (IsLineOf head (ledgers_at first z))) in
+      let Q : List ZoneHead → Type 0 = λ zs. (z : ℕ) → IfSome (slice_get zs z) (λ head. IfSome (slice_get first.lines z) (IsLineOf (last_limit (lines_of t.rounds) z head) head (ledgers_at first z))) in
       let A : Option NamesHead → Type 0 = λ o. NamesLineFits t first o first.names in
       let B : Option NamesLine → Type 0 = λ o. NamesLineFits t first None o in
+      let all_lines = subst Q (sym are) (λ z. if_some (slice_get heads z) (λ head. IfSome (slice_get first.lines z) (IsLineOf (last_limit (lines_of t.rounds) z head) head (ledgers_at first z))) (plain.lines z)) in
       record {
         zones = plain.zones ∙ ap (map head_title) (sym are);
         ledger_count = plain.ledger_count ∙ ap length (sym are);
         ledgers = subst P (sym are) (λ z. if_some (slice_get heads z) (λ head. ZoneLedgersFit t z head (ledgers_at first z)) (plain.ledgers z));
         frees = plain.frees;
-        lines = subst Q (sym are) (λ z. if_some (slice_get heads z) (λ head. IfSome (slice_get first.lines z) (IsLineOf head (ledgers_at first z))) (plain.lines z));
+        limits = limits_told t (report_zones t.head) first all_lines;
+        lines = all_lines;
         hook_names = plain.hook_names ∙ ap (map (λ (head : ZoneHead). head.name)) (sym are);
         keg_names = plain.keg_names ∙ ap (λ zs. map (λ (place, head). head.name) (primaries zs 0)) (sym are);
         detail = plain.detail;
@@ -171,18 +186,18 @@ module _ (t : Trace) (first : Report) (plain : StandsPlain t first) (n : NamesHe
       subst P (sym (in_front z (slice_get_within heads z head at))) (plain.ledgers z head at))
       (let P : List SeatLedger → Type 0 = λ ls. ZoneLedgersFit t (length heads) (entry_zone n) ls in subst P (sym at_last) ends.fit)
 
-  front_line : (z : ℕ) (head : ZoneHead) → slice_get heads z ≡ Some head → IfSome (slice_get report.lines z) (IsLineOf head (ledgers_at report z))
+  front_line : (z : ℕ) (head : ZoneHead) → slice_get heads z ≡ Some head → IfSome (slice_get report.lines z) (IsLineOf (last_limit (lines_of t.rounds) z head) head (ledgers_at report z))
   front_line z head at =
       let below : z < length heads = slice_get_within heads z head at in
-      let P : List SeatLedger → Type 0 = λ ls. IfSome (slice_get report.lines z) (IsLineOf head ls) in
-      let Q : Option ZoneLine → Type 0 = λ o. IfSome o (IsLineOf head (ledgers_at first z)) in
+      let P : List SeatLedger → Type 0 = λ ls. IfSome (slice_get report.lines z) (IsLineOf (last_limit (lines_of t.rounds) z head) head ls) in
+      let Q : Option ZoneLine → Type 0 = λ o. IfSome o (IsLineOf (last_limit (lines_of t.rounds) z head) head (ledgers_at first z)) in
       subst P (sym (in_front z below))
       (subst Q (sym (get-front first.lines part.line z (below_same z (length heads) (length first.lines) below plain.line_count))) (plain.lines z head at))
 
-  last_line : IfSome (slice_get report.lines (length heads)) (IsLineOf (entry_zone n) (ledgers_at report (length heads)))
+  last_line : IfSome (slice_get report.lines (length heads)) (IsLineOf (last_limit (lines_of t.rounds) (length heads) (entry_zone n)) (entry_zone n) (ledgers_at report (length heads)))
   last_line =
-      let P : List SeatLedger → Type 0 = λ ls. IfSome (slice_get report.lines (length heads)) (IsLineOf (entry_zone n) ls) in
-      subst P (sym at_last) (if_at (slice_get report.lines (length heads)) (IsLineOf (entry_zone n) part.ledgers) part.line (get-at first.lines part.line (length heads) (sym plain.line_count)) ends.line)
+      let P : List SeatLedger → Type 0 = λ ls. IfSome (slice_get report.lines (length heads)) (IsLineOf (last_limit (lines_of t.rounds) (length heads) (entry_zone n)) (entry_zone n) ls) in
+      subst P (sym at_last) (if_at (slice_get report.lines (length heads)) (IsLineOf (last_limit (lines_of t.rounds) (length heads) (entry_zone n)) (entry_zone n) part.ledgers) part.line (get-at first.lines part.line (length heads) (sym plain.line_count)) ends.line)
 
   keg_sums : (k p : ℕ) (head : ZoneHead) → slice_get (primaries heads 0) k ≡ Some (p, head) → IfSome (slice_get report.kegs k) (KegAddsUp t report (p, head))
   keg_sums k p head at =
@@ -214,14 +229,16 @@ module _ (t : Trace) (first : Report) (plain : StandsPlain t first) (n : NamesHe
   stands_named =
       let entry = entry_zone n in
       let P : List ZoneHead → Type 0 = λ zs. (z : ℕ) → IfSome (slice_get zs z) (λ head. ZoneLedgersFit t z head (ledgers_at report z)) in
-      let Q : List ZoneHead → Type 0 = λ zs. (z : ℕ) → IfSome (slice_get zs z) (λ head. IfSome (slice_get report.lines z) (IsLineOf head (ledgers_at report z))) in
+      let Q : List ZoneHead → Type 0 = λ zs. (z : ℕ) → IfSome (slice_get zs z) (λ head. IfSome (slice_get report.lines z) (IsLineOf (last_limit (lines_of t.rounds) z head) head (ledgers_at report z))) in
       let A : Option NamesHead → Type 0 = λ o. NamesLineFits t report o (Some part.counts) in
+      let all_lines = subst Q (sym are) (each-last (λ z head. IfSome (slice_get report.lines z) (IsLineOf (last_limit (lines_of t.rounds) z head) head (ledgers_at report z))) heads entry front_line last_line) in
       record {
         zones = images-last line_title head_title first.lines heads part.line entry plain.zones ends.titled ∙ ap (map head_title) (sym are);
         ledger_count = counts-last first.ledgers heads part.ledgers entry plain.ledger_count ∙ ap length (sym are);
         ledgers = subst P (sym are) names_fit;
         frees = λ z below. let F : List SeatLedger → Type 0 = λ ls. FreesFit t z ls in subst F (sym (in_front z below)) (plain.frees z below);
-        lines = subst Q (sym are) (each-last (λ z head. IfSome (slice_get report.lines z) (IsLineOf head (ledgers_at report z))) heads entry front_line last_line);
+        limits = limits_told t (report_zones t.head) report all_lines;
+        lines = all_lines;
         hook_names = images-last (λ (line : HookLine). line.name) (λ (head : ZoneHead). head.name) first.hooks heads part.hooks entry plain.hook_names ends.hooks_named ∙ ap (map (λ (head : ZoneHead). head.name)) (sym are);
         keg_names = images-last (λ (line : KegLine). line.name) (λ (place, head). head.name) first.kegs (primaries heads 0) part.keg (0 + length heads, entry) plain.keg_names ends.keg_named
             ∙ ap (map (λ (place, head). head.name)) (sym (primaries-last heads 0 entry refl)) ∙ ap (λ zs. map (λ (place, head). head.name) (primaries zs 0)) (sym are);

@@ -19,7 +19,7 @@ use Rattle.trace_play.specs.Clock.{ReadsHands}
 use Rattle.trace_play.specs.Closes.{AllClose}
 use Rattle.uma_replay.specs.declared.hall.Hall.{Hall}
 use Rattle.uma_replay.specs.Names.{IsWhole}
-use Rattle.uma_replay.specs.Playing.{AllPlayed, HaveEnded}
+use Rattle.uma_replay.specs.Playing.{AllPlayed, HaveEnded, HavePlayed}
 use Rattle.uma_replay.specs.Reporting.{IsReportOf}
 
 module _ {H P : Type 0} {h : Ghosts H P} where
@@ -46,6 +46,8 @@ module _ {N H C S P : Type 0} {h : Ghosts H P} (names : NameGhosts N H C S P) wh
     pub stand : (n : ℕ) (w : Worker H P h) (naming : Naming N H C S P) → slice_get workers n ≡ Some w → slice_get namings n ≡ Some naming → NamesStand names cache n (reverse (lines_of t.rounds)) w.late naming
     -- it began new and did its own lists, line after line, with the `give` lines between them
     pub played : AllPlayed names cache t zones clock workers namings
+    -- all together did the rounds, and between two of them the `give` lines moved what slots held, and each `setmax` line set the limit of its zone
+    pub together : HavePlayed names cache t zones clock workers namings
 
   -- The hall of a trace, and its report, which is made of what the hall has: of the workers' ledgers and counts, of the kegs' censuses, and of
   -- these sums of hooks, counts of deferred items and hands.
@@ -65,6 +67,6 @@ module _ {N H C S P : Type 0} {h : Ghosts H P} (names : NameGhosts N H C S P) wh
     pub hands : ReadsHands hall.clock hall.workers read write
     -- the report of the zones of the zone lines
     pub first : Report
-    pub made_of : IsReportOf t.head hall.workers hall.censuses tallies deferred read write first.gave_up first
+    pub made_of : IsReportOf t hall.workers hall.censuses tallies deferred read write first.gave_up first
     -- behind it the zone of the names, where the trace has one
     pub whole : IsWhole names hall.names t.head.names hall.namings first report

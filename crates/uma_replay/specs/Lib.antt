@@ -1,4 +1,5 @@
 pub mod Counting
+pub mod Limits
 pub mod Names
 pub mod Playing
 pub mod Report

@@ -24,6 +24,7 @@ use Rattle.uma_replay.specs.declared.name_sums.NameCount.{NameCount}
 use Rattle.uma_replay.specs.declared.name_sums.NameCount.TheVariants.{Hits, Misses, Late, Binds, Unbound, Refused}
 use Rattle.uma_replay.specs.declared.names_part.NamesPart.{NamesPart}
 use Rattle.uma_replay.specs.Counting.{entry_zone}
+use Rattle.uma_replay.specs.Limits.{KeepSomeOf}
 use Rattle.uma_replay.specs.Reporting.{AreLedgers, hook_line, keg_line, line_by}
 
 -- what a worker counted of it
@@ -120,7 +121,9 @@ module _ {N H C S P : Type 0} (names : NameGhosts N H C S P) where
   -- what a report has of the zone of the names, by the workers' seats and counts, by a census and the hooks' sums, and by so many deferred entries
   pub record IsNamesPart (line : NamesHead) (namings : List (Naming N H C S P)) (census : Census) (tally : TallySum) (deferred : ℕ) (part : NamesPart) : Type 0 where
     pub of_seats : AreNameLedgers namings part.ledgers
-    pub of_zone : part.line ≡ line_by (entry_zone line) 0 part.ledgers census
+    -- it has no limit, and its ledgers keep no refusal by another
+    pub limits : KeepSomeOf (0 ∷ []) part.ledgers
+    pub of_zone : part.line ≡ line_by (entry_zone line) 0 0 part.ledgers census
     pub of_hooks : part.hooks ≡ hook_line line.name 0 tally deferred
     pub of_keg : part.keg ≡ keg_line line.name census tally
     pub of_counts : part.counts ≡ names_line namings

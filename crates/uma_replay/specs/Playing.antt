@@ -16,6 +16,7 @@ use Rattle.trace_worker.specs.Naming.{no_counts}
 use Rattle.trace_worker.specs.Together.{AddsUp, AllNamed, AllStand, crew}
 use Rattle.trace_worker.specs.Worker.{phase_of, seen_of}
 use Rattle.trace_play.specs.Beginners.{IsBeginner}
+use Rattle.trace_play.specs.Betweens.{DoRounds}
 use Rattle.trace_play.specs.Plays.{AllPlay, PlaysRounds}
 use Rattle.trace_play.specs.Rounds.{AllAsked}
 use Rattle.trace_play.specs.Lending.{seen_slot}
@@ -52,6 +53,7 @@ module _ {N H C S P : Type 0} {h : Ghosts H P} (names : NameGhosts N H C S P) (c
     pub adds_up : (z : ℕ) → AddsUp z (crew new)
     pub named : AllNamed names cache (reverse (lines_of t.rounds)) new
     pub plays : AllPlay names cache zones t.rounds old new
+    pub rounds : DoRounds names cache zones t.rounds old new
     pub asked : AllAsked (reverse (lines_of t.rounds)) new
 
 module _ {H P : Type 0} {h : Ghosts H P} where
@@ -93,3 +95,13 @@ module _ {N H C S P : Type 0} {h : Ghosts H P} (names : NameGhosts N H C S P) (c
   -- each worker has
   abbrev pub AllPlayed : Trace → List (CountedZone H P h) → Clock H P → List (Worker H P h) → List (Naming N H C S P) → Type 0
   AllPlayed t zones clock workers namings = (n : ℕ) (w : Worker H P h) (naming : Naming N H C S P) → slice_get workers n ≡ Some w → slice_get namings n ≡ Some naming → HasPlayed t zones clock n w naming
+
+module _ {N H C S P : Type 0} {h : Ghosts H P} (names : NameGhosts N H C S P) (cache : C) where
+  -- All workers together: those that began new, each with its seats in its domain, did the rounds of the trace one after another, with the `give` and `setmax` lines between two rounds in their order, and stay since then as these.
+  pub record HavePlayed (t : Trace) (zones : List (CountedZone H P h)) (clock : Clock H P) (workers : List (Worker H P h)) (namings : List (Naming N H C S P)) : Type 0 where
+    pub begun : List (Running N H C S P h)
+    pub are_new : (n : ℕ) (r : Running N H C S P h) → slice_get begun n ≡ Some r → IsBeginner zones clock (n % t.head.domains) r.worker × IsFirst names cache (n % t.head.domains) r
+    pub ended : List (Running N H C S P h)
+    pub rounds : DoRounds names cache zones t.rounds begun ended
+    pub stay : AllStay clock (crew ended) workers
+    pub namings_are : namings ≡ namings_of ended

@@ -1,6 +1,6 @@
 -- The report stands for the trace: what the totals of a report have to do with the lines of its trace, whatever the
 -- workers' schedule was. It is counting over the trace and sums over the ledgers (own).
-use Rattle.std.specs.Prelude.{ℕ, ◌≡◌, ◌+◌, ◌*◌, ◌%◌, ◌<◌, ◌≤◌, ◌==◌, List, [], ◌∷◌, length, map, reverse, Any, Option, Some, None, IsTrue, IsSome, IfSome, if◌then◌else◌, slice_get, slice_index_or}
+use Rattle.std.specs.Prelude.{ℕ, ◌≡◌, ◌+◌, ◌*◌, ◌%◌, ◌<◌, ◌≤◌, ◌==◌, List, [], ◌∷◌, length, map, reverse, Any, Contains, Option, Some, None, IsTrue, IsSome, IfSome, if◌then◌else◌, slice_get, slice_index_or}
 use Rattle.zone_stats.specs.declared.ledger.SeatLedger.{SeatLedger}
 use Rattle.zone_stats.specs.declared.refusal.Refusal.{Refusal}
 use Rattle.zone_stats.specs.declared.refusal.Refusal.TheVariants.{AtLimit, Reserved, Full, Init, Ctor}
@@ -19,12 +19,14 @@ use Rattle.trace_text.specs.declared.trace.Trace.{Trace}
 use Rattle.trace_text.specs.Lines.{lines_of}
 use Rattle.uma_life.specs.Trail.{ShowsSame}
 use Rattle.trace_play.specs.Kegs.{per_slab, primaries, keg_place}
+use Rattle.uma_replay.specs.Limits.{last_limit, limits_had}
 use Rattle.uma_replay.specs.Counting.{report_zones, worker_ops, is_alloc_with, is_bind, is_unbind, is_look, kind_count, request_count, arg_count, free_count, enter_count}
 
--- A kept refusal names what its zone has: the zone's own limit, its keg's reserve and capacity, or a constructor's
--- argument above 0 of the worker's requests. Only the names zone's entries are ever refused by their init, with 255.
+-- A kept refusal names what its zone has: a limit that the zone had, with as many items outside the keg or more, its keg's
+-- reserve and capacity, or a constructor's argument above 0 of the worker's requests. Only the names zone's entries are
+-- ever refused by their init, with 255.
 abbrev pub RefusalFits : Trace → ℕ → ℕ → ZoneHead → Refusal → Type 0
-RefusalFits t w z head (AtLimit out limit) = (limit ≡ head.limit) × (out ≡ limit) × (0 < limit)
+RefusalFits t w z head (AtLimit out limit) = (limit ≤ out) × (0 < limit) × Contains (limits_had (lines_of t.rounds) z head) limit
 RefusalFits t w z head (Reserved free reserve) = (reserve ≡ head.reserve) × (0 < free) × (free ≤ reserve)
 RefusalFits t w z head (Full slabs made) = slabs ≡ head.slabs
 RefusalFits t w z head (Init code) = (code ≡ 255) × (z ≡ length t.head.zones)
@@ -54,11 +56,11 @@ pub record FreesFit (t : Trace) (z : ℕ) (ledgers : List SeatLedger) : Type 0 w
   pub freed : total_frees ledgers ≤ free_count z (reverse (lines_of t.rounds))
   pub refused : free_count z (reverse (lines_of t.rounds)) ≤ total_frees ledgers + total_fails ledgers
 
--- The line is the sum of the ledgers, with some count of items that are out and of items that are free in the keg,
--- which a secondary zone leaves to its primary one.
-abbrev pub IsLineOf : ZoneHead → List SeatLedger → ZoneLine → Type 0
-IsLineOf head ledgers line = (out keg_free : ℕ) × (IsSome head.parent → keg_free ≡ 0)
-    × (line ≡ zone_line head.name head.size head.limit ledgers out keg_free)
+-- The line is the sum of the ledgers, with this limit, some count of items that are out and one of items that are free in
+-- the keg, which a secondary zone leaves to its primary one.
+abbrev pub IsLineOf : ℕ → ZoneHead → List SeatLedger → ZoneLine → Type 0
+IsLineOf limit head ledgers line = (out keg_free : ℕ) × (IsSome head.parent → keg_free ≡ 0)
+    × (line ≡ zone_line head.name head.size limit ledgers out keg_free)
 
 -- USED and FREE of the zones that share the keg of the zone at place `keg`, summed up; `z` is the place of the first
 abbrev pub items_of_keg : ℕ → ℕ → List ZoneHead → List ZoneLine → ℕ
@@ -123,23 +125,25 @@ NamesLineFits t report (Some n) None = ⊥
 NamesLineFits t report None (Some line) = ⊥
 NamesLineFits t report None None = Unit {0}
 
--- the name, size and limit of a line
-abbrev pub line_title : ZoneLine → List ℕ × ℕ × ℕ
-line_title line = (line.name, line.size, line.limit)
+-- the name and size of a line
+abbrev pub line_title : ZoneLine → List ℕ × ℕ
+line_title line = (line.name, line.size)
 
-abbrev pub head_title : ZoneHead → List ℕ × ℕ × ℕ
-head_title head = (head.name, head.size, head.limit)
+abbrev pub head_title : ZoneHead → List ℕ × ℕ
+head_title head = (head.name, head.size)
 
 pub record StandsFor (t : Trace) (report : Report) : Type 0 where
-  -- the zones stand in the trace's order with its names, sizes and limits, the names zone last
+  -- the zones stand in the trace's order with its names and sizes, the names zone last
   pub zones : map line_title report.lines ≡ map head_title (report_zones t.head)
+  -- a zone's limit is that of the last `setmax` line that names it, else that of its header line
+  pub limits : (z : ℕ) → IfSome (slice_get (report_zones t.head) z) (λ head. IfSome (slice_get report.lines z) (λ line. line.limit ≡ last_limit (lines_of t.rounds) z head))
   -- each zone has its workers' ledgers, and they count the trace's requests
   pub ledger_count : length report.ledgers ≡ length (report_zones t.head)
   pub ledgers : (z : ℕ) → IfSome (slice_get (report_zones t.head) z) (λ head. ZoneLedgersFit t z head (ledgers_at report z))
   -- the frees are those of the trace, but for slots whose request was refused; the names zone's aren't counted so
   pub frees : (z : ℕ) → z < length t.head.zones → FreesFit t z (ledgers_at report z)
   -- each line is the sum of the ledgers
-  pub lines : (z : ℕ) → IfSome (slice_get (report_zones t.head) z) (λ head. IfSome (slice_get report.lines z) (IsLineOf head (ledgers_at report z)))
+  pub lines : (z : ℕ) → IfSome (slice_get (report_zones t.head) z) (λ head. IfSome (slice_get report.lines z) (IsLineOf (last_limit (lines_of t.rounds) z head) head (ledgers_at report z)))
   -- a hooks line a zone, and a keg line a primary zone, with their names
   pub hook_names : map (λ line. line.name) report.hooks ≡ map (λ head. head.name) (report_zones t.head)
   pub keg_names : map (λ line. line.name) report.kegs ≡ map (λ (place, head). head.name) (primaries (report_zones t.head) 0)

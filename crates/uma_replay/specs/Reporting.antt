@@ -4,8 +4,9 @@ use Rattle.std.specs.Prelude.{ℕ, ◌≡◌, ◌<◌, Bool, List, Some, None, c
 use Rattle.std.specs.List.{sum_by}
 use Rattle.smr_clock.specs.declared.host.Host.{Ghosts}
 use Rattle.trace_text.specs.declared.head.ClockHead.{ClockHead}
-use Rattle.trace_text.specs.declared.head.Head.{Head}
 use Rattle.trace_text.specs.declared.head.ZoneHead.{ZoneHead}
+use Rattle.trace_text.specs.declared.trace.Trace.{Trace}
+use Rattle.trace_text.specs.Lines.{lines_of}
 use Rattle.uma_keg.specs.declared.census.Census.{Census}
 use Rattle.uma_keg.specs.Census.{census_counts, census_out, census_outs}
 use Rattle.uma_life.specs.declared.tally_sum.TallySum.{TallySum}
@@ -22,6 +23,7 @@ use Rattle.zone_stats.specs.Line.{zone_line}
 use Rattle.trace_play.specs.Kegs.{keg_place, index_of, primaries}
 use Rattle.trace_worker.specs.declared.worker.Worker.{Worker}
 use Rattle.trace_worker.specs.Together.{ledger_at}
+use Rattle.uma_replay.specs.Limits.{KeepLimits, last_limit}
 
 -- it has a keg of its own
 abbrev pub is_primary : ZoneHead → Bool
@@ -49,13 +51,13 @@ module _ {H P : Type 0} {h : Ghosts H P} where
 abbrev pub shown_free : ZoneHead → Census → ℕ
 shown_free head census = cond (is_some head.parent) 0 (census_counts census).free
 
--- the line of a zone, by its number in its keg, its ledgers and its keg's census
-abbrev pub line_by : ZoneHead → ℕ → List SeatLedger → Census → ZoneLine
-line_by head index ledgers census = zone_line head.name head.size head.limit ledgers (census_out census index) (shown_free head census)
+-- the line of a zone, by its limit at the end, its number in its keg, its ledgers and its keg's census
+abbrev pub line_by : ZoneHead → ℕ → ℕ → List SeatLedger → Census → ZoneLine
+line_by head limit index ledgers census = zone_line head.name head.size limit ledgers (census_out census index) (shown_free head census)
 
 -- the line of the zone at place `z`
-abbrev pub line_of : List ZoneHead → ℕ → ZoneHead → List SeatLedger → Census → ZoneLine
-line_of heads z head ledgers census = line_by head (index_of heads z head) ledgers census
+abbrev pub line_of : List ZoneHead → ℕ → ZoneHead → ℕ → List SeatLedger → Census → ZoneLine
+line_of heads z head limit ledgers census = line_by head limit (index_of heads z head) ledgers census
 
 -- the hooks line of a zone, by its name, its number in its keg, the keg's sums and its count of deferred items
 abbrev pub hook_line : ZoneName → ℕ → TallySum → ℕ → HookLine
@@ -83,15 +85,15 @@ module _ {H P : Type 0} {h : Ghosts H P} where
   abbrev pub clock_line : ℕ → ℕ → List (Worker H P h) → ClockLine
   clock_line read write workers = record { read = read; write = write; entered = sum_by (λ w. w.entered) workers; late = sum_by (λ w. w.late) workers }
 
--- the line of the zone at place `z`, by its ledgers and its keg's census
-abbrev pub IsLineAt : List ZoneHead → List (List SeatLedger) → List Census → ℕ → ZoneLine → Type 0
-IsLineAt heads ledgers censuses z line = (head : ZoneHead) (own : List SeatLedger) (census : Census) → slice_get heads z ≡ Some head → slice_get ledgers z ≡ Some own
-    → slice_get censuses (keg_number heads (keg_place z head)) ≡ Some census → line ≡ line_of heads z head own census
+-- the line of the zone at place `z`, by what limit each zone has at the end, its ledgers and its keg's census
+abbrev pub IsLineAt : List ZoneHead → (ℕ → ZoneHead → ℕ) → List (List SeatLedger) → List Census → ℕ → ZoneLine → Type 0
+IsLineAt heads limit_at ledgers censuses z line = (head : ZoneHead) (own : List SeatLedger) (census : Census) → slice_get heads z ≡ Some head → slice_get ledgers z ≡ Some own
+    → slice_get censuses (keg_number heads (keg_place z head)) ≡ Some census → line ≡ line_of heads z head (limit_at z head) own census
 
 -- one a zone
-pub record AreLines (heads : List ZoneHead) (ledgers : List (List SeatLedger)) (censuses : List Census) (lines : List ZoneLine) : Type 0 where
+pub record AreLines (heads : List ZoneHead) (limit_at : ℕ → ZoneHead → ℕ) (ledgers : List (List SeatLedger)) (censuses : List Census) (lines : List ZoneLine) : Type 0 where
   pub count : length lines ≡ length heads
-  pub each : (z : ℕ) (line : ZoneLine) → slice_get lines z ≡ Some line → IsLineAt heads ledgers censuses z line
+  pub each : (z : ℕ) (line : ZoneLine) → slice_get lines z ≡ Some line → IsLineAt heads limit_at ledgers censuses z line
 
 -- the hooks line of the zone at place `z`, by its keg's sums and so many deferred items
 abbrev pub IsHookWith : List ZoneHead → List TallySum → ℕ → ℕ → HookLine → Type 0
@@ -134,12 +136,14 @@ HaveKegs heads kegs = (z : ℕ) (head : ZoneHead) → slice_get heads z ≡ Some
 
 module _ {H P : Type 0} {h : Ghosts H P} where
   -- The report of these workers, censuses, sums, counts of deferred items and hands.
-  pub record IsReportOf (head : Head) (workers : List (Worker H P h)) (censuses : List Census) (tallies : List TallySum) (deferred : List ℕ) (read write gave_up : ℕ) (report : Report) : Type 0 where
-    pub ledgers : AreLedgers (length head.zones) workers report.ledgers
-    pub lines : AreLines head.zones report.ledgers censuses report.lines
-    pub hooks : AreHooks head.zones tallies deferred report.hooks
-    pub kegs : AreKegs head.zones censuses tallies report.kegs
-    pub clock : report.clock ≡ option_map (λ (c : ClockHead). clock_line read write workers) head.clock
+  pub record IsReportOf (t : Trace) (workers : List (Worker H P h)) (censuses : List Census) (tallies : List TallySum) (deferred : List ℕ) (read write gave_up : ℕ) (report : Report) : Type 0 where
+    pub ledgers : AreLedgers (length t.head.zones) workers report.ledgers
+    -- a refusal by a limit that a ledger keeps is by one that its zone had
+    pub limits : KeepLimits (lines_of t.rounds) t.head.zones report.ledgers
+    pub lines : AreLines t.head.zones (last_limit (lines_of t.rounds)) report.ledgers censuses report.lines
+    pub hooks : AreHooks t.head.zones tallies deferred report.hooks
+    pub kegs : AreKegs t.head.zones censuses tallies report.kegs
+    pub clock : report.clock ≡ option_map (λ (c : ClockHead). clock_line read write workers) t.head.clock
     pub names : report.names ≡ None
-    pub detail : report.detail ≡ head.detail
+    pub detail : report.detail ≡ t.head.detail
     pub waits : report.gave_up ≡ gave_up

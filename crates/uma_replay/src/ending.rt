@@ -155,7 +155,7 @@ fn reported<N: NameCalls, R: Wait>(
     let gave_up = all_gave_up(gave_ups.as_slice());
     let first = report_of(
         alloc,
-        &trace.head,
+        trace,
         &workers,
         totals.censuses.as_slice(),
         totals.tallies.as_slice(),

@@ -19,6 +19,7 @@
 mod collecting;
 mod ending;
 mod hall;
+mod limits;
 mod lines;
 mod name_sums;
 mod name_totals;

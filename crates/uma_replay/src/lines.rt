@@ -13,22 +13,23 @@ use uma_keg::Census;
 use uma_life::TallySum;
 use zone_stats::{ClockLine, HookLine, KegLine, ZoneLedgers, ZoneLine, sum};
 
-/// The line of a zone, by its number in its keg.
+/// The line of a zone, by its limit at the end and its number in its keg.
 pub(crate) fn zone_line(
     head: &ZoneHead,
+    limit: u64,
     index: usize,
     ledgers: &ZoneLedgers,
     census: &Census,
 ) -> ZoneLine
     requires { index < 8 }
-    ensures { result ≡ line_by head.now index ledgers.now census.now }
+    ensures { result ≡ line_by head.now limit index ledgers.now census.now }
 {
     let out = census.outs()[index];
     let free = shown_free(head, census);
     sum(
         head.name.copied(),
         head.size,
-        head.limit,
+        limit,
         ledgers.as_slice(),
         out,
         free,

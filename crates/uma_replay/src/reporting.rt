@@ -1,53 +1,77 @@
 //! The report, from the workers' ledgers, the kegs' censuses and the clock's hands.
-ghost use Rattle.std.specs.Prelude.{◌≡◌, ◌<◌, ◌+◌, IfOk, OnOk, length};
+ghost use Rattle.std.specs.Prelude.{◌≡◌, ◌<◌, ◌+◌, IfOk, OnOk, length, slice_index};
 ghost use Rattle.uma_keg.specs.Census.{census_outs};
+ghost use Rattle.trace_text.specs.Lines.{lines_of};
 ghost use Rattle.trace_play.specs.Kegs.{primaries};
+ghost use Rattle.uma_replay.specs.Limits.{KeepLimits, last_limit};
 ghost use Rattle.uma_replay.specs.Reporting.{AreLines, AreHooks, AreKegs, AreKegsTo, HaveKegs, IsLineAt, IsHookWith, keg_line as keg_by};
 
 use crate::Memory;
+use crate::limits::last_limits;
 use crate::lines::{hook_line, keg_line, zone_line, zones_of};
 use crate::numbering::{keg_of, number_in_keg};
 use listed::Listed;
 use std::alloc::Global;
-use trace_text::ZoneHead;
+use trace_text::{Round, ZoneHead};
 use uma_keg::Census;
 use uma_life::TallySum;
 use zone_stats::{HookLine, HookLines, KegLine, KegLines, Lines, ZoneLedgers, ZoneLine};
 
-/// The lines of the zones, by their ledgers and their kegs' censuses.
-pub(crate) fn zone_lines(
+/// The lines of the zones of a trace with these rounds, by their ledgers and their kegs' censuses. `Memory` also where a
+/// ledger keeps a refusal by a limit that its zone never had.
+pub(crate) fn tested_lines(
     alloc: Global,
     heads: &[ZoneHead],
+    rounds: &[Round],
     ledgers: &[ZoneLedgers],
     censuses: &[Census],
 ) -> Result<Lines, Memory>
     requires kegs { HaveKegs heads.now (length censuses.now) }
     requires ledgers { length ledgers.now ≡ length heads.now }
-    ensures { IfOk result (AreLines heads.now ledgers.now censuses.now) }
+    ensures lines { IfOk result (AreLines heads.now (last_limit (lines_of rounds.now)) ledgers.now censuses.now) }
+    ensures limits { OnOk result (KeepLimits (lines_of rounds.now) heads.now ledgers.now) }
+{
+    let limits = last_limits(alloc, heads, rounds, ledgers)?;
+    zone_lines(alloc, heads, limits.as_slice(), ledgers, censuses)
+}
+
+/// The lines of the zones, by their limits at the end, their ledgers and their kegs' censuses.
+fn zone_lines(
+    alloc: Global,
+    heads: &[ZoneHead],
+    limits: &[u64],
+    ledgers: &[ZoneLedgers],
+    censuses: &[Census],
+) -> Result<Lines, Memory>
+    requires kegs { HaveKegs heads.now (length censuses.now) }
+    requires limits { length limits.now ≡ length heads.now }
+    requires ledgers { length ledgers.now ≡ length heads.now }
+    ensures { IfOk result (AreLines heads.now (λ z head. slice_index limits.now z) ledgers.now censuses.now) }
 {
     let mut lines = Vec::with_capacity(alloc, heads.len())?;
     for place in 0..heads.len() {
-        lines.push(line_at(heads, place, ledgers, censuses))?;
+        lines.push(line_at(heads, place, limits[place], ledgers, censuses))?;
     }
     Ok(Listed::from_vec(lines))
 }
 
-/// The line of the zone at a place.
+/// The line of the zone at a place, by its limit at the end.
 fn line_at(
     heads: &[ZoneHead],
     place: usize,
+    limit: u64,
     ledgers: &[ZoneLedgers],
     censuses: &[Census],
 ) -> ZoneLine
     requires place { place < length heads.now }
     requires kegs { HaveKegs heads.now (length censuses.now) }
     requires ledgers { length ledgers.now ≡ length heads.now }
-    ensures { IsLineAt heads.now ledgers.now censuses.now place result }
+    ensures { IsLineAt heads.now (λ z head. limit) ledgers.now censuses.now place result }
 {
     let head = &heads[place];
     let index = number_in_keg(heads, place, head);
     let keg = keg_of(heads, place, head);
-    zone_line(head, index, &ledgers[place], &censuses[keg])
+    zone_line(head, limit, index, &ledgers[place], &censuses[keg])
 }
 
 /// The hooks lines of the zones, by their kegs' sums and how many of their items are deferred.

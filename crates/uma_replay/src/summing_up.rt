@@ -9,19 +9,19 @@ use crate::Memory;
 use crate::collecting::collect_zones;
 use crate::hall::Workers;
 use crate::lines::clock_line;
-use crate::reporting::{hook_lines, keg_lines, zone_lines};
+use crate::reporting::{hook_lines, keg_lines, tested_lines};
 use smr_clock::Host;
 use std::alloc::Global;
-use trace_text::Head;
+use trace_text::Trace;
 use uma_keg::Census;
 use uma_life::TallySum;
 use zone_stats::Report;
 
-/// The report of a replay, by what its workers counted, a census and the hooks' sums of each keg, how many items of each
-/// zone are deferred, the clock's hands, and how often a worker gave up waiting.
+/// The report of a replay of this trace, by what its workers counted, a census and the hooks' sums of each keg, how many
+/// items of each zone are deferred, the clock's hands, and how often a worker gave up waiting.
 pub(crate) fn report_of<H: Host>(
     alloc: Global,
-    head: &Head,
+    trace: &Trace,
     workers: &Workers<H>,
     censuses: &[Census],
     tallies: &[TallySum],
@@ -30,18 +30,20 @@ pub(crate) fn report_of<H: Host>(
     write: u64,
     gave_up: u64,
 ) -> Result<Report, Memory>
-    requires kegs { HaveKegs head.now.zones (length (primaries head.now.zones 0)) }
-    requires censuses { length censuses.now ≡ length (primaries head.now.zones 0) }
-    requires tallies { length tallies.now ≡ length (primaries head.now.zones 0) }
-    requires deferred { length deferred.now ≡ length head.now.zones }
-    requires seats { (n : ℕ) (w : Worker H H.Part H.Host) → slice_get workers.now n ≡ Some w → length w.seats.items ≡ length head.now.zones }
+    requires kegs { HaveKegs trace.now.head.zones (length (primaries trace.now.head.zones 0)) }
+    requires censuses { length censuses.now ≡ length (primaries trace.now.head.zones 0) }
+    requires tallies { length tallies.now ≡ length (primaries trace.now.head.zones 0) }
+    requires deferred { length deferred.now ≡ length trace.now.head.zones }
+    requires seats { (n : ℕ) (w : Worker H H.Part H.Host) → slice_get workers.now n ≡ Some w → length w.seats.items ≡ length trace.now.head.zones }
     requires entered { sum_by (λ (w : Worker H H.Part H.Host). w.entered) workers.now < 2 ^ 64 }
     requires late { sum_by (λ (w : Worker H H.Part H.Host). w.late) workers.now < 2 ^ 64 }
-    ensures { IfOk result (IsReportOf head.now workers.now censuses.now tallies.now deferred.now read write gave_up) }
+    ensures { IfOk result (IsReportOf trace.now workers.now censuses.now tallies.now deferred.now read write gave_up) }
 {
+    let head = &trace.head;
     let heads = head.zones.as_slice();
     let ledgers = collect_zones(alloc, heads.len(), workers)?;
-    let lines = zone_lines(alloc, heads, ledgers.as_slice(), censuses)?;
+    let rounds = trace.rounds.as_slice();
+    let lines = tested_lines(alloc, heads, rounds, ledgers.as_slice(), censuses)?;
     let hooks = hook_lines(alloc, heads, tallies, deferred)?;
     let kegs = keg_lines(alloc, heads, censuses, tallies)?;
     let clock = clock_line(head.clock, read, write, workers.as_slice());

@@ -4,6 +4,7 @@ ghost use Rattle.uma_replay.specs.Counting.{entry_zone as zone_of};
 ghost use Rattle.uma_replay.specs.Names.{AreSeats, CountsFit, HasNames, IsNamesPart, IsWhole};
 
 use crate::Memory;
+use crate::limits::check_ledgers;
 use crate::lines::{hook_line, keg_line, zone_line};
 use crate::name_sums::{name_ledgers, names_line};
 use crate::name_totals::{NameTotals, take_names};
@@ -71,8 +72,9 @@ fn names_part<N: NameCalls>(
 {
     let ledgers = name_ledgers(alloc, namings)?;
     let zone = entry_zone(line);
+    check_ledgers(&[zone.limit], ledgers.as_slice())?;
     Ok(NamesPart {
-        line: zone_line(&zone, 0, &ledgers, &totals.census),
+        line: zone_line(&zone, zone.limit, 0, &ledgers, &totals.census),
         hooks: hook_line(&zone, 0, &totals.tally, totals.deferred),
         keg: keg_line(&zone, &totals.census, &totals.tally),
         counts: names_line(namings),

@@ -8,48 +8,57 @@ use Rattle.uma_keg.specs.declared.keg.Keg.{Keg}
 use Rattle.uma_keg.specs.declared.fetch_ask.FetchAsk.{FetchAsk}
 use Rattle.uma_keg.specs.declared.fetch_refused.FetchRefused.{FetchRefused}
 use Rattle.uma_keg.specs.declared.fetch_refused.FetchRefused.TheVariants.{Refused}
-use Rattle.uma_keg.specs.Keg.{places_in, table_in, limit_in, reserve_in, hooks_in}
-use Rattle.uma_keg.specs.Fetched.{Fetches, FetchesInto, NamesWhatItFound}
+use Rattle.uma_keg.specs.Keg.{places_in, table_in, reserve_in, hooks_in}
+use Rattle.uma_keg.specs.Fetched.{Fetches, FetchesInto, RefusesFetch, NamesWhatItFound}
 use Rattle.uma_seat.specs.declared.seat.SeatCache.{SeatCache}
 use Rattle.uma_seat.specs.Fetches.{CountsEnd}
 use Rattle.uma_seat.specs.Seat.{seat_domain, top_of, ledger_of, fetches_of, IsSameSeat}
 use Rattle.locked_keg.specs.Ends.{end_of, fetch_cause}
 use Rattle.uma_zone.specs.declared.zone.Zone.{Zone}
-use Rattle.uma_zone.specs.Zone.{zone_home, zone_hooks, zone_index, zone_limit, zone_cap, zone_reserve}
+use Rattle.uma_zone.specs.Zone.{zone_home, zone_hooks, zone_index, zone_cap, zone_reserve}
 use Rattle.uma_zone.specs.Alloc.{Names}
 use Rattle.uma_zone.specs.Fetch.{HasFetched, FetchTurnsAway}
 
 module _ {T K H P : Type 0} {g k h : _} where
-  names_of : (zone : Zone T K H P g k h) (keg : Keg T K g k) (hooks : K) (ask : FetchAsk) (refusal : Refusal) → ask.zone ≡ zone_index zone → hooks ≡ zone_hooks zone → limit_in keg ask.zone ≡ zone_limit zone → reserve_in keg ≡ zone_reserve zone → (places_in keg).cap ≡ zone_cap zone → NamesWhatItFound keg hooks ask (Refused refusal)
+  names_of : (zone : Zone T K H P g k h) (keg : Keg T K g k) (hooks : K) (ask : FetchAsk) (refusal : Refusal) → ask.zone ≡ zone_index zone → hooks ≡ zone_hooks zone → reserve_in keg ≡ zone_reserve zone → (places_in keg).cap ≡ zone_cap zone → NamesWhatItFound keg hooks ask (Refused refusal)
       → Names zone ask.reserve refusal
-  names_of zone keg hooks ask (AtLimit out limit) here ours own kept slabs found = (found.1 ∙ own, found.2, found.3)
-  names_of zone keg hooks ask (Reserved free reserve) here ours own kept slabs found = (found.0 ∙ kept, found.1, found.2, found.3)
-  names_of zone keg hooks ask (Full most made) here ours own kept slabs found = found.0 ∙ slabs
-  names_of zone keg hooks ask (Init code) here ours own kept slabs found = elim found [
+  names_of zone keg hooks ask (AtLimit out limit) here ours kept slabs found = (found.2, found.3)
+  names_of zone keg hooks ask (Reserved free reserve) here ours kept slabs found = (found.0 ∙ kept, found.1, found.2, found.3)
+  names_of zone keg hooks ask (Full most made) here ours kept slabs found = found.0 ∙ slabs
+  names_of zone keg hooks ask (Init code) here ours kept slabs found = elim found [
     | inl by_keg ↦ (hooks_in keg, by_keg.1.0, 0, inl refl, by_keg.1.2)
     | inr by_zone ↦ (hooks, by_zone.1, ask.zone, inr (here, ours), by_zone.2)
   ]
-  names_of zone keg hooks ask (Ctor code) here ours own kept slabs found = found
+  names_of zone keg hooks ask (Ctor code) here ours kept slabs found = found
 
   -- a fetch that was refused turns its request away, by the numbers of the zone
-  pub turned_away : (zone : Zone T K H P g k h) (old new : SeatCache T H P g h) (keg : Keg T K g k) (hooks : K) (ask : FetchAsk) (end : Result ℕ FetchRefused) (refusal : Refusal)
-      → ask.zone ≡ zone_index zone → hooks ≡ zone_hooks zone → limit_in keg ask.zone ≡ zone_limit zone → reserve_in keg ≡ zone_reserve zone → (places_in keg).cap ≡ zone_cap zone
-      → OnErr end ((top_of new).items ≡ []) → fetches_of new ≡ fetches_of old ++ fetch_cause end ∷ [] → CountsEnd (ledger_of old) (ledger_of new) (end_of end) → IfErr end (NamesWhatItFound keg hooks ask) → end ≡ Err (Refused refusal)
+  pub turned_away : (zone : Zone T K H P g k h) (old new : SeatCache T H P g h) (keg is : Keg T K g k) (ask : FetchAsk) (end : Result ℕ FetchRefused) (refusal : Refusal)
+      → ask.zone ≡ zone_index zone → table_in keg ≡ (zone_home zone).book → reserve_in keg ≡ zone_reserve zone → (places_in keg).cap ≡ zone_cap zone
+      → OnErr end ((top_of new).items ≡ []) → fetches_of new ≡ fetches_of old ++ fetch_cause end ∷ [] → CountsEnd (ledger_of old) (ledger_of new) (end_of end) → IfErr end (RefusesFetch keg (zone_hooks zone) ask is) → IfErr end (NamesWhatItFound keg (zone_hooks zone) ask) → end ≡ Err (Refused refusal)
       → FetchTurnsAway zone ask.reserve refusal old new
-  turned_away zone old new keg hooks ask end refusal here ours own kept slabs none listed counted named is = record {
-    none = subst (λ (r : Result ℕ FetchRefused). OnErr r ((top_of new).items ≡ [])) is none;
-    fetches = subst (λ (r : Result ℕ FetchRefused). fetches_of new ≡ fetches_of old ++ fetch_cause r ∷ []) is listed;
-    counted = subst (λ (r : Result ℕ FetchRefused). CountsEnd (ledger_of old) (ledger_of new) (end_of r)) is counted;
-    names = names_of zone keg hooks ask refusal here ours own kept slabs (subst (λ (r : Result ℕ FetchRefused). IfErr r (NamesWhatItFound keg hooks ask)) is named);
+  turned_away zone old new keg is ask end refusal here book kept slabs none listed counted refused named ended = record {
+    none = subst (λ (r : Result ℕ FetchRefused). OnErr r ((top_of new).items ≡ [])) ended none;
+    fetches = subst (λ (r : Result ℕ FetchRefused). fetches_of new ≡ fetches_of old ++ fetch_cause r ∷ []) ended listed;
+    counted = subst (λ (r : Result ℕ FetchRefused). CountsEnd (ledger_of old) (ledger_of new) (end_of r)) ended counted;
+    one = record {
+      was = keg;
+      is = is;
+      ask = ask;
+      of_zone = book;
+      for_zone = here;
+      right = refl;
+      refuses = subst (λ (r : Result ℕ FetchRefused). IfErr r (RefusesFetch keg (zone_hooks zone) ask is)) ended refused;
+    };
+    names = names_of zone keg (zone_hooks zone) ask refusal here refl kept slabs (subst (λ (r : Result ℕ FetchRefused). IfErr r (NamesWhatItFound keg (zone_hooks zone) ask)) ended named);
   }
 
   -- a fetch that gave some was one of the zone's keg, as that stood under its lock
   pub has_fetched : (zone : Zone T K H P g k h) (old new : SeatCache T H P g h) (was is : Keg T K g k) (ask : FetchAsk) (end : Result ℕ FetchRefused) (count : ℕ)
-      → table_in was ≡ (zone_home zone).book → limit_in was (zone_index zone) ≡ zone_limit zone → reserve_in was ≡ zone_reserve zone
+      → table_in was ≡ (zone_home zone).book → reserve_in was ≡ zone_reserve zone
       → ask.zone ≡ zone_index zone → ask.most ≡ (top_of old).room → (top_of new).room ≡ (top_of old).room → ask.domain ≡ seat_domain old → IsSameSeat old new
       → IfOk end (λ n. FetchesInto was (zone_hooks zone) ask n [] (top_of new).items is) → fetches_of new ≡ fetches_of old ++ fetch_cause end ∷ [] → CountsEnd (ledger_of old) (ledger_of new) (end_of end) → end ≡ Ok count
       → HasFetched zone ask.reserve old new
-  has_fetched zone old new was is ask end count book limit kept here most room own same fetched listed counted ended =
+  has_fetched zone old new was is ask end count book kept here most room own same fetched listed counted ended =
       let into : FetchesInto was (zone_hooks zone) ask count [] (top_of new).items is = subst (λ (r : Result ℕ FetchRefused). IfOk r (λ n. FetchesInto was (zone_hooks zone) ask n [] (top_of new).items is)) ended fetched in
       let items : List (Cached T g) = (top_of new).items in
       let all : items ≡ into.items = into.pushed in
@@ -63,7 +72,6 @@ module _ {T K H P : Type 0} {g k h : _} where
           was = was;
           is = is;
           of_zone = book;
-          limit = limit;
           kept = kept;
           fetches = subst (λ (a : FetchAsk). Fetches was (zone_hooks zone) a items is) asked (subst (λ (l : List (Cached T g)). Fetches was (zone_hooks zone) ask l is) (sym all) into.fetches);
         };

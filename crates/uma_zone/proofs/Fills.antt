@@ -73,6 +73,7 @@ module _ {T K H P : Type 0} {g k h : _} where
     missed = missed;
     fetches = subst (λ (c : Counts). fetches_of new ≡ fetches_in c ++ refusal_cause refusal ∷ []) counts why.fetches;
     counted = subst (λ (c : Counts). CountsTurned (ledger_in c) (ledger_of new) refusal) counts why.counted;
+    one = why.one;
     names = why.names;
   }
   fetch_refused zone reserve old seen new Memory none same plain counts missed why = record {

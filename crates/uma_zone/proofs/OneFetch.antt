@@ -36,7 +36,6 @@ module _ {T K H P : Type 0} {g k h : _} where
         was = one.was;
         is = one.is;
         of_zone = one.of_zone;
-        limit = one.limit;
         kept = one.kept;
         fetches = subst (λ (a : FetchAsk). Fetches one.was (zone_hooks zone) a items one.is) (λ i. record { zone = zone_index zone; most = back i; reserve = reserve; domain = (seated i).domain }) one.fetches;
       }

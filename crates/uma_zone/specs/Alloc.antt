@@ -16,8 +16,10 @@ use Rattle.uma_bucket.specs.Loose.{loose_items}
 use Rattle.uma_bucket.specs.Ripe.{ripe_bucket, ripe_goal, ripe_knows, IsRipeAt, IsOverFrom}
 use Rattle.uma_domain.specs.Lists.{IsRaised}
 use Rattle.uma_keg.specs.declared.keg.Keg.{Keg}
-use Rattle.uma_keg.specs.Fetched.{Fetches}
-use Rattle.uma_keg.specs.Keg.{table_in, limit_in, reserve_in}
+use Rattle.uma_keg.specs.declared.fetch_ask.FetchAsk.{FetchAsk}
+use Rattle.uma_keg.specs.declared.fetch_refused.FetchRefused.TheVariants.{Refused as RefusedFetch}
+use Rattle.uma_keg.specs.Fetched.{Fetches, RefusesFetch}
+use Rattle.uma_keg.specs.Keg.{table_in, reserve_in}
 use Rattle.uma_seat.specs.declared.seat.SeatCache.{SeatCache}
 use Rattle.uma_seat.specs.Fetches.{refusal_cause}
 use Rattle.uma_seat.specs.Seat.{seat_domain, usable_of, top_of, ledger_of, fetches_of, misses_of}
@@ -25,7 +27,7 @@ use Rattle.uma_zone.specs.declared.alloc_ask.AllocAsk.{AllocAsk}
 use Rattle.uma_zone.specs.declared.alloc_ask.AllocRefused.{AllocRefused}
 use Rattle.uma_zone.specs.declared.alloc_ask.AllocRefused.TheVariants.{Refused, Memory}
 use Rattle.uma_zone.specs.declared.zone.Zone.{Zone}
-use Rattle.uma_zone.specs.Zone.{zone_home, zone_hooks, zone_index, zone_limit, zone_cap, zone_reserve, zone_smr, zone_clock}
+use Rattle.uma_zone.specs.Zone.{zone_home, zone_hooks, zone_index, zone_cap, zone_reserve, zone_smr, zone_clock}
 
 module _ {T H P : Type 0} {g h : _} where
   -- The item was usable on the seat as the request began, the last that was put. Nothing was looked for, and nothing fetched.
@@ -47,9 +49,18 @@ module _ {T K H P : Type 0} {g k h : _} where
     pub was : Keg T K g k
     pub is : Keg T K g k
     pub of_zone : table_in was ≡ (zone_home zone).book
-    pub limit : limit_in was (zone_index zone) ≡ zone_limit zone
     pub kept : reserve_in was ≡ zone_reserve zone
     pub fetches : Fetches was (zone_hooks zone) (record { zone = zone_index zone; most = (top_of new).room; reserve = reserve; domain = seat_domain new }) items is
+
+  -- One fetch of the zone's keg, as that stood under its lock, was refused so: for this zone and by its hooks, and with the right to the keg's reserve or without it. So the numbers that the refusal tells are those that this fetch found.
+  pub record IsOneRefusal (zone : Zone T K H P g k h) (reserve : Bool) (refusal : Refusal) : Type 0 where
+    pub was : Keg T K g k
+    pub is : Keg T K g k
+    pub ask : FetchAsk
+    pub of_zone : table_in was ≡ (zone_home zone).book
+    pub for_zone : ask.zone ≡ zone_index zone
+    pub right : ask.reserve ≡ reserve
+    pub refuses : RefusesFetch was (zone_hooks zone) ask is (RefusedFetch refusal)
 
   -- No item was usable, the look found nothing, and the one fetch of the request, with that right to the reserve, gave just these.
   pub record FetchesSome (zone : Zone T K H P g k h) (reserve : Bool) (old : SeatCache T H P g h) (items : List (Cached T g)) (new : SeatCache T H P g h) : Type 0 where
@@ -115,13 +126,13 @@ module _ {T K H P : Type 0} {g k h : _} where
     pub counted : CountsCtor (ledger_of old) (ledger_of new) code
 
   -- What a refusal of a fetch names:
-  -- 1. The zone's own limit, above 0, and as many items outside.
+  -- 1. The limit that it found, above 0, and as many items outside or more.
   -- 2. The keg's reserve, and some free items, none beyond it, for a request without the right to it.
   -- 3. As many slabs as the keg may have.
   -- 4. A code with which hooks refuse a body: the keg's as it is brought in, or the zone's own as it enters the zone.
   -- 5. No fetch runs `ctor`.
   abbrev pub Names : Zone T K H P g k h → Bool → Refusal → Type 0
-  Names zone reserve (AtLimit out limit) = (limit ≡ zone_limit zone) × (out ≡ limit) × (0 < limit)
+  Names zone reserve (AtLimit out limit) = (limit ≤ out) × (0 < limit)
   Names zone reserve (Reserved free kept) = (kept ≡ zone_reserve zone) × (0 < free) × (free ≤ kept) × (reserve ≡ false)
   Names zone reserve (Full slabs made) = slabs ≡ zone_cap zone
   Names zone reserve (Init code) =
@@ -135,6 +146,7 @@ module _ {T K H P : Type 0} {g k h : _} where
     pub missed : IsRaised (misses_of old) (misses_of new)
     pub fetches : fetches_of new ≡ fetches_of old ++ refusal_cause refusal ∷ []
     pub counted : CountsTurned (ledger_of old) (ledger_of new) refusal
+    pub one : IsOneRefusal zone reserve refusal
     pub names : Names zone reserve refusal
 
   -- why no item was taken, and what that did to the seat

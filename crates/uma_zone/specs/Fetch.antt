@@ -9,7 +9,7 @@ use Rattle.uma_seat.specs.Seat.{top_of, ledger_of, fetches_of}
 use Rattle.uma_zone.specs.declared.alloc_ask.AllocRefused.{AllocRefused}
 use Rattle.uma_zone.specs.declared.alloc_ask.AllocRefused.TheVariants.{Refused, Memory}
 use Rattle.uma_zone.specs.declared.zone.Zone.{Zone}
-use Rattle.uma_zone.specs.Alloc.{Names, IsOneFetch}
+use Rattle.uma_zone.specs.Alloc.{Names, IsOneFetch, IsOneRefusal}
 
 module _ {T H P : Type 0} {g h : _} where
   -- Memory was wanting. No item came, and nothing is counted; the fetch is listed where it was made.
@@ -31,6 +31,7 @@ module _ {T K H P : Type 0} {g k h : _} where
     pub none : (top_of new).items ≡ []
     pub fetches : fetches_of new ≡ fetches_of old ++ refusal_cause refusal ∷ []
     pub counted : CountsTurned (ledger_of old) (ledger_of new) refusal
+    pub one : IsOneRefusal zone reserve refusal
     pub names : Names zone reserve refusal
 
   -- why no item came

@@ -10,5 +10,6 @@ pub mod Prealloc
 pub mod Right
 pub mod SafeReuse
 pub mod Seat
+pub mod SetMax
 pub mod Told
 pub mod Zone

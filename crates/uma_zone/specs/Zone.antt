@@ -44,7 +44,7 @@ module _ {T K H P : Type 0} {g k h : _} where
   abbrev pub zone_bucket : Zone T K H P g k h → ℕ
   zone_bucket zone = zone.bucket
 
-  -- the most items outside the keg in it; 0 is no limit
+  -- the limit that it was made with, which `set_max` leaves; 0 is none
   abbrev pub zone_limit : Zone T K H P g k h → ℕ
   zone_limit zone = zone.limit
 

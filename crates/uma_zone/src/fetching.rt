@@ -1,9 +1,8 @@
-ghost use Rattle.std.specs.Prelude.{◌≡◌, [], true, IfErr, OnOk};
+ghost use Rattle.std.specs.Prelude.{◌≡◌, [], IfErr, OnOk};
 ghost use Rattle.zone_stats.specs.LedgerSteps.{HasRoom};
 
 use crate::alloc_ask::AllocRefused;
 use crate::zone::Zone;
-use locked_keg::LockedKeg;
 use smr_clock::Host;
 use std::alloc::Global;
 use std::sync::Wait;
@@ -12,18 +11,16 @@ use uma_life::{Body, Hooks};
 use uma_seat::SeatCache;
 
 impl<T: Body, K: Hooks<T>, H: Host> Zone<T, K, H> {
-    ghost use Rattle.uma_keg.specs.Keg.{HasZone, limit_in};
     ghost use Rattle.uma_seat.specs.Seat.{top_of, ledger_of};
-    ghost use Rattle.locked_keg.specs.LockedKeg.{keg_in};
     ghost use Rattle.locked_keg.specs.Seating.{KeepsAllButTop};
-    ghost use Rattle.uma_zone.specs.Zone.{zone_index, zone_limit, IsSeatOf};
+    ghost use Rattle.uma_zone.specs.Zone.{IsSeatOf};
     ghost use Rattle.uma_zone.specs.Fetch.{HasFetched, FetchRefuses};
 
     /// Fetches up to a bucket's worth of items from the keg, for a seat whose allocation bucket is empty. It is one fetch
     /// under the keg's lock, and listed there and by the seat.
     ///
-    /// `Memory` comes too where the zone isn't there, or has another limit in the keg, which never happens: no clause
-    /// carries out of the lock which zones there are, and with which limits.
+    /// `Memory` comes too where the zone isn't there, which never happens: no clause carries out of the lock which zones
+    /// there are.
     pub(crate) fn fetch<R: Wait>(
         &self,
         rt: &R,
@@ -46,7 +43,7 @@ impl<T: Body, K: Hooks<T>, H: Host> Zone<T, K, H> {
             domain: seat.domain(),
         };
         let mut guard = self.lock(rt);
-        if !self.is_added_to(&guard.value) {
+        if !guard.value.has_zone(self.index) {
             return Err(AllocRefused::Memory);
         }
         match guard.value.fetch(rt, alloc, &self.hooks, ask, seat) {
@@ -54,13 +51,5 @@ impl<T: Body, K: Hooks<T>, H: Host> Zone<T, K, H> {
             Err(FetchRefused::Refused { refusal }) => Err(AllocRefused::Refused { refusal }),
             Err(FetchRefused::Memory) => Err(AllocRefused::Memory),
         }
-    }
-
-    // Whether the keg has the zone, with its limit.
-    fn is_added_to(&self, keg: &LockedKeg<T, K>) -> bool
-        ensures there { result ≡ true → HasZone (keg_in keg.now) (zone_index self.now) }
-        ensures limit { result ≡ true → limit_in (keg_in keg.now) (zone_index self.now) ≡ zone_limit self.now }
-    {
-        keg.has(self.index, self.limit)
     }
 }

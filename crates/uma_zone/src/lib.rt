@@ -19,15 +19,17 @@
 //!   zone so. That a zone was added is shown by a share of its book (`added`), for contracts alone.
 //! - Makings take `clock: &Clock<H>`, as FreeBSD ties a zone to its smr. `secondary` and `seat` need none.
 //! - No clause carries out of the keg's lock which zones there are. So three calls test it there and answer as for want of
-//!   memory, which never happens: `seat` that the zone is in its keg, `alloc` that it is there with its limit, `census`
-//!   that the keg has no zone of a kept right.
+//!   memory, which never happens: `seat` and `alloc` that the zone is in its keg, `census` that the keg has no zone of a
+//!   kept right.
+//! - Nor does one carry out which limit a zone has, since `set_max` changes it. A refusal by the limit names what its fetch
+//!   found; the limit that a zone was made with is a number of its own (`zone_limit`).
 //! - Safe reuse over a zone's calls is stated by tickets (`specs/SafeReuse`): an equation of lists for each call, and a law
 //!   of every sequence of calls. It names the ripe bucket of which the items are, with its goal, and its note, which knows
 //!   the goal to be expired. That a poll of this very call said yes, and that the goal was made after the items were freed,
 //!   is `uma_domain`'s and `uma_bucket`'s: a domain's lock hides which sealed bucket became the ripe one.
-//! - A fetch comes out of the keg's lock with its whole contract (`IsOneFetch`): a keg of the zone's book, limit and
-//!   reserve, and one fetch of it by the request's own right to the reserve. Likewise for `prealloc`. All that it fetched
-//!   is on the seat (`FetchesSome`).
+//! - A fetch comes out of the keg's lock with its whole contract (`IsOneFetch`, `IsOneRefusal`): a keg of the zone's book,
+//!   and one fetch of it by the request's own right to the reserve. Likewise for `prealloc` and `set_max`. All that it
+//!   fetched is on the seat (`FetchesSome`).
 //! - What a flush put into which list no clause says, since the lists are behind locks; tests show it.
 //! - `primary` makes the keg first, and still tests bucket and domains where memory was wanting for it, so that a number
 //!   out of its range is always named.
@@ -42,6 +44,7 @@ mod flushing;
 mod freeing;
 mod giving;
 pub mod laws;
+mod limiting;
 mod locking;
 mod looking;
 mod making;

@@ -1,4 +1,4 @@
-ghost use Rattle.std.specs.Prelude.{◌≡◌, ◌≤◌, Some};
+ghost use Rattle.std.specs.Prelude.{◌≡◌, ◌≤◌, ◌<◌, Some};
 ghost use Rattle.std.specs.List.{All};
 ghost use Rattle.std.specs.Arc.{arc_value};
 ghost use Rattle.deed_book.specs.FailShare.{share_table};
@@ -31,12 +31,13 @@ pub struct Zone<T: Body, K: Hooks<T>, H: Host> {
     pub(crate) index: u8,
     // For how many items a bucket of its seats has room.
     pub(crate) bucket: u32,
-    // The most items outside the keg; 0 is no limit.
+    // The limit that it was made with, where 0 is none. What it is now, the keg knows alone.
     pub(crate) limit: u64,
     // A share of its fail book, which only a zone that was added has. For contracts alone.
     pub(crate) added: Snapshot<FailShare>,
     // The rights to zones that the keg hasn't yet, the next at the end. A secondary zone keeps none.
     pub(crate) rights: Vec<KeptRight>,
+    pub ghost below: { index < 8 },
     pub ghost least: { 4 ≤ bucket },
     pub ghost most: { bucket ≤ 64 },
     pub ghost home: { domains_home domains ≡ home_of (key_numbers (lock_key (arc_value keg))) index (lock_key (arc_value keg)).domains },

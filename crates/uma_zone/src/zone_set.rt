@@ -5,7 +5,7 @@ pub struct ZoneSet {
     pub slabs: u32,
     /// How many items a bucket has room for, 4 to 64.
     pub bucket: u32,
-    /// The most items outside the keg in this zone; 0 is no limit.
+    /// The limit that the zone begins with: the most items outside the keg that a fetch leaves; 0 is none.
     pub limit: u64,
     /// How many free items the keg keeps for requests that say that they may use them.
     pub reserve: u64,
@@ -20,7 +20,7 @@ pub struct ZoneSet {
 pub struct SecondSet {
     /// How many items a bucket has room for, 4 to 64.
     pub bucket: u32,
-    /// The most items outside the keg in this zone; 0 is no limit.
+    /// The limit that the zone begins with: the most items outside the keg that a fetch leaves; 0 is none.
     pub limit: u64,
     /// Whether readers of the zone hold no lock, so that its frees are deferred.
     pub smr: bool,

@@ -1,13 +1,14 @@
 -- What a bind and an unbind of a cache count, as the lines of names need it.
-use Rattle.std.proofs.Common.{◌≡◌, ◌≢◌, ℕ, zero, suc, ◌<◌, ◌≤◌, Option, None, Some, Result, Ok, Err, refl, sym, subst, ◌∙◌, inl, inr, arith}
+use Rattle.std.proofs.Common.{◌≡◌, ◌≢◌, ℕ, zero, suc, ◌<◌, ◌≤◌, Option, None, Some, Result, Ok, Err, refl, sym, ap, subst, ◌∙◌, inl, inr, arith}
 use Rattle.std.proofs.lemmas.Option.{none-some, same_Some}
 use Rattle.std.specs.Prelude.{Bool, false, IfNone, IfOk, IfSome, OnOk, is_some}
 use Rattle.zone_stats.specs.declared.ledger.SeatLedger.{SeatLedger}
 use Rattle.zone_stats.specs.declared.refusal.Refusal.{Refusal}
 use Rattle.zone_stats.specs.declared.refusal.Refusal.TheVariants.{AtLimit, Reserved, Full, Init, Ctor}
+use Rattle.uma_seat.specs.Counts.{ledger_in}
 use Rattle.uma_seat.specs.Seat.{ledger_of}
 use Rattle.uma_zone.specs.Alloc.{Names}
-use Rattle.uma_zone.specs.Zone.{zone_limit, zone_cap, zone_reserve}
+use Rattle.uma_zone.specs.Zone.{zone_cap, zone_reserve}
 use Rattle.smr_clock.specs.declared.view.View.{View}
 use Rattle.name_rows.specs.declared.part.Part.{Part}
 use Rattle.name_rows.specs.declared.records.Bound.{Bound}
@@ -20,19 +21,19 @@ use Rattle.name_cache.specs.Bind.{Binds, RefusesToBind, HandsBack, HasRoomToBind
 use Rattle.name_cache.specs.Deferred.{FreesBound}
 use Rattle.name_cache.specs.Unbind.{Unbinds, FindsUnbound}
 use Rattle.name_cache.specs.Types.{ZoneOfEntries, EntrySeat, LiveEntry}
-use Rattle.trace_worker.specs.NameLedger.{HasRoomToBind, NamesRefuse, MayCountFree, CountsBind, CountsGivenBack, BindCounts, UnbindCounts}
+use Rattle.trace_worker.specs.NameLedger.{HasRoomToBind, NamesRefuse, MayCountFree, CountsOneFree, CountsBind, CountsGivenBack, BindCounts, UnbindCounts}
 
 pub room_in_cache : (ledger : SeatLedger) → HasRoomToBind ledger → HasRoomInCache ledger
 room_in_cache ledger room = record { now = room.now; later = room.later }
 
 -- ---- a bind that bound
 
-evicted : (counted : SeatLedger) (old new : EntrySeat) (content : Option Bound) → FreesBound counted old content new → MayCountFree counted (ledger_of new)
-evicted counted old new None frees = inl frees.0
-evicted counted old new (Some b) frees = inr (_, frees.frees.free)
+evicted : (v v' : View Part) (old new : EntrySeat) (content : Option Bound) → FreesBound v old content v' new → MayCountFree (ledger_of old) (ledger_of new)
+evicted v v' old new None frees = inl (ap (λ (s : EntrySeat). ledger_of s) frees)
+evicted v v' old new (Some b) frees = inr (_, frees.frees.free)
 
 pub bind_counts : (zone : ZoneOfEntries) (rows key value : ℕ) (v v' : View Part) (old new : EntrySeat) (receipt : Receipt) → Binds zone rows key value v old receipt v' new → CountsBind (ledger_of old) (ledger_of new)
-bind_counts zone rows key value v v' old new receipt b = record { between = b.counted; alloc = b.alloc; evicts = evicted b.counted old new b.before.content b.evicts }
+bind_counts zone rows key value v v' old new receipt b = record { between = ledger_of b.after; alloc = b.takes.counted; evicts = evicted b.left v' b.after new b.before.content b.evicts }
 
 -- ---- a bind that was refused
 
@@ -41,34 +42,32 @@ code_of zero None code is = sym (same_Some 255 code is)
 code_of zero (Some w) code is = absurd (none-some code is)
 code_of (suc index) words code is = absurd (none-some code is)
 
-unlimited : (limit : ℕ) → limit ≡ 0 → 0 < limit → ⊥
-unlimited limit none some = omega arith
-
 unreserved : (free kept : ℕ) → kept ≡ 0 → 0 < free → free ≤ kept → ⊥
 unreserved free kept none some few = omega arith
 
-module _ (zone : ZoneOfEntries) (no_limit : zone_limit zone ≡ 0) (no_reserve : zone_reserve zone ≡ 0) where
+module _ (zone : ZoneOfEntries) (no_reserve : zone_reserve zone ≡ 0) where
   fits : (refusal : Refusal) → Names zone false refusal → NamesRefuse (zone_cap zone) refusal
-  fits (AtLimit out limit) names = absurd (unlimited limit (names.0 ∙ no_limit) names.2)
+  fits (AtLimit out limit) names = names
   fits (Reserved free kept) names = absurd (unreserved free kept (names.0 ∙ no_reserve) names.1 names.2)
   fits (Full slabs made) names = names
   fits (Init code) names = code_of names.2 (names.1).entry.words code names.4
   fits (Ctor code) names = absurd names
 
-  given_back : (old new : EntrySeat) (handed freed : LiveEntry) → HandsBack zone old handed freed new → CountsGivenBack (ledger_of old) (ledger_of new)
-  given_back old new handed freed back = record { between = back.counted; alloc = back.alloc; back = (_, back.frees.free) }
+  given_back : (v' : View Part) (old new : EntrySeat) (handed freed : LiveEntry) → HandsBack zone old handed freed v' new → CountsGivenBack (ledger_of old) (ledger_of new)
+  given_back v' old new handed freed back = record { between = ledger_of back.after; alloc = back.takes.counted; back = (_, back.frees.free) }
 
   pub refusal_counts : (rows key : ℕ) (v v' : View Part) (old new : EntrySeat) (refused : BindRefused) → RefusesToBind zone rows key v old v' new refused → refused ≢ Memory → BindCounts (zone_cap zone) false (ledger_of old) (ledger_of new)
-  refusal_counts rows key v v' old new (Zone refusal) turned other = inl (record { refusal = refusal; turned = turned.counted; fits = fits refusal turned.names })
-  refusal_counts rows key v v' old new (Worn row version) worn other = inr (given_back old new worn.handed worn.freed worn.back)
-  refusal_counts rows key v v' old new (Unripe read stamp) unripe other = inr (given_back old new unripe.handed unripe.freed unripe.back)
+  refusal_counts rows key v v' old new (Zone refusal) turned other = inl (record { refusal = refusal; turned = turned.turned.counted; fits = fits refusal turned.turned.names })
+  refusal_counts rows key v v' old new (Worn row version) worn other = inr (given_back v' old new worn.handed worn.freed worn.back)
+  refusal_counts rows key v v' old new (Unripe read stamp) unripe other = inr (given_back v' old new unripe.handed unripe.freed unripe.back)
   refusal_counts rows key v v' old new Memory wants other = absurd (other refl)
 
 -- ---- an unbind
 
 pub unbind_counts : (rows key : ℕ) (v v' : View Part) (old new : EntrySeat) (found : Option (ℕ × Receipt)) (done : Bool) → done ≡ is_some found
     → IfSome found (λ (p : ℕ × Receipt). Unbinds rows key p.0 v old p.1 v' new) → IfNone found (FindsUnbound rows key v old v' new) → UnbindCounts done (ledger_of old) (ledger_of new)
-unbind_counts rows key v v' old new (Some p) done is some none = subst (λ (b : Bool). UnbindCounts b (ledger_of old) (ledger_of new)) (sym is) (_, some.frees.frees.free)
+unbind_counts rows key v v' old new (Some p) done is some none = subst (λ (b : Bool). UnbindCounts b (ledger_of old) (ledger_of new)) (sym is)
+    (subst (λ (l : SeatLedger). CountsOneFree l (ledger_of new)) (ap ledger_in some.made.counts) (_, some.frees.frees.free))
 unbind_counts rows key v v' old new None done is some none = subst (λ (b : Bool). UnbindCounts b (ledger_of old) (ledger_of new)) (sym is) none.ledger
 
 -- ---- a result of which something is known where it is an answer

@@ -4,6 +4,7 @@ mod clock;
 mod held;
 mod hooks;
 mod jobs;
+mod limits;
 mod makings;
 mod own_domain;
 mod own_lists;

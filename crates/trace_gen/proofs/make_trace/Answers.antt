@@ -1,4 +1,5 @@
 use Rattle.std.proofs.Common.{◌≡◌, List, ap₂, sym, subst, ◌∙◌}
+use Rattle.trace_text.specs.declared.version.Version.TheVariants as versions
 use Rattle.trace_text.specs.declared.head.Head.{Head}
 use Rattle.trace_text.specs.declared.round.Round.{Round}
 use Rattle.trace_text.specs.Valid.{IsValid}
@@ -20,9 +21,9 @@ pub loop-step-preserved : goal.loop-step-preserved
 loop-step-preserved c =
     makes_next _ _ _ _ _ _ _ _ _ _ _ c.loop-step.invariant c.loop-step-test.true c.step-drawn.ensures.stepped c.step-drawn.ensures.whole c.step-drawn.ensures.binds c.in_ok-push.ensures
 
-is_made : (c : goal.After-drop-generator-inside-2) → record { head = c.in_ok-head.head; rounds = c.in_ok-rounds.rounds } ≡ made_trace c.args.seed c.args.workers c.args.ops
+is_made : (c : goal.After-drop-generator-inside-2) → record { version = versions.One; head = c.in_ok-head.head; rounds = c.in_ok-rounds.rounds } ≡ made_trace c.args.seed c.args.workers c.args.ops
 is_made c =
-    ap₂ (λ (head : Head) (rounds : List Round). record { head = head; rounds = rounds }) c.in_ok-head.ensures
+    ap₂ (λ (head : Head) (rounds : List Round). record { version = versions.One; head = head; rounds = rounds }) c.in_ok-head.ensures
     (c.in_ok-rounds.ensures ∙ makes_all c.args.seed c.args.workers c.args.ops c.loop-step._step c.loop-step.generator _ _ c.loop-step.invariant c.loop-step-test.false)
 
 pub returns-clause-made : goal.returns-clause-made

@@ -6,7 +6,7 @@ ghost use Rattle.trace_text.specs.TraceShown.{slot_at, open_at};
 use crate::trace_reading::said::{Said, ZoneWork};
 use crate::trace_reading::slots::{open_at, slot_at};
 use crate::trace_reading::zones::Zones;
-use crate::{Between, Op, TraceKind, ZoneKind};
+use crate::{Op, TraceKind, ZoneKind};
 
 /// The most zones of a trace.
 const MOST_ZONES: usize = 16;
@@ -54,7 +54,7 @@ impl Said {
     {
         match self {
             Said::Second { second } => !zones.primary_named(&second.of).is_some(),
-            Said::InZone { zone, .. } => !zones.named(zone).is_some(),
+            Said::InZone { zone, .. } | Said::SetMax { zone, .. } => !zones.named(zone).is_some(),
             _ => false,
         }
     }
@@ -80,15 +80,12 @@ impl Said {
                 ZoneWork::Alloc { slot, .. } => slot_at(slots, *worker, *slot),
                 _ => false,
             },
-            Said::Give { between } => {
-                let Between::Give {
-                    giver,
-                    slot,
-                    taker,
-                    slot2,
-                } = *between;
-                (giver == taker && slot == slot2) || slot_at(slots, taker, slot2)
-            }
+            Said::Give {
+                giver,
+                slot,
+                taker,
+                slot2,
+            } => (giver == taker && slot == slot2) || slot_at(slots, *taker, *slot2),
             _ => false,
         }
     }
@@ -101,10 +98,7 @@ impl Said {
                 Op::Free { slot } => !slot_at(slots, *worker, *slot),
                 _ => false,
             },
-            Said::Give { between } => {
-                let Between::Give { giver, slot, .. } = *between;
-                !slot_at(slots, giver, slot)
-            }
+            Said::Give { giver, slot, .. } => !slot_at(slots, *giver, *slot),
             _ => false,
         }
     }

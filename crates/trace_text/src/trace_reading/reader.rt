@@ -1,7 +1,7 @@
 ghost use Rattle.std.specs.Prelude.{◌≡◌, ◌<◌, [], false, OnOk, IfOk, IfErr};
 ghost use Rattle.trace_text.specs.Grammar.{entry_of, passes_most, stage_of, takes_name, trace_test, work_op};
 ghost use Rattle.trace_text.specs.TraceHeard.{Adds, AddsAll, Hears, clash_found};
-ghost use Rattle.trace_text.specs.declared.trace_reading.said.Said.TheVariants.{InZone};
+ghost use Rattle.trace_text.specs.declared.trace_reading.said.Said.TheVariants.{InZone, SetMax};
 ghost use Rattle.trace_text.specs.TraceTables.{AreWhole, EntryFits, most_workers};
 ghost use Rattle.trace_text.specs.TraceShown.{NamesFit, WorkSlotFits};
 ghost use Rattle.trace_text.specs.TraceKnown.{Keeps, Knows, trace_by};
@@ -12,15 +12,17 @@ use crate::trace_reading::said::{Said, ZoneWork};
 use crate::trace_reading::stage::Stage;
 use crate::trace_reading::tables::Tables;
 use crate::trace_reading::zones::Zones;
-use crate::{ClockHead, Head, NamesHead, Op, Trace, TraceKind};
+use crate::{Between, ClockHead, Head, NamesHead, Op, Trace, TraceKind, Version};
 use std::alloc::{AllocError, Global};
-use text_lines::{Grammar, LineRefused, is_head};
+use text_lines::{Grammar, LineRefused};
 use zone_stats::ZoneName;
 
 /// The running state of a reading: what the lines so far have said.
 #[derive(Drop)]
 pub struct TraceReader {
     pub stage: Stage,
+    /// What the first line said, and version 1 before it.
+    pub version: Version,
     pub workers: u32,
     pub domains: u8,
     pub clock: Option<ClockHead>,
@@ -37,7 +39,7 @@ impl Said {
         ensures { result ≡ stage_of self.now }
     {
         match self {
-            Said::Uma => Stage::Uma,
+            Said::Uma { .. } => Stage::Uma,
             Said::Workers { .. } => Stage::Workers,
             Said::Domains { .. } => Stage::Domains,
             Said::Clock { .. } => Stage::Clock,
@@ -45,7 +47,7 @@ impl Said {
             Said::Zone { .. } | Said::Second { .. } => Stage::Zones,
             Said::Names { .. } => Stage::Names,
             Said::Work { .. } | Said::InZone { .. } => Stage::Works,
-            Said::Round | Said::Give { .. } => Stage::Between,
+            Said::Round | Said::Give { .. } | Said::SetMax { .. } => Stage::Between,
             Said::End => Stage::End,
         }
     }
@@ -79,6 +81,7 @@ impl TraceReader {
     {
         Ok(TraceReader {
             stage: Stage::Start,
+            version: Version::One,
             workers: 0,
             domains: 0,
             clock: None,
@@ -103,7 +106,11 @@ impl TraceReader {
             zones: self.zones.into_heads(alloc)?,
             names: self.names,
         };
-        Ok(Trace { head, rounds })
+        Ok(Trace {
+            version: self.version,
+            head,
+            rounds,
+        })
     }
 
     /// Takes in a line below the header.
@@ -142,6 +149,21 @@ impl TraceReader {
         self.add(Entry::Does { worker, op })
     }
 
+    /// Takes in another limit of a zone, where it is there.
+    fn add_limit(&mut self, zone: &ZoneName, limit: u64) -> Result<(), LineRefused>
+        requires whole { AreWhole self.old.tables }
+        ensures added { OnOk result (AddsAll (entry_of self.old.zones (SetMax zone.now limit)) self.old self.new) }
+        ensures whole { AreWhole self.new.tables }
+        ensures workers { self.new.workers ≡ self.old.workers }
+        ensures memory { IfErr result (λ refused. refused ≡ LineRefused.Memory) }
+    {
+        let Some(place) = self.zones.named(zone) else {
+            return Ok(());
+        };
+        let between = Between::SetMax { zone: place, limit };
+        self.add(Entry::Moves { between })
+    }
+
     /// What is wrong with a line that says this.
     fn clash(&self, said: &Said) -> Option<TraceKind>
         ensures { result ≡ clash_found self.now said.now }
@@ -177,8 +199,22 @@ impl TraceReader {
             Said::Work { worker, op } => self.add(Entry::Does { worker, op })?,
             Said::InZone { worker, zone, work } => self.add_in_zone(worker, &zone, work)?,
             Said::Round => self.add(Entry::Round)?,
-            Said::Give { between } => self.add(Entry::Moves { between })?,
-            Said::Uma | Said::End => {}
+            Said::Give {
+                giver,
+                slot,
+                taker,
+                slot2,
+            } => self.add(Entry::Moves {
+                between: Between::Give {
+                    giver,
+                    slot,
+                    taker,
+                    slot2,
+                },
+            })?,
+            Said::SetMax { zone, limit } => self.add_limit(&zone, limit)?,
+            Said::Uma { version } => self.version = version,
+            Said::End => {}
         }
         Ok(())
     }
@@ -193,16 +229,17 @@ impl Grammar for TraceReader {
 
     fn take(&mut self, _number: u64, line: &[u8]) -> Result<(), LineRefused> {
         if self.stage.is_start() {
-            if !is_head(line, b"uma") {
+            let Some(version) = Version::by_head(line) else {
                 return Err(TraceKind::Head.into());
-            }
+            };
             self.stage = Stage::Uma;
+            self.version = version;
             return Ok(());
         }
         if self.stage.is_last() {
             return Err(TraceKind::After.into());
         }
-        let said = Said::by_line(self.stage, self.workers, line)?;
+        let said = Said::by_line(self.version, self.stage, self.workers, line)?;
         match self.clash(&said) {
             Some(kind) => Err(kind.into()),
             None => self.hear(said),

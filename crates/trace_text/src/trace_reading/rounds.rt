@@ -1,7 +1,7 @@
 //! The rounds of the lines below the header.
 ghost use Rattle.std.specs.Prelude.{◌≡◌, IfOk, [], map, option_to_list, slice_index_or};
 ghost use Rattle.std.specs.List.{flat_map, slice_split};
-ghost use Rattle.trace_text.specs.Grammar.{is_round, op_by, give_in, ops_in, rounds_in};
+ghost use Rattle.trace_text.specs.Grammar.{is_round, op_by, between_in, ops_in, rounds_in};
 
 use crate::trace_reading::entry::Entry;
 use crate::{Between, Betweens, Op, OpList, OpLists, Round, Rounds};
@@ -26,8 +26,8 @@ impl Entry {
     }
 
     /// What stands between two rounds, if the line is one of that kind.
-    fn give(&self) -> Option<Between>
-        ensures { option_to_list result ≡ give_in self.now }
+    fn between(&self) -> Option<Between>
+        ensures { option_to_list result ≡ between_in self.now }
     {
         match self {
             Entry::Moves { between } => Some(*between),
@@ -37,7 +37,7 @@ impl Entry {
 }
 
 /// The rounds of these lines, with so many workers. The `round` lines cut the lines into parts, and each part is
-/// gone over once for each worker and once for the `give` lines.
+/// gone over once for each worker and once for what stands between two rounds.
 pub fn rounds(alloc: Global, workers: u32, entries: &[Entry]) -> Result<Rounds, AllocError>
     ensures { IfOk result (λ rounds. rounds ≡ rounds_in workers (slice_split is_round entries.now)) }
 {
@@ -74,17 +74,17 @@ fn part_at<'a>(parts: &[&'a [Entry]], place: usize) -> &'a [Entry]
     }
 }
 
-/// The round with the operations of a part and the `give` lines of the next one.
+/// The round with the operations of a part, and what stands at the front of the next one.
 fn round_of(
     alloc: Global,
     workers: u32,
     part: &[Entry],
     next: &[Entry],
 ) -> Result<Round, AllocError>
-    ensures { IfOk result (λ round. round ≡ record { ops = ops_in workers part.now; between = flat_map give_in next.now }) }
+    ensures { IfOk result (λ round. round ≡ record { ops = ops_in workers part.now; between = flat_map between_in next.now }) }
 {
     let ops = ops_of_all(alloc, workers, part)?;
-    let between = gives_of(alloc, next)?;
+    let between = betweens_of(alloc, next)?;
     Ok(Round { ops, between })
 }
 
@@ -113,15 +113,15 @@ fn ops_of(alloc: Global, worker: u32, part: &[Entry]) -> Result<OpList, AllocErr
     Ok(Listed::from_vec(ops))
 }
 
-/// The `give` lines of a part.
-fn gives_of(alloc: Global, part: &[Entry]) -> Result<Betweens, AllocError>
-    ensures { IfOk result (λ gives. gives ≡ flat_map give_in part.now) }
+/// The lines of a part that stand between two rounds.
+fn betweens_of(alloc: Global, part: &[Entry]) -> Result<Betweens, AllocError>
+    ensures { IfOk result (λ betweens. betweens ≡ flat_map between_in part.now) }
 {
-    let mut gives = Vec::new(alloc);
+    let mut betweens = Vec::new(alloc);
     for entry in part {
-        if let Some(between) = entry.give() {
-            gives.push(between)?;
+        if let Some(between) = entry.between() {
+            betweens.push(between)?;
         }
     }
-    Ok(Listed::from_vec(gives))
+    Ok(Listed::from_vec(betweens))
 }

@@ -7,15 +7,17 @@ ghost use Rattle.trace_text.specs.TraceShown.{NamesFit};
 use crate::trace_reading::head::head_said;
 use crate::trace_reading::stage::Stage;
 use crate::trace_reading::word::Word;
-use crate::trace_reading::work::{give_said, work_said, zone_said};
-use crate::{Between, ClockHead, NamesHead, Op, TraceKind, ZoneHead, ZoneKind};
+use crate::trace_reading::work::{give_said, setmax_said, work_said, zone_said};
+use crate::{ClockHead, NamesHead, Op, TraceKind, Version, ZoneHead, ZoneKind};
 use text_lines::{next_field, no_field};
 use zone_stats::ZoneName;
 
 /// What a line says. A zone is named here by its name.
 #[derive(Drop)]
 pub enum Said {
-    Uma,
+    Uma {
+        version: Version,
+    },
     Workers {
         count: u32,
     },
@@ -48,7 +50,15 @@ pub enum Said {
     },
     Round,
     Give {
-        between: Between,
+        giver: u32,
+        slot: u32,
+        taker: u32,
+        slot2: u32,
+    },
+    /// Gives a zone another limit.
+    SetMax {
+        zone: ZoneName,
+        limit: u64,
     },
     End,
 }
@@ -76,14 +86,22 @@ pub enum ZoneWork {
 
 impl Said {
     /// What a line says behind the first one, or the first thing that is wrong with it.
-    pub fn by_line(stage: Stage, workers: u32, line: &[u8]) -> Result<Said, TraceKind>
-        ensures value { result ≡ says stage workers (fields_of line.now) }
+    pub fn by_line(
+        version: Version,
+        stage: Stage,
+        workers: u32,
+        line: &[u8],
+    ) -> Result<Said, TraceKind>
+        ensures value { result ≡ says version stage workers (fields_of line.now) }
         ensures names { IfOk result (NamesFit workers) }
     {
         let Some((first, rest)) = next_field(line) else {
             return Err(TraceKind::Word);
         };
         let word = Word::named(first).ok_or(TraceKind::Word)?;
+        if !word.is_known(version) {
+            return Err(TraceKind::Word);
+        }
         if !stage.may_follow(word) {
             return Err(TraceKind::Place);
         }
@@ -104,6 +122,7 @@ impl Said {
                 Ok(Said::Round)
             }
             Word::Give => give_said(workers, rest),
+            Word::SetMax => setmax_said(rest),
             Word::End => {
                 no_field(rest)?;
                 Ok(Said::End)

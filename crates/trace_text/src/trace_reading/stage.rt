@@ -76,7 +76,7 @@ impl Stage {
             Word::Head(HeadWord::Clock) => self.is_within(3, 3),
             Word::Head(HeadWord::Detail) => self.is_within(3, 4),
             Word::Head(_) => self.is_within(3, 6),
-            Word::Give => self.is_within(9, 9),
+            Word::Give | Word::SetMax => self.is_within(9, 9),
             _ => self.is_within(3, 9),
         }
     }

@@ -79,14 +79,18 @@ impl Tables {
         ensures marks { Marks (Moves between) self.old self.new }
         ensures whole { AreWhole self.new }
     {
-        let Between::Give {
-            giver,
-            slot,
-            taker,
-            slot2,
-        } = between;
-        let filled = slot_at(self.slots.as_slice(), giver, slot);
-        set_slot(self.slots.as_mut_slice(), giver, slot, false);
-        set_slot(self.slots.as_mut_slice(), taker, slot2, filled);
+        match between {
+            Between::Give {
+                giver,
+                slot,
+                taker,
+                slot2,
+            } => {
+                let filled = slot_at(self.slots.as_slice(), giver, slot);
+                set_slot(self.slots.as_mut_slice(), giver, slot, false);
+                set_slot(self.slots.as_mut_slice(), taker, slot2, filled);
+            }
+            Between::SetMax { .. } => {}
+        }
     }
 }

@@ -1,5 +1,7 @@
 ghost use Rattle.std.specs.Prelude.{◌≡◌};
-ghost use Rattle.trace_text.specs.TraceLine.{word_named};
+ghost use Rattle.trace_text.specs.TraceLine.{is_known, word_named};
+
+use crate::Version;
 
 /// The word with which a line of a trace begins.
 #[derive(Clone, Copy)]
@@ -12,6 +14,7 @@ pub enum Word {
     Zone(ZoneWord),
     Round,
     Give,
+    SetMax,
     End,
 }
 
@@ -65,6 +68,7 @@ impl Word {
             b"prealloc" => Some(Word::Zone(ZoneWord::Prealloc)),
             b"round" => Some(Word::Round),
             b"give" => Some(Word::Give),
+            b"setmax" => Some(Word::SetMax),
             b"end" => Some(Word::End),
             b"uma" => Some(Word::Head(HeadWord::Uma)),
             b"workers" => Some(Word::Head(HeadWord::Workers)),
@@ -75,6 +79,16 @@ impl Word {
             b"second" => Some(Word::Head(HeadWord::Second)),
             b"names" => Some(Word::Head(HeadWord::Names)),
             _ => None,
+        }
+    }
+
+    /// Whether the version has this word: version 1 has none that changes a limit.
+    pub fn is_known(self, version: Version) -> bool
+        ensures { result ≡ is_known version self }
+    {
+        match self {
+            Word::SetMax => version.changes_limits(),
+            _ => true,
         }
     }
 }

@@ -1,7 +1,7 @@
 //! What the lines below the header say.
-ghost use Rattle.std.specs.Prelude.{◌≡◌, IfOk};
+ghost use Rattle.std.specs.Prelude.{◌≡◌, ℕ, IfOk};
 ghost use Rattle.text_lines.specs.TextLines.{fields_of};
-ghost use Rattle.trace_text.specs.TraceLine.{alloc_said, prealloc_said, zone_said, free_said, bind_said, work_said, give_said};
+ghost use Rattle.trace_text.specs.TraceLine.{alloc_said, prealloc_said, zone_said, free_said, bind_said, work_said, give_said, setmax_said};
 ghost use Rattle.trace_text.specs.TraceShown.{NamesFit};
 
 use crate::trace_reading::fields::{
@@ -9,11 +9,14 @@ use crate::trace_reading::fields::{
 };
 use crate::trace_reading::said::{Said, ZoneWork};
 use crate::trace_reading::word::{WorkWord, ZoneWord};
-use crate::{Between, Op, TraceKind};
+use crate::{Op, TraceKind};
 use text_lines::{four_fields, number_in, number_within, three_fields, two_fields};
 
 /// The most items that a `prealloc` line brings in.
 const MOST_ITEMS: u64 = 262_144;
+
+/// The greatest limit of a zone.
+const GREATEST_LIMIT: u64 = 1_000_000;
 
 /// What a worker of so many does by itself.
 pub fn work_said(workers: u32, word: WorkWord, rest: &[u8]) -> Result<Said, TraceKind>
@@ -128,11 +131,22 @@ pub fn give_said(workers: u32, rest: &[u8]) -> Result<Said, TraceKind>
     ensures names { IfOk result (NamesFit workers) }
 {
     let (giver, slot, taker, slot2) = four_fields(rest)?;
-    let between = Between::Give {
+    Ok(Said::Give {
         giver: worker_in(workers, giver)?,
         slot: slot_in(slot)?,
         taker: worker_in(workers, taker)?,
         slot2: slot_in(slot2)?,
-    };
-    Ok(Said::Give { between })
+    })
+}
+
+/// Another limit of a zone.
+pub fn setmax_said(rest: &[u8]) -> Result<Said, TraceKind>
+    ensures value { result ≡ setmax_said (fields_of rest.now) }
+    ensures names { (workers : ℕ) → IfOk result (NamesFit workers) }
+{
+    let (zone, limit) = two_fields(rest)?;
+    Ok(Said::SetMax {
+        zone: name_in(zone)?,
+        limit: number_within(limit, 0, GREATEST_LIMIT)?,
+    })
 }

@@ -76,13 +76,12 @@ pub(super) fn new_seat(
     Ok(SeatCache::new(alloc, 4, seating, share, misses.new_share())?)
 }
 
-/// Fetches four items for a zone with this limit, where it exists and the seat's ledger has room.
+/// Fetches four items for a zone, where it exists and the seat's ledger has room.
 pub(super) fn fetches<R: Wait>(
     rt: &R,
     alloc: Global,
     locked: &mut MarksKeg,
     zone: u8,
-    limit: u64,
     seat: &mut SeatCache<Item<u32>, Bare>,
 ) -> Option<Result<u32, FetchRefused>>
     requires mine { table_at (fails_in locked.old) zone ≡ Some (seat_fails seat.old) }
@@ -95,7 +94,7 @@ pub(super) fn fetches<R: Wait>(
         reserve: false,
         domain: 0,
     };
-    if !locked.has(zone, limit) || !seat.ledger().room() {
+    if !locked.has_zone(zone) || !seat.ledger().room() {
         return None;
     }
     Some(locked.fetch(rt, alloc, &marks(), ask, seat))

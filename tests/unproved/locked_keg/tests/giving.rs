@@ -28,7 +28,7 @@ fn three_items<R: Wait>(
         reserve: false,
         domain: 1,
     };
-    if !locked.has(0, 0) {
+    if !locked.has_zone(0) {
         return Err(Fail::new("no zone"));
     }
     let Ok(_) = locked.keg.fetch(rt, alloc, &marks(), ask, &mut bucket) else {

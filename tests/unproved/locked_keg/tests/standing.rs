@@ -10,7 +10,7 @@ fn a_keg_has_eight_zones(rt: HostRuntime) -> Result<(), Fail> {
     for wanted in 0..8 {
         let added = adds_by_the_last(&mut locked, &mut rights, 5);
         assert_eq!(rt; added.map(|(zone, _)| zone), Some(wanted));
-        assert!(rt; locked.has(wanted, 5));
+        assert!(rt; locked.has_zone(wanted) && locked.set_limit(wanted, 5) == 5);
     }
     assert!(rt; adds_by_the_last(&mut locked, &mut rights, 5).is_none());
     Ok(())

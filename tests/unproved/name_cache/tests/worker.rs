@@ -155,7 +155,7 @@ impl Worker<'_> {
 
     /// Takes out of its row what the key's row binds, and frees it without a stamp, as no call of the cache does.
     pub fn free_unstamped<R: Wait>(&mut self, rt: &R, key: u64) -> Result<(), Fail> {
-        let Some(out) = take_unstamped(rt, self.cache, self.clock, key) else {
+        let Some(out) = take_unstamped(rt, self.cache, self.clock, &mut self.pass, key) else {
             return Err(Fail::new("nothing was linked"));
         };
         if self.seat.spare() == 0 || !self.seat.ledger().room() {
@@ -177,11 +177,14 @@ fn take_unstamped<R: Wait>(
     rt: &R,
     cache: &NameCache,
     clock: &Clock<Names>,
+    pass: &mut Pass<Names>,
     key: u64,
 ) -> Option<EntryParts>
-    requires { clock_id clock.now ≡ cache_clock cache.now }
-    ensures { IfSome result (IsItemOf (cache_clock cache.now) (cache_home cache.now)) }
+    requires clock { clock_id clock.now ≡ cache_clock cache.now }
+    requires pass { IsOf clock.now pass.old }
+    ensures pass { IsOf clock.now pass.new }
+    ensures item { IfSome result (IsItemOf (cache_clock cache.now) (cache_home cache.now)) }
 {
     let mut guard = cache.lock_row(rt, key);
-    guard.value.unlink(clock)
+    guard.value.take(clock, pass)
 }

@@ -76,7 +76,7 @@ pub fn ending(found: Found, ask: FetchAsk) -> Result<u32, Refusal>
     ensures refuses { IfErr result (λ refusal. EndsAs (found_by found.counts found.out found.limit) (wish_of ask) (Refuses refusal)) }
 {
     let Found { out, limit, .. } = found;
-    if limit > 0 && out == limit {
+    if limit > 0 && out >= limit {
         return Err(Refusal::AtLimit { out, limit });
     }
     let counts = with_slabs(found.counts, new_slabs(found.counts));

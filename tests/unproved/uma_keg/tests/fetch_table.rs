@@ -34,14 +34,14 @@ struct Disagreement {
     left: Found,
 }
 
-/// What a fetch of zone 0 finds, where it has this limit.
-fn found_in(keg: &PlainKeg, limit: u64) -> Found
+/// What a fetch of zone 0 finds.
+fn found_in(keg: &PlainKeg) -> Found
     ensures { AreSmall result.counts }
 {
     Found {
         counts: keg.counts(),
         out: keg.out(0),
-        limit,
+        limit: keg.limit(0),
     }
 }
 
@@ -56,7 +56,8 @@ fn keg_of<R: Wait>(rt: &R, alloc: Global, row: Row) -> Result<PlainKeg, Fail> {
     Ok(keg)
 }
 
-/// The first of sixteen fetches that disagrees. No keg of the table has more than twelve items, so four are refused.
+/// The first of sixteen fetches that disagrees. Before the seventh the limit is halved, and before the twelfth it is as
+/// it was. No keg of the table has more than twelve items, so four are refused.
 fn first_disagreement<R: Wait>(
     rt: &R,
     alloc: Global,
@@ -71,12 +72,17 @@ fn first_disagreement<R: Wait>(
             reserve: row.turns > 0 && turn % row.turns == 0,
             domain: 0,
         };
-        let found = found_in(&keg, row.limit);
+        match turn {
+            6 => keg.set_limit(0, row.limit / 2),
+            11 => keg.set_limit(0, row.limit),
+            _ => 0,
+        };
+        let found = found_in(&keg);
         let outcome = ending(found, ask);
         let after = left(found, outcome);
         let answer = outcome.map_err(|refusal| FetchRefused::Refused { refusal });
         let fetched = fetches(rt, alloc, &mut keg, &no_refusal(), ask, &mut into);
-        let stands = found_in(&keg, row.limit);
+        let stands = found_in(&keg);
         if fetched != Some(answer) || stands != after {
             return Ok(Some(Disagreement {
                 row,

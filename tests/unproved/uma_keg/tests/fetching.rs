@@ -34,6 +34,25 @@ fn a_fetch_stops_at_the_limit(rt: HostRuntime) -> Result<(), Fail> {
         at_limit
     );
     assert_eq!(rt; (keg.out(0), into.len()), (3, 3));
+
+    // A lowered limit takes nothing away, and no fetch gives an item until fewer are outside.
+    assert_eq!(rt; (keg.set_limit(0, 2), keg.limit(0), keg.limit(1)), (3, 2, 0));
+    let at_limit = refused(Refusal::AtLimit { out: 3, limit: 2 });
+    assert_eq!(rt;
+        fetches(&rt, rt.alloc(), &mut keg, &no_refusal(), ask, &mut into),
+        at_limit
+    );
+    assert_eq!(rt; keg.set_limit(0, 0), 2);
+    assert_eq!(rt;
+        fetches(&rt, rt.alloc(), &mut keg, &no_refusal(), ask, &mut into),
+        Some(Ok(1))
+    );
+    assert_eq!(rt; keg.set_limit(0, 3), 0);
+    let at_limit = refused(Refusal::AtLimit { out: 4, limit: 3 });
+    assert_eq!(rt;
+        fetches(&rt, rt.alloc(), &mut keg, &no_refusal(), ask, &mut into),
+        at_limit
+    );
     Ok(())
 }
 

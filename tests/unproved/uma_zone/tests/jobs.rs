@@ -1,4 +1,5 @@
 use super::churning::churn;
+use super::limits::{hold_many, squeeze};
 use super::watching::{Shown, read_all, write_all};
 use super::worker::Worker;
 use std::alloc::{AllocError, Global};
@@ -14,6 +15,10 @@ pub(super) enum Task {
     Write,
     /// It looks at the items that are shown.
     Read,
+    /// It holds many items at a time.
+    Hold,
+    /// It changes the zone's limit.
+    Squeeze,
 }
 
 /// What a thread gets.
@@ -28,7 +33,7 @@ pub(super) struct Job<'a> {
 /// section.
 fn run<R: Wait>(rt: &R, alloc: Global, job: Job<'_>) -> bool {
     let Job {
-        worker,
+        mut worker,
         shown,
         task,
     } = job;
@@ -42,6 +47,8 @@ fn run<R: Wait>(rt: &R, alloc: Global, job: Job<'_>) -> bool {
             Some(sections) => sections > 0,
             None => false,
         },
+        Task::Hold => hold_many(rt, alloc, &mut worker).unwrap_or(false),
+        Task::Squeeze => squeeze(rt, &worker),
     }
 }
 

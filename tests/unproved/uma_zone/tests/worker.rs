@@ -1,4 +1,4 @@
-ghost use Rattle.std.specs.Prelude.{◌≡◌, ◌<◌, All, OnOk, length};
+ghost use Rattle.std.specs.Prelude.{◌≡◌, ◌≤◌, ◌<◌, All, OnOk, length};
 ghost use Rattle.smr_clock.specs.Belongs.{IsOf, clock_id};
 ghost use Rattle.uma_bucket.specs.Home.{IsHome};
 ghost use Rattle.uma_life.specs.Live.{live_ticket};
@@ -289,6 +289,13 @@ impl Worker<'_> {
             }
             _ => Err(Stopped::Section),
         }
+    }
+
+    /// Sets the limit of the zone.
+    pub fn set_max<R: Wait>(&self, rt: &R, limit: u64) -> u64
+        requires { limit ≤ 1000000 }
+    {
+        self.zone.set_max(rt, limit)
     }
 
     /// The hands of the clock: read and write.

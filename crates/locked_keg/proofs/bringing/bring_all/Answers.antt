@@ -13,7 +13,6 @@ loop-init g c = record {
   limits = λ zone. refl;
   fetches = λ zone. refl;
   same = same_keg c.args.keg.now;
-  within = c.args.keg.now.zones_law.bounded;
 }
 
 pub loop-preserved : goal.loop-preserved
@@ -30,7 +29,6 @@ loop-preserved g c =
       limits = λ zone. one.limits zone ∙ before.limits zone;
       fetches = λ zone. one.fetches zone ∙ before.fetches zone;
       same = same_more old mid new before.same one.same;
-      within = one.within;
     }
 
 pub returns-in_err-bring-clause-refused : goal.returns-in_err-bring-clause-refused

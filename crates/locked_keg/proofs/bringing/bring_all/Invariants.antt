@@ -1,6 +1,6 @@
 use Rattle.std.proofs.Common.{◌≡◌, ℕ}
 use Rattle.uma_keg.specs.BringSlabs.{BringsSlabs}
-use Rattle.uma_keg.specs.Keg.{zones_in, rights_in, limit_in, fetches_in, IsSameKeg, IsWithinLimits}
+use Rattle.uma_keg.specs.Keg.{zones_in, rights_in, limit_in, fetches_in, IsSameKeg}
 use Rattle.locked_keg.proofs.bringing.bring_all.Given as goal
 
 abbrev pub invariant-loop : goal.invariant-loop
@@ -11,5 +11,4 @@ invariant-loop g l = record {
   limits : (zone : ℕ) → limit_in l.keg zone ≡ limit_in l.fn.keg zone;
   fetches : (zone : ℕ) → fetches_in l.keg zone ≡ fetches_in l.fn.keg zone;
   same : IsSameKeg l.fn.keg l.keg;
-  within : IsWithinLimits l.keg;
 }

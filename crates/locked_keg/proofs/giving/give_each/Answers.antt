@@ -18,7 +18,6 @@ loop-init g c = record {
   fetches = λ zone. refl;
   buried = refl;
   same = same_keg c.args.keg.now;
-  within = c.args.keg.now.zones_law.bounded;
 }
 
 pub give-requires : goal.give-requires
@@ -56,7 +55,6 @@ loop-preserved g c =
       fetches = λ zone. one.fetches zone ∙ before.fetches zone;
       buried = one.buried ∙ before.buried;
       same = same_more old mid new before.same one.same;
-      within = one.within;
     }
 
 pub returns-clause-none_left : goal.returns-clause-none_left

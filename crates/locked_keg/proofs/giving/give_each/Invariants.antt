@@ -1,7 +1,7 @@
 use Rattle.std.proofs.Common.{◌≡◌, ◌+◌, ℕ, All, length}
 use Rattle.uma_life.specs.Cached.{cached_table}
 use Rattle.uma_bucket.specs.Bucket.{items_of}
-use Rattle.uma_keg.specs.Keg.{table_in, rights_in, limit_in, fetches_in, buried_in, IsSameKeg, IsWithinLimits}
+use Rattle.uma_keg.specs.Keg.{table_in, rights_in, limit_in, fetches_in, buried_in, IsSameKeg}
 use Rattle.locked_keg.proofs.Given.{GivesLast}
 use Rattle.locked_keg.proofs.giving.give_each.Given as goal
 
@@ -15,5 +15,4 @@ invariant-loop g l = record {
   fetches : (zone : ℕ) → fetches_in l.keg zone ≡ fetches_in l.fn.keg zone;
   buried : buried_in l.keg ≡ buried_in l.fn.keg;
   same : IsSameKeg l.fn.keg l.keg;
-  within : IsWithinLimits l.keg;
 }

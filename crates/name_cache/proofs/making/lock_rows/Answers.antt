@@ -1,10 +1,12 @@
-use Rattle.std.proofs.Common.{◌+◌, ℕ, length, sym, ap, ◌∙◌}
+use Rattle.std.proofs.Common.{◌≡◌, ◌+◌, ◌++◌, ◌∷◌, [], ℕ, length, map, sym, ap, ◌∙◌}
 use Rattle.std.proofs.lemmas.Iterator.Adapters.{YieldsList-from_vec}
 use Rattle.std.proofs.lemmas.Iterator.Consumers.{YieldsList-turn}
-use Rattle.std.proofs.lemmas.List.{length_push}
+use Rattle.std.proofs.lemmas.List.{length_push, map-append}
 use Rattle.smr_clock.specs.Belongs.{clock_id}
 use Rattle.uma_zone.specs.Zone.{zone_home}
-use Rattle.name_cache.specs.RowKey.{identity}
+use Rattle.name_cache.specs.RowKey.{Identity, identity}
+use Rattle.name_cache.specs.Locks.{lock_version}
+use Rattle.name_rows.specs.declared.row.Row.{Row}
 use Rattle.name_cache.proofs.Locking.{fresh_at, fresh_own, named_more}
 use Rattle.name_cache.proofs.making.lock_rows.Goals as goal
 
@@ -25,8 +27,10 @@ loop-row-preserved c =
     let lock = c.in_ok-lock.lock in
     let clock = clock_id c.args.clock.now in
     let home = zone_home c.args.zone.now in
+    let version : lock_version lock ≡ c.in-Some.row.version = ap (λ (id : Identity). id.version) c.in_ok-lock.ensures in
     record {
       long = ap length c.in_ok-push_lock.ensures ∙ length_push locks lock ∙ ap (λ (n : ℕ). n + 1) c.loop-row.invariant.long ∙ sym (length_push c.loop-row.yielded c.in-Some.row);
       named = named_more clock home locks c.push_lock.new.locks.items lock c.in_ok-push_lock.ensures c.loop-row.invariant.named
-          (c.in_ok-lock.ensures ∙ ap (λ (n : ℕ). identity clock home n) (fresh.numbered ∙ sym c.loop-row.invariant.long));
+          (c.in_ok-lock.ensures ∙ ap (λ (n : ℕ). identity clock home n c.in-Some.row.version) (fresh.numbered ∙ sym c.loop-row.invariant.long) ∙ ap (λ (n : ℕ). identity clock home (length locks) n) (sym version));
+      versions = ap (map lock_version) c.in_ok-push_lock.ensures ∙ map-append lock_version locks (lock ∷ []) ∙ (λ k. c.loop-row.invariant.versions k ++ version k ∷ []) ∙ sym (map-append (λ (row : Row). row.version) c.loop-row.yielded (c.in-Some.row ∷ []));
     }

@@ -1,4 +1,5 @@
 use Rattle.std.proofs.Common.{◌≡◌, ◌<◌, ◌≤◌, ◌∙◌, length, refl, rules}
+use Rattle.trace_play.proofs.Done.{rounds_begun, rounds_ended, rounds_more}
 use Rattle.trace_play.proofs.Played.{begun, ended}
 use Rattle.trace_play.proofs.Plays.{play_all, play_more, play_none}
 use Rattle.trace_play.proofs.playing.play.Goals as goal
@@ -7,6 +8,7 @@ pub loop-round-init : goal.loop-round-init
 loop-round-init g c = record {
   after = begun g.N.NameCalls c.args.cache.now c.args.trace.now c.args.zones.now c.args.clock.now c.args.workers.now c.requires.begun;
   plays = play_none g.N.NameCalls c.args.cache.now c.args.zones.now c.args.trace.now.rounds c.args.workers.now;
+  rounds = rounds_begun g.N.NameCalls c.args.cache.now c.args.zones.now c.args.trace.now.rounds c.args.workers.now;
   free = λ free. refl;
 }
 
@@ -18,6 +20,7 @@ loop-round-preserved g c =
       after = c.in_ok-play_round.ensures.after;
       plays = play_more g.N.NameCalls c.args.cache.now c.args.zones.now c.args.trace.now.rounds c.loop-round.round c.args.workers.now c.loop-round.workers c.play_round.new.workers below size c.loop-round.invariant.plays
           c.in_ok-play_round.ensures.plays;
+      rounds = rounds_more g.N.NameCalls c.args.cache.now c.args.zones.now c.args.trace.now.rounds c.loop-round.round c.args.workers.now c.loop-round.workers c.play_round.new.workers below c.loop-round.invariant.rounds c.in_ok-play_round.ensures.round;
       free = λ free. c.in_ok-play_round.ensures.free free ∙ c.loop-round.invariant.free free;
     }
 
@@ -25,6 +28,11 @@ pub returns-clause-plays : goal.returns-clause-plays
 returns-clause-plays g c =
     let past : length c.args.trace.now.rounds ≤ c.loop-round.round = search rules in
     play_all g.N.NameCalls c.args.cache.now c.args.zones.now c.args.trace.now.rounds c.loop-round.round c.args.workers.now c.loop-round.workers past c.loop-round.invariant.plays
+
+pub returns-clause-rounds : goal.returns-clause-rounds
+returns-clause-rounds g c =
+    let past : length c.args.trace.now.rounds ≤ c.loop-round.round = search rules in
+    rounds_ended g.N.NameCalls c.args.cache.now c.args.zones.now c.args.trace.now.rounds c.loop-round.round c.args.workers.now c.loop-round.workers past c.loop-round.invariant.rounds
 
 pub returns-clause-stands : goal.returns-clause-stands
 returns-clause-stands g c =

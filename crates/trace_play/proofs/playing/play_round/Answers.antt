@@ -1,7 +1,9 @@
 use Rattle.std.proofs.Common.{◌≡◌, length, rules, subst, List}
 use Rattle.trace_text.specs.declared.between.Between.{Between}
+use Rattle.trace_play.specs.Betweens.{DoBetweens}
 use Rattle.trace_play.specs.Rounds.{AllMoved}
 use Rattle.trace_play.proofs.AfterRound.{all_ready, gave_up_same}
+use Rattle.trace_play.proofs.Done.{round_done}
 use Rattle.trace_play.proofs.Played.{after_round, both_ok, some_workers, still_free}
 use Rattle.trace_play.proofs.Plays.{plays_round}
 use Rattle.trace_play.proofs.playing.play_round.Goals as goal
@@ -16,22 +18,30 @@ work_round-requires-clause-ready g c κs within =
 pub returns-clause-after : goal.returns-clause-after
 returns-clause-after g c =
     let size : length c.work_round.new.workers ≡ length c.args.workers.now = search rules in
-    let P : List Between → Type 0 = λ list. AllMoved list c.work_round.new.workers c.give_all.new.workers in
-    both_ok c.give_all.result _ _ _ c.give_all.ensures.rest c.give_all.ensures.moved (λ keeps moved.
-    after_round g.N.NameCalls c.args.cache.now c.args.trace.now c.args.zones.now c.args.clock.now c.args.round c.args.workers.now c.work_round.new.workers c.give_all.new.workers c.requires.suits c.requires.after
-    size c.in_ok-all_ended.ensures c.work_round.ensures.worked keeps (subst P c.gives_of.ensures moved))
+    let P : List Between → Type 0 = λ list. AllMoved list c.work_round.new.workers c.do_betweens.new.workers in
+    both_ok c.do_betweens.result _ _ _ c.do_betweens.ensures.rest c.do_betweens.ensures.moved (λ keeps moved.
+    after_round g.N.NameCalls c.args.cache.now c.args.trace.now c.args.zones.now c.args.clock.now c.args.round c.args.workers.now c.work_round.new.workers c.do_betweens.new.workers c.requires.suits c.requires.after
+    size c.in_ok-all_ended.ensures c.work_round.ensures.worked keeps (subst P c.betweens_of.ensures moved))
 
 pub returns-clause-plays : goal.returns-clause-plays
 returns-clause-plays g c =
     let size : length c.work_round.new.workers ≡ length c.args.workers.now = search rules in
-    both_ok c.give_all.result _ _ _ c.give_all.ensures.rest c.give_all.ensures.rest (λ keeps again.
-    plays_round g.N.NameCalls c.args.cache.now c.args.trace.now c.args.zones.now c.args.clock.now c.args.round c.args.workers.now c.work_round.new.workers c.give_all.new.workers
+    both_ok c.do_betweens.result _ _ _ c.do_betweens.ensures.rest c.do_betweens.ensures.rest (λ keeps again.
+    plays_round g.N.NameCalls c.args.cache.now c.args.trace.now c.args.zones.now c.args.clock.now c.args.round c.args.workers.now c.work_round.new.workers c.do_betweens.new.workers
     size c.in_ok-all_ended.ensures c.work_round.ensures.worked keeps)
+
+pub returns-clause-round : goal.returns-clause-round
+returns-clause-round g c =
+    let size : length c.work_round.new.workers ≡ length c.args.workers.now = search rules in
+    let P : List Between → Type 0 = λ list. DoBetweens c.args.zones.now list c.work_round.new.workers c.do_betweens.new.workers in
+    both_ok c.do_betweens.result _ _ _ c.do_betweens.ensures.rest c.do_betweens.ensures.does (λ keeps does.
+    round_done g.N.NameCalls c.args.cache.now c.args.trace.now c.args.zones.now c.args.clock.now c.args.round c.args.workers.now c.work_round.new.workers c.do_betweens.new.workers
+    size c.in_ok-all_ended.ensures c.work_round.ensures.worked (subst P c.betweens_of.ensures does))
 
 pub returns-clause-free : goal.returns-clause-free
 returns-clause-free g c free =
     let size : length c.work_round.new.workers ≡ length c.args.workers.now = search rules in
-    let more : length c.give_all.new.workers ≡ length c.work_round.new.workers = search rules in
-    both_ok c.give_all.result _ _ _ c.give_all.ensures.rest c.give_all.ensures.rest (λ keeps again.
-    still_free c.args.workers.now c.work_round.new.workers c.give_all.new.workers more keeps
+    let more : length c.do_betweens.new.workers ≡ length c.work_round.new.workers = search rules in
+    both_ok c.do_betweens.result _ _ _ c.do_betweens.ensures.rest c.do_betweens.ensures.rest (λ keeps again.
+    still_free c.args.workers.now c.work_round.new.workers c.do_betweens.new.workers more keeps
     (gave_up_same c.args.workers.now c.work_round.new.workers size (c.work_round.ensures.free free)))

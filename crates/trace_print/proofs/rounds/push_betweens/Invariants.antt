@@ -6,4 +6,4 @@ use Rattle.trace_print.proofs.rounds.push_betweens.Given as goal
 -- the lines so far were appended
 abbrev pub invariant-loop-between : goal.invariant-loop-between
 invariant-loop-between l =
-    l.text.items ≡ l.initial.text.items ++ flat_map between_line (take l.between-index l.betweens)
+    l.text.items ≡ l.initial.text.items ++ flat_map (between_line l.zones) (take l.between-index l.betweens)

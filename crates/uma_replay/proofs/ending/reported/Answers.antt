@@ -52,10 +52,10 @@ returns-clause-hall g c =
     let shown : c.in_ok-report.report.gave_up ≡ sum c.args.gave_ups =
     whole_waits names c.args.cache _ first c.in_ok-report.report head.names whole ∙ (made.waits ∙ (c.all_gave_up-gave_up.ensures ∙ ap sum c.as_slice.ensures)) in
     let A : List Census → Type 0 = λ censuses. AllClose head c.args.zones c.args.workers censuses ended.totals.tallies.items ended.totals.deferred.items in
-    let B : ℕ → Type 0 = λ n. IsReportOf head c.args.workers c.as_slice-2.result.now c.as_slice-3.result.now c.as_slice-4.result.now ended.read ended.write n first in
-    let D : List ℕ → Type 0 = λ deferred. IsReportOf head c.args.workers c.as_slice-2.result.now c.as_slice-3.result.now deferred ended.read ended.write first.gave_up first in
-    let E : List TallySum → Type 0 = λ tallies. IsReportOf head c.args.workers c.as_slice-2.result.now tallies ended.totals.deferred.items ended.read ended.write first.gave_up first in
-    let F : List Census → Type 0 = λ censuses. IsReportOf head c.args.workers censuses ended.totals.tallies.items ended.totals.deferred.items ended.read ended.write first.gave_up first in
+    let B : ℕ → Type 0 = λ n. IsReportOf c.args.trace.now c.args.workers c.as_slice-2.result.now c.as_slice-3.result.now c.as_slice-4.result.now ended.read ended.write n first in
+    let D : List ℕ → Type 0 = λ deferred. IsReportOf c.args.trace.now c.args.workers c.as_slice-2.result.now c.as_slice-3.result.now deferred ended.read ended.write first.gave_up first in
+    let E : List TallySum → Type 0 = λ tallies. IsReportOf c.args.trace.now c.args.workers c.as_slice-2.result.now tallies ended.totals.deferred.items ended.read ended.write first.gave_up first in
+    let F : List Census → Type 0 = λ censuses. IsReportOf c.args.trace.now c.args.workers censuses ended.totals.tallies.items ended.totals.deferred.items ended.read ended.write first.gave_up first in
     let G : List (Naming _ _ _ _ _) → Type 0 = λ namings. IsWhole names c.args.cache head.names namings first c.in_ok-report.report in
     record {
       done = c.requires.done;

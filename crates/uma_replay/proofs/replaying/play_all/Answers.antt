@@ -3,7 +3,7 @@ use Rattle.trace_worker.specs.declared.running.Running.{Running}
 use Rattle.trace_play.specs.Rounds.{GaveUpAsBefore, IsBegun, Suits}
 use Rattle.uma_replay.specs.Playing.{AreEnded}
 use Rattle.uma_replay.proofs.Beginning.{written_back}
-use Rattle.uma_replay.proofs.Playing.{play_as}
+use Rattle.uma_replay.proofs.Playing.{play_as, rounds_as}
 use Rattle.uma_replay.proofs.replaying.play_all.Goals as goal
 
 pub play-requires-clause-suits : goal.play-requires-clause-suits
@@ -33,6 +33,7 @@ returns-clause-ended g c =
       adds_up = c.in_ok-play.ensures.adds_up;
       named = c.in_ok-play.ensures.named;
       plays = play_as names cache t.rounds zones zones old.items _ new refl c.as_mut_slice-workers.ensures.value c.in_ok-play.ensures.plays;
+      rounds = rounds_as names cache t.rounds zones old.items _ new c.as_mut_slice-workers.ensures.value c.in_ok-play.ensures.rounds;
       asked = c.in_ok-play.ensures.asked;
     })
 

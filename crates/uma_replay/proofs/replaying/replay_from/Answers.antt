@@ -50,7 +50,7 @@ close-requires-clause-named g c κs within =
     let P : List (CountedZone _ _ _) → Type 0 = λ zones. AreEnded g.N.NameCalls c.args.cache t zones s.clock first all in
     let ended = subst P c.as_slice-zone_list.ensures.value c.in_ok-runnings.ensures.ended in
     named_of g.N.NameCalls c.args.cache t s first all c.in_ok-workers.workers.items c.in_ok-workers.namings.items c.requires.set_up c.in_ok-first.ensures ended.count
-    c.requires.serves c.requires.of_clock c.requires.sizes ended.stand ended.named ended.plays c.in_ok-workers.ensures.workers c.in_ok-workers.ensures.namings
+    c.requires.serves c.requires.of_clock c.requires.sizes ended.stand ended.named ended.plays ended.rounds c.in_ok-workers.ensures.workers c.in_ok-workers.ensures.namings
 
 pub close-requires-clause-ended : goal.close-requires-clause-ended
 close-requires-clause-ended g c κs within =

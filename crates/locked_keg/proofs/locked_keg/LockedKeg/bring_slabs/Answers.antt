@@ -14,7 +14,7 @@ returns-in_err-bring_all-clause-keeps g c key own kept =
     let old = c.args.self.now in
     let keg = c.bring_all.ensures in
     let new : LockedKeg g.row.T.Denot g.row.K.Denot g.T.Body g.K.Hooks = record { keg = c.bring_all.new.keg; fails = c.args.self.now.fails } in
-    still_keeps key old new keg.same keg.within (λ zone. refl) (still_lists old new (λ zone. refl) keg.fetches) (λ below. returns-in_err-bring_all-clause-domains g c key.domains own below) kept
+    still_keeps key old new keg.same (λ zone. refl) (still_lists old new (λ zone. refl) keg.fetches) (λ below. returns-in_err-bring_all-clause-domains g c key.domains own below) kept
 
 pub returns-clause-domains : goal.returns-clause-domains
 returns-clause-domains g c domains own below = brought_domains (keg_in c.args.self.now) c.bring_all.new.keg c.args.domain c.args.count domains c.in_ok-bring_all.ensures.brings own below
@@ -24,4 +24,4 @@ returns-clause-keeps g c key own kept =
     let old = c.args.self.now in
     let keg = c.bring_all.ensures in
     let new : LockedKeg g.row.T.Denot g.row.K.Denot g.T.Body g.K.Hooks = record { keg = c.bring_all.new.keg; fails = c.args.self.now.fails } in
-    still_keeps key old new keg.same keg.within (λ zone. refl) (still_lists old new (λ zone. refl) keg.fetches) (λ below. returns-clause-domains g c key.domains own below) kept
+    still_keeps key old new keg.same (λ zone. refl) (still_lists old new (λ zone. refl) keg.fetches) (λ below. returns-clause-domains g c key.domains own below) kept

@@ -22,6 +22,6 @@ returns-clause-keeps g c key own kept =
     let old = c.args.self.now in
     let keg = c.fetch-answer.ensures in
     let new : LockedKeg g.row.T.Denot g.row.K.Denot g.T.Body g.K.Hooks = record { keg = c.fetch-answer.new.self; fails = c.list.new.self } in
-    still_keeps key old new keg.same keg.within c.list.ensures.tables
+    still_keeps key old new keg.same c.list.ensures.tables
     (more_lists old new c.args.ask.zone c.fetch-answer.result keg.fetches keg.other_fetches c.list.ensures.causes c.list.ensures.others)
     (λ below. returns-clause-domains g c key.domains own below) kept

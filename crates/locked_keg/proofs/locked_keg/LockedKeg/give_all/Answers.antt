@@ -14,5 +14,5 @@ returns-clause-keeps g c key kept =
     let old = c.args.self.now in
     let keg = c.give_each-count.ensures in
     let new : LockedKeg g.row.T.Denot g.row.K.Denot g.T.Body g.K.Hooks = record { keg = c.give_each-count.new.keg; fails = c.args.self.now.fails } in
-    still_keeps key old new keg.same keg.within (λ zone. refl) (still_lists old new (λ zone. refl) keg.fetches)
+    still_keeps key old new keg.same (λ zone. refl) (still_lists old new (λ zone. refl) keg.fetches)
     (domains_back (keg_in old) c.give_each-count.new.keg c.args.hooks.now (items_of c.args.bucket) key.domains keg.gives) kept

@@ -1,17 +1,20 @@
-use Rattle.std.proofs.Common.{◌≡◌, length, sym, ap, subst, rules, arith}
+use Rattle.std.proofs.Common.{◌≡◌, ◌%◌, [], length, sym, ap, subst, rules, arith}
 use Rattle.std.proofs.lemmas.Result.{err_from_is_err_and}
 use Rattle.smr_clock.specs.Belongs.{view}
 use Rattle.zone_stats.specs.declared.ledger.SeatLedger.{SeatLedger}
 use Rattle.zone_stats.specs.LedgerSteps.{HasRoom, CountsAlloc}
-use Rattle.uma_seat.specs.Counts.{ledger_in, fetches_in}
-use Rattle.uma_seat.specs.Seat.{ledger_of, spares_of}
+use Rattle.uma_seat.specs.Counts.{ledger_in}
+use Rattle.uma_seat.specs.Seat.{ledger_of, spares_of, shelf_of}
+use Rattle.uma_zone.specs.Flushed.{HasLastOf}
 use Rattle.name_cache.specs.declared.rebound.Rebound.{Rebound}
-use Rattle.name_cache.specs.Cache.{cache_zone, cache_clock, cache_home, row_count}
+use Rattle.name_cache.specs.Cache.{cache_zone, cache_clock, cache_home, row_count, first_version}
 use Rattle.name_cache.specs.LockedRow.{HasItemOf}
-use Rattle.name_cache.specs.Rebound.{HasRebound}
+use Rattle.name_cache.specs.Rebound.{HasRebound, IsBoundAbove}
 use Rattle.name_cache.specs.Bind.{Binds}
-use Rattle.name_cache.proofs.Ends.{binds, refuses, refuses_none, usable_same, wants_room}
+use Rattle.name_cache.specs.Room.{MakesRoom}
+use Rattle.name_cache.proofs.Ends.{binds, refuses, refuses_none}
 use Rattle.name_cache.proofs.Linked.{done_item}
+use Rattle.name_cache.proofs.Rooms.{wants_room}
 use Rattle.name_cache.proofs.Taking.{room_left}
 use Rattle.name_cache.proofs.Telling.{still_then, still_host, above_next}
 use Rattle.name_cache.proofs.cache.NameCache.bind.Goals as goal
@@ -19,7 +22,8 @@ use Rattle.name_cache.proofs.cache.NameCache.bind.Goals as goal
 pub returns-then-is_err-clause-refused : goal.returns-then-is_err-clause-refused
 returns-then-is_err-clause-refused g c =
     let made = c.make_room.ensures in
-    wants_room c.args.seat.now c.make_room.new.seat made.same made.top made.plain made.freed made.counts
+    let stay : HasLastOf (shelf_of c.args.seat.now) (shelf_of c.make_room.new.seat) = search rules in
+    wants_room c.args.seat.now c.make_room.new.seat made.same made.top made.plain made.freed made.counts stay
 
 pub rebind-requires-clause-room : goal.rebind-requires-clause-room
 rebind-requires-clause-room g c = subst (λ (l : SeatLedger). HasRoom l) (ap ledger_in (sym c.make_room.ensures.counts)) c.requires.room.now
@@ -27,17 +31,19 @@ rebind-requires-clause-room g c = subst (λ (l : SeatLedger). HasRoom l) (ap led
 pub returns-in_err-receipt-clause-refused : goal.returns-in_err-receipt-clause-refused
 returns-in_err-receipt-clause-refused g c =
     let cache = c.args.self.now in
-    let old = c.args.seat.now in
     let one = c.make_room.new.seat in
-    let made = c.make_room.ensures in
+    let room = c.make_room.ensures in
+    let shelf : shelf_of one ≡ [] = search rules in
+    let two : length (spares_of one) ≡ 2 = search rules in
+    let made : MakesRoom c.args.seat.now one = record { shelf = shelf; spares = two; top = room.top; plain = room.plain; freed = room.freed; counts = room.counts; misses = room.misses } in
     let v = view c.args.pass.now in
     let v1 = view c.make_room.new.pass in
     let v2 = view c.rebind.new.pass in
-    let two = c.rebind.new.seat in
+    let left = c.rebind.new.seat in
     let p = err_from_is_err_and c.from_residual.result c.from_residual.ensures.1 in
     rw (p.1, p.2)
-    (refuses_none (cache_zone cache) (row_count cache) c.args.key c.args.value v v1 v2 v2 old one two two (ap ledger_in made.counts) made.freed (still_host v v1 made.host) c.in_err-receipt.field-0.0
-    (usable_same old one made.same made.top made.plain) (ap fetches_in made.counts) made.misses c.rebind.ensures.freed c.in_err-receipt.ensures.refused)
+    (refuses_none (cache_zone cache) (row_count cache) c.args.key c.args.value v v1 v2 v2 c.args.seat.now one left left made (still_host v v1 room.host) c.in_err-receipt.field-0.0
+    room.same c.rebind.ensures.freed c.rebind.ensures.shelf c.in_err-receipt.ensures.refused)
 
 pub free_evicted-requires-clause-room : goal.free_evicted-requires-clause-room
 free_evicted-requires-clause-room g c =
@@ -53,17 +59,19 @@ free_evicted-requires-clause-item g c =
 binds_so : (g : _) (c : goal.After-free_evicted g) → Binds (cache_zone c.args.self.now) (row_count c.args.self.now) c.args.key c.args.value (view c.args.pass.now) c.args.seat.now c.in-Done.receipt (view c.free_evicted.new.pass) c.free_evicted.new.seat
 binds_so g c =
     let cache = c.args.self.now in
-    let old = c.args.seat.now in
     let one = c.make_room.new.seat in
     let two = c.rebind.new.seat in
-    let made = c.make_room.ensures in
+    let room = c.make_room.ensures in
+    let shelf : shelf_of one ≡ [] = search rules in
+    let spares : length (spares_of one) ≡ 2 = search rules in
+    let made : MakesRoom c.args.seat.now one = record { shelf = shelf; spares = spares; top = room.top; plain = room.plain; freed = room.freed; counts = room.counts; misses = room.misses } in
     let done = c.in_ok-receipt.ensures in
     let v = view c.args.pass.now in
     let v1 = view c.make_room.new.pass in
     let v2 = view c.rebind.new.pass in
     let h = subst (λ (r : Rebound). HasRebound (cache_zone cache) (row_count cache) c.args.key c.args.value v1 one r v2 two) c.in-Done.is done.rebound in
-    binds (cache_zone cache) (row_count cache) c.args.key c.args.value v v1 v2 (view c.free_evicted.new.pass) old one two c.free_evicted.new.seat (ap ledger_in made.counts) made.freed (still_host v v1 made.host)
-    c.in-Done.receipt c.in-Done.evicted h done.counted done.freed c.free_evicted.ensures.frees c.free_evicted.ensures.host
+    binds (cache_zone cache) (row_count cache) c.args.key c.args.value v v1 v2 (view c.free_evicted.new.pass) c.args.seat.now one two c.free_evicted.new.seat made (still_host v v1 room.host)
+    c.in-Done.receipt c.in-Done.evicted h done.counted done.freed done.shelf c.free_evicted.ensures.frees c.free_evicted.ensures.host
 
 pub returns-in-Done-clause-bound : goal.returns-in-Done-clause-bound
 returns-in-Done-clause-bound g c = binds_so g c
@@ -78,20 +86,25 @@ free-requires-clause-room g c =
     let two = c.rebind.new.seat in
     room_left (ledger_of c.args.seat.now) (ledger_of two) c.requires.room (subst (λ (l : SeatLedger). CountsAlloc l (ledger_of two)) (ap ledger_in c.make_room.ensures.counts) c.in_ok-receipt.ensures.counted)
 
+pub returns-in-Done-clause-since : goal.returns-in-Done-clause-since
+returns-in-Done-clause-since g c = subst (λ (r : Rebound). IsBoundAbove (first_version c.args.self.now (c.args.key % row_count c.args.self.now)) r) c.in-Done.is c.in_ok-receipt.ensures.since
+
 pub returns-in-Refused-clause-refused : goal.returns-in-Refused-clause-refused
 returns-in-Refused-clause-refused g c =
     let cache = c.args.self.now in
-    let old = c.args.seat.now in
     let one = c.make_room.new.seat in
     let two = c.rebind.new.seat in
-    let made = c.make_room.ensures in
+    let room = c.make_room.ensures in
+    let shelf : shelf_of one ≡ [] = search rules in
+    let spares : length (spares_of one) ≡ 2 = search rules in
+    let made : MakesRoom c.args.seat.now one = record { shelf = shelf; spares = spares; top = room.top; plain = room.plain; freed = room.freed; counts = room.counts; misses = room.misses } in
     let done = c.in_ok-receipt.ensures in
     let v = view c.args.pass.now in
     let v1 = view c.make_room.new.pass in
     let v2 = view c.rebind.new.pass in
     let h = subst (λ (r : Rebound). HasRebound (cache_zone cache) (row_count cache) c.args.key c.args.value v1 one r v2 two) c.in-Refused.is done.rebound in
-    refuses (cache_zone cache) (row_count cache) c.args.key c.args.value v v1 v2 (view c.free.new.pass) old one two c.free.new.seat (ap ledger_in made.counts) made.freed (still_host v v1 made.host)
-    c.in-Refused.entry c.free.ensures.frees done.counted c.in-Refused.refused h c.free.ensures.host
+    refuses (cache_zone cache) (row_count cache) c.args.key c.args.value v v1 v2 (view c.free.new.pass) c.args.seat.now one two c.free.new.seat made (still_host v v1 room.host)
+    c.in-Refused.entry c.free.ensures.frees done.counted done.freed done.shelf c.free.ensures.host c.in-Refused.refused h
 
 pub free_evicted-requires-clause-spare : goal.free_evicted-requires-clause-spare
 free_evicted-requires-clause-spare g c =

@@ -1,10 +1,7 @@
 use Rattle.std.proofs.Common.{sym, subst, ◌∙◌}
-use Rattle.smr_clock.specs.Belongs.{view}
 use Rattle.uma_life.specs.declared.ticket.Ticket.{Ticket}
 use Rattle.uma_bucket.specs.Home.{IsHome}
-use Rattle.name_rows.specs.Records.{told}
 use Rattle.name_cache.specs.Cache.{cache_home}
-use Rattle.name_cache.proofs.Freeing.{is_deferred, frees_so}
 use Rattle.name_cache.proofs.Taking.{within_freed}
 use Rattle.name_cache.proofs.cache.NameCache.free.Goals as goal
 
@@ -14,11 +11,20 @@ returns-clause-frees c =
     let seat = c.args.seat.now in
     let live = c.into_live.result in
     let freed = c.free_smr.ensures in
-    let within = within_freed seat (cache_home cache) live c.requires.seat.of_domains.same_home (c.requires.seat.of_domains.same_smr ∙ cache.smr)
-    (subst (λ (t : Ticket). IsHome (cache_home cache) t) (sym c.into_live.ensures.ticket) c.requires.item.1) in
     record {
       live = live;
       entry = c.into_live.ensures.entry;
       ticket = c.into_live.ensures.ticket;
-      frees = frees_so seat c.free_smr.new.seat live (is_deferred told (view c.args.pass.now) (view c.free_smr.new.pass) seat c.free_smr.new.seat live within freed.put freed.full) freed.same freed.ledger;
+      frees = record {
+        within = within_freed seat (cache_home cache) live c.requires.seat.of_domains.same_home (c.requires.seat.of_domains.same_smr ∙ cache.smr)
+            (subst (λ (t : Ticket). IsHome (cache_home cache) t) (sym c.into_live.ensures.ticket) c.requires.item.1);
+        put = freed.put;
+        rack = freed.rack;
+        full = freed.full;
+        free = freed.ledger;
+        fetches = freed.fetches;
+        top = freed.top;
+        plain = freed.plain;
+        misses = freed.misses;
+      };
     }

@@ -1,9 +1,10 @@
 use Rattle.std.proofs.Common.{◌≡◌, ◌%◌, sym, ap, subst, ◌∙◌}
 use Rattle.smr_clock.specs.declared.setup.Setup.{Setup}
 use Rattle.smr_clock.specs.Belongs.{TableId, view}
-use Rattle.name_cache.specs.Cache.{row_count}
+use Rattle.name_cache.specs.Cache.{row_count, first_version}
 use Rattle.name_cache.specs.LockedRow.{IsItemOf, HasItemOf}
 use Rattle.name_cache.specs.RowKey.{Identity}
+use Rattle.name_cache.proofs.Since.{rebound_above}
 use Rattle.name_cache.proofs.Telling.{still_then}
 use Rattle.name_cache.proofs.cache.NameCache.rebind.Goals as goal
 
@@ -20,7 +21,8 @@ pub returns-clause-rebound : goal.returns-clause-rebound
 returns-clause-rebound g c =
     let row = c.lock_row-guard.result.value in
     record {
-      row = row;
+      was = row;
+      is = c.bind.new.self;
       numbered = row.number ∙ ap (λ (id : Identity). id.number) c.lock_row-guard.ensures.row;
       parts = c.in_ok-entry.entry;
       hands_out = c.in_ok-entry.ensures.handed;
@@ -28,6 +30,12 @@ returns-clause-rebound g c =
       knew = c.take_entry.ensures.still;
       ends = c.bind.ensures.ends;
     }
+
+pub returns-clause-since : goal.returns-clause-since
+returns-clause-since g c =
+    let row = c.lock_row-guard.result.value in
+    rebound_above (view c.take_entry.new.pass) (view c.bind.new.pass) row c.bind.new.self c.in_ok-entry.entry c.args.key c.args.value c.bind.result (first_version c.args.self.now (c.args.key % row_count c.args.self.now))
+    (ap (λ (id : Identity). id.version) c.lock_row-guard.ensures.row) c.bind.ensures.ends
 
 pub returns-clause-items : goal.returns-clause-items
 returns-clause-items g c = subst (λ (id : Identity). HasItemOf id.clock id.home c.bind.result) c.lock_row-guard.ensures.row c.bind.ensures.out

@@ -1,22 +1,27 @@
-use Rattle.std.proofs.Common.{ap}
+use Rattle.std.proofs.Common.{◌≡◌, [], length, rules}
+use Rattle.std.proofs.lemmas.Result.{err_from_is_err_and}
 use Rattle.smr_clock.specs.Belongs.{view}
-use Rattle.uma_seat.specs.Counts.{ledger_in}
-use Rattle.name_cache.specs.Cache.{cache_zone, row_count}
+use Rattle.uma_seat.specs.Seat.{spares_of, shelf_of}
+use Rattle.uma_zone.specs.Flushed.{HasLastOf}
+use Rattle.name_cache.specs.Cache.{row_count}
+use Rattle.name_cache.specs.Room.{MakesRoom}
 use Rattle.name_cache.specs.Unbind.{Unbinds}
 use Rattle.name_cache.proofs.Ends.{unbinds, finds_unbound}
+use Rattle.name_cache.proofs.Rooms.{wants_room}
 use Rattle.name_cache.proofs.Telling.{still_then, still_host, above_next}
 use Rattle.name_cache.proofs.cache.NameCache.unbind.Goals as goal
 
 unbinds_so : (g : _) (c : goal.After-free g) → Unbinds (row_count c.args.self.now) c.args.key c.in-Some.value (view c.args.pass.now) c.args.seat.now c.in-Some.receipt (view c.free.new.pass) c.free.new.seat
 unbinds_so g c =
-    let cache = c.args.self.now in
     let one = c.make_room.new.seat in
-    let made = c.make_room.ensures in
+    let room = c.make_room.ensures in
+    let shelf : shelf_of one ≡ [] = search rules in
+    let spares : length (spares_of one) ≡ 2 = search rules in
+    let made : MakesRoom c.args.seat.now one = record { shelf = shelf; spares = spares; top = room.top; plain = room.plain; freed = room.freed; counts = room.counts; misses = room.misses } in
     let v = view c.args.pass.now in
     let v1 = view c.make_room.new.pass in
-    let u = c.in-Some.ensures.unbound in
-    unbinds (cache_zone cache) (row_count cache) c.args.key c.in-Some.value v v1 (view c.take_out.new.pass) (view c.free.new.pass) c.args.seat.now one one c.free.new.seat (ap ledger_in made.counts) made.freed (still_host v v1 made.host)
-    c.in-Some.receipt c.in-Some.entry u.0 u.1 u.2 c.free.ensures.frees c.free.ensures.host
+    unbinds (row_count c.args.self.now) c.args.key c.in-Some.value v v1 (view c.take_out.new.pass) (view c.free.new.pass) c.args.seat.now one c.free.new.seat made (still_host v v1 room.host)
+    c.in-Some.receipt c.in-Some.entry c.in-Some.ensures.unbound c.free.ensures.frees c.free.ensures.host
 
 pub returns-in-Some-clause-unbound : goal.returns-in-Some-clause-unbound
 returns-in-Some-clause-unbound g c = unbinds_so g c
@@ -28,13 +33,21 @@ returns-in-Some-clause-above g c =
 
 pub returns-in-None-clause-none : goal.returns-in-None-clause-none
 returns-in-None-clause-none g c =
-    let cache = c.args.self.now in
     let one = c.make_room.new.seat in
-    let made = c.make_room.ensures in
+    let room = c.make_room.ensures in
+    let shelf : shelf_of one ≡ [] = search rules in
+    let spares : length (spares_of one) ≡ 2 = search rules in
+    let made : MakesRoom c.args.seat.now one = record { shelf = shelf; spares = spares; top = room.top; plain = room.plain; freed = room.freed; counts = room.counts; misses = room.misses } in
     let v = view c.args.pass.now in
     let v1 = view c.make_room.new.pass in
-    let v2 = view c.take_out.new.pass in
-    finds_unbound (cache_zone cache) (row_count cache) c.args.key 0 v v1 v2 v2 c.args.seat.now one one one (ap ledger_in made.counts) made.freed (still_host v v1 made.host) c.in-None.ensures.none
+    finds_unbound (row_count c.args.self.now) c.args.key v v1 (view c.take_out.new.pass) c.args.seat.now one made (still_host v v1 room.host) c.in-None.ensures.none
+
+pub returns-in_err-make_room-clause-memory : goal.returns-in_err-make_room-clause-memory
+returns-in_err-make_room-clause-memory g c =
+    let made = c.make_room.ensures in
+    let stay : HasLastOf (shelf_of c.args.seat.now) (shelf_of c.make_room.new.seat) = search rules in
+    let p = err_from_is_err_and c.from_residual.result c.from_residual.ensures.1 in
+    rw p.1 (wants_room c.args.seat.now c.make_room.new.seat made.same made.top made.plain made.freed made.counts stay)
 
 -- ---- what the pass still knows
 

@@ -16,6 +16,7 @@ invariant_of-self c =
       paired = was.paired ∙ ap is_some (sym met.row.2);
       fits = λ guest item is kept. was.fits guest item (sym met.row.2 ∙ is) kept;
       low = λ guest is. subst (λ (n : ℕ). n + 1 < 2 ^ 44) (sym met.row.1) (was.low guest (sym met.row.2 ∙ is));
+      since = subst (λ (n : ℕ). was.key.value.version ≤ n) (sym met.row.1) was.since;
     }
 
 pub returns-clause-meets : goal.returns-clause-meets

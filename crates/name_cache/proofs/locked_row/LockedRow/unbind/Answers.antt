@@ -5,7 +5,7 @@ use Rattle.name_cache.specs.declared.receipt.Receipt.{Receipt}
 use Rattle.name_cache.specs.LockedRow.{row_identity, IsItemOf}
 use Rattle.name_cache.specs.RowKey.{Identity}
 use Rattle.name_cache.proofs.Linked.{out_of, item_still}
-use Rattle.name_cache.proofs.Rebinding.{same_number, unbinds_in_row}
+use Rattle.name_cache.proofs.Rebinding.{same_number, same_row, unbinds_in_row}
 use Rattle.name_cache.proofs.Telling.{still_then}
 use Rattle.name_cache.proofs.locked_row.LockedRow.unbind.Goals as goal
 
@@ -13,15 +13,15 @@ pub returns-clause-unbound : goal.returns-clause-unbound
 returns-clause-unbound c =
     let v = view c.args.pass.now in
     let v1 = view c.meet.new.pass in
-    let v2 = view c.meet-2.new.pass in
+    let v2 = view c.take.new.pass in
     let one = c.meet.new.self in
     let met = c.meet.ensures in
-    let unlink = c.in_ok-out.ensures in
-    let again = c.meet-2.ensures in
+    let two = c.take.new.self in
+    let taken = c.in_ok-out.ensures in
     let receipt : Receipt = record { row = c.number-row.result; version = c.version-version.result } in
     let key_is : key_in one.row.guest ≡ Some c.args.key = search rules in
-    unbinds_in_row v v1 c.args.self.now one met.meets met.same met.identity v2 c.unlink.new.self c.meet-2.new.self unlink.identity unlink.version again.meets again.same receipt (c.number-row.ensures ∙ same_number c.unlink.new.self c.meet-2.new.self again.identity ∙ same_number one c.unlink.new.self unlink.identity) c.version-version.ensures.version
-    c.args.key c.in_ok-value.value c.in_ok-out.out c.stamp.new.self key_is (sym c.value.ensures ∙ c.in_ok-value.was) unlink.guest unlink.last unlink.out c.stamp.ensures.stamped
+    unbinds_in_row v v1 c.args.self.now one met.meets met.same met.identity v2 two two taken.identity taken.version taken.told (same_row two) receipt (c.number-row.ensures ∙ same_number one two taken.identity) c.version-version.ensures.version
+    c.args.key c.in_ok-value.value c.in_ok-out.out c.stamp.new.self key_is (sym c.value.ensures ∙ c.in_ok-value.was) taken.guest taken.last taken.out c.stamp.ensures.stamped
 
 pub returns-clause-out : goal.returns-clause-out
 returns-clause-out c =
@@ -32,4 +32,4 @@ returns-clause-out c =
     item_still old.clock old.home raw c.stamp.new.self c.stamp.ensures.same (subst (λ (id : Identity). IsItemOf id.clock id.home raw) c.meet.ensures.identity of)
 
 pub returns-clause-still : goal.returns-clause-still
-returns-clause-still c = still_then (view c.args.pass.now) (view c.meet.new.pass) (view c.meet-2.new.pass) c.meet.ensures.meets.still c.meet-2.ensures.meets.still
+returns-clause-still c = still_then (view c.args.pass.now) (view c.meet.new.pass) (view c.take.new.pass) c.meet.ensures.meets.still c.in_ok-out.ensures.told.still

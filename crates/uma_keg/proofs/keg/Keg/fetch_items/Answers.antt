@@ -1,10 +1,10 @@
-use Rattle.std.proofs.Common.{ℕ, refl, ap, subst, ◌∙◌}
+use Rattle.std.proofs.Common.{ℕ, refl, ap, subst, arith, ◌∙◌}
 use Rattle.std.proofs.lemmas.Result.{err_from_is_err_and}
 use Rattle.uma_bucket.specs.Bucket.{items_of}
 use Rattle.uma_keg.specs.Outs.{out_of}
 use Rattle.uma_keg.specs.Fetch.{Refuses}
 use Rattle.uma_keg.specs.TakeItems.{StopsAtItem}
-use Rattle.uma_keg.proofs.FetchedItems.{is_ready, proceeds, refused_by_keg, refused_at_slab, refused_first, fetches_all, fetches_some, outs_stopped}
+use Rattle.uma_keg.proofs.FetchedItems.{is_ready, still_below, within_taken, proceeds, refused_by_keg, refused_at_slab, refused_first, fetches_all, fetches_some, out_stopped, outs_stopped}
 use Rattle.uma_keg.proofs.keg.Keg.fetch_items.Goals as goal
 
 pub returns-in_err-bring_slabs-clause-refused : goal.returns-in_err-bring_slabs-clause-refused
@@ -21,13 +21,29 @@ returns-in_err-count-clause-refused g c =
     rw (p.1, p.2) (refused_by_keg c.args.self.now mid c.args.hooks.now c.args.ask refusal c.in_err-count.ensures.which
     (proceeds c.args.self.now mid c.args.ask brought.brings.0 (Refuses refusal) c.in_ok-check_limit.ensures.clear brought.brings.1 (brought.brings.2 c.args.ask.zone) brought.same brought.zones (brought.limits c.args.ask.zone) c.in_err-count.ensures.refuses))
 
-pub take_items-requires-clause-below : goal.take_items-requires-clause-below
-take_items-requires-clause-below g c =
+-- once the slabs are in, the zone is below its limit as before
+pub count_given-requires-clause-below : goal.count_given-requires-clause-below
+count_given-requires-clause-below g c limited =
+    let brought = c.in_ok-bring_slabs.ensures in
+    still_below c.args.self.now c.bring_slabs.new.self c.args.ask.zone brought.zones (brought.limits c.args.ask.zone) c.in_ok-check_limit.ensures.below limited
+
+pub returns-in-Ok-clause-within : goal.returns-in-Ok-clause-within
+returns-in-Ok-clause-within g c =
     let mid = c.bring_slabs.new.self in
     let brought = c.in_ok-bring_slabs.ensures in
     let clear = c.in_ok-check_limit.ensures in
     let ready = is_ready c.args.self.now mid c.args.ask c.in_ok-count.count clear.clear clear.below brought.brings brought.zones brought.limits brought.same c.in_ok-count.ensures.gives c.requires.some in
-    ready.given.allowed
+    let takes = c.in-Ok.ensures.takes in
+    within_taken mid c.take_items.new.self c.args.ask.zone c.in_ok-count.count c.in_ok-count.count (omega (arith, takes.takes.out, takes.counted)) (omega arith) (c.in-Ok.ensures.limits c.args.ask.zone) ready.given.allowed
+
+pub returns-in-Err-clause-within : goal.returns-in-Err-clause-within
+returns-in-Err-clause-within g c =
+    let mid = c.bring_slabs.new.self in
+    let brought = c.in_ok-bring_slabs.ensures in
+    let clear = c.in_ok-check_limit.ensures in
+    let ready = is_ready c.args.self.now mid c.args.ask c.in_ok-count.count clear.clear clear.below brought.brings brought.zones brought.limits brought.same c.in_ok-count.ensures.gives c.requires.some in
+    let stops = c.in-Err.ensures.stops in
+    within_taken mid c.take_items.new.self c.args.ask.zone c.in_ok-count.count c.in-Err.taken (out_stopped mid c.take_items.new.self c.args.hooks.now c.args.ask.zone c.in_ok-count.count c.in-Err.taken _ _ _ stops) (omega (arith, stops.fewer)) (c.in-Err.ensures.limits c.args.ask.zone) ready.given.allowed
 
 pub returns-in-Ok-clause-fetched : goal.returns-in-Ok-clause-fetched
 returns-in-Ok-clause-fetched g c =

@@ -23,7 +23,7 @@ invariant_of-self g c =
     let taken = c.take-2.ensures in
     record {
       places_law = PlacesLaw-taken _ _ _ _ _ _ no c.args.zone keg.places_law takes below c.issue-deed.ensures.zones taken.gone taken.others taken.home_items taken.count taken.places;
-      zones_law = ZonesLaw-taken _ _ _ _ no c.args.zone keg.zones_law c.issue-deed.ensures.zones (free_home keg.places_law no below takes.free) c.requires.exists c.requires.below;
+      zones_law = ZonesLaw-taken _ _ _ _ no c.args.zone keg.zones_law c.issue-deed.ensures.zones (free_home keg.places_law no below takes.free) c.requires.exists;
       tally_law = TallyLaw-kept _ _ _ keg.tally_law counts.slabs takes.slabs.per_slab;
       paired = keg.paired;
       book_of_hooks = ap (λ (book : BookId). book.origin) c.issue-deed.ensures.table ∙ keg.book_of_hooks;
@@ -59,7 +59,7 @@ invariant_of-self-in-Err g c =
     let below : no < keg.places.cap * keg.places.per_slab = rw (takes.slabs.cap, takes.slabs.per_slab) at past in
     let taken = c.take-2.ensures in
     let law : PlacesLaw c.take.new.self _ c.take-2.new.self = PlacesLaw-taken _ _ _ _ _ _ no c.args.zone keg.places_law takes below c.issue-deed.ensures.zones taken.gone taken.others taken.home_items taken.count taken.places in
-    let zones = ZonesLaw-taken _ _ _ _ no c.args.zone keg.zones_law c.issue-deed.ensures.zones (free_home keg.places_law no below takes.free) c.requires.exists c.requires.below in
+    let zones = ZonesLaw-taken _ _ _ _ no c.args.zone keg.zones_law c.issue-deed.ensures.zones (free_home keg.places_law no below takes.free) c.requires.exists in
     let same_deed : c.in-Err.deed ≡ c.issue-deed.result = c.in-Err.ensures.unchanged.1 in
     let same_item : c.in-Err.item ≡ c.unwrap-item.result = c.in-Err.ensures.unchanged.0 in
     let number : c.accept-no.result ≡ no = c.accept-no.ensures.number ∙ ap no_of same_deed ∙ c.issue-deed.ensures.deed.0 in

@@ -8,8 +8,8 @@ use Rattle.uma_zone.proofs.Fetches.{has_fetched, turned_away}
 use Rattle.uma_zone.proofs.Seats.{lent_of, refilled_of, domain_below, fetches_home}
 use Rattle.uma_zone.proofs.zone.Zone.fetch.Goals as goal
 
-pub returns-then-not-is_added_to-clause-seat : goal.returns-then-not-is_added_to-clause-seat
-returns-then-not-is_added_to-clause-seat g c = lent_of c.args.self.now c.args.seat.now c.lend_empty.result.now c.lend_empty.ensures.bucket c.requires.seat
+pub returns-then-not-has_zone-clause-seat : goal.returns-then-not-has_zone-clause-seat
+returns-then-not-has_zone-clause-seat g c = lent_of c.args.self.now c.args.seat.now c.lend_empty.result.now c.lend_empty.ensures.bucket c.requires.seat
 
 pub drop-guard-requires-in-Ok : goal.drop-guard-requires-in-Ok
 drop-guard-requires-in-Ok g c =
@@ -41,7 +41,7 @@ returns-in-Ok-clause-fetched g c =
     let done = c.fetch.ensures in
     let locked = c.lock-guard.ensures in
     let lent = ap size_of c.lend_empty.ensures.bucket in
-    has_fetched zone c.args.seat.now c.fetch.new.seat (keg_in c.lock-guard.result.value) (keg_in c.fetch.new.self) _ c.fetch.result c.in-Ok.field-0 locked.numbers (c.is_added_to.ensures.limit c.if-not-is_added_to.false) locked.reserve
+    has_fetched zone c.args.seat.now c.fetch.new.seat (keg_in c.lock-guard.result.value) (keg_in c.fetch.new.self) _ c.fetch.result c.in-Ok.field-0 locked.numbers locked.reserve
     refl (c.size.ensures.size ∙ lent) (done.top_room ∙ lent) c.domain.ensures done.rest.same done.fetched done.share done.ledger c.in-Ok.is
 
 pub returns-in-Err-Refused-clause-seat : goal.returns-in-Err-Refused-clause-seat
@@ -68,4 +68,4 @@ returns-in-Err-Refused-clause-refused g c =
     let ask : FetchAsk = record { zone = zone.index; most = c.size.result; reserve = _; domain = c.domain.result } in
     let done = c.fetch.ensures in
     let locked = c.lock-guard.ensures in
-    turned_away zone c.args.seat.now c.fetch.new.seat (keg_in c.lock-guard.result.value) zone.hooks ask c.fetch.result c.in-Err-Refused.refusal refl refl (c.is_added_to.ensures.limit c.if-not-is_added_to.false) locked.reserve locked.cap done.none done.share done.ledger done.names (c.in-Err-Refused.is ∙ ap Err c.in-Err-Refused.field-0-is)
+    turned_away zone c.args.seat.now c.fetch.new.seat (keg_in c.lock-guard.result.value) (keg_in c.fetch.new.self) ask c.fetch.result c.in-Err-Refused.refusal refl locked.numbers locked.reserve locked.cap done.none done.share done.ledger done.refused done.names (c.in-Err-Refused.is ∙ ap Err c.in-Err-Refused.field-0-is)

@@ -44,4 +44,4 @@ returns-in-Err-clause-counts g c =
     let new = c.bind.new.seat in
     let P : Bool → Type 0 = λ done. CountedBind (zone_cap zone) done (Some (ledger_of old)) (Some (ledger_of new)) in
     refused_ends c.turned.result _ P c.turned.ensures.refuses c.turned.ensures.not_memory
-    (λ other. refusal_counts zone kept.unlimited kept.unreserved (row_count kept.cache) c.args.key (view c.args.pass.now) (view c.bind.new.pass) old new c.in-Err.refused c.in-Err.ensures.refused other)
+    (λ other. refusal_counts zone kept.unreserved (row_count kept.cache) c.args.key (view c.args.pass.now) (view c.bind.new.pass) old new c.in-Err.refused c.in-Err.ensures.refused other)

@@ -67,3 +67,8 @@ pub returns-in-drainseat : goal.returns-in-drainseat
 returns-in-drainseat c =
     let is : c.args.field.now ≡ codes "drainseat" = text_from_reads c.args.field.now (codes "drainseat") (omega (arith, c.in-drainseat.len_at_least, c.in-drainseat.len_below)) (search rules) in
     rw is refl
+
+pub returns-in-setmax : goal.returns-in-setmax
+returns-in-setmax c =
+    let is : c.args.field.now ≡ codes "setmax" = text_from_reads c.args.field.now (codes "setmax") (omega (arith, c.in-setmax.len_at_least, c.in-setmax.len_below)) (search rules) in
+    rw is refl

@@ -1,0 +1,14 @@
+use Rattle.keyed_lock.specs.KeyedLock.{lock_key}
+use Rattle.name_cache.proofs.Clocks.{root_too}
+use Rattle.name_cache.proofs.home.Home.lower.Goals as goal
+
+pub returns-clause-lowered : goal.returns-clause-lowered
+returns-clause-lowered g c =
+    let home = c.args.self.now in
+    let root = c.lock-guard.result.value in
+    record {
+      was = root;
+      is = c.lower.new.root;
+      of_clock = root_too (lock_key home.root).clock.value home.clock home.same_clock root c.lock-guard.ensures.kept;
+      back = c.lower.ensures.root;
+    }
