@@ -7,6 +7,7 @@ mod faults;
 mod gates;
 mod halls;
 mod refusals;
+mod texts;
 
 use crate::ended::Ended;
 use crate::finish::Finish;
@@ -29,14 +30,14 @@ struct Outside {
     ghost gives: { 1 ≤ each },
 }
 
-/// Runs with these words on this input under a gate, and answers the end and how many bytes were written.
+/// Runs with these words on this input under a gate, and answers the end and what was written.
 fn end_of<R: AllocGlobal + Threads + Wait + Sync, G: Gate + Sync>(
     rt: &R,
     words: &[&str],
     input: &str,
     outside: Outside,
     gate: &G,
-) -> Result<(Finish, usize), Fail> {
+) -> Result<(Finish, Vec<u8>), Fail> {
     let alloc = rt.alloc();
     let bytes = Vec::from_slice(alloc, input.as_bytes())?;
     let mut owned = Vec::new(alloc);
@@ -46,7 +47,7 @@ fn end_of<R: AllocGlobal + Threads + Wait + Sync, G: Gate + Sync>(
     let mut source = MemSource::new(bytes, outside.each, outside.failing_reads);
     let mut sink = MemSink::new(alloc, outside.room, outside.failing_writes)?;
     let finish = run(rt, alloc, &owned, &mut source, &mut sink, gate);
-    Ok((finish, sink.bytes().len()))
+    Ok((finish, Vec::from_slice(alloc, sink.bytes())?))
 }
 
 /// Replays this input under a gate, where nothing of the outside fails.

@@ -55,3 +55,29 @@ fn the_last_refusal_is_kept_with_its_numbers(rt: HostRuntime) -> Result<(), Fail
     }
     Ok(())
 }
+
+#[test]
+fn a_worker_that_never_leaves_its_section_meets_the_cap(rt: HostRuntime) -> Result<(), Fail> {
+    let input = texts::never_leaving(rt.alloc())?;
+    let finish = replayed_under(&rt, input.as_str(), &FreeGate)?;
+    let full = Refusal::Full {
+        slabs: 4,
+        made: 4,
+    };
+    assert_eq!(rt; kept_by_the_last(&finish), Some(full));
+    Ok(())
+}
+
+#[test]
+fn each_of_sixteen_workers_keeps_the_limit_that_it_met(rt: HostRuntime) -> Result<(), Fail> {
+    let input = texts::sixteen_at_a_limit(rt.alloc())?;
+    let finish = replayed_under(&rt, input.as_str(), &FreeGate)?;
+    let report = finish.report.expect(&rt, "a report");
+    let ledgers = report.ledgers.as_slice();
+    assert_eq!(rt; ledgers.len(), 1);
+    assert_eq!(rt; ledgers[0].as_slice().len(), 16);
+    for ledger in ledgers[0].as_slice() {
+        assert_eq!(rt; ledger.last, Some(Refusal::AtLimit { out: 1, limit: 1 }));
+    }
+    Ok(())
+}
