@@ -11,6 +11,7 @@ use Rattle.uma_seat.specs.Fetches.{refusal_cause}
 use Rattle.uma_seat.specs.Seat.{ledger_of, shelf_of, misses_of, IsSameSeat, KeepsFreed}
 use Rattle.uma_life.specs.Live.{live_ticket}
 use Rattle.uma_life.specs.Ticket.{ticket_no}
+use Rattle.uma_zone.specs.OwnDomain.{FindsNothing}
 use Rattle.uma_zone.specs.Alloc.{Serves}
 use Rattle.uma_zone.specs.Flushed.{HasLastOf}
 use Rattle.name_rows.specs.declared.entry.Entry.{Entry}
@@ -20,7 +21,6 @@ use Rattle.name_rows.specs.declared.records.Record.{Record}
 use Rattle.name_rows.specs.declared.unripe.Unripe.{Unripe as Unripe'}
 use Rattle.name_rows.specs.declared.words.Words.{Words}
 use Rattle.name_rows.specs.Entries.{OnWords, entry_state}
-use Rattle.name_rows.specs.Guests.{content_of}
 use Rattle.name_rows.specs.Reading.{IsNewest, bound_to}
 use Rattle.name_rows.specs.Ripening.{IsUnripe}
 use Rattle.name_rows.specs.Roots.{kept_in}
@@ -135,6 +135,7 @@ module _ (zone : ZoneOfEntries) (rows key value : ℕ) (v v1 v2 v3 : View Part) 
     turned = record {
       empty = sym (usable_same old one as_one made.top made.plain) ∙ t.empty;
       still = t.still;
+      looked = subst (λ (n : ℕ). FindsNothing zone.domains n) (ap (λ (s : _). s.domain) as_one.0) t.looked;
       missed = subst (λ (m : FailShare). IsRaised m (misses_of two)) made.misses t.missed;
       fetches = t.fetches ∙ ap (λ (l : List Cause). l ++ refusal_cause refusal ∷ []) (ap fetches_in made.counts);
       counted = subst (λ (l : SeatLedger). CountsTurned l (ledger_of two) refusal) (ap ledger_in made.counts) t.counted;

@@ -17,7 +17,7 @@ use Rattle.name_rows.specs.declared.names.Names.{Names}
 use Rattle.name_rows.specs.declared.part.Part.{Part}
 use Rattle.name_rows.specs.declared.row.Row.{Row}
 use Rattle.name_cache.specs.Locks.{RowLock, lock_version, AreNamed}
-use Rattle.name_cache.specs.Making.{AreFreshRows, IsFreshRow, RefusesCache, versions_of}
+use Rattle.name_cache.specs.Making.{AreFreshRows, IsFreshRow, RefusesCache}
 use Rattle.name_cache.specs.RowKey.{key_identity, identity}
 
 -- the next of the rows

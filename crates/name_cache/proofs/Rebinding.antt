@@ -1,15 +1,14 @@
 -- How a row that is met, rewritten and met again comes out.
-use Rattle.std.proofs.Common.{◌≡◌, ◌<◌, ◌≤◌, ◌+◌, ◌^◌, ℕ, List, [], ◌∷◌, Option, Some, None, ◌∙◌, sym, ap, subst, refl}
+use Rattle.std.proofs.Common.{◌≡◌, ◌<◌, ◌+◌, ◌^◌, ℕ, List, [], ◌∷◌, Option, Some, None, ◌∙◌, sym, ap, subst, refl}
 use Rattle.std.proofs.lemmas.Option.{none-some, same_Some}
 use Rattle.smr_clock.specs.declared.view.View.{View}
 use Rattle.uma_life.specs.Life.{Life}
 use Rattle.uma_life.specs.Ticket.{ticket_no}
-use Rattle.name_rows.specs.declared.entry_state.EntryState.TheVariants.{Clean}
 use Rattle.name_rows.specs.declared.guest.Guest.{Guest}
 use Rattle.name_rows.specs.declared.part.Part.{Part}
 use Rattle.name_rows.specs.declared.records.Bound.{Bound}
 use Rattle.name_rows.specs.declared.records.Record.{Record}
-use Rattle.name_rows.specs.Entries.{OnWords, entry_life, entry_state, guest_of}
+use Rattle.name_rows.specs.Entries.{OnWords, entry_life, guest_of}
 use Rattle.name_rows.specs.Guests.{bound_of, content_of}
 use Rattle.name_rows.specs.Linking.{row_record}
 use Rattle.name_rows.specs.Reading.{bound_to}

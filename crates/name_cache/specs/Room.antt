@@ -1,5 +1,5 @@
 -- Own: what a call of a cache does to its seat before it looks at a row.
-use Rattle.std.specs.Prelude.{◌≡◌, ℕ, [], length, false}
+use Rattle.std.specs.Prelude.{◌≡◌, [], length, false}
 use Rattle.zone_stats.specs.LedgerSteps.{CountsAlloc}
 use Rattle.zone_stats.specs.declared.refusal.Refusal.{Refusal}
 use Rattle.uma_seat.specs.Seat.{shelf_of, spares_of, ledger_of, KeepsTop, KeepsPlain, KeepsFreed, KeepsCounts, KeepsMisses}

@@ -5,3 +5,4 @@ pub mod Tried
 pub mod Kept
 pub mod Summed
 pub mod Shared
+pub mod UnderLock

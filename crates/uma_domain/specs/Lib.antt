@@ -8,3 +8,4 @@ pub mod Tries
 pub mod Lists
 pub mod Domain
 pub mod Sums
+pub mod UnderLock

@@ -1,4 +1,4 @@
-ghost use Rattle.std.specs.Prelude.{◌≡◌, ◌≤◌, ◌<◌, ◌^◌, [], All, true, false, IfOk, IfErr, IfSome, IfNone};
+ghost use Rattle.std.specs.Prelude.{◌≡◌, ◌≤◌, ◌<◌, ◌^◌, ◌-◌, [], All, true, false, IfOk, IfErr, OnOk, OnErr, IfSome, IfNone};
 ghost use Rattle.deed_book.specs.Book.{book_table};
 ghost use Rattle.deed_book.specs.FailShare.{share_table, causes_in};
 ghost use Rattle.smr_clock.specs.Belongs.{IsOf, clock_id, view, holder};
@@ -8,6 +8,7 @@ ghost use Rattle.uma_domain.specs.Identity.{home_of};
 ghost use Rattle.uma_domain.specs.Listed.{IsPlainOf, IsLooseOf, IsSealedOf, IsRipeOf};
 ghost use Rattle.uma_domain.specs.Lists.{IsRaised};
 ghost use Rattle.uma_domain.specs.Taken.{taken_in, IsTakenOf};
+ghost use Rattle.uma_domain.specs.UnderLock.{PutsPlain, PutsLoose, PutsSealed, TakesPlain, FindsNoPlain, TakesOldestRipe, FindsNoneRipe, SealsLoose, TakesUnused, TakesEach, KeepsLists, Marks, CountsListed, TellsWorking, SumsListed};
 
 use crate::key::DomainKey;
 use crate::lists::Lists;
@@ -25,9 +26,9 @@ use uma_life::Body;
 /// The lists of one memory domain of a zone, behind a lock.
 ///
 /// Each call waits for the lock, makes the call of the same name on the lists, and lets the lock go. What it did to the
-/// lists is said there, since no clause can say it once the lock is let go. What comes out was listed by this domain, so it
-/// isn't empty, its items are at home in the domain's book, zone and count of domains, and its note is of the domain's
-/// clock.
+/// lists is said by lists of this domain as they stood under the lock, and as the call left them. What comes out was listed
+/// by this domain, so it isn't empty, its items are at home in the domain's book, zone and count of domains, and its note is
+/// of the domain's clock.
 #[derive(Drop)]
 pub struct Domain<T: Body, H: Host> {
     /// In a box, since each lock moves the value out and each unlock moves it in.
@@ -73,7 +74,8 @@ impl<T: Body, H: Host> Domain<T, H> {
     /// listed.
     pub fn put_plain<R: Wait>(&self, rt: &R, bucket: Bucket<T>) -> Result<(), Bucket<T>>
         requires { IsPlainOf (domain_identity self.now).home bucket }
-        ensures { IfErr result (λ back. back ≡ bucket) }
+        ensures back { IfErr result (λ back. back ≡ bucket) }
+        ensures put { OnOk result (PutsPlain self.now bucket) }
     {
         let mut guard = self.lists.lock(rt);
         guard.value.put_plain(bucket)
@@ -83,7 +85,8 @@ impl<T: Body, H: Host> Domain<T, H> {
     /// listed.
     pub fn put_loose<R: Wait>(&self, rt: &R, bucket: Loose<T>) -> Result<(), Loose<T>>
         requires { IsLooseOf (domain_identity self.now).home bucket }
-        ensures { IfErr result (λ back. back ≡ bucket) }
+        ensures back { IfErr result (λ back. back ≡ bucket) }
+        ensures put { OnOk result (PutsLoose self.now bucket) }
     {
         let mut guard = self.lists.lock(rt);
         guard.value.put_loose(bucket)
@@ -93,7 +96,8 @@ impl<T: Body, H: Host> Domain<T, H> {
     /// listed.
     pub fn put_sealed<R: Wait>(&self, rt: &R, bucket: Sealed<T, H>) -> Result<(), Sealed<T, H>>
         requires { IsSealedOf (domain_identity self.now) bucket }
-        ensures { IfErr result (λ back. back ≡ bucket) }
+        ensures back { IfErr result (λ back. back ≡ bucket) }
+        ensures put { OnOk result (PutsSealed self.now bucket) }
     {
         let mut guard = self.lists.lock(rt);
         guard.value.put_sealed(bucket)
@@ -115,6 +119,8 @@ impl<T: Body, H: Host> Domain<T, H> {
         ensures of_domain { IfSome result (IsPlainOf (domain_identity self.now).home) }
         ensures hit { IfSome result (λ _. share.new ≡ share.old) }
         ensures raised { IfNone result (IsRaised share.old share.new) }
+        ensures taken { IfSome result (TakesPlain self.now) }
+        ensures looked { IfNone result (FindsNoPlain self.now) }
     {
         let mut guard = self.lists.lock(rt);
         guard.value.take_plain(share)
@@ -134,6 +140,8 @@ impl<T: Body, H: Host> Domain<T, H> {
         ensures of_domain { IfSome result (IsRipeOf (domain_identity self.now)) }
         ensures hit { IfSome result (λ _. share.new ≡ share.old) }
         ensures raised { IfNone result (IsRaised share.old share.new) }
+        ensures taken { IfSome result (TakesOldestRipe self.now) }
+        ensures looked { IfNone result (FindsNoneRipe self.now) }
     {
         let mut guard = self.lists.lock(rt);
         guard.value.take_ripe(clock, share)
@@ -147,6 +155,7 @@ impl<T: Body, H: Host> Domain<T, H> {
         ensures phase { (holder pass.new).phase ≡ (holder pass.old).phase }
         ensures seen { (holder pass.old).seen ≤ (holder pass.new).seen }
         ensures host { (view pass.new).host ≡ (view pass.old).host }
+        ensures tried { SealsLoose self.now H.copied (view pass.old) result (view pass.new) }
     {
         let mut guard = self.lists.lock(rt);
         guard.value.seal_loose(clock, pass)
@@ -160,7 +169,9 @@ impl<T: Body, H: Host> Domain<T, H> {
         clock: &Clock<H>,
     ) -> Result<Taken<T, H>, Memory>
         requires { clock_id clock.now ≡ (domain_identity self.now).clock }
-        ensures { IfOk result (λ taken. All (IsTakenOf (domain_identity self.now)) (taken_in taken)) }
+        ensures of_domain { IfOk result (λ taken. All (IsTakenOf (domain_identity self.now)) (taken_in taken)) }
+        ensures taken { IfOk result (TakesUnused self.now) }
+        ensures unchanged { OnErr result (KeepsLists self.now) }
     {
         let mut guard = self.lists.lock(rt);
         guard.value.take_trim(alloc, clock)
@@ -174,7 +185,9 @@ impl<T: Body, H: Host> Domain<T, H> {
         clock: &Clock<H>,
     ) -> Result<Taken<T, H>, Memory>
         requires { clock_id clock.now ≡ (domain_identity self.now).clock }
-        ensures { IfOk result (λ taken. All (IsTakenOf (domain_identity self.now)) (taken_in taken)) }
+        ensures of_domain { IfOk result (λ taken. All (IsTakenOf (domain_identity self.now)) (taken_in taken)) }
+        ensures taken { IfOk result (TakesEach self.now) }
+        ensures unchanged { OnErr result (KeepsLists self.now) }
     {
         let mut guard = self.lists.lock(rt);
         guard.value.take_all(alloc, clock)
@@ -182,7 +195,8 @@ impl<T: Body, H: Host> Domain<T, H> {
 
     /// How many items are listed.
     pub fn count<R: Wait>(&self, rt: &R) -> u64
-        ensures { result < 2 ^ 32 }
+        ensures few { result < 2 ^ 32 }
+        ensures counted { CountsListed self.now result }
     {
         let guard = self.lists.lock(rt);
         guard.value.count()
@@ -190,22 +204,27 @@ impl<T: Body, H: Host> Domain<T, H> {
 
     /// The least and the greatest count of items listed since the last mark.
     pub fn working<R: Wait>(&self, rt: &R) -> (u64, u64)
-        ensures { (result.0 ≤ result.1) × (result.1 < 2 ^ 32) }
+        ensures bounded { (result.0 ≤ result.1) × (result.1 < 2 ^ 32) }
+        ensures told { TellsWorking self.now result.0 result.1 }
     {
         let guard = self.lists.lock(rt);
         guard.value.working()
     }
 
     /// Begins a new interval.
-    pub fn mark<R: Wait>(&self, rt: &R) {
+    pub fn mark<R: Wait>(&self, rt: &R)
+        ensures marked { Marks self.now }
+    {
         let mut guard = self.lists.lock(rt);
         guard.value.mark();
     }
 
     /// How often the items listed passed each hook, and how many of them are freed. In the domain's own zone the ctors
-    /// exceed the dtors by those that are freed, and in every other zone they are equal, modulo 2^64.
+    /// exceed the dtors by those that are freed, and in every other zone they are equal, modulo 2^64. Each is below 2^96.
     pub fn sums<R: Wait>(&self, rt: &R) -> Sums
+        ensures adds { SumsListed self.now result }
         ensures few { AreOfAtMost (2 ^ 32) result }
+        ensures below { AreOfAtMost (2 ^ 32 - 1) result }
         ensures balance { Balance (domain_identity self.now).home.zone result }
     {
         let guard = self.lists.lock(rt);

@@ -177,7 +177,7 @@ impl<T: Body, H: Host> Lists<T, H> {
         ensures identity { lists_identity self.new ≡ lists_identity self.old }
     {
         let Some(bucket) = self.plain.pop_back() else {
-            self.miss(share);
+            self.miss_plain(share);
             return None;
         };
         let count = self.working.count - u64::from(bucket.len());
@@ -185,9 +185,11 @@ impl<T: Body, H: Host> Lists<T, H> {
         Some(bucket)
     }
 
-    /// Counts a look that found nothing.
-    pub(crate) fn miss(&mut self, share: &mut FailShare)
-        requires { share_table share.old ≡ (lists_identity self.old).misses }
+    /// Counts a look for a plain bucket where none is listed.
+    pub(crate) fn miss_plain(&mut self, share: &mut FailShare)
+        requires plain { (lists_identity self.old).smr ≡ false }
+        requires none { plain_in self.old ≡ [] }
+        requires share { share_table share.old ≡ (lists_identity self.old).misses }
         ensures missed { missed_in self.new ≡ missed_in self.old + 1 }
         ensures raised { IsRaised share.old share.new }
         ensures kept { (plain_in self.new ≡ plain_in self.old) × (loose_in self.new ≡ loose_in self.old) × (sealed_in self.new ≡ sealed_in self.old) × (working_in self.new ≡ working_in self.old) }

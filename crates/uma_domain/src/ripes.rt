@@ -12,7 +12,9 @@ use crate::scans::take_first_ripe;
 use crate::tries::seal_each;
 use deed_book::FailShare;
 use smr_clock::{Clock, Host, Pass};
-use uma_bucket::Ripe;
+use std::collections::VecDeque;
+use std::snapshot::Snapshot;
+use uma_bucket::{Ripe, Sealed};
 use uma_life::Body;
 
 /// Sealed buckets, and loose ones that are to be sealed.
@@ -36,13 +38,33 @@ impl<T: Body, H: Host> Lists<T, H> {
         ensures loose { loose_in self.new ≡ loose_in self.old }
         ensures identity { lists_identity self.new ≡ lists_identity self.old }
     {
+        let before = Snapshot::of(&self.sealed);
         let Some(ripe) = take_first_ripe(&mut self.sealed, clock) else {
-            self.miss(share);
+            self.miss_ripe(before, share);
             return None;
         };
         let count = self.working.count - u64::from(ripe.len());
         self.working = self.working.moved_to(count);
         Some(ripe)
+    }
+
+    /// Counts a look for a ripe bucket. What was listed before it is handed in: each of these buckets was polled once since
+    /// then, and its poll said no.
+    pub(crate) fn miss_ripe(
+        &mut self,
+        before: Snapshot<VecDeque<Sealed<T, H>>>,
+        share: &mut FailShare,
+    )
+        requires smr { (lists_identity self.old).smr ≡ true }
+        requires said_no { AllStay before.value.items (sealed_in self.old) }
+        requires share { share_table share.old ≡ (lists_identity self.old).misses }
+        ensures missed { missed_in self.new ≡ missed_in self.old + 1 }
+        ensures raised { IsRaised share.old share.new }
+        ensures kept { (plain_in self.new ≡ plain_in self.old) × (loose_in self.new ≡ loose_in self.old) × (sealed_in self.new ≡ sealed_in self.old) × (working_in self.new ≡ working_in self.old) }
+        ensures identity { lists_identity self.new ≡ lists_identity self.old }
+    {
+        self.missed.push(());
+        self.misses.add(share, 0, 0, 0);
     }
 
     /// Each loose bucket tries once to be sealed, oldest first. Those that were sealed are the newest sealed ones, in that

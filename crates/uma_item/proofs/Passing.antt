@@ -1,15 +1,13 @@
 -- Each hook takes the counts that an item derives to those that it derives after the hook.
-use Rattle.std.proofs.Common.{◌≡◌, ◌≢◌, ◌≤◌, ◌<◌, ◌+◌, ◌-◌, ◌%◌, ◌^◌, ◌==◌, ℕ, Option, zero, suc, Bool, true, false, cond, List, [], ◌∷◌, length, refl, sym, ◌∙◌, ap, subst, arith, slice_set, slice_index_or, eq-eqb, inl, inr}
+use Rattle.std.proofs.Common.{◌≡◌, ◌≢◌, ◌<◌, ◌-◌, ◌==◌, ℕ, Option, Bool, true, false, cond, List, [], ◌∷◌, length, refl, sym, ◌∙◌, ap, arith, slice_set, slice_index_or, eq-eqb, inl, inr}
 use Rattle.std.proofs.lemmas.Bool.{ne_eqb}
 use Rattle.std.proofs.lemmas.Bool.Decides.{eqb_tells}
-use Rattle.std.proofs.lemmas.Grind.{common_steps}
 use Rattle.std.proofs.lemmas.List.{get_or-set_same, get_or-set_other}
 use Rattle.uma_life.specs.declared.body_phase.BodyPhase.{BodyPhase}
-use Rattle.uma_life.specs.declared.body_phase.BodyPhase.TheVariants.{Raw, Kept, Zoned, Built, Gone}
+use Rattle.uma_life.specs.declared.body_phase.BodyPhase.TheVariants.{Kept, Zoned, Built}
 use Rattle.uma_life.specs.declared.zone_tally.ZoneTally.{ZoneTally}
-use Rattle.uma_life.specs.declared.tally.Tally.{Tally}
 use Rattle.uma_life.specs.Life.{no_counts}
-use Rattle.uma_life.specs.Hook.{Hook, Ctor, Dtor, ZoneInit, ZoneFini, raised, base_phase, tally_after}
+use Rattle.uma_life.specs.Hook.{Ctor, Dtor, ZoneInit, ZoneFini, raised, base_phase, tally_after}
 use Rattle.uma_life.specs.Trail.{open_stays, open_builds, keg_inits_by, keg_finis_by}
 use Rattle.uma_life.specs.Word.{by_zone}
 use Rattle.uma_life.proofs.Tallies.{get_by_zone, set_by_zone}

@@ -1,5 +1,5 @@
 -- Own: the counts of an item, derived from its phase and from the few that it keeps.
-use Rattle.std.specs.Prelude.{◌≡◌, ℕ, List, [], ◌∷◌, ◌+◌, ◌-◌, ◌%◌, ◌^◌, ◌==◌, Bool, true, false, Option, Some, None, length, slice_index_or}
+use Rattle.std.specs.Prelude.{◌≡◌, ℕ, List, [], ◌∷◌, ◌+◌, ◌-◌, ◌%◌, ◌^◌, ◌==◌, Bool, true, false, Option, Some, None, length, replicate, slice_index_or}
 use Rattle.std.specs.declared.boxed.Box.{Box}
 use Rattle.uma_life.specs.declared.body_phase.BodyPhase.{BodyPhase}
 use Rattle.uma_life.specs.declared.tally.Tally.{Tally}
@@ -15,6 +15,11 @@ less count begun = (count + 2 ^ 64 - begun) % 2 ^ 64
 
 abbrev pub no_stays : StayCounts
 no_stays = record { inits = 0; ctors = 0 }
+
+-- the kept counts of a new item: those of the seven secondary zones, all 0, where it has a box for them
+abbrev pub first_stays : Bool → List StayCounts
+first_stays true = replicate 7 no_stays
+first_stays false = []
 
 -- the kept counts of the secondary zones, in order: none where there is no box
 abbrev pub kept_stays : {A : Type 0} → Option (Box (List StayCounts) A) → List StayCounts

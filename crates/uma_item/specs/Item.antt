@@ -1,7 +1,6 @@
 -- Own: what contracts see of an item that carries its trail.
 use Rattle.std.specs.Prelude.{ℕ, List}
 use Rattle.uma_life.specs.Life.{Life}
-use Rattle.uma_life.specs.declared.body_phase.BodyPhase.{BodyPhase}
 use Rattle.uma_life.specs.declared.tally.Tally.{Tally}
 use Rattle.uma_life.specs.declared.zone_tally.ZoneTally.{ZoneTally}
 use Rattle.uma_item.specs.declared.item.Item.{Item}

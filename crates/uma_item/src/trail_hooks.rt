@@ -1,5 +1,5 @@
 ghost use Rattle.std.specs.Prelude.{◌≡◌, ◌==◌, true, false, replicate, IfOk};
-ghost use Rattle.uma_item.specs.Counts.{no_stays, refusal_of_stay};
+ghost use Rattle.uma_item.specs.Counts.{no_stays, first_stays, kept_stays, refusal_of_stay};
 ghost use Rattle.uma_item.specs.Item.{item_data, item_stays};
 
 use crate::item::Item;
@@ -53,8 +53,18 @@ fn new_stays(alloc: Global) -> Result<Box<[StayCounts; 7]>, Memory>
     Box::new(alloc, [none; 7]).map_err(|_| Memory)
 }
 
+/// What a new item keeps of its stays: a box where it may enter secondary zones.
+fn first_box(alloc: Global, stays: bool) -> Result<Option<Box<[StayCounts; 7]>>, Memory>
+    ensures { IfOk result (λ kept. kept_stays kept ≡ first_stays stays) }
+{
+    if !stays {
+        return Ok(None);
+    }
+    Ok(Some(new_stays(alloc)?))
+}
+
 impl<B, K: ItemHooks<B>> Hooks<Item<B>> for TrailHooks<K> {
-    ghost makes = { λ hooks number made. K.makes hooks.hooks number (item_data made) };
+    ghost makes = { λ hooks number made. K.makes hooks.hooks number (item_data made) × (item_stays made ≡ first_stays hooks.stays) };
 
     ghost refuses_init = { λ hooks item zone. refusal_of_stay (zone == 0) (item_stays item) (K.refuses_init hooks.hooks (item_data item) zone) };
 
@@ -69,11 +79,7 @@ impl<B, K: ItemHooks<B>> Hooks<Item<B>> for TrailHooks<K> {
     ghost leaves_fini = { λ hooks item zone left. K.leaves_fini hooks.hooks (item_data item) zone (item_data left) };
 
     fn raw<R: Wait>(&self, rt: &R, alloc: Global, no: u32) -> Result<Item<B>, Memory> {
-        let stays = if self.stays {
-            Some(new_stays(alloc)?)
-        } else {
-            None
-        };
+        let stays = first_box(alloc, self.stays)?;
         let data = self.hooks.make(rt, alloc, no)?;
         Ok(Item {
             data,

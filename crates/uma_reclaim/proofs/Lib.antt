@@ -3,3 +3,4 @@ mod Seats
 mod Shelves
 mod Taken
 mod Told
+pub mod Turns

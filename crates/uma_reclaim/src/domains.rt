@@ -5,7 +5,7 @@ ghost use Rattle.uma_domain.specs.Taken.{taken_in};
 ghost use Rattle.uma_zone.specs.Zone.{zone_clock, zone_domains};
 ghost use Rattle.uma_reclaim.specs.Given.{IsFromZone, items_in, counted};
 ghost use Rattle.uma_reclaim.specs.Told.{notes_in, TakesInNotes};
-ghost use Rattle.uma_reclaim.specs.Reclaimed.{takes_of, ComesFrom};
+ghost use Rattle.uma_reclaim.specs.Reclaimed.{takes_of, ComesFrom, IsTakenAt, TakesInTurn};
 
 use crate::extent::Extent;
 use crate::giving::give_taken;
@@ -39,6 +39,7 @@ pub(crate) fn give_back<T: Body, K: Hooks<T>, H: Host, R: Wait>(
     ensures host { TakesInNotes H.merged (view pass.old).host (view pass.new).host }
     ensures told { IfOk result (λ done. (view pass.new).host ≡ fold H.merged (view pass.old).host (flat_map notes_in (takes_of done))) }
     ensures from { IfOk result (λ done. ComesFrom zone.now (takes_of done)) }
+    ensures own { IfOk result (λ done. TakesInTurn zone.now extent 0 (takes_of done)) }
     ensures items { IfOk result (λ done. done.items ≡ counted (sum_by items_in (takes_of done))) }
     ensures slabs { IfOk result (λ done. done.slabs ≡ 0) }
 {
@@ -68,7 +69,8 @@ fn take_from<T: Body, K: Hooks<T>, H: Host, R: Wait>(
 ) -> Result<Taken<T, H>, Memory>
     requires clock { clock_id clock.now ≡ zone_clock zone.now }
     requires domain { domain < zone_domains zone.now }
-    ensures { IfOk result (λ taken. All (IsFromZone zone.now) (taken_in taken)) }
+    ensures of_zone { IfOk result (λ taken. All (IsFromZone zone.now) (taken_in taken)) }
+    ensures own { IfOk result (λ taken. IsTakenAt zone.now extent domain (taken_in taken)) }
 {
     match extent {
         Extent::Unused => zone.domain(domain).take_trim(rt, alloc, clock),

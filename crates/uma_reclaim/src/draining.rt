@@ -2,11 +2,12 @@ ghost use Rattle.std.specs.Prelude.{◌≡◌, ◌≤◌, ◌+◌, [], sum_by, f
 ghost use Rattle.smr_clock.specs.Belongs.{IsOf, clock_id, view, holder};
 ghost use Rattle.uma_seat.specs.Seat.{usable_of, spares_of, shelf_of, HasNoCross, IsSameSeat, KeepsTop, KeepsPlain, KeepsFreed, KeepsCounts, KeepsMisses};
 ghost use Rattle.uma_zone.specs.Flushed.{HasLastOf};
+ghost use Rattle.uma_zone.specs.KegStates.{FreesSlabsOf};
 ghost use Rattle.uma_zone.specs.Zone.{zone_clock, zone_cap, IsSeatOf};
 ghost use Rattle.uma_reclaim.specs.Given.{items_in, counted};
 ghost use Rattle.uma_reclaim.specs.Told.{notes_in, TakesInNotes};
 ghost use Rattle.uma_reclaim.specs.Cached.{cached_in};
-ghost use Rattle.uma_reclaim.specs.Reclaimed.{takes_of, ComesFrom};
+ghost use Rattle.uma_reclaim.specs.Reclaimed.{takes_of, ComesFrom, DrainsEach};
 
 use crate::domains::give_back;
 use crate::emptying::give_cached;
@@ -46,8 +47,10 @@ pub fn drain<T: Body, K: Hooks<T>, H: Host, R: Wait>(
     ensures host { TakesInNotes H.merged (view pass.old).host (view pass.new).host }
     ensures told { IfOk result (λ done. (view pass.new).host ≡ fold H.merged (view pass.old).host (flat_map notes_in (takes_of done))) }
     ensures from { IfOk result (λ done. ComesFrom zone.now (takes_of done)) }
+    ensures own { IfOk result (λ done. DrainsEach zone.now (takes_of done)) }
     ensures items { IfOk result (λ done. done.items ≡ counted (sum_by items_in (takes_of done))) }
     ensures slabs { IfOk result (λ done. done.slabs ≤ zone_cap zone.now) }
+    ensures gave_up { IfOk result (λ done. FreesSlabsOf zone.now done.slabs) }
     ensures flushed { OnOk result (shelf_of seat.new ≡ []) }
     ensures stay { OnErr result (HasLastOf (shelf_of seat.old) (shelf_of seat.new)) }
     ensures spares { spares_of seat.new ≡ spares_of seat.old }
@@ -86,8 +89,10 @@ pub fn drain_seat<T: Body, K: Hooks<T>, H: Host, R: Wait>(
     ensures host { TakesInNotes H.merged (view pass.old).host (view pass.new).host }
     ensures told { IfOk result (λ done. (view pass.new).host ≡ fold H.merged (view pass.old).host (flat_map notes_in (takes_of done))) }
     ensures from { IfOk result (λ done. ComesFrom zone.now (takes_of done)) }
+    ensures own { IfOk result (λ done. DrainsEach zone.now (takes_of done)) }
     ensures items { IfOk result (λ done. done.items ≡ counted (sum_by items_in (takes_of done) + cached_in seat.old)) }
     ensures slabs { IfOk result (λ done. done.slabs ≤ zone_cap zone.now) }
+    ensures gave_up { IfOk result (λ done. FreesSlabsOf zone.now done.slabs) }
     ensures no_usable { OnOk result (usable_of seat.new ≡ []) }
     ensures no_cross { OnOk result (HasNoCross seat.new) }
     ensures flushed { OnOk result (shelf_of seat.new ≡ []) }

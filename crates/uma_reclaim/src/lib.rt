@@ -5,15 +5,11 @@
 //! Each flushes the calling seat first. A freed item that a reader may still see stays where it is: a sealed bucket whose
 //! poll says no, a loose one, and what is deferred on a seat.
 //!
-//! What the domains list after a call, and that a domain's lists stay as they were where memory is wanting for it or for
-//! one before it, no clause says, since nothing is known of the lists outside of their locks. The calls of the lists under
-//! the lock say it.
+//! Each take is told by a domain of the zone and lists of it under its lock, as the take found and left them. That a
+//! domain's lists stay as they were where memory is wanting for it says that domain's own call.
 //!
 //! - `Reclaimed` carries what each take from a domain brought, for contracts alone. So a call that takes from too few
-//!   domains, or counts buckets for items, is refused by a clause. That no domain is taken from twice, tests show: what is
-//!   known of a domain doesn't say which of the zone's it is.
-//! - No clause ties `slabs` of a drain to the keg but that they are at most its cap: a drain that gives up none would meet
-//!   it.
+//!   domains, from one of them twice, or counts buckets for items, is refused by a clause.
 //! - `items` stands still at 2^64 - 1, since no clause of a domain bounds what it gives up.
 //! - `drain_seat` gives the seat's own items back last, so that after want of memory the seat has all of them.
 //! - A ripe bucket's note goes to the pass, so that what its poll found isn't lost.

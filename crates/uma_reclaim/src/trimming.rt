@@ -5,7 +5,7 @@ ghost use Rattle.uma_zone.specs.Flushed.{HasLastOf};
 ghost use Rattle.uma_zone.specs.Zone.{zone_clock, IsSeatOf};
 ghost use Rattle.uma_reclaim.specs.Given.{items_in, counted};
 ghost use Rattle.uma_reclaim.specs.Told.{notes_in, TakesInNotes};
-ghost use Rattle.uma_reclaim.specs.Reclaimed.{takes_of, ComesFrom};
+ghost use Rattle.uma_reclaim.specs.Reclaimed.{takes_of, ComesFrom, TrimsEach};
 
 use crate::domains::give_back;
 use crate::extent::Extent;
@@ -45,6 +45,7 @@ pub fn trim<T: Body, K: Hooks<T>, H: Host, R: Wait>(
     ensures host { TakesInNotes H.merged (view pass.old).host (view pass.new).host }
     ensures told { IfOk result (λ done. (view pass.new).host ≡ fold H.merged (view pass.old).host (flat_map notes_in (takes_of done))) }
     ensures from { IfOk result (λ done. ComesFrom zone.now (takes_of done)) }
+    ensures own { IfOk result (λ done. TrimsEach zone.now (takes_of done)) }
     ensures items { IfOk result (λ done. done.items ≡ counted (sum_by items_in (takes_of done))) }
     ensures slabs { IfOk result (λ done. done.slabs ≡ 0) }
     ensures flushed { OnOk result (shelf_of seat.new ≡ []) }

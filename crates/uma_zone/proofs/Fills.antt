@@ -1,5 +1,5 @@
 -- How a seat without a usable item gets some, or none.
-use Rattle.std.proofs.Common.{◌≡◌, ◌<◌, Bool, true, cond, List, [], ◌∷◌, ◌++◌, length, Result, Ok, Err, IfErr, inl, inr, refl, sym, ap, ◌∙◌, subst, arith}
+use Rattle.std.proofs.Common.{◌≡◌, ◌<◌, ℕ, Bool, true, cond, List, [], ◌∷◌, ◌++◌, length, Result, Ok, Err, IfErr, OnOk, inl, inr, refl, sym, ap, ◌∙◌, subst, arith}
 use Rattle.deed_book.specs.declared.fail_share.FailShare.{FailShare}
 use Rattle.deed_book.specs.FailViews.{cause}
 use Rattle.zone_stats.specs.LedgerSteps.{CountsTurned}
@@ -17,13 +17,14 @@ use Rattle.uma_seat.specs.Seat.{seat_domain, seat_smr, free_bucket, top_bucket, 
 use Rattle.uma_seat.specs.Stack.{stack_at}
 use Rattle.locked_keg.specs.Seating.{KeepsAllButTop}
 use Rattle.uma_zone.specs.Looked.{IsOfRipe}
+use Rattle.uma_zone.specs.OwnDomain.{AreFoundIn, FindsNothing}
 use Rattle.uma_zone.proofs.Looks.{none_behind}
 use Rattle.uma_zone.specs.declared.alloc_ask.AllocRefused.{AllocRefused}
 use Rattle.uma_zone.specs.declared.alloc_ask.AllocRefused.TheVariants.{Refused, Memory}
 use Rattle.uma_zone.specs.declared.zone.Zone.{Zone}
 use Rattle.uma_zone.specs.Zone.{zone_smr, zone_hooks}
 use Rattle.uma_zone.specs.Alloc.{IsFilled, RefusesToTake}
-use Rattle.uma_zone.specs.Fetch.{FetchRefuses}
+use Rattle.uma_zone.specs.Fetch.{HasFetched, FetchRefuses}
 
 -- the first of two lists is empty, where both together are
 none_before : {X : Type 0} (xs ys : List X) → xs ++ ys ≡ [] → xs ≡ []
@@ -49,9 +50,10 @@ module _ {T H P : Type 0} {g h : _} where
 module _ {T K H P : Type 0} {g k h : _} where
   -- the look found some
   pub found_some : (zone : Zone T K H P g k h) (reserve : Bool) (old mid new : SeatCache T H P g h) (merged : P → P → P) (v v' : View P) (found : Bool) → found ≡ true → usable_of old ≡ []
+      → IsSameSeat old mid → (found ≡ true → AreFoundIn zone.domains (seat_domain mid) (k.leaves_dtor (zone_hooks zone)) (top_of new).items)
       → KeepsCounts old mid → KeepsMisses old mid → KeepsCounts mid new → (found ≡ true → KeepsMisses mid new) → (found ≡ true → 0 < length (top_of new).items)
       → (zone_smr zone ≡ true → found ≡ true → IsOfRipe zone.domains merged (k.leaves_dtor (zone_hooks zone)) v (top_bucket new) v') → IsFilled zone reserve old new
-  found_some zone reserve old mid new merged v v' found is none counts misses counts' misses' some ripe =
+  found_some zone reserve old mid new merged v v' found is none same own counts misses counts' misses' some ripe =
       let kept : new.counts ≡ old.counts = counts' ∙ counts in
       record {
         some = omega (arith, some is);
@@ -59,6 +61,7 @@ module _ {T K H P : Type 0} {g k h : _} where
           empty = none;
           fetches = ap fetches_in kept;
           misses = misses' is ∙ misses;
+          own = subst (λ (n : ℕ). AreFoundIn zone.domains n (k.leaves_dtor (zone_hooks zone)) (top_of new).items) (ap (λ (s : Seating H P). s.domain) same.0) (own is);
           reused = λ smr. let r = ripe smr is in record { ripe = r.ripe; of_clock = r.of_clock; finished = r.finished; expired = r.expired; over = r.over };
         };
         ledger = ap ledger_in kept;
@@ -66,17 +69,18 @@ module _ {T K H P : Type 0} {g k h : _} where
 
   -- why the fetch behind a look that found nothing gave none
   fetch_refused : (zone : Zone T K H P g k h) (reserve : Bool) (old seen new : SeatCache T H P g h) (why : AllocRefused) → usable_of old ≡ [] → IsSameSeat old new → KeepsPlain old new
-      → KeepsCounts old seen → IsRaised (misses_of old) (misses_of new) → FetchRefuses zone reserve seen new why → RefusesToTake zone reserve old new why
-  fetch_refused zone reserve old seen new (Refused refusal) none same plain counts missed why = record {
+      → KeepsCounts old seen → FindsNothing zone.domains (seat_domain old) → IsRaised (misses_of old) (misses_of new) → FetchRefuses zone reserve seen new why → RefusesToTake zone reserve old new why
+  fetch_refused zone reserve old seen new (Refused refusal) none same plain counts looked missed why = record {
     empty = none;
     still = still_none old new same plain why.none none;
+    looked = looked;
     missed = missed;
     fetches = subst (λ (c : Counts). fetches_of new ≡ fetches_in c ++ refusal_cause refusal ∷ []) counts why.fetches;
     counted = subst (λ (c : Counts). CountsTurned (ledger_in c) (ledger_of new) refusal) counts why.counted;
     one = why.one;
     names = why.names;
   }
-  fetch_refused zone reserve old seen new Memory none same plain counts missed why = record {
+  fetch_refused zone reserve old seen new Memory none same plain counts looked missed why = record {
     empty = none;
     still = still_none old new same plain why.none none;
     ledger = why.ledger ∙ ap ledger_in counts;
@@ -89,9 +93,27 @@ module _ {T K H P : Type 0} {g k h : _} where
   -- why a fill gave none, once the flush is done
   pub fill_refused : (zone : Zone T K H P g k h) (reserve : Bool) (old mid seen new : SeatCache T H P g h) (result : Result (Unit {0}) AllocRefused) → usable_of old ≡ []
       → IsSameSeat old mid → KeepsPlain old mid → KeepsCounts old mid → KeepsMisses old mid
-      → IsSameSeat mid seen → KeepsPlain mid seen → KeepsCounts mid seen → IsRaised (misses_of mid) (misses_of seen)
+      → IsSameSeat mid seen → KeepsPlain mid seen → KeepsCounts mid seen → FindsNothing zone.domains (seat_domain mid) → IsRaised (misses_of mid) (misses_of seen)
       → KeepsAllButTop seen new → IfErr result (FetchRefuses zone reserve seen new) → IfErr result (RefusesToTake zone reserve old new)
-  fill_refused zone reserve old mid seen new (Ok done) none same plain counts misses same' plain' counts' missed rest why = why
-  fill_refused zone reserve old mid seen new (Err e) none same plain counts misses same' plain' counts' missed rest why =
+  fill_refused zone reserve old mid seen new (Ok done) none same plain counts misses same' plain' counts' looked missed rest why = why
+  fill_refused zone reserve old mid seen new (Err e) none same plain counts misses same' plain' counts' looked missed rest why =
       let raised : IsRaised (misses_of old) (misses_of new) = subst (λ (s : FailShare). IsRaised s (misses_of new)) misses (subst (λ (s : FailShare). IsRaised (misses_of mid) s) (sym rest.misses) missed) in
-      fetch_refused zone reserve old seen new e none (rest.same.0 ∙ same'.0 ∙ same.0, rest.same.1 ∙ same'.1 ∙ same.1) (rest.plain ∙ plain' ∙ plain) (counts' ∙ counts) raised why
+      let own : FindsNothing zone.domains (seat_domain old) = subst (λ (n : ℕ). FindsNothing zone.domains n) (ap (λ (s : Seating H P). s.domain) same.0) looked in
+      fetch_refused zone reserve old seen new e none (rest.same.0 ∙ same'.0 ∙ same.0, rest.same.1 ∙ same'.1 ∙ same.1) (rest.plain ∙ plain' ∙ plain) (counts' ∙ counts) own raised why
+
+  -- the look found nothing, and the fetch behind it gave some
+  pub fetched_some : (zone : Zone T K H P g k h) (reserve : Bool) (old mid seen new : SeatCache T H P g h) (result : Result (Unit {0}) AllocRefused) → usable_of old ≡ []
+      → IsSameSeat old mid → KeepsCounts old mid → KeepsMisses old mid → KeepsCounts mid seen → FindsNothing zone.domains (seat_domain mid) → IsRaised (misses_of mid) (misses_of seen)
+      → KeepsAllButTop seen new → OnOk result (HasFetched zone reserve seen new) → OnOk result (IsFilled zone reserve old new)
+  fetched_some zone reserve old mid seen new (Err e) none same counts misses counts' looked missed rest got = got
+  fetched_some zone reserve old mid seen new (Ok done) none same counts misses counts' looked missed rest got = record {
+    some = got.some;
+    from = inr record {
+      empty = none;
+      looked = subst (λ (n : ℕ). FindsNothing zone.domains n) (ap (λ (s : Seating H P). s.domain) same.0) looked;
+      missed = subst (λ (s : FailShare). IsRaised s (misses_of new)) misses (subst (λ (s : FailShare). IsRaised (misses_of mid) s) (sym rest.misses) missed);
+      one = got.one;
+      fetches = subst (λ (c : Counts). fetches_of new ≡ fetches_in c ++ cause 6 (length (top_of new).items) 0 ∷ []) (counts' ∙ counts) got.fetches;
+    };
+    ledger = got.ledger ∙ ap ledger_in (counts' ∙ counts);
+  }

@@ -1,12 +1,12 @@
 -- Freed items wait: the law of a sequence of calls, by induction on it.
-use Rattle.std.proofs.Common.{◌≡◌, ◌⊎◌, ℕ, List, [], ◌∷◌, ◌++◌, inl, inr, subst}
+use Rattle.std.proofs.Common.{◌⊎◌, ℕ, List, [], ◌∷◌, ◌++◌, inl, inr, subst}
 use Rattle.std.proofs.lemmas.Bool.{cases_eq}
 use Rattle.std.proofs.lemmas.List.Elements.{Contains-append_left, Contains-append_right, Contains-append_cases}
 use Rattle.std.specs.List.{Contains}
 use Rattle.smr_clock.specs.declared.host.Host.{Ghosts as HostGhosts}
 use Rattle.uma_life.specs.declared.body.Body.{Ghosts}
 use Rattle.uma_life.specs.declared.ticket.Ticket.{Ticket}
-use Rattle.uma_zone.specs.SafeReuse.{Brought, ripe_tickets, keg_tickets, Call, Happens, Happen, IsUsable, HandsOut, FindsRipe, GetsFromKeg, FreedWait}
+use Rattle.uma_zone.specs.SafeReuse.{ripe_tickets, keg_tickets, Call, Happens, Happen, IsUsable, HandsOut, FindsRipe, GetsFromKeg, FreedWait}
 
 module _ {T H P : Type 0} {g : Ghosts T} {h : HostGhosts H P} where
   -- where an item of the seat that a call acts on comes from

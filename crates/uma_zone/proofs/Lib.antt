@@ -14,6 +14,8 @@ mod Serves
 mod Shelves
 pub mod DomainSeats
 pub mod DomainShelves
+pub mod Found
+pub mod Listings
 pub mod Looks
 pub mod Puts
 pub mod Shared

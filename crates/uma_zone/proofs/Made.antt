@@ -1,8 +1,7 @@
 -- A new keg, and the key of its lock.
-use Rattle.std.proofs.Common.{◌≡◌, ◌<◌, ℕ, Option, Some, None, sym, ap, ◌∙◌}
+use Rattle.std.proofs.Common.{◌≡◌, ℕ, Option, Some, None, sym, ap, ◌∙◌}
 use Rattle.deed_book.specs.Deed.{BookId}
 use Rattle.deed_book.specs.Book.{book_table}
-use Rattle.uma_bucket.specs.Home.{Home}
 use Rattle.uma_domain.specs.Identity.{home_of}
 use Rattle.uma_places.specs.Places.{KegPlaces, domain_at, IsNew}
 use Rattle.uma_keg.specs.declared.keg.Keg.{Keg}

@@ -9,9 +9,10 @@ use Rattle.uma_keg.specs.Fetched.{Fetches}
 use Rattle.uma_domain.specs.Lists.{IsRaised}
 use Rattle.uma_seat.specs.declared.seat.SeatCache.{SeatCache}
 use Rattle.uma_seat.specs.Counts.{fetches_in}
-use Rattle.uma_seat.specs.Seat.{seat_smr, free_bucket, top_of, usable_of, fetches_of, misses_of, top_ready, IsSameSeat, KeepsPlain, KeepsCounts, KeepsMisses}
+use Rattle.uma_seat.specs.Seat.{seat_domain, seat_smr, free_bucket, top_of, usable_of, fetches_of, misses_of, top_ready, IsSameSeat, KeepsPlain, KeepsCounts, KeepsMisses}
 use Rattle.uma_zone.specs.declared.zone.Zone.{Zone}
 use Rattle.uma_zone.specs.Zone.{zone_hooks, zone_index}
+use Rattle.uma_zone.specs.OwnDomain.{AreFoundIn, FindsNothing}
 use Rattle.uma_zone.specs.Alloc.{AreReused, IsOneFetch, IsFilled, Takes}
 use Rattle.uma_zone.proofs.Fills.{only_top}
 
@@ -41,21 +42,24 @@ module _ {T K H P : Type 0} {g k h : _} where
       }
 
   -- where the item came from that was taken last of those with which the seat was filled: old has none usable, nor has one, which was filled and is mid then
-  pub takes_of_filled : (zone : Zone T K H P g k h) (reserve : Bool) (old one mid new : SeatCache T H P g h) (item : Cached T g) → usable_of old ≡ [] → KeepsCounts old one → KeepsMisses old one
+  pub takes_of_filled : (zone : Zone T K H P g k h) (reserve : Bool) (old one mid new : SeatCache T H P g h) (item : Cached T g) → usable_of old ≡ [] → IsSameSeat old one → KeepsCounts old one → KeepsMisses old one
       → usable_of one ≡ [] → IsSameSeat one mid → KeepsPlain one mid → IsFilled zone reserve one mid
       → (top_of new).room ≡ (top_ready mid).room → usable_of mid ≡ usable_of new ++ item ∷ [] → IsSameSeat mid new → KeepsCounts mid new → KeepsMisses mid new
       → Takes zone reserve old item (usable_of new) new
-  takes_of_filled zone reserve old one mid new item was counts misses none same plain filled room last same' counts' misses' =
+  takes_of_filled zone reserve old one mid new item was seated counts misses none same plain filled room last same' counts' misses' =
+      let near : seat_domain one ≡ seat_domain old = ap (λ (s : _). s.domain) seated.0 in
       let all : (top_of mid).items ≡ usable_of new ++ item ∷ [] = sym (only_top one mid same plain none) ∙ last in
       elim filled.from [
         | inl listed ↦ inr (inl record {
           empty = was;
           fetches = ap fetches_in counts' ∙ listed.fetches ∙ ap fetches_in counts;
           misses = misses' ∙ listed.misses ∙ misses;
+          own = subst (λ (n : ℕ). AreFoundIn zone.domains n (k.leaves_dtor (zone_hooks zone)) (usable_of new ++ item ∷ [])) near (subst (AreFoundIn zone.domains (seat_domain one) (k.leaves_dtor (zone_hooks zone))) all listed.own);
           reused = λ smr. subst (AreReused zone) all (listed.reused smr);
         })
         | inr fetched ↦ inr (inr record {
           empty = was;
+          looked = subst (λ (n : ℕ). FindsNothing zone.domains n) near fetched.looked;
           missed = subst (λ (s : FailShare). IsRaised s (misses_of new)) misses (subst (λ (s : FailShare). IsRaised (misses_of one) s) (sym misses') fetched.missed);
           one = subst (λ (l : List (Cached T g)). IsOneFetch zone reserve l new) all (one_still zone reserve (top_of mid).items mid new (same_room mid new filled.some room) same' fetched.one);
           fetches = ap fetches_in counts' ∙ subst (λ (l : List (Cached T g)). fetches_of mid ≡ fetches_of old ++ cause 6 (length l) 0 ∷ []) all (fetched.fetches ∙ ap (λ (c : _). fetches_in c ++ cause 6 (length (top_of mid).items) 0 ∷ []) counts);

@@ -22,9 +22,10 @@ module _ {T K H P : Type 0} {g k h : _} where
       → Takes zone reserve old item left mid → Takes zone reserve old item left new
   takes_still zone reserve old mid new item left fetches misses room same takes = elim takes [
     | inl own ↦ inl record { last = own.last; fetches = fetches ∙ own.fetches; misses = misses ∙ own.misses }
-    | inr (inl listed) ↦ inr (inl record { empty = listed.empty; fetches = fetches ∙ listed.fetches; misses = misses ∙ listed.misses; reused = listed.reused })
+    | inr (inl listed) ↦ inr (inl record { empty = listed.empty; fetches = fetches ∙ listed.fetches; misses = misses ∙ listed.misses; own = listed.own; reused = listed.reused })
     | inr (inr fetched) ↦ inr (inr record {
       empty = fetched.empty;
+      looked = fetched.looked;
       missed = subst (λ (s : FailShare). IsRaised (misses_of old) s) (sym misses) fetched.missed;
       one = one_still zone reserve (left ++ item ∷ []) mid new room same fetched.one;
       fetches = fetches ∙ fetched.fetches;

@@ -27,6 +27,7 @@ use Rattle.uma_zone.specs.declared.alloc_ask.AllocAsk.{AllocAsk}
 use Rattle.uma_zone.specs.declared.alloc_ask.AllocRefused.{AllocRefused}
 use Rattle.uma_zone.specs.declared.alloc_ask.AllocRefused.TheVariants.{Refused, Memory}
 use Rattle.uma_zone.specs.declared.zone.Zone.{Zone}
+use Rattle.uma_zone.specs.OwnDomain.{AreFoundIn, FindsNothing}
 use Rattle.uma_zone.specs.Zone.{zone_home, zone_hooks, zone_index, zone_cap, zone_reserve, zone_smr, zone_clock}
 
 module _ {T H P : Type 0} {g h : _} where
@@ -62,9 +63,10 @@ module _ {T K H P : Type 0} {g k h : _} where
     pub right : ask.reserve ≡ reserve
     pub refuses : RefusesFetch was (zone_hooks zone) ask is (RefusedFetch refusal)
 
-  -- No item was usable, the look found nothing, and the one fetch of the request, with that right to the reserve, gave just these.
+  -- No item was usable, the look at the lists of the seat's own domain found nothing, and the one fetch of the request, with that right to the reserve, gave just these.
   pub record FetchesSome (zone : Zone T K H P g k h) (reserve : Bool) (old : SeatCache T H P g h) (items : List (Cached T g)) (new : SeatCache T H P g h) : Type 0 where
     pub empty : usable_of old ≡ []
+    pub looked : FindsNothing zone.domains (seat_domain old)
     pub missed : IsRaised (misses_of old) (misses_of new)
     pub one : IsOneFetch zone reserve items new
     pub fetches : fetches_of new ≡ fetches_of old ++ cause 6 (length items) 0 ∷ []
@@ -82,6 +84,7 @@ module _ {T K H P : Type 0} {g k h : _} where
     pub empty : usable_of old ≡ []
     pub fetches : fetches_of new ≡ fetches_of old
     pub misses : misses_of new ≡ misses_of old
+    pub own : AreFoundIn zone.domains (seat_domain old) (k.leaves_dtor (zone_hooks zone)) items
     pub reused : zone_smr zone ≡ true → AreReused zone items
 
   -- Where the item of a request comes from: the seat itself, or else its domain's lists, or else the keg, by the request's right to the reserve. These usable items are left behind it, and they are all that came with it.
@@ -143,6 +146,7 @@ module _ {T K H P : Type 0} {g k h : _} where
   pub record TurnsAway (zone : Zone T K H P g k h) (reserve : Bool) (refusal : Refusal) (old new : SeatCache T H P g h) : Type 0 where
     pub empty : usable_of old ≡ []
     pub still : usable_of new ≡ []
+    pub looked : FindsNothing zone.domains (seat_domain old)
     pub missed : IsRaised (misses_of old) (misses_of new)
     pub fetches : fetches_of new ≡ fetches_of old ++ refusal_cause refusal ∷ []
     pub counted : CountsTurned (ledger_of old) (ledger_of new) refusal

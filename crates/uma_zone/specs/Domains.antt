@@ -6,6 +6,7 @@ use Rattle.smr_clock.specs.Belongs.{TableId, clock_id}
 use Rattle.deed_book.specs.Book.{book_table}
 use Rattle.deed_book.specs.FailShare.{share_table}
 use Rattle.uma_bucket.specs.Home.{Home, AreHome}
+use Rattle.uma_domain.specs.declared.domain.Domain.{Domain}
 use Rattle.uma_seat.specs.declared.seat.SeatCache.{SeatCache}
 use Rattle.uma_seat.specs.Seat.{seat_home, seat_clock, seat_smr, seat_domain, top_tickets, misses_of}
 use Rattle.uma_zone.specs.declared.domains.ZoneDomains.{ZoneDomains}
@@ -27,6 +28,10 @@ module _ {T H P : Type 0} {g h : _} where
   -- whether the zone's readers hold no lock, so that its frees are deferred
   abbrev pub domains_smr : ZoneDomains T H P g h → Bool
   domains_smr them = them.smr
+
+  -- the domain with this number, if there is one
+  abbrev pub domain_at : ZoneDomains T H P g h → ℕ → Option (Domain T H P g h)
+  domain_at them number = slice_get them.domains.items number
 
   -- the table of the book of misses of the domain with this number, if there is one
   abbrev pub misses_at : ZoneDomains T H P g h → ℕ → Option TableId

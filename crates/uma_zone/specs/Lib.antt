@@ -4,8 +4,10 @@ pub mod Fetch
 pub mod Flushed
 pub mod Free
 pub mod Looked
+pub mod KegStates
 pub mod Making
 pub mod OneDomain
+pub mod OwnDomain
 pub mod Prealloc
 pub mod Right
 pub mod SafeReuse

@@ -1,15 +1,16 @@
 -- Own: what contracts see of a zone.
-use Rattle.std.specs.Prelude.{◌≡◌, ℕ, Bool, List, map}
+use Rattle.std.specs.Prelude.{◌≡◌, ℕ, Bool, Option, List, map}
 use Rattle.std.specs.Arc.{arc_value}
 use Rattle.deed_book.specs.Deed.{TableId}
 use Rattle.deed_book.specs.FailShare.{share_table}
 use Rattle.keyed_lock.specs.KeyedLock.{lock_key}
 use Rattle.smr_clock.specs.declared.setup.Setup.{Setup}
 use Rattle.uma_bucket.specs.Home.{Home}
+use Rattle.uma_domain.specs.declared.domain.Domain.{Domain}
 use Rattle.uma_seat.specs.declared.seat.SeatCache.{SeatCache}
 use Rattle.uma_seat.specs.Seat.{seat_fails}
 use Rattle.locked_keg.specs.declared.key.KegKey.{KegKey}
-use Rattle.uma_zone.specs.Domains.{domains_home, domains_clock, domains_smr, domain_count, IsSeatOf as IsSeatOfDomains}
+use Rattle.uma_zone.specs.Domains.{domains_home, domains_clock, domains_smr, domain_count, domain_at, IsSeatOf as IsSeatOfDomains}
 use Rattle.uma_zone.specs.declared.zone.Zone.{Zone}
 use Rattle.uma_zone.specs.Right.{right_no}
 
@@ -36,6 +37,10 @@ module _ {T K H P : Type 0} {g k h : _} where
 
   abbrev pub zone_domains : Zone T K H P g k h → ℕ
   zone_domains zone = domain_count zone.domains
+
+  -- the memory domain with this number, if there is one
+  abbrev pub zone_domain : Zone T K H P g k h → ℕ → Option (Domain T H P g h)
+  zone_domain zone number = domain_at zone.domains number
 
   abbrev pub zone_hooks : Zone T K H P g k h → K
   zone_hooks zone = zone.hooks

@@ -15,8 +15,9 @@ impl<T: Body, K: Hooks<T>, H: Host> Zone<T, K, H> {
     ghost use Rattle.uma_life.specs.Live.{live_ticket};
     ghost use Rattle.uma_life.specs.Cached.{cached_ticket};
     ghost use Rattle.uma_bucket.specs.Home.{IsHome};
-    ghost use Rattle.uma_seat.specs.Seat.{top_of, usable_of, spares_of, shelf_of, ledger_of, fetches_of, plain_of, plain_ready, IsSameSeat, KeepsPlain, KeepsFreed, KeepsRack, KeepsMisses};
+    ghost use Rattle.uma_seat.specs.Seat.{seat_domain, top_of, usable_of, spares_of, shelf_of, ledger_of, fetches_of, plain_of, plain_ready, IsSameSeat, KeepsPlain, KeepsFreed, KeepsRack, KeepsMisses};
     ghost use Rattle.uma_zone.specs.Flushed.{HasLastOf};
+    ghost use Rattle.uma_zone.specs.OwnDomain.{IsFlushed};
     ghost use Rattle.uma_zone.specs.Zone.{zone_home, zone_clock, IsSeatOf};
     ghost use Rattle.uma_zone.specs.Told.{TakesInNote};
     ghost use Rattle.uma_zone.specs.Alloc.{Serves, Refuses, Takes, IsFilled, IsBuilt, PutsBack, RefusesToTake};
@@ -55,6 +56,7 @@ impl<T: Body, K: Hooks<T>, H: Host> Zone<T, K, H> {
         ensures refused { IfErr result (Refuses self.now ask seat.old seat.new) }
         ensures spare { length (spares_of seat.old) ≤ length (spares_of seat.new) }
         ensures shelf { HasLastOf (shelf_of seat.old) (shelf_of seat.new) }
+        ensures flushed { usable_of seat.old ≡ [] → IsFlushed self.now.domains (seat_domain seat.old) H.copied (shelf_of seat.old) (shelf_of seat.new) (view pass.old) }
         ensures unflushed { usable_of seat.old ≢ [] → KeepsRack seat.old seat.new }
         ensures unseen { usable_of seat.old ≢ [] → view pass.new ≡ view pass.old }
         ensures plain { plain_of seat.new ≡ plain_ready seat.old }
@@ -91,6 +93,7 @@ impl<T: Body, K: Hooks<T>, H: Host> Zone<T, K, H> {
         ensures refused { IfErr result (RefusesToTake self.now reserve seat.old seat.new) }
         ensures spare { length (spares_of seat.old) ≤ length (spares_of seat.new) }
         ensures shelf { HasLastOf (shelf_of seat.old) (shelf_of seat.new) }
+        ensures flushed { usable_of seat.old ≡ [] → IsFlushed self.now.domains (seat_domain seat.old) H.copied (shelf_of seat.old) (shelf_of seat.new) (view pass.old) }
         ensures unflushed { usable_of seat.old ≢ [] → KeepsRack seat.old seat.new }
         ensures unseen { usable_of seat.old ≢ [] → view pass.new ≡ view pass.old }
         ensures plain { plain_of seat.new ≡ plain_ready seat.old }
@@ -131,6 +134,7 @@ impl<T: Body, K: Hooks<T>, H: Host> Zone<T, K, H> {
         ensures refused { IfErr result (RefusesToTake self.now reserve seat.old seat.new) }
         ensures spare { length (spares_of seat.old) ≤ length (spares_of seat.new) }
         ensures shelf { HasLastOf (shelf_of seat.old) (shelf_of seat.new) }
+        ensures flushed { IsFlushed self.now.domains (seat_domain seat.old) H.copied (shelf_of seat.old) (shelf_of seat.new) (view pass.old) }
         ensures plain { KeepsPlain seat.old seat.new }
         ensures freed { KeepsFreed seat.old seat.new }
         ensures same { IsSameSeat seat.old seat.new }

@@ -31,7 +31,7 @@ pub struct ZoneDomains<T: Body, H: Host> {
 }
 
 impl<T: Body, H: Host> ZoneDomains<T, H> {
-    ghost use Rattle.uma_zone.specs.Domains.{domains_home, domains_clock, domains_smr, domain_count, misses_at};
+    ghost use Rattle.uma_zone.specs.Domains.{domains_home, domains_clock, domains_smr, domain_count, domain_at, misses_at};
 
     /// How many domains there are, 1 to 4.
     pub(crate) fn count(&self) -> u8
@@ -61,6 +61,7 @@ impl<T: Body, H: Host> ZoneDomains<T, H> {
         requires { domain < domain_count self.now }
         ensures of_zone { IsDomainOf (domains_clock self.now) (domains_home self.now) (domains_smr self.now) result.now }
         ensures misses { misses_at self.now domain ≡ Some (domain_identity result.now).misses }
+        ensures named { domain_at self.now domain ≡ Some result.now }
     {
         &self.domains[domain as usize]
     }

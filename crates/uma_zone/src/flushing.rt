@@ -1,8 +1,9 @@
-ghost use Rattle.std.specs.Prelude.{◌≡◌, ◌≤◌, ◌<◌, ◌+◌, ◌∷◌, [], length, map, None, Some, IfSome, IfNone, IfErr, OnOk, OnErr};
+ghost use Rattle.std.specs.Prelude.{◌≡◌, ◌≤◌, ◌<◌, ◌+◌, ◌∷◌, [], length, map, true, false, None, Some, IfSome, IfNone, IfErr, OnOk, OnErr};
 ghost use Rattle.smr_clock.specs.Belongs.{IsOf, clock_id, view, holder};
-ghost use Rattle.uma_seat.specs.Seat.{seat_home, seat_clock, spares_of, shelf_of, IsSameSeat, KeepsTop, KeepsPlain, KeepsFreed, KeepsCounts, KeepsMisses};
-ghost use Rattle.uma_zone.specs.Domains.{domains_home, domains_clock, IsSeatOf};
+ghost use Rattle.uma_seat.specs.Seat.{seat_home, seat_clock, seat_domain, spares_of, shelf_of, IsSameSeat, KeepsTop, KeepsPlain, KeepsFreed, KeepsCounts, KeepsMisses};
+ghost use Rattle.uma_zone.specs.Domains.{domains_home, domains_clock, domains_smr, domain_count, IsSeatOf};
 ghost use Rattle.uma_zone.specs.Flushed.{bound_of, HasLastOf, TakesTried, in_order, AreLastOf, CanBePut};
+ghost use Rattle.uma_zone.specs.OwnDomain.{IsListed, PutsFirst, TriesListed, Flushes};
 
 use crate::domains::ZoneDomains;
 use deed_book::Memory;
@@ -44,12 +45,11 @@ impl<T: Body, H: Host> ZoneDomains<T, H> {
         ensures freed { KeepsFreed seat.old seat.new }
         ensures counts { KeepsCounts seat.old seat.new }
         ensures misses { KeepsMisses seat.old seat.new }
+        ensures flushes { Flushes self.now (seat_domain seat.old) H.copied (shelf_of seat.old) (shelf_of seat.new) (view pass.old) (view pass.new) }
     {
         let oldest = take_tried(clock, pass, seat);
         let newest = take_tried(clock, pass, seat);
-        if self.smr {
-            self.get(seat.domain()).seal_loose(rt, clock, pass);
-        }
+        self.try_listed(rt, clock, pass, seat.domain());
         self.put_in_order(rt, seat, oldest, newest)
     }
 
@@ -80,9 +80,28 @@ impl<T: Body, H: Host> ZoneDomains<T, H> {
         ensures freed { KeepsFreed seat.old seat.new }
         ensures counts { KeepsCounts seat.old seat.new }
         ensures misses { KeepsMisses seat.old seat.new }
+        ensures flushes { Flushes self.now (seat_domain seat.old) H.copied (shelf_of seat.old) (shelf_of seat.new) (view pass.old) (view pass.new) }
     {
         self.flush(rt, clock, pass, seat)?;
         add_spares(alloc, seat)
+    }
+
+    // In an SMR zone each loose bucket that the domain lists tries once to be sealed.
+    fn try_listed<R: Wait>(&self, rt: &R, clock: &Clock<H>, pass: &mut Pass<H>, domain: u8)
+        requires clock { clock_id clock.now ≡ domains_clock self.now }
+        requires pass { IsOf clock.now pass.old }
+        requires domain { domain < domain_count self.now }
+        ensures pass { IsOf clock.now pass.new }
+        ensures phase { (holder pass.new).phase ≡ (holder pass.old).phase }
+        ensures seen { (holder pass.old).seen ≤ (holder pass.new).seen }
+        ensures host { (view pass.new).host ≡ (view pass.old).host }
+        ensures own { domains_smr self.now ≡ true → TriesListed self.now domain H.copied (view pass.old) (view pass.new) }
+        ensures no_own { domains_smr self.now ≡ false → view pass.new ≡ view pass.old }
+    {
+        if !self.smr {
+            return;
+        }
+        self.get(domain).seal_loose(rt, clock, pass);
     }
 
     // Puts the buckets that were on the seat's shelf into the lists of their domains. What isn't put is on the shelf again.
@@ -109,6 +128,7 @@ impl<T: Body, H: Host> ZoneDomains<T, H> {
         ensures freed { KeepsFreed seat.old seat.new }
         ensures counts { KeepsCounts seat.old seat.new }
         ensures misses { KeepsMisses seat.old seat.new }
+        ensures puts { PutsFirst self.now (in_order oldest newest) (shelf_of seat.new) }
     {
         match self.put_if_some(rt, oldest) {
             Ok(()) => self.put_newest(rt, seat, newest),
@@ -142,6 +162,7 @@ impl<T: Body, H: Host> ZoneDomains<T, H> {
         ensures freed { KeepsFreed seat.old seat.new }
         ensures counts { KeepsCounts seat.old seat.new }
         ensures misses { KeepsMisses seat.old seat.new }
+        ensures puts { PutsFirst self.now (in_order None newest) (shelf_of seat.new) }
     {
         match self.put_if_some(rt, newest) {
             Ok(()) => Ok(()),
@@ -158,7 +179,8 @@ impl<T: Body, H: Host> ZoneDomains<T, H> {
         shelved: Option<Shelved<T, H>>,
     ) -> Result<(), Shelved<T, H>>
         requires { IfSome shelved (CanBePut (domains_home self.now) (domains_clock self.now)) }
-        ensures { IfErr result (λ back. shelved ≡ Some back) }
+        ensures back { IfErr result (λ back. shelved ≡ Some back) }
+        ensures listed { OnOk result (IfSome shelved (IsListed self.now)) }
     {
         match shelved {
             Some(shelved) => self.put(rt, shelved),
@@ -169,7 +191,8 @@ impl<T: Body, H: Host> ZoneDomains<T, H> {
     // Puts a bucket into the list of its domain.
     fn put<R: Wait>(&self, rt: &R, shelved: Shelved<T, H>) -> Result<(), Shelved<T, H>>
         requires { CanBePut (domains_home self.now) (domains_clock self.now) shelved }
-        ensures { IfErr result (λ back. back ≡ shelved) }
+        ensures back { IfErr result (λ back. back ≡ shelved) }
+        ensures listed { OnOk result (IsListed self.now shelved) }
     {
         match shelved {
             Shelved::Plain { domain, bucket } => match self.get(domain).put_plain(rt, bucket) {

@@ -30,7 +30,7 @@
 //! - A fetch comes out of the keg's lock with its whole contract (`IsOneFetch`, `IsOneRefusal`): a keg of the zone's book,
 //!   and one fetch of it by the request's own right to the reserve. Likewise for `prealloc` and `set_max`. All that it
 //!   fetched is on the seat (`FetchesSome`).
-//! - What a flush put into which list no clause says, since the lists are behind locks; tests show it.
+//! - At whose lists a call was is said by the domain's number and lists of it under the lock (`specs/OwnDomain`).
 //! - `primary` makes the keg first, and still tests bucket and domains where memory was wanting for it, so that a number
 //!   out of its range is always named.
 #![tactic(auto)]

@@ -10,8 +10,9 @@ use uma_life::{Body, Hooks};
 use uma_seat::SeatCache;
 
 impl<T: Body, K: Hooks<T>, H: Host> Zone<T, K, H> {
-    ghost use Rattle.uma_seat.specs.Seat.{spares_of, shelf_of, IsSameSeat, KeepsTop, KeepsPlain, KeepsFreed, KeepsCounts, KeepsMisses};
+    ghost use Rattle.uma_seat.specs.Seat.{seat_domain, spares_of, shelf_of, IsSameSeat, KeepsTop, KeepsPlain, KeepsFreed, KeepsCounts, KeepsMisses};
     ghost use Rattle.uma_zone.specs.Flushed.{HasLastOf};
+    ghost use Rattle.uma_zone.specs.OwnDomain.{Flushes};
     ghost use Rattle.uma_zone.specs.Zone.{zone_clock, IsSeatOf};
 
     /// Takes the buckets of the seat's shelf to the lists of their domains, oldest first. Before that each loose bucket on
@@ -41,6 +42,7 @@ impl<T: Body, K: Hooks<T>, H: Host> Zone<T, K, H> {
         ensures freed { KeepsFreed seat.old seat.new }
         ensures counts { KeepsCounts seat.old seat.new }
         ensures misses { KeepsMisses seat.old seat.new }
+        ensures flushes { Flushes self.now.domains (seat_domain seat.old) H.copied (shelf_of seat.old) (shelf_of seat.new) (view pass.old) (view pass.new) }
     {
         self.domains.flush(rt, clock, pass, seat)
     }
@@ -73,6 +75,7 @@ impl<T: Body, K: Hooks<T>, H: Host> Zone<T, K, H> {
         ensures freed { KeepsFreed seat.old seat.new }
         ensures counts { KeepsCounts seat.old seat.new }
         ensures misses { KeepsMisses seat.old seat.new }
+        ensures flushes { Flushes self.now.domains (seat_domain seat.old) H.copied (shelf_of seat.old) (shelf_of seat.new) (view pass.old) (view pass.new) }
     {
         self.domains.make_room(rt, alloc, clock, pass, seat)
     }

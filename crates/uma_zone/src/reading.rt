@@ -1,4 +1,4 @@
-ghost use Rattle.std.specs.Prelude.{◌≡◌, ◌≢◌, ◌≤◌, ◌<◌, ◌^◌, ℕ, All, IfOk, IfErr, min, ◌/◌, false};
+ghost use Rattle.std.specs.Prelude.{◌≡◌, ◌≢◌, ◌≤◌, ◌<◌, ◌^◌, ℕ, All, IfOk, IfErr, Some, min, ◌/◌, false};
 ghost use Rattle.uma_life.specs.Live.{live_table};
 ghost use Rattle.uma_bucket.specs.Sums.{AreOfAtMost, Balance};
 ghost use Rattle.uma_keg.specs.Census.{census_counts, census_out, census_table};
@@ -18,7 +18,8 @@ use uma_keg::{Census, KegCounts};
 use uma_life::{Body, Hooks, Lives};
 
 impl<T: Body, K: Hooks<T>, H: Host> Zone<T, K, H> {
-    ghost use Rattle.uma_zone.specs.Zone.{zone_home, zone_index, zone_clock, zone_smr, zone_domains, zone_hooks, zone_size, zone_cap, zone_reserve, zone_rights};
+    ghost use Rattle.uma_zone.specs.Zone.{zone_home, zone_index, zone_clock, zone_smr, zone_domains, zone_domain, zone_hooks, zone_size, zone_cap, zone_reserve, zone_rights};
+    ghost use Rattle.uma_zone.specs.KegStates.{CountsKeg};
 
     /// How many memory domains there are, 1 to 4.
     pub fn domains(&self) -> u8
@@ -30,7 +31,8 @@ impl<T: Body, K: Hooks<T>, H: Host> Zone<T, K, H> {
     /// The memory domain of this number.
     pub fn domain(&self, domain: u8) -> &Domain<T, H>
         requires { domain < zone_domains self.now }
-        ensures { IsDomainOf (zone_clock self.now) (zone_home self.now) (zone_smr self.now) result.now }
+        ensures of_zone { IsDomainOf (zone_clock self.now) (zone_home self.now) (zone_smr self.now) result.now }
+        ensures named { zone_domain self.now domain ≡ Some result.now }
     {
         self.domains.get(domain)
     }
@@ -51,6 +53,7 @@ impl<T: Body, K: Hooks<T>, H: Host> Zone<T, K, H> {
 
     /// How the keg stands. Waits until it has the keg's lock.
     pub fn counts<R: Wait>(&self, rt: &R) -> KegCounts
+        ensures stands { CountsKeg self.now result }
         ensures cap { result.cap ≡ zone_cap self.now }
         ensures reserve { result.reserve ≡ zone_reserve self.now }
         ensures per_slab { result.per_slab ≡ min 256 (4096 / zone_size self.now) }

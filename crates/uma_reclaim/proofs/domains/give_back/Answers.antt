@@ -5,10 +5,11 @@ use Rattle.smr_clock.specs.Belongs.{view}
 use Rattle.uma_domain.specs.declared.taken.TakenBucket.{TakenBucket}
 use Rattle.uma_domain.specs.Taken.{taken_in}
 use Rattle.uma_reclaim.specs.Given.{IsFromZone, items_in, counted}
-use Rattle.uma_reclaim.specs.Reclaimed.{taken_by}
+use Rattle.uma_reclaim.specs.Reclaimed.{taken_by, IsTakenAt, TakesInTurn}
 use Rattle.uma_reclaim.specs.Told.{notes_in}
 use Rattle.uma_reclaim.proofs.Rows.{counted_sum, sum_more, all_more}
 use Rattle.uma_reclaim.proofs.Told.{told_more}
+use Rattle.uma_reclaim.proofs.Turns.{turn_more}
 use Rattle.uma_reclaim.proofs.domains.give_back.Goals as goal
 
 pub loop-domain-preserved : goal.loop-domain-preserved
@@ -26,7 +27,8 @@ loop-domain-preserved g c =
     let items = ap (λ (l : List (Snapshot _)). sum_by items_in (map taken_by l)) all ∙ sum_more taken_by items_in takes take in
     record {
       each = (let e = ap length all in omega (arith, e, length-append takes (take ∷ []), before.each));
-      of_zone = subst (λ (l : List (Snapshot _)). All Of (map taken_by l)) (sym all) (all_more taken_by Of takes take before.of_zone (subst Of (sym same) c.in_ok-taken.ensures));
+      of_zone = subst (λ (l : List (Snapshot _)). All Of (map taken_by l)) (sym all) (all_more taken_by Of takes take before.of_zone (subst Of (sym same) c.in_ok-taken.ensures.of_zone));
+      own = subst (λ (l : List (Snapshot _)). TakesInTurn c.args.zone.now c.args.extent 0 (map taken_by l)) (sym all) (turn_more c.args.zone.now c.args.extent taken_by takes take c.loop-domain.domain before.each before.own (subst (IsTakenAt c.args.zone.now c.args.extent c.loop-domain.domain) (sym same) c.in_ok-taken.ensures.own));
       given =
           counted_sum (sum_by items_in (map taken_by takes)) (items_in (taken_by take)) c.loop-domain.items c.give_taken-given.result c.saturating_add-items.result before.given (gave.count ∙ ap (λ (l : List (TakenBucket _ _ _ _ _)). counted (items_in l)) (sym same)) c.saturating_add-items.ensures
           ∙ ap counted (sym items);

@@ -1,15 +1,15 @@
-use Rattle.std.proofs.Common.{◌≡◌, ◌<◌, List, [], ◌∷◌, ◌++◌, map, length, sym, ap, subst, ◌∙◌}
+use Rattle.std.proofs.Common.{◌≡◌, ◌<◌, map, length, sym, ap, subst, ◌∙◌}
 use Rattle.std.specs.List.{All}
 use Rattle.std.proofs.lemmas.Iterator.Adapters.{YieldsList-from_vec}
-use Rattle.std.proofs.lemmas.Iterator.Consumers.{YieldsList-turn, YieldsList-end}
-use Rattle.std.proofs.lemmas.List.Elements.{All-nil, All-push, All-same}
+use Rattle.std.proofs.lemmas.Iterator.Consumers.{YieldsList-turn}
+use Rattle.std.proofs.lemmas.List.Elements.{All-nil}
 use Rattle.deed_book.specs.Book.{book_table}
 use Rattle.deed_book.specs.Deed.{deed_table, no_of}
 use Rattle.deed_book.specs.declared.deed.Deed.{Deed}
 use Rattle.uma_keg.specs.Keg.{rights_in}
 use Rattle.uma_zone.specs.declared.right.KeptRight.{KeptRight}
 use Rattle.uma_zone.specs.Right.{right_table, right_no}
-use Rattle.uma_zone.proofs.Rights.{All-at, map_more}
+use Rattle.uma_zone.proofs.Rights.{All-at}
 use Rattle.uma_zone.proofs.making.keep_rights.Goals as goal
 
 pub loop-right-init : goal.loop-right-init

@@ -1,4 +1,4 @@
-use Rattle.std.proofs.Common.{◌<◌, ◌≤◌, ◌+◌, ◌^◌, length, take, sum_by, subst, sym, arith}
+use Rattle.std.proofs.Common.{◌<◌, ◌≤◌, ◌+◌, ◌-◌, ◌^◌, length, take, sum_by, subst, sym, arith}
 use Rattle.std.proofs.lemmas.List.Elements.{All-get_or}
 use Rattle.std.proofs.lemmas.List.Sums.{sum_by-take-le}
 use Rattle.uma_domain.specs.Identity.{key_identity}
@@ -92,6 +92,12 @@ returns-clause-few g c =
     let lists = c.args.self.now in
     let part = sum_by-take-le sealed_len lists.sealed.items c.loop-sealed_at.sealed_at in
     of_more (sum_by plain_len lists.plain.items + sum_by loose_len lists.loose.items + sum_by sealed_len (take c.loop-sealed_at.sealed_at lists.sealed.items)) (2 ^ 32) c.loop-sealed_at.sums (omega (arith, part, lists.counted, lists.bounded.few, lists.bounded.below_greatest)) c.loop-sealed_at.invariant.few
+
+pub returns-clause-below : goal.returns-clause-below
+returns-clause-below g c =
+    let lists = c.args.self.now in
+    let part = sum_by-take-le sealed_len lists.sealed.items c.loop-sealed_at.sealed_at in
+    of_more (sum_by plain_len lists.plain.items + sum_by loose_len lists.loose.items + sum_by sealed_len (take c.loop-sealed_at.sealed_at lists.sealed.items)) (2 ^ 32 - 1) c.loop-sealed_at.sums (omega (arith, part, lists.counted, lists.bounded.few, lists.bounded.below_greatest)) c.loop-sealed_at.invariant.few
 
 pub returns-clause-balance : goal.returns-clause-balance
 returns-clause-balance g c = c.loop-sealed_at.invariant.balance

@@ -1,9 +1,7 @@
-use Rattle.std.proofs.Common.{◌≡◌, ◌≢◌, ◌<◌, ◌-◌, ℕ, Bool, true, false, cond, ap, refl, sym, subst, ◌∙◌, arith, length, eq-eqb}
+use Rattle.std.proofs.Common.{◌≡◌, ◌≢◌, ◌<◌, ◌-◌, ℕ, cond, ap, sym, subst, ◌∙◌, arith, length}
 use Rattle.std.proofs.lemmas.Bool.{ne_eqb}
 use Rattle.std.proofs.lemmas.List.{length-set}
-use Rattle.uma_life.specs.Hook.{Ctor, base_phase, tally_after}
-use Rattle.uma_life.specs.Trail.{open_stays}
-use Rattle.uma_life.specs.declared.body_phase.BodyPhase.{BodyPhase}
+use Rattle.uma_life.specs.Hook.{Ctor, tally_after}
 use Rattle.uma_life.specs.declared.body_phase.BodyPhase.TheVariants.{Zoned, Built, Kept}
 use Rattle.uma_item.specs.declared.item.Item.{Item}
 use Rattle.uma_item.specs.Item.{item_stays}

@@ -1,8 +1,8 @@
-use Rattle.std.proofs.Common.{rules, ◌≡◌, ◌≤◌, ◌<◌, ℕ, ap, sym, subst, ◌∙◌}
-use Rattle.uma_life.specs.Hook.{Dtor, MayPass, after, base_phase, tally_after}
+use Rattle.std.proofs.Common.{ap, sym, ◌∙◌}
+use Rattle.uma_life.specs.Hook.{Dtor, tally_after}
 use Rattle.uma_item.specs.declared.item.Item.{Item}
 use Rattle.uma_item.specs.Counts.{tally_by}
-use Rattle.uma_item.specs.Item.{item_data, item_life, item_stays}
+use Rattle.uma_item.specs.Item.{item_stays}
 use Rattle.uma_item.proofs.item.Item.end_use.Goals as goal
 use Rattle.uma_item.proofs.Passing.{dtor-tally, stays_kept}
 use Rattle.uma_life.specs.Trail.{open_stays}

@@ -1,4 +1,4 @@
-use Rattle.std.proofs.Common.{◌≡◌, ◌≢◌, ◌<◌, ◌-◌, ℕ, ap, sym, subst, ◌∙◌, arith, length}
+use Rattle.std.proofs.Common.{◌<◌, ◌-◌, ℕ, ap, sym, subst, ◌∙◌, arith, length}
 use Rattle.std.proofs.lemmas.List.{length-set}
 use Rattle.uma_life.specs.Hook.{ZoneInit, tally_after}
 use Rattle.uma_life.specs.declared.body_phase.BodyPhase.TheVariants.{Zoned}

@@ -1,4 +1,4 @@
-use Rattle.std.proofs.Common.{◌≡◌, ap, sym, ◌∙◌, arith}
+use Rattle.std.proofs.Common.{ap, sym, ◌∙◌, arith}
 use Rattle.uma_life.specs.Hook.{ZoneFini, tally_after}
 use Rattle.uma_life.specs.declared.body_phase.BodyPhase.TheVariants.{Kept}
 use Rattle.uma_item.specs.declared.item.Item.{Item}

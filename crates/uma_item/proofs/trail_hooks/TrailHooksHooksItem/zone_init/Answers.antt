@@ -1,6 +1,5 @@
-use Rattle.std.proofs.Common.{rules, ◌≡◌, ◌≢◌, ◌==◌, ℕ, Option, Some, None, IfErr, refl, sym, subst, ap, ◌∙◌, arith}
+use Rattle.std.proofs.Common.{rules, ◌≡◌, ℕ, Option, Some, None, IfErr, refl, sym, subst, ◌∙◌, arith}
 use Rattle.uma_life.specs.Hook.{IsCode}
-use Rattle.uma_item.specs.Counts.{refusal_of_stay}
 use Rattle.uma_item.specs.Item.{item_data, item_stays}
 use Rattle.uma_item.proofs.trail_hooks.TrailHooksHooksItem.zone_init.Goals as goal
 use Rattle.uma_item.proofs.Passing.{refusal-kept}

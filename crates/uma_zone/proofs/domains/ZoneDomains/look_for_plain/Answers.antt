@@ -20,3 +20,6 @@ returns-in-Some-clause-spares g c =
     let mid = c.take_plain.new.seat in
     subst (λ (l : List ℕ). length l ≤ length (spares_of c.refill.new.self)) (ap spares_in c.take_plain.ensures.rack)
     (spares_left (spares_of mid) (spares_of c.refill.new.self) (length (shelf_of mid)) (top_of mid).room c.refill.ensures.spare c.refill.ensures.no_place)
+
+pub returns-in-Some-clause-own : goal.returns-in-Some-clause-own
+returns-in-Some-clause-own g c _ = record { bucket = c.in-Some.bucket; taken = c.in-Some.ensures.own; all = ap items_of c.refill.ensures.top }

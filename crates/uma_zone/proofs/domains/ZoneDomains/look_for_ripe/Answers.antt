@@ -42,3 +42,12 @@ returns-in-Some-clause-spares g c =
     let mid = c.take_ripe.new.seat in
     subst (λ (l : List ℕ). length l ≤ length (spares_of c.refill.new.self)) (ap spares_in c.take_ripe.ensures.rack)
     (spares_left (spares_of mid) (spares_of c.refill.new.self) (length (shelf_of mid)) (top_of mid).room c.refill.ensures.spare c.refill.ensures.no_place)
+
+pub returns-in-Some-clause-own : goal.returns-in-Some-clause-own
+returns-in-Some-clause-own g c _ =
+    let ripe = c.in-Some.ripe in
+    record {
+      ripe = ripe;
+      taken = c.in-Some.ensures.own;
+      finished = subst (λ (b : Bucket _ _). AreFinished (g.K.Hooks.leaves_dtor c.args.hooks.now) (loose_items (ripe_bucket ripe)) (items_of b)) (sym c.refill.ensures.top) c.into_cached-bucket.ensures.finished;
+    }

@@ -1,8 +1,9 @@
-use Rattle.std.proofs.Common.{List, sym, subst}
+use Rattle.std.proofs.Common.{◌∷◌, List, sym, ap, ◌∙◌, subst}
 use Rattle.uma_bucket.specs.declared.shelved.Shelved.{Shelved}
 use Rattle.uma_seat.specs.Seat.{shelf_of}
 use Rattle.uma_zone.specs.Flushed.{in_order, AreLastOf}
-use Rattle.uma_zone.proofs.DomainShelves.{on_err, newest_last, both_back}
+use Rattle.uma_zone.proofs.DomainShelves.{on_err, newest_last, oldest_first, both_back}
+use Rattle.uma_zone.proofs.Listings.{put_none, put_both}
 use Rattle.uma_zone.proofs.domains.ZoneDomains.put_in_order.Goals as goal
 
 pub returns-in-Ok-clause-stay : goal.returns-in-Ok-clause-stay
@@ -10,4 +11,12 @@ returns-in-Ok-clause-stay g c =
     on_err c.put_newest.result (λ is. subst (λ (l : List (Shelved _ _ _ _ _)). AreLastOf (in_order c.args.oldest c.args.newest) l) (sym is) (newest_last c.args.oldest c.args.newest)) c.put_newest.ensures.stay
 
 pub returns-in-Err-clause-stay : goal.returns-in-Err-clause-stay
-returns-in-Err-clause-stay g c = both_back c.args.oldest c.args.newest c.in-Err.oldest (shelf_of c.put_back.new.seat) (shelf_of c.put_shelf.new.self) c.in-Err.ensures c.put_back.ensures.shelf c.put_shelf.ensures.oldest
+returns-in-Err-clause-stay g c = both_back c.args.oldest c.args.newest c.in-Err.oldest (shelf_of c.put_back.new.seat) (shelf_of c.put_shelf.new.self) c.in-Err.ensures.back c.put_back.ensures.shelf c.put_shelf.ensures.oldest
+
+pub returns-in-Ok-clause-puts : goal.returns-in-Ok-clause-puts
+returns-in-Ok-clause-puts g c = put_both c.args.self.now c.args.oldest c.args.newest (shelf_of c.put_newest.new.seat) c.in-Ok.ensures.listed c.put_newest.ensures.puts
+
+pub returns-in-Err-clause-puts : goal.returns-in-Err-clause-puts
+returns-in-Err-clause-puts g c =
+    put_none c.args.self.now (in_order c.args.oldest c.args.newest) (shelf_of c.put_shelf.new.self)
+    (oldest_first c.args.oldest c.args.newest c.in-Err.oldest c.in-Err.ensures.back ∙ ap (λ (l : List (Shelved _ _ _ _ _)). c.in-Err.oldest ∷ l) (sym c.put_back.ensures.shelf) ∙ sym c.put_shelf.ensures.oldest)

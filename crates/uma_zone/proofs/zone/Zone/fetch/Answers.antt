@@ -1,4 +1,4 @@
-use Rattle.std.proofs.Common.{Ok, Err, refl, ap, ◌∙◌}
+use Rattle.std.proofs.Common.{Err, refl, ap, ◌∙◌}
 use Rattle.uma_keg.specs.declared.fetch_ask.FetchAsk.{FetchAsk}
 use Rattle.keyed_lock.specs.KeyedGuard.{guard_key}
 use Rattle.uma_bucket.specs.Bucket.{size_of}

@@ -1,3 +1,4 @@
+use Rattle.locked_keg.specs.LockedKeg.{keg_in}
 use Rattle.uma_zone.specs.Zone.{zone_home}
 use Rattle.uma_zone.proofs.Locked.{of_book}
 use Rattle.uma_zone.proofs.zone.Zone.give.Goals as goal
@@ -7,3 +8,6 @@ give_all-requires g c = of_book (zone_home c.args.self.now) c.args.bucket _ c.lo
 
 pub drop-guard-requires : goal.drop-guard-requires
 drop-guard-requires g c = c.give_all.ensures.keeps _ c.lock-guard.ensures.kept
+
+pub returns-clause-given : goal.returns-clause-given
+returns-clause-given g c = record { was = keg_in c.lock-guard.result.value; is = keg_in c.give_all.new.self; of_zone = c.lock-guard.ensures.numbers; gives = c.give_all.ensures.gives }

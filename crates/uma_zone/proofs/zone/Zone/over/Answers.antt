@@ -7,10 +7,9 @@ use Rattle.locked_keg.specs.Ends.{fetch_cause}
 use Rattle.locked_keg.specs.FailBooks.{table_at}
 use Rattle.locked_keg.specs.Key.{key_rights, key_fails, IsKeyOf}
 use Rattle.locked_keg.specs.LockedKeg.{keg_in, fails_in}
-use Rattle.std.proofs.Common.{◌≡◌, ◌<◌, ℕ, List, [], ◌∷◌, ◌++◌, map, Some, refl, sym, ap, ◌∙◌, subst}
+use Rattle.std.proofs.Common.{◌≡◌, List, [], ◌∷◌, ◌++◌, map, Some, refl, sym, ap, ◌∙◌}
 use Rattle.std.proofs.lemmas.List.Elements.{All-pop, All-weaker}
 use Rattle.std.specs.Arc.{arc_value}
-use Rattle.std.specs.List.{All}
 use Rattle.uma_bucket.specs.Home.{Home}
 use Rattle.uma_keg.specs.Keg.{places_in, rights_in}
 use Rattle.uma_zone.proofs.Made.{no_slabs, key_of, same_home}

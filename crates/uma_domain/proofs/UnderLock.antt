@@ -1,0 +1,72 @@
+-- What a call of a domain did to its lists, from what the lists' own call did.
+use Rattle.std.proofs.Common.{◌≡◌, ◌+◌, ℕ, [], ◌∷◌, ◌++◌, Option, Some, None, IfSome, IfNone, Result, Ok, Err, IfOk, OnOk, OnErr, is_ok, if◌then◌else◌, subst}
+use Rattle.smr_clock.specs.declared.setup.Setup.{Setup}
+use Rattle.smr_clock.specs.declared.view.View.{View}
+use Rattle.smr_clock.specs.Belongs.{TableId}
+use Rattle.uma_bucket.specs.declared.bucket.Bucket.{Bucket}
+use Rattle.uma_bucket.specs.declared.loose.Loose.{Loose}
+use Rattle.uma_bucket.specs.declared.sealed.Sealed.{Sealed}
+use Rattle.uma_bucket.specs.declared.ripe.Ripe.{Ripe}
+use Rattle.uma_domain.specs.declared.domain.Domain.{Domain}
+use Rattle.uma_domain.specs.declared.lists.Lists.{Lists}
+use Rattle.uma_domain.specs.declared.taken.Taken.{Taken}
+use Rattle.uma_domain.specs.Domain.{domain_identity}
+use Rattle.uma_domain.specs.Listed.{listed}
+use Rattle.uma_domain.specs.Lists.{plain_in, loose_in, sealed_in, working_in, missed_in}
+use Rattle.uma_domain.specs.Scans.{AllStay, TakesRipe}
+use Rattle.uma_domain.specs.Taken.{taken_in}
+use Rattle.uma_domain.specs.Tries.{SealsEach}
+use Rattle.uma_domain.specs.Trim.{Trims, TakesAll}
+use Rattle.uma_domain.specs.Working.{after, begun, working_set}
+use Rattle.uma_domain.specs.UnderLock.{AreListsOf, PutsPlain, PutsLoose, PutsSealed, TakesPlain, FindsNoPlain, TakesOldestRipe, FindsNoneRipe, SealsLoose, TakesUnused, TakesEach, KeepsLists}
+
+module _ {T H P : Type 0} {g h : _} (domain : Domain T H P g h) (was is : Lists T H P g h) (of : AreListsOf domain was) where
+  pub puts_plain : (bucket : Bucket T g) (result : Result (Unit {0}) (Bucket T g)) → plain_in is ≡ (if is_ok result then plain_in was ++ bucket ∷ [] else plain_in was) → OnOk result (PutsPlain domain bucket)
+  puts_plain bucket (Ok done) newest = record { was = was; is = is; of_domain = of; newest = newest }
+  puts_plain bucket (Err back) newest = tt
+
+  pub puts_loose : (bucket : Loose T g) (result : Result (Unit {0}) (Loose T g)) → loose_in is ≡ (if is_ok result then loose_in was ++ bucket ∷ [] else loose_in was) → OnOk result (PutsLoose domain bucket)
+  puts_loose bucket (Ok done) newest = record { was = was; is = is; of_domain = of; newest = newest }
+  puts_loose bucket (Err back) newest = tt
+
+  pub puts_sealed : (bucket : Sealed T H P g h) (result : Result (Unit {0}) (Sealed T H P g h)) → sealed_in is ≡ (if is_ok result then sealed_in was ++ bucket ∷ [] else sealed_in was) → OnOk result (PutsSealed domain bucket)
+  puts_sealed bucket (Ok done) newest = record { was = was; is = is; of_domain = of; newest = newest }
+  puts_sealed bucket (Err back) newest = tt
+
+  pub takes_plain : (result : Option (Bucket T g)) → IfSome result (λ bucket. plain_in was ≡ plain_in is ++ bucket ∷ []) → IfSome result (TakesPlain domain)
+  takes_plain None newest = tt
+  takes_plain (Some bucket) newest = record { was = was; is = is; of_domain = of; newest = newest }
+
+  pub finds_no_plain : (result : Option (Bucket T g)) → IfNone result ((plain_in was ≡ []) × (plain_in is ≡ [])) → IfNone result (missed_in is ≡ missed_in was + 1) → IfNone result (FindsNoPlain domain)
+  finds_no_plain None none miss = record { was = was; is = is; of_domain = of; none = none.0; missed = miss }
+  finds_no_plain (Some bucket) none miss = tt
+
+  pub takes_oldest : (result : Option (Ripe T H P g h)) → IfSome result (λ ripe. TakesRipe (sealed_in was) ripe (sealed_in is)) → IfSome result (TakesOldestRipe domain)
+  takes_oldest None oldest = tt
+  takes_oldest (Some ripe) oldest = record { was = was; is = is; of_domain = of; oldest = oldest }
+
+  pub finds_none_ripe : (result : Option (Ripe T H P g h)) → IfNone result (AllStay (sealed_in was) (sealed_in is)) → IfNone result (missed_in is ≡ missed_in was + 1) → IfNone result (FindsNoneRipe domain)
+  finds_none_ripe None none miss = record { was = was; is = is; of_domain = of; said_no = none; missed = miss }
+  finds_none_ripe (Some ripe) none miss = tt
+
+  pub seals_loose : (copied : P → P) (clock : TableId × Setup) (v : View P) (count : ℕ) (v' : View P) → clock ≡ (domain_identity domain).clock → SealsEach copied clock v (loose_in was) (sealed_in was) count (loose_in is) (sealed_in is) v' → SealsLoose domain copied v count v'
+  seals_loose copied clock v count v' here tried = record {
+    was = was;
+    is = is;
+    of_domain = of;
+    tried = subst (λ (id : TableId × Setup). SealsEach copied id v (loose_in was) (sealed_in was) count (loose_in is) (sealed_in is) v') here tried;
+  }
+
+  pub takes_unused : {E : Type 0} (result : Result (Taken T H P g h) E) → IfOk result (λ taken. Trims (working_set (working_in was)) (working_in was).count (plain_in was) (sealed_in was) (taken_in taken) (plain_in is) (sealed_in is))
+      → loose_in is ≡ loose_in was → IfOk result (λ _. working_in is ≡ begun (listed (plain_in is) (loose_in is) (sealed_in is))) → IfOk result (TakesUnused domain)
+  takes_unused (Ok taken) trimmed loose begins = record { was = was; is = is; of_domain = of; trimmed = trimmed; loose = loose; begins = begins }
+  takes_unused (Err e) trimmed loose begins = tt
+
+  pub takes_each : {E : Type 0} (result : Result (Taken T H P g h) E) → IfOk result (λ taken. TakesAll (plain_in was) (sealed_in was) (taken_in taken) (sealed_in is)) → IfOk result (λ _. plain_in is ≡ [])
+      → loose_in is ≡ loose_in was → IfOk result (λ _. working_in is ≡ after (working_in was) (listed (plain_in is) (loose_in is) (sealed_in is))) → IfOk result (TakesEach domain)
+  takes_each (Ok taken) all none loose goes_on = record { was = was; is = is; of_domain = of; all = all; none_left = none; loose = loose; goes_on = goes_on }
+  takes_each (Err e) all none loose goes_on = tt
+
+  pub keeps_lists : {E : Type 0} (result : Result (Taken T H P g h) E) → OnErr result ((plain_in is ≡ plain_in was) × (sealed_in is ≡ sealed_in was) × (working_in is ≡ working_in was)) → loose_in is ≡ loose_in was → OnErr result (KeepsLists domain)
+  keeps_lists (Ok taken) kept loose = tt
+  keeps_lists (Err e) kept loose = record { was = was; is = is; of_domain = of; plain = kept.0; loose = loose; sealed = kept.1; working = kept.2 }

@@ -1,0 +1,139 @@
+-- Own: what a call of a domain did to its lists. They lie behind a lock, so each record names the lists of this very domain as the call found them under the lock, and as it left them.
+use Rattle.std.specs.Prelude.{◌≡◌, ◌+◌, ℕ, [], ◌∷◌, ◌++◌}
+use Rattle.smr_clock.specs.declared.view.View.{View}
+use Rattle.uma_bucket.specs.declared.bucket.Bucket.{Bucket}
+use Rattle.uma_bucket.specs.declared.loose.Loose.{Loose}
+use Rattle.uma_bucket.specs.declared.sealed.Sealed.{Sealed}
+use Rattle.uma_bucket.specs.declared.ripe.Ripe.{Ripe}
+use Rattle.uma_bucket.specs.declared.sums.Sums.{Sums}
+use Rattle.uma_bucket.specs.Sums.{nothing_held, Adds}
+use Rattle.uma_domain.specs.declared.domain.Domain.{Domain}
+use Rattle.uma_domain.specs.declared.lists.Lists.{Lists}
+use Rattle.uma_domain.specs.declared.taken.Taken.{Taken}
+use Rattle.uma_domain.specs.Domain.{domain_identity}
+use Rattle.uma_domain.specs.Listed.{listed}
+use Rattle.uma_domain.specs.Lists.{lists_identity, plain_in, loose_in, sealed_in, working_in, missed_in}
+use Rattle.uma_domain.specs.Scans.{AllStay, TakesRipe}
+use Rattle.uma_domain.specs.Sums.{times_listed, deferred_listed}
+use Rattle.uma_domain.specs.Taken.{taken_in}
+use Rattle.uma_domain.specs.Tries.{SealsEach}
+use Rattle.uma_domain.specs.Trim.{Trims, TakesAll}
+use Rattle.uma_domain.specs.Working.{after, begun, working_set}
+
+module _ {T H P : Type 0} {g h : _} where
+  -- these are lists of the domain
+  abbrev pub AreListsOf : Domain T H P g h → Lists T H P g h → Type 0
+  AreListsOf domain lists = lists_identity lists ≡ domain_identity domain
+
+  -- the bucket is the newest plain one
+  pub record PutsPlain (domain : Domain T H P g h) (bucket : Bucket T g) : Type 0 where
+    pub was : Lists T H P g h
+    pub is : Lists T H P g h
+    pub of_domain : AreListsOf domain was
+    pub newest : plain_in is ≡ plain_in was ++ bucket ∷ []
+
+  -- the bucket is the newest loose one
+  pub record PutsLoose (domain : Domain T H P g h) (bucket : Loose T g) : Type 0 where
+    pub was : Lists T H P g h
+    pub is : Lists T H P g h
+    pub of_domain : AreListsOf domain was
+    pub newest : loose_in is ≡ loose_in was ++ bucket ∷ []
+
+  -- the bucket is the newest sealed one
+  pub record PutsSealed (domain : Domain T H P g h) (bucket : Sealed T H P g h) : Type 0 where
+    pub was : Lists T H P g h
+    pub is : Lists T H P g h
+    pub of_domain : AreListsOf domain was
+    pub newest : sealed_in is ≡ sealed_in was ++ bucket ∷ []
+
+  -- the bucket was the newest plain one, and is taken
+  pub record TakesPlain (domain : Domain T H P g h) (bucket : Bucket T g) : Type 0 where
+    pub was : Lists T H P g h
+    pub is : Lists T H P g h
+    pub of_domain : AreListsOf domain was
+    pub newest : plain_in was ≡ plain_in is ++ bucket ∷ []
+
+  -- no plain bucket was listed, and one more miss is counted
+  pub record FindsNoPlain (domain : Domain T H P g h) : Type 0 where
+    pub was : Lists T H P g h
+    pub is : Lists T H P g h
+    pub of_domain : AreListsOf domain was
+    pub none : plain_in was ≡ []
+    pub missed : missed_in is ≡ missed_in was + 1
+
+  -- the bucket was the oldest sealed one whose poll said yes, and is taken
+  pub record TakesOldestRipe (domain : Domain T H P g h) (ripe : Ripe T H P g h) : Type 0 where
+    pub was : Lists T H P g h
+    pub is : Lists T H P g h
+    pub of_domain : AreListsOf domain was
+    pub oldest : TakesRipe (sealed_in was) ripe (sealed_in is)
+
+  -- each sealed bucket that was listed was polled once, which said no, and one more miss is counted
+  pub record FindsNoneRipe (domain : Domain T H P g h) : Type 0 where
+    pub was : Lists T H P g h
+    pub is : Lists T H P g h
+    pub of_domain : AreListsOf domain was
+    pub said_no : AllStay (sealed_in was) (sealed_in is)
+    pub missed : missed_in is ≡ missed_in was + 1
+
+  -- Each loose bucket tried once to be sealed, by a pass whose view was v before and v' after, and so many were.
+  pub record SealsLoose (domain : Domain T H P g h) (copied : P → P) (v : View P) (count : ℕ) (v' : View P) : Type 0 where
+    pub was : Lists T H P g h
+    pub is : Lists T H P g h
+    pub of_domain : AreListsOf domain was
+    pub tried : SealsEach copied (domain_identity domain).clock v (loose_in was) (sealed_in was) count (loose_in is) (sealed_in is) v'
+
+  -- what wasn't in use since the last mark is taken, and a new interval begins
+  pub record TakesUnused (domain : Domain T H P g h) (taken : Taken T H P g h) : Type 0 where
+    pub was : Lists T H P g h
+    pub is : Lists T H P g h
+    pub of_domain : AreListsOf domain was
+    pub trimmed : Trims (working_set (working_in was)) (working_in was).count (plain_in was) (sealed_in was) (taken_in taken) (plain_in is) (sealed_in is)
+    pub loose : loose_in is ≡ loose_in was
+    pub begins : working_in is ≡ begun (listed (plain_in is) (loose_in is) (sealed_in is))
+
+  -- every candidate is taken, and the interval goes on
+  pub record TakesEach (domain : Domain T H P g h) (taken : Taken T H P g h) : Type 0 where
+    pub was : Lists T H P g h
+    pub is : Lists T H P g h
+    pub of_domain : AreListsOf domain was
+    pub all : TakesAll (plain_in was) (sealed_in was) (taken_in taken) (sealed_in is)
+    pub none_left : plain_in is ≡ []
+    pub loose : loose_in is ≡ loose_in was
+    pub goes_on : working_in is ≡ after (working_in was) (listed (plain_in is) (loose_in is) (sealed_in is))
+
+  -- the lists are as they were
+  pub record KeepsLists (domain : Domain T H P g h) : Type 0 where
+    pub was : Lists T H P g h
+    pub is : Lists T H P g h
+    pub of_domain : AreListsOf domain was
+    pub plain : plain_in is ≡ plain_in was
+    pub loose : loose_in is ≡ loose_in was
+    pub sealed : sealed_in is ≡ sealed_in was
+    pub working : working_in is ≡ working_in was
+
+  -- a new interval begins
+  pub record Marks (domain : Domain T H P g h) : Type 0 where
+    pub was : Lists T H P g h
+    pub is : Lists T H P g h
+    pub of_domain : AreListsOf domain was
+    pub begins : working_in is ≡ begun (working_in was).count
+
+  -- so many items were listed
+  pub record CountsListed (domain : Domain T H P g h) (count : ℕ) : Type 0 where
+    pub was : Lists T H P g h
+    pub of_domain : AreListsOf domain was
+    pub all : count ≡ listed (plain_in was) (loose_in was) (sealed_in was)
+
+  -- so many items were listed at the least and at the most since the last mark
+  pub record TellsWorking (domain : Domain T H P g h) (least greatest : ℕ) : Type 0 where
+    pub was : Lists T H P g h
+    pub of_domain : AreListsOf domain was
+    pub same_least : least ≡ (working_in was).least
+    pub same_greatest : greatest ≡ (working_in was).greatest
+
+  -- these are the sums of what was listed
+  pub record SumsListed (domain : Domain T H P g h) (sums : Sums) : Type 0 where
+    pub was : Lists T H P g h
+    pub of_domain : AreListsOf domain was
+    pub adds : Adds (times_listed (plain_in was) (loose_in was) (sealed_in was)) (deferred_listed (loose_in was) (sealed_in was)) nothing_held sums
