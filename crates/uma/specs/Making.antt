@@ -1,0 +1,25 @@
+-- Own: why no pool is made, and why a pool gives no local.
+use Rattle.std.specs.Prelude.{◌≡◌, ◌<◌, ◌⊎◌, ℕ}
+use Rattle.smr_core.specs.Making.{IsSeatCount}
+use Rattle.uma_zone.specs.Making.{RefusesPrimary}
+use Rattle.uma_zone.specs.declared.zone_refused.ZoneRefused.TheVariants as zone
+use Rattle.uma.specs.declared.plan.Plan.{Plan}
+use Rattle.uma.specs.declared.refused.Refused.{Refused}
+use Rattle.uma.specs.declared.refused.Refused.TheVariants.{Workers, Size, Slabs, Bucket, Domains, Taken, Memory}
+use Rattle.uma.specs.Plan.{IsGood, set_of}
+
+-- The first number of the plan that is out of its range, in the order workers, size, slabs, bucket, domains; memory is wanted for good ones alone.
+abbrev pub RefusesPlan : Plan → Refused → Type 0
+RefusesPlan plan (Workers workers) = (workers ≡ plan.workers) × ((plan.workers < 1) ⊎ (64 < plan.workers))
+RefusesPlan plan (Size size) = IsSeatCount plan.workers × RefusesPrimary plan.size (set_of plan) (zone.Size size)
+RefusesPlan plan (Slabs slabs) = IsSeatCount plan.workers × RefusesPrimary plan.size (set_of plan) (zone.Slabs slabs)
+RefusesPlan plan (Bucket bucket) = IsSeatCount plan.workers × RefusesPrimary plan.size (set_of plan) (zone.Bucket bucket)
+RefusesPlan plan (Domains domains) = IsSeatCount plan.workers × RefusesPrimary plan.size (set_of plan) (zone.Domains domains)
+RefusesPlan plan Memory = IsGood plan
+RefusesPlan plan _ = ⊥
+
+-- Why a pool gives no local: as many have one as its plan has workers, or memory is wanting.
+abbrev pub RefusesLocal : Plan → Refused → Type 0
+RefusesLocal plan (Taken workers) = workers ≡ plan.workers
+RefusesLocal plan Memory = Unit {0}
+RefusesLocal plan _ = ⊥

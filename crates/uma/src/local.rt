@@ -1,0 +1,205 @@
+ghost use Rattle.std.specs.Prelude.{◌≡◌, ◌==◌, IfOk, IfErr, OnOk, OnErr, true, false, not};
+ghost use Rattle.smr_core.specs.declared.phase.Phase.{Phase};
+ghost use Rattle.smr_clock.specs.Belongs.{IsOf, holder};
+ghost use Rattle.uma_seat.specs.Seat.{seat_domain};
+ghost use Rattle.uma_zone.specs.Zone.{IsSeatOf};
+
+use crate::not_freed::NotFreed;
+use crate::pool::Pool;
+use crate::refused::Refused;
+use smr_clock::{Bare, Pass};
+use std::alloc::Global;
+use std::sync::Wait;
+use uma_life::{Body, Hooks, Live};
+use uma_seat::SeatCache;
+use uma_zone::{AllocAsk, AllocRefused};
+use zone_stats::SeatLedger;
+
+/// What one worker has of a pool: a cache of items, with what it counted. It may be sent to another thread, and is used by one at a
+/// time. A dropped one keeps what it had cached: [`Local::drain`] it first.
+#[derive(Drop)]
+pub struct Local<'a, T: Body, K: Hooks<T>> {
+    pub(crate) pool: &'a Pool<T, K>,
+    pub(crate) pass: Pass<Bare>,
+    pub(crate) seat: SeatCache<T, Bare>,
+    pub ghost here: { IsOf pool.now.clock pass },
+    pub ghost outside: { (holder pass).phase ≡ Phase.Outside },
+    pub ghost seated: { IsSeatOf pool.now.zone seat },
+}
+
+impl<'a, T: Body + Drop, K: Hooks<T>> Local<'a, T, K> {
+    ghost use Rattle.uma.specs.Pool.{IsItemOf, pool_plan};
+    ghost use Rattle.uma_life.specs.Live.{live_domain};
+    ghost use Rattle.uma.specs.Local.{pool_of, ledger_in, Allocs, RefusesAlloc, CanHold, Puts, Defers, Frees, IsNotReady, KeepsLocal, KeepsUsable};
+    ghost use Rattle.zone_stats.specs.LedgerSteps.{HasRoom, CountsAlloc, CountsFree};
+
+    /// An item whose `ctor` took this argument. It is the one that was freed last here, where there is one; else the local
+    /// gets a bucket of its domain, or fetches some from the slabs. Waits until it has the pool's locks, where it has no item cached.
+    ///
+    /// # Errors
+    ///
+    /// `Turned` where the limit is reached, all slabs are in use, what is free is reserved, or `init` or `ctor` refused; that is counted.
+    /// `Counts` where the local's counts are full. `Memory` where memory is wanting.
+    pub fn alloc<R: Wait>(&mut self, rt: &R, alloc: Global, arg: u64) -> Result<Live<T>, Refused>
+        ensures pool { pool_of self.new ≡ pool_of self.old }
+        ensures home { IfOk result (IsItemOf (pool_of self.old)) }
+        ensures served { IfOk result (λ held. Allocs arg false self.old held self.new) }
+        ensures counted { OnOk result (CountsAlloc (ledger_in self.old) (ledger_in self.new)) }
+        ensures refused { IfErr result (RefusesAlloc arg false self.old self.new) }
+    {
+        self.ask(rt, alloc, arg, false)
+    }
+
+    /// An item as [`Local::alloc`] gives it, and if need be one of those that are reserved.
+    ///
+    /// # Errors
+    ///
+    /// As `alloc`, but what is reserved refuses nothing.
+    pub fn alloc_reserved<R: Wait>(
+        &mut self,
+        rt: &R,
+        alloc: Global,
+        arg: u64,
+    ) -> Result<Live<T>, Refused>
+        ensures pool { pool_of self.new ≡ pool_of self.old }
+        ensures home { IfOk result (IsItemOf (pool_of self.old)) }
+        ensures served { IfOk result (λ held. Allocs arg true self.old held self.new) }
+        ensures counted { OnOk result (CountsAlloc (ledger_in self.old) (ledger_in self.new)) }
+        ensures refused { IfErr result (RefusesAlloc arg true self.old self.new) }
+    {
+        self.ask(rt, alloc, arg, true)
+    }
+
+    fn ask<R: Wait>(
+        &mut self,
+        rt: &R,
+        alloc: Global,
+        arg: u64,
+        reserve: bool,
+    ) -> Result<Live<T>, Refused>
+        ensures pool { pool_of self.new ≡ pool_of self.old }
+        ensures home { IfOk result (IsItemOf (pool_of self.old)) }
+        ensures served { IfOk result (λ held. Allocs arg reserve self.old held self.new) }
+        ensures counted { OnOk result (CountsAlloc (ledger_in self.old) (ledger_in self.new)) }
+        ensures refused { IfErr result (RefusesAlloc arg reserve self.old self.new) }
+    {
+        if !self.seat.room() {
+            return Err(Refused::Counts);
+        }
+        let ask = AllocAsk { arg, reserve };
+        let pool = self.pool;
+        let asked = pool.zone.alloc(rt, alloc, &pool.clock, &mut self.pass, &mut self.seat, ask);
+        match asked {
+            Ok(held) => Ok(held),
+            Err(AllocRefused::Refused { refusal }) => Err(Refused::Turned { refusal }),
+            Err(AllocRefused::Memory) => Err(Refused::Memory),
+        }
+    }
+
+    /// Frees an item of the pool: `dtor` runs, and the item is cached here for a later request. In a pool with readers it stays built
+    /// until no section may see it, and only then may a request have it. Takes memory only where the local has no spare bucket, and
+    /// waits only then.
+    ///
+    /// # Errors
+    ///
+    /// The item comes back. `Memory` where the local has no spare bucket and there is no memory for one; `Counts` where its counts are
+    /// full.
+    pub fn free<R: Wait>(&mut self, rt: &R, alloc: Global, held: Live<T>) -> Result<(), NotFreed<T>>
+        requires { IsItemOf (pool_of self.old) held }
+        ensures pool { pool_of self.new ≡ pool_of self.old }
+        ensures freed { OnOk result (Frees self.old held self.new) }
+        ensures back { IfErr result (λ back. back.item ≡ held) }
+        ensures kept { OnErr result (KeepsLocal self.old self.new) }
+        ensures refused { IfErr result (λ back. IsNotReady self.old back.why) }
+    {
+        if let Err(why) = self.make_ready(rt, alloc) {
+            return Err(NotFreed { item: held, why });
+        }
+        self.put(held);
+        Ok(())
+    }
+
+    // Frees an item, for which there is a bucket.
+    fn put(&mut self, held: Live<T>)
+        requires room { HasRoom (ledger_in self.old) }
+        requires spare { CanHold self.old }
+        requires home { IsItemOf (pool_of self.old) held }
+        ensures pool { pool_of self.new ≡ pool_of self.old }
+        ensures put { (pool_plan (pool_of self.old)).smr ≡ false → Puts self.old held self.new }
+        ensures deferred { (pool_plan (pool_of self.old)).smr ≡ true → Defers self.old held self.new }
+        ensures unseen { (pool_plan (pool_of self.old)).smr ≡ true → KeepsUsable self.old self.new }
+        ensures counted { CountsFree (ledger_in self.old) (ledger_in self.new) (not (live_domain held == seat_domain self.old.seat)) }
+    {
+        let pool = self.pool;
+        if pool.plan.smr {
+            pool.zone
+                .free_smr(&pool.clock, &mut self.pass, &mut self.seat, held);
+            return;
+        }
+        pool.zone.free(&mut self.seat, held);
+    }
+
+    // Sees to it that a free can be counted, and that there is a bucket for what is freed.
+    fn make_ready<R: Wait>(&mut self, rt: &R, alloc: Global) -> Result<(), Refused>
+        ensures room { OnOk result (HasRoom (ledger_in self.new)) }
+        ensures spare { OnOk result (CanHold self.new) }
+        ensures kept { KeepsLocal self.old self.new }
+        ensures usable { KeepsUsable self.old self.new }
+        ensures refused { IfErr result (IsNotReady self.old) }
+    {
+        if !self.seat.room() {
+            return Err(Refused::Counts);
+        }
+        if self.seat.spare() > 0 {
+            return Ok(());
+        }
+        let pool = self.pool;
+        let made = pool
+            .zone
+            .make_room(rt, alloc, &pool.clock, &mut self.pass, &mut self.seat);
+        // One spare is enough, where there was no memory for two.
+        if made.is_err() && self.seat.spare() == 0 {
+            return Err(Refused::Memory);
+        }
+        Ok(())
+    }
+
+    /// Runs `look` within a section, and answers what it does: from the beginning of the section to its end no item becomes usable again
+    /// that was freed meanwhile, in a pool with readers. The section always ends with the call. It waits for nobody, and nobody waits
+    /// for it, so it is to be short.
+    ///
+    /// # Errors
+    ///
+    /// `Late` where the pool's clock went on by its whole window while the section was entered. `look` wasn't called then.
+    pub fn read<X, F: FnOnce() -> X>(&mut self, look: F) -> Result<X, Refused>
+    where
+        F: Drop,
+        requires { F.pre look }
+        ensures looked { IfOk result (F.post look) }
+        ensures kept { KeepsLocal self.old self.new }
+        ensures usable { KeepsUsable self.old self.new }
+        ensures refused { IfErr result (λ why. why ≡ Refused.Late) }
+    {
+        let clock = &self.pool.clock;
+        if clock.enter(&mut self.pass).is_err() {
+            return Err(Refused::Late);
+        }
+        let found = look();
+        clock.exit(&mut self.pass);
+        Ok(found)
+    }
+
+    /// The pool that it is of.
+    pub fn pool(&self) -> &'a Pool<T, K>
+        ensures { result.now ≡ pool_of self.now }
+    {
+        self.pool
+    }
+
+    /// What it counted.
+    pub fn ledger(&self) -> SeatLedger
+        ensures { result ≡ ledger_in self.now }
+    {
+        self.seat.ledger()
+    }
+}

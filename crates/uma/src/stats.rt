@@ -1,0 +1,39 @@
+ghost use Rattle.std.specs.Prelude.{IfOk, IfErr};
+ghost use Rattle.uma.specs.Table.{IsLineOf, RefusesLine};
+
+use crate::pool::Pool;
+use crate::refused::Refused;
+use std::alloc::Global;
+use std::sync::Wait;
+use uma_life::{Body, Hooks, Lives};
+use zone_stats::{SeatLedger, ZoneLine, ZoneName, sum};
+
+impl<T: Body + Drop, K: Hooks<T>> Pool<T, K> {
+    /// What the pool's locals counted together, as a line of a table under this name. They are those whose ledgers are given; what is
+    /// free is by a census of the pool's slabs, of this moment. Waits until it has the pool's lock.
+    ///
+    /// # Errors
+    ///
+    /// `Name` exactly where the name isn't 1 to 16 letters and digits of ASCII, `_` and `-`, and else `Memory`.
+    pub fn stats<R: Wait>(
+        &self,
+        rt: &R,
+        alloc: Global,
+        name: &[u8],
+        ledgers: &[SeatLedger],
+    ) -> Result<ZoneLine, Refused>
+        ensures line { IfOk result (IsLineOf self.now name.now ledgers.now) }
+        ensures refused { IfErr result (RefusesLine name.now) }
+    {
+        let Some(name) = ZoneName::new(name) else {
+            return Err(Refused::Name);
+        };
+        let lives = Lives::from_vec(Vec::new(alloc));
+        let Ok((census, _lives)) = self.zone.census(rt, alloc, lives) else {
+            return Err(Refused::Memory);
+        };
+        let (size, limit) = (self.plan.size, self.plan.limit);
+        let (out, free) = (census.outs()[0], census.counts().free);
+        Ok(sum(name, size, limit, ledgers, out, free))
+    }
+}
