@@ -3,7 +3,7 @@ use super::*;
 use zone_stats::Refusal;
 
 /// Traces of one zone, and the refusal that the last worker's ledger keeps.
-fn refusals() -> [(&'static str, Refusal); 7] {
+fn refusals() -> [(&'static str, Refusal); 8] {
     [
         (
             "uma 1\nworkers 1\ndomains 1\nzone box 256 4 4 4 0 plain\nalloc 0 box 0\nalloc 0 box 1\nalloc 0 box 2\nalloc 0 box 3\nalloc 0 box 4\nfree 0 0\nalloc 0 box 5\nend\n",
@@ -13,6 +13,11 @@ fn refusals() -> [(&'static str, Refusal); 7] {
         (
             "uma 1\nworkers 2\ndomains 1\nzone box 256 4 4 4 0 plain\nalloc 0 box 0\nround\ngive 0 0 1 0\nalloc 1 box 1\nend\n",
             Refusal::AtLimit { out: 4, limit: 4 },
+        ),
+        // A limit that is lowered below what is out takes nothing away.
+        (
+            "uma 2\nworkers 1\ndomains 1\nzone box 256 4 4 4 0 plain\nalloc 0 box 0\nalloc 0 box 1\nalloc 0 box 2\nalloc 0 box 3\nround\nsetmax box 2\nalloc 0 box 4\nfree 0 0\nfree 0 1\nalloc 0 box 5\nend\n",
+            Refusal::AtLimit { out: 4, limit: 2 },
         ),
         (
             "uma 1\nworkers 1\ndomains 1\nzone box 1024 1 4 0 2 plain\nalloc 0 box 0\nalloc 0 box 1\nalloc 0 box 2\nend\n",
