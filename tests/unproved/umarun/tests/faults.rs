@@ -106,6 +106,10 @@ fn a_front_of_the_table_goes_into_little_room(rt: HostRuntime) -> Result<(), Fai
     let four = texts::four_workers(rt.alloc())?;
     for (input, front) in [(OPEN, OPEN_FRONT), (four.as_str(), FOUR_FRONT)] {
         for room in 0..=120 {
+            // The long one at four of them: tests/faults goes through the others.
+            if input.len() > 1000 && room % 40 != 0 {
+                continue;
+            }
             let outside = Outside {
                 each: 4096,
                 room,
