@@ -49,18 +49,20 @@ impl NameCache {
         Ok(found)
     }
 
-    /// How often the items that the zone's domains list passed each hook, and the linked entries, and how many items are
-    /// freed. In the zone the ctors exceed the dtors by those that are freed and those that are linked, at most one a row.
-    /// Waits until it has the lock of each domain and of each row.
-    pub fn sums<R: Wait>(&self, rt: &R) -> Sums
-        ensures few { AreOfAtMost (2 ^ 35) result }
-        ensures linked { (linked : ℕ) × (linked ≤ row_count self.now) × HasLinked linked result }
+    /// How often the items that the zone's domains have in lists and inboxes passed each hook, and the linked entries, and
+    /// how many items are freed. In the zone the ctors exceed the dtors by those that are freed and those that are linked, at
+    /// most one a row. Waits until it has the lock of each domain and of each row.
+    ///
+    /// `Memory` where memory is wanting to settle the domains.
+    pub fn sums<R: Wait>(&self, rt: &R) -> Result<Sums, Memory>
+        ensures few { IfOk result (AreOfAtMost (2 ^ 35)) }
+        ensures linked { IfOk result (λ sums. (linked : ℕ) × (linked ≤ row_count self.now) × HasLinked linked sums) }
     {
-        let mut sums = self.zone.sums(rt);
+        let mut sums = self.zone.sums(rt)?;
         for row in &self.rows {
             add_row(rt, row, &mut sums);
         }
-        sums
+        Ok(sums)
     }
 
     /// The census of the zone's keg, lent no item. Waits until it has the keg's lock.

@@ -9,7 +9,7 @@ use zone_stats::ZoneName;
 
 /// What is printed of `whole`.
 const WHOLE: &str = "\
-uma 2
+uma 3
 workers 2
 domains 4
 clock 5 8
@@ -24,6 +24,7 @@ bind 0 11 12
 look 0 11
 unbind 0 11
 exit 0
+away 0
 alloc 1 late 2 arg 254
 alloc 1 box 1 reserve
 free 1 1
@@ -32,6 +33,7 @@ give 0 7 1 1
 setmax late 1000000
 setmax box 0
 give 0 8 1 3
+back 0
 trim 0 box
 drain 1 late
 drainseat 1 box
@@ -39,8 +41,8 @@ prealloc 1 box 20
 end
 ";
 
-/// What is printed of `bare`.
-const BARE: &str = "uma 1\nworkers 1\ndomains 1\nround\nround\nfree 0 65535\nend\n";
+/// What is printed of `bare` behind the first line.
+const BARE: &str = "workers 1\ndomains 1\nround\nround\nfree 0 65535\nend\n";
 
 fn request(zone: u32, slot: u32, arg: u64, reserve: bool) -> Op {
     Op::Alloc {
@@ -116,6 +118,7 @@ fn rounds(alloc: Global) -> Result<Vec<Round>, AllocError> {
         Op::Look { key: 11 },
         Op::Unbind { key: 11 },
         Op::Exit,
+        Op::Away,
     ];
     let others = [
         request(1, 2, 254, false),
@@ -124,7 +127,7 @@ fn rounds(alloc: Global) -> Result<Vec<Round>, AllocError> {
     ];
     let betweens = [give(7, 1), limit(1, 1_000_000), limit(0, 0), give(8, 3)];
     let first = round(alloc, &[&ops, &others], &betweens)?;
-    let ops = [Op::Trim { zone: 0 }];
+    let ops = [Op::Back, Op::Trim { zone: 0 }];
     let others = [
         Op::Drain { zone: 1 },
         Op::DrainSeat { zone: 0 },
@@ -134,7 +137,7 @@ fn rounds(alloc: Global) -> Result<Vec<Round>, AllocError> {
     Ok(vec![in alloc; first, second]?)
 }
 
-/// A trace of version 2, of all header lines and all operations.
+/// A trace of version 3, of all header lines and all operations.
 fn whole(alloc: Global) -> Result<Trace, Fail> {
     let names = NamesHead {
         name: name(b"cache")?,
@@ -154,14 +157,14 @@ fn whole(alloc: Global) -> Result<Trace, Fail> {
         names: Some(names),
     };
     Ok(Trace {
-        version: Version::Two,
+        version: Version::Three,
         head,
         rounds: Listed::from_vec(rounds(alloc)?),
     })
 }
 
-/// A trace of version 1, of no zone and no more header lines than there must be, of three rounds of which two are empty.
-fn bare(alloc: Global) -> Result<Trace, Fail> {
+/// A trace of no zone and no more header lines than there must be, of three rounds of which two are empty.
+fn bare(alloc: Global, version: Version) -> Result<Trace, Fail> {
     let head = Head {
         workers: 1,
         domains: 1,
@@ -174,17 +177,24 @@ fn bare(alloc: Global) -> Result<Trace, Fail> {
     let second = round(alloc, &[&[]], &[])?;
     let third = round(alloc, &[&[Op::Free { slot: 65535 }]], &[])?;
     Ok(Trace {
-        version: Version::One,
+        version,
         head,
         rounds: Listed::from_vec(vec![in alloc; first, second, third]?),
     })
 }
 
 #[test]
-fn traces_are_printed_line_by_line(rt: HostRuntime) -> Result<(), Fail> {
-    let rows = [(whole(rt.alloc())?, WHOLE), (bare(rt.alloc())?, BARE)];
-    for (trace, expected) in &rows {
-        let text = print(rt.alloc(), trace)?;
+fn a_trace_is_printed_line_by_line(rt: HostRuntime) -> Result<(), Fail> {
+    let text = print(rt.alloc(), &whole(rt.alloc())?)?;
+    assert_eq!(rt; text.as_slice(), WHOLE.as_bytes());
+    Ok(())
+}
+
+#[test]
+fn each_version_is_printed(rt: HostRuntime) -> Result<(), Fail> {
+    for (version, number) in [(Version::One, 1), (Version::Two, 2), (Version::Three, 3)] {
+        let text = print(rt.alloc(), &bare(rt.alloc(), version)?)?;
+        let expected = format!(in rt.alloc(); "uma {number}\n{BARE}")?;
         assert_eq!(rt; text.as_slice(), expected.as_bytes());
     }
     Ok(())

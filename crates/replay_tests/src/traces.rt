@@ -26,7 +26,7 @@ type Row<'a> = (&'a [Op], &'a [Op], &'a [Between]);
 /// Compares the rounds of a trace of two workers over one zone, with these lines.
 fn expect_rounds<R: Abort + AllocGlobal>(rt: &R, lines: &str, rows: &[Row]) -> Result<(), Fail> {
     let text = format!(in rt.alloc();
-        "uma 1\nworkers 2\ndomains 1\nzone box 256 4 4 0 0 plain\n{lines}end\n"
+        "uma 3\nworkers 2\ndomains 1\nclock 1 8\nzone box 256 4 4 0 0 plain\n{lines}end\n"
     )?;
     let trace = parse(rt.alloc(), text.as_bytes())?;
     assert_eq!(rt; trace.rounds.len(), rows.len());
@@ -49,6 +49,18 @@ fn round_lines_cut_the_lines_into_rounds(rt: HostRuntime) -> Result<(), Fail> {
     )?;
     expect_rounds(&rt, "", &[(&[], &[], &[])])?;
     expect_rounds(&rt, "round\n", &[(&[], &[], &[]), (&[], &[], &[])])
+}
+
+#[test]
+fn a_worker_leaves_and_comes_back(rt: HostRuntime) -> Result<(), Fail> {
+    expect_rounds(
+        &rt,
+        "alloc 0 box 0\naway 1\nround\ngive 0 0 1 7\nback 1\nfree 1 7\n",
+        &[
+            (&[ALLOC], &[Op::Away], &[GIVE]),
+            (&[], &[Op::Back, FREE], &[]),
+        ],
+    )
 }
 
 /// What stands behind the first line of a trace of version 2: four requests, a lower limit behind a round, and more.
@@ -99,7 +111,11 @@ fn a_limit_changes_between_two_rounds(rt: HostRuntime) -> Result<(), Fail> {
 
 #[test]
 fn a_version_is_that_of_the_first_line(rt: HostRuntime) -> Result<(), Fail> {
-    for (first, version) in [("uma 1", Version::One), (" uma\t2", Version::Two)] {
+    for (first, version) in [
+        ("uma 1", Version::One),
+        (" uma\t2", Version::Two),
+        ("uma  3", Version::Three),
+    ] {
         let text = format!(in rt.alloc(); "{first}\nworkers 1\ndomains 1\nend\n")?;
         let trace = parse(rt.alloc(), text.as_bytes())?;
         assert_eq!(rt; trace.version, version);
@@ -132,11 +148,36 @@ fn a_limit_that_may_not_stand_is_refused(rt: HostRuntime) -> Result<(), Fail> {
         (2, "round\nsetmax bax 1000001", 6, TraceKind::Range),
         (2, "round\nsetmax bax 2", 6, TraceKind::NoZone),
         (2, "round\nsetmax box 2\nsetmax dir 2", 7, TraceKind::NoZone),
-        (3, "round\nsetmax box 2", 1, TraceKind::Head),
+        (4, "round\nsetmax box 2", 1, TraceKind::Head),
     ];
     for (version, lines, line, kind) in rows {
         let text = format!(in rt.alloc();
             "uma {version}\nworkers 1\ndomains 1\nzone box 256 4 4 0 0 plain\n{lines}\nend\n"
+        )?;
+        let refused = TraceRefused { line, kind };
+        let found = parse(rt.alloc(), text.as_bytes()).err();
+        assert_eq!(rt; found, Some(ParseRefused::Trace { refused }));
+    }
+    Ok(())
+}
+
+#[test]
+fn a_worker_that_may_not_leave_or_come_is_refused(rt: HostRuntime) -> Result<(), Fail> {
+    let rows = [
+        (2, "away 0", 6, TraceKind::Word),
+        (2, "back 0", 6, TraceKind::Word),
+        (3, "back 0", 6, TraceKind::Present),
+        (3, "enter 0\nback 0", 7, TraceKind::Present),
+        (3, "enter 0\naway 0", 7, TraceKind::SectionOpen),
+        (3, "away 0\naway 0", 7, TraceKind::Absent),
+        (3, "away 0\nenter 0", 7, TraceKind::Absent),
+        (3, "away 0\nexit 0", 7, TraceKind::SectionClosed),
+        (3, "away 0\nfree 0 0", 7, TraceKind::SlotEmpty),
+        (3, "away 0\ntrim 0 box", 7, TraceKind::Absent),
+    ];
+    for (version, lines, line, kind) in rows {
+        let text = format!(in rt.alloc();
+            "uma {version}\nworkers 1\ndomains 1\nclock 1 8\nzone box 256 4 4 0 0 plain\n{lines}\nend\n"
         )?;
         let refused = TraceRefused { line, kind };
         let found = parse(rt.alloc(), text.as_bytes()).err();

@@ -47,6 +47,10 @@ pub enum TraceKind {
     SectionOpen,
     /// The worker is in no section.
     SectionClosed,
+    /// The worker is away.
+    Absent,
+    /// The worker isn't away.
+    Present,
     /// The line after the last one: there is no `end`.
     NoEnd,
 }
@@ -110,6 +114,8 @@ impl fmt::Display for TraceKind {
             TraceKind::SlotEmpty => "slot empty",
             TraceKind::SectionOpen => "section open",
             TraceKind::SectionClosed => "no section",
+            TraceKind::Absent => "worker away",
+            TraceKind::Present => "worker there",
             TraceKind::NoEnd => "no end",
         })
     }

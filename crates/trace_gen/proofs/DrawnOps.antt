@@ -8,7 +8,7 @@ use Rattle.rand_xoshiro.specs.Xoshiro256.{plus_plus}
 use Rattle.trace_text.specs.declared.between.Between.{Between}
 use Rattle.trace_text.specs.declared.between.Between.TheVariants.{Give, SetMax}
 use Rattle.trace_text.specs.declared.op.Op.{Op}
-use Rattle.trace_text.specs.declared.op.Op.TheVariants.{Alloc, Free, Enter, Exit, Bind, Unbind, Look, Trim, Drain, DrainSeat, Prealloc}
+use Rattle.trace_text.specs.declared.op.Op.TheVariants.{Alloc, Free, Enter, Exit, Bind, Unbind, Look, Trim, Drain, DrainSeat, Prealloc, Away, Back}
 use Rattle.trace_gen.specs.Generator.{draw, least_free, least_filled, filled_from, filled_slots, look_drawn, unbind_drawn, bind_drawn, free_drawn, alloc_into, op_drawn, give_between, give_drawn}
 
 -- ---- a choice
@@ -84,6 +84,8 @@ MayDo slots (Trim zone) = ⊥
 MayDo slots (Drain zone) = ⊥
 MayDo slots (DrainSeat zone) = ⊥
 MayDo slots (Prealloc zone items) = ⊥
+MayDo slots Away = ⊥
+MayDo slots Back = ⊥
 
 abbrev MayDraw : List Bool → Op × List ℕ → Type 0
 MayDraw slots drawn = MayDo slots drawn.0

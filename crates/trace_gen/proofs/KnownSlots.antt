@@ -1,14 +1,14 @@
--- The slots that the generator keeps are those that are filled in the reading of its lines.
+-- The slots that the generator keeps are those that are filled in the reading of its lines, and no worker is away.
 use Rattle.std.proofs.Common.{◌≡◌, ◌<◌, ◌≤◌, ◌≢◌, ℕ, Bool, true, false, cond, List, [], ◌∷◌, Some, get_or, set, length, replicate, refl, sym, ap, subst, ◌∙◌, inl, inr, eq-eqb, ne_eqb, arith}
 use Rattle.std.specs.Prelude.{is_some, ◌==◌, ◌&&◌}
 use Rattle.std.proofs.lemmas.Bool.{cases_eq, cases_lt}
 use Rattle.std.proofs.lemmas.List.{get_or-set_same, get_or-set_other, set-get_or, get_or-replicate, get_or_past, length-set, length-replicate}
 use Rattle.trace_text.specs.declared.between.Between.TheVariants.{Give}
 use Rattle.trace_text.specs.declared.op.Op.{Op}
-use Rattle.trace_text.specs.declared.op.Op.TheVariants.{Alloc, Free, Enter, Exit, Bind, Unbind, Look, Trim, Drain, DrainSeat, Prealloc}
+use Rattle.trace_text.specs.declared.op.Op.TheVariants.{Alloc, Free, Enter, Exit, Bind, Unbind, Look, Trim, Drain, DrainSeat, Prealloc, Away, Back}
 use Rattle.trace_text.specs.declared.trace_reading.entry.Entry.TheVariants as entries
 use Rattle.trace_text.specs.Lines.{Line, Does, Moves}
-use Rattle.trace_text.specs.Reading.{held}
+use Rattle.trace_text.specs.Reading.{held, is_away, away_after}
 use Rattle.trace_text.specs.TraceShown.{filled_by}
 use Rattle.trace_text.proofs.TraceSlots.{filled_next}
 use Rattle.trace_gen.specs.Generator.{slots_after, slots_given}
@@ -25,6 +25,7 @@ pub record Knows (workers : ℕ) (slots : List (List Bool)) (before : List Line)
   pub whole : length slots ≡ workers
   pub few : (w : ℕ) → length (row slots w) ≤ 256
   pub same : (w slot : ℕ) → mark slots w slot ≡ is_some (held before w slot)
+  pub there : (w : ℕ) → is_away before w ≡ false
 
 -- ---- one mark is set
 
@@ -73,10 +74,18 @@ few_set slots w new there few fits v = subst (λ (r : List Bool). length r ≤ 2
 same_next : (op : Op) (before : List Line) (w v t : ℕ) → is_some (held (Does w op ∷ before) v t) ≡ cond (w == v) (filled_by op t (is_some (held before v t))) (is_some (held before v t))
 same_next op before w v t = filled_next (entries.Does w op) before v t
 
+either_there : (b x y : Bool) → x ≡ false → y ≡ false → cond b x y ≡ false
+either_there true x y e f = e
+either_there false x y e f = f
+
+-- nobody leaves by such an operation
+still_there : (op : Op) (before : List Line) (w v : ℕ) → ((b : Bool) → away_after op b ≡ b) → is_away before v ≡ false → is_away (Does w op ∷ before) v ≡ false
+still_there op before w v keeps there = either_there (w == v) (away_after op (is_away before v)) (is_away before v) (keeps (is_away before v) ∙ there) there
+
 marked : (op : Op) (workers : ℕ) (slots : List (List Bool)) (before : List Line) (w slot : ℕ) (to : Bool) → Knows workers slots before → w < workers → slot < length (row slots w)
-    → ((t : ℕ) (b : Bool) → filled_by op t b ≡ cond (slot == t) to b)
+    → ((t : ℕ) (b : Bool) → filled_by op t b ≡ cond (slot == t) to b) → ((b : Bool) → away_after op b ≡ b)
     → Knows workers (set slots w (set (row slots w) slot to)) (Does w op ∷ before)
-marked op workers slots before w slot to knows lt within fills =
+marked op workers slots before w slot to knows lt within fills stays =
     let there : w < length slots = let e = knows.whole in omega arith in
     record {
       whole = length-set slots w (set (row slots w) slot to) ∙ knows.whole;
@@ -86,6 +95,7 @@ marked op workers slots before w slot to knows lt within fills =
           ∙ (ap (λ (m : Bool). cond (w == v) (cond (slot == t) to m) m) (knows.same v t)
           ∙ (ap (λ (m : Bool). cond (w == v) m (is_some (held before v t))) (sym (fills t (is_some (held before v t))))
           ∙ sym (same_next op before w v t)));
+      there = λ v. still_there op before w v stays (knows.there v);
     }
 
 either_way : (b : Bool) (x : Bool) → x ≡ cond b x x
@@ -93,9 +103,9 @@ either_way true x = refl
 either_way false x = refl
 
 unmarked : (op : Op) (workers : ℕ) (slots : List (List Bool)) (before : List Line) (w : ℕ) → Knows workers slots before
-    → ((t : ℕ) (b : Bool) → filled_by op t b ≡ b)
+    → ((t : ℕ) (b : Bool) → filled_by op t b ≡ b) → ((b : Bool) → away_after op b ≡ b)
     → Knows workers (set slots w (row slots w)) (Does w op ∷ before)
-unmarked op workers slots before w knows keeps =
+unmarked op workers slots before w knows keeps stays =
     subst (λ (s : List (List Bool)). Knows workers s (Does w op ∷ before)) (sym (set-get_or slots w []))
     (record {
       whole = knows.whole;
@@ -105,21 +115,24 @@ unmarked op workers slots before w knows keeps =
           ∙ (either_way (w == v) (is_some (held before v t))
           ∙ (ap (λ (m : Bool). cond (w == v) m (is_some (held before v t))) (sym (keeps t (is_some (held before v t))))
           ∙ sym (same_next op before w v t)));
+      there = λ v. still_there op before w v stays (knows.there v);
     })
 
 pub knows_did : (op : Op) (workers : ℕ) (slots : List (List Bool)) (before : List Line) (w : ℕ) → Knows workers slots before → w < workers → MayDo (row slots w) op
     → Knows workers (set slots w (slots_after op (row slots w))) (Does w op ∷ before)
-knows_did (Alloc zone slot arg reserve) workers slots before w knows lt may = marked (Alloc zone slot arg reserve) workers slots before w slot true knows lt may.1.there (λ t b. refl)
-knows_did (Free slot) workers slots before w knows lt may = marked (Free slot) workers slots before w slot false knows lt may.there (λ t b. refl)
-knows_did (Bind key value) workers slots before w knows lt may = unmarked (Bind key value) workers slots before w knows (λ t b. refl)
-knows_did (Unbind key) workers slots before w knows lt may = unmarked (Unbind key) workers slots before w knows (λ t b. refl)
-knows_did (Look key) workers slots before w knows lt may = unmarked (Look key) workers slots before w knows (λ t b. refl)
+knows_did (Alloc zone slot arg reserve) workers slots before w knows lt may = marked (Alloc zone slot arg reserve) workers slots before w slot true knows lt may.1.there (λ t b. refl) (λ b. refl)
+knows_did (Free slot) workers slots before w knows lt may = marked (Free slot) workers slots before w slot false knows lt may.there (λ t b. refl) (λ b. refl)
+knows_did (Bind key value) workers slots before w knows lt may = unmarked (Bind key value) workers slots before w knows (λ t b. refl) (λ b. refl)
+knows_did (Unbind key) workers slots before w knows lt may = unmarked (Unbind key) workers slots before w knows (λ t b. refl) (λ b. refl)
+knows_did (Look key) workers slots before w knows lt may = unmarked (Look key) workers slots before w knows (λ t b. refl) (λ b. refl)
 knows_did Enter workers slots before w knows lt may = absurd may
 knows_did Exit workers slots before w knows lt may = absurd may
 knows_did (Trim zone) workers slots before w knows lt may = absurd may
 knows_did (Drain zone) workers slots before w knows lt may = absurd may
 knows_did (DrainSeat zone) workers slots before w knows lt may = absurd may
 knows_did (Prealloc zone items) workers slots before w knows lt may = absurd may
+knows_did Away workers slots before w knows lt may = absurd may
+knows_did Back workers slots before w knows lt may = absurd may
 
 -- ---- after a `give` line
 
@@ -162,6 +175,7 @@ knows_gave workers slots before giver from taker to knows may =
           ∙ (ap (λ (m : Bool). cond ((taker == v) && (to == t)) true m) left_is
           ∙ (ap (λ (m : Bool). cond ((taker == v) && (to == t)) m (cond ((giver == v) && (from == t)) false old)) (sym given)
           ∙ sym (filled_next (entries.Moves (Give giver from taker to)) before v t))));
+      there = knows.there;
     }
 
 -- ---- before the first line
@@ -182,4 +196,4 @@ begun_few workers w = elim (cases_lt w workers) [
 ]
 
 pub knows_none : (workers : ℕ) → Knows workers (replicate workers (replicate 256 false)) []
-knows_none workers = record { whole = length-replicate workers (replicate 256 false); few = begun_few workers; same = begun_row workers }
+knows_none workers = record { whole = length-replicate workers (replicate 256 false); few = begun_few workers; same = begun_row workers; there = λ w. refl }

@@ -8,13 +8,13 @@ use Rattle.std.proofs.lemmas.List.Elements.{All-nil, All-cons, All-append}
 use Rattle.trace_text.specs.declared.between.Between.{Between}
 use Rattle.trace_text.specs.declared.between.Between.TheVariants.{Give, SetMax}
 use Rattle.trace_text.specs.declared.op.Op.{Op}
-use Rattle.trace_text.specs.declared.op.Op.TheVariants.{Alloc, Free, Enter, Exit, Bind, Unbind, Look, Trim, Drain, DrainSeat, Prealloc}
+use Rattle.trace_text.specs.declared.op.Op.TheVariants.{Alloc, Free, Enter, Exit, Bind, Unbind, Look, Trim, Drain, DrainSeat, Prealloc, Away, Back}
 use Rattle.trace_text.specs.declared.trace_reading.entry.Entry.{Entry}
 use Rattle.trace_text.specs.declared.trace_reading.entry.Entry.TheVariants as entries
 use Rattle.trace_text.specs.Lines.{Line, Does, Moves}
 use Rattle.trace_text.specs.declared.version.Version.TheVariants as versions
-use Rattle.trace_text.specs.Reading.{held}
-use Rattle.trace_text.specs.Valid.{OpFits, LineFits, LinesFit}
+use Rattle.trace_text.specs.Reading.{held, is_away}
+use Rattle.trace_text.specs.Valid.{OpFits, IsKnownOp, SlotFits, LineFits, LinesFit, comes_back}
 use Rattle.trace_text.proofs.TraceParts.{FitsHead, HasEntry, entry_line}
 use Rattle.trace_gen.specs.declared.drawn.Drawn.{Drawn}
 use Rattle.trace_gen.specs.declared.drawn.Drawn.TheVariants as drawn
@@ -45,23 +45,40 @@ op_head workers slots (Trim zone) few may = absurd may
 op_head workers slots (Drain zone) few may = absurd may
 op_head workers slots (DrainSeat zone) few may = absurd may
 op_head workers slots (Prealloc zone items) few may = absurd may
+op_head workers slots Away few may = absurd may
+op_head workers slots Back few may = absurd may
+
+op_known : (slots : List Bool) (op : Op) → MayDo slots op → IsKnownOp versions.One op
+op_known slots Away may = absurd may
+op_known slots Back may = absurd may
+op_known slots other may = tt
 
 none_held : (o : Option ℕ) → is_some o ≡ false → o ≡ None
 none_held None e = refl
 none_held (Some zone) e = absurd (false≢true (sym e))
 
-op_line : (before : List Line) (w : ℕ) (slots : List Bool) (op : Op) → ((slot : ℕ) → get_or slots slot false ≡ is_some (held before w slot)) → MayDo slots op → LineFits before (Does w op)
-op_line before w slots (Alloc zone slot arg reserve) same may = none_held (held before w slot) (sym (same slot) ∙ may.1.empty)
-op_line before w slots (Free slot) same may = sym (same slot) ∙ may.full
-op_line before w slots (Bind key value) same may = tt
-op_line before w slots (Unbind key) same may = tt
-op_line before w slots (Look key) same may = tt
-op_line before w slots Enter same may = absurd may
-op_line before w slots Exit same may = absurd may
-op_line before w slots (Trim zone) same may = absurd may
-op_line before w slots (Drain zone) same may = absurd may
-op_line before w slots (DrainSeat zone) same may = absurd may
-op_line before w slots (Prealloc zone items) same may = absurd may
+op_slot : (before : List Line) (w : ℕ) (slots : List Bool) (op : Op) → ((slot : ℕ) → get_or slots slot false ≡ is_some (held before w slot)) → MayDo slots op → SlotFits before w op
+op_slot before w slots (Alloc zone slot arg reserve) same may = none_held (held before w slot) (sym (same slot) ∙ may.1.empty)
+op_slot before w slots (Free slot) same may = sym (same slot) ∙ may.full
+op_slot before w slots (Bind key value) same may = tt
+op_slot before w slots (Unbind key) same may = tt
+op_slot before w slots (Look key) same may = tt
+op_slot before w slots Enter same may = absurd may
+op_slot before w slots Exit same may = absurd may
+op_slot before w slots (Trim zone) same may = absurd may
+op_slot before w slots (Drain zone) same may = absurd may
+op_slot before w slots (DrainSeat zone) same may = absurd may
+op_slot before w slots (Prealloc zone items) same may = absurd may
+op_slot before w slots Away same may = absurd may
+op_slot before w slots Back same may = absurd may
+
+stays_there : (slots : List Bool) (op : Op) → MayDo slots op → comes_back op ≡ false
+stays_there slots Back may = absurd may
+stays_there slots other may = refl
+
+op_line : (before : List Line) (w : ℕ) (slots : List Bool) (op : Op) → ((slot : ℕ) → get_or slots slot false ≡ is_some (held before w slot)) → is_away before w ≡ false → MayDo slots op
+    → LineFits before (Does w op)
+op_line before w slots op same there may = (op_slot before w slots op same may, there ∙ sym (stays_there slots op may))
 
 work_fits : (workers w choice : ℕ) (s : State) (before : List Line) → w < workers → Knows workers s.slots before → StepFits workers before (work_step w choice s)
 work_fits workers w choice s before lt knows =
@@ -71,8 +88,8 @@ work_fits workers w choice s before lt knows =
     record {
       after = Does w op ∷ before;
       head = All-cons (FitsHead (made_head workers)) (entries.Does w op) [] (lt, op_head workers slots op (knows.few w) may) (All-nil (FitsHead (made_head workers)));
-      known = All-cons (HasEntry versions.One) (entries.Does w op) [] tt (All-nil (HasEntry versions.One));
-      fits = λ rest fit. (op_line before w slots op (knows.same w) may, fit);
+      known = All-cons (HasEntry versions.One) (entries.Does w op) [] (op_known slots op may) (All-nil (HasEntry versions.One));
+      fits = λ rest fit. (op_line before w slots op (knows.same w) (knows.there w) may, fit);
       knows = knows_did op workers s.slots before w knows lt may;
     }
 

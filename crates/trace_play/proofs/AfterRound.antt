@@ -14,13 +14,14 @@ use Rattle.trace_worker.specs.declared.name_calls.NameCalls.{Ghosts as NameGhost
 use Rattle.trace_worker.specs.declared.naming.Naming.{Naming}
 use Rattle.trace_worker.specs.declared.running.Running.{Running}
 use Rattle.trace_worker.specs.declared.worker.Worker.{Worker}
+use Rattle.trace_worker.specs.Attendance.{worker_in}
 use Rattle.trace_worker.specs.Items.{CountedZone}
 use Rattle.trace_worker.specs.LedgerStands.{KeptFits, LedgerStands}
 use Rattle.trace_worker.specs.Counting.{looks, binds, unbinds}
 use Rattle.trace_worker.specs.NamesStand.{NamesStand}
 use Rattle.trace_worker.specs.OwnLines.{lines_before, own_ops, worked}
 use Rattle.trace_worker.specs.Stands.{Stands}
-use Rattle.trace_worker.specs.Together.{AllNamed, AllStand, crew}
+use Rattle.trace_worker.specs.Together.{AllAbsent, AllNamed, AllStand, crew}
 use Rattle.trace_worker.specs.Turn.{HasWorked, IsReady}
 use Rattle.trace_worker.specs.Worker.{Fits, phase_of}
 use Rattle.trace_worker.proofs.EntrySteps.{entries_as}
@@ -36,8 +37,8 @@ use Rattle.trace_play.proofs.SameFor.{SameFor, done_by-few, done_by-worked}
 module _ {N H C S Part : Type 0} {h : Ghosts H Part} where
   -- ---- ready for the round
 
-  pub in_crew : (n : ℕ) (workers : List (Running N H C S Part h)) (r : Running N H C S Part h) → slice_get workers n ≡ Some r → slice_get (crew workers) n ≡ Some r.worker
-  in_crew n workers r at = slice_get-map (λ (x : Running N H C S Part h). x.worker) workers n ∙ ap (option_map (λ (x : Running N H C S Part h). x.worker)) at
+  pub in_crew : (n : ℕ) (workers : List (Running N H C S Part h)) (r : Running N H C S Part h) → slice_get workers n ≡ Some r → slice_get (crew workers) n ≡ Some (worker_in r)
+  in_crew n workers r at = slice_get-map worker_in workers n ∙ ap (option_map worker_in) at
 
 module _ {N H C S Part : Type 0} {h : Ghosts H Part} (names : NameGhosts N H C S Part) (cache : C) where
   ready_at : (t : Trace) (zones : List (CountedZone H Part h)) (clock : Clock H Part) (k n : ℕ) (workers : List (Running N H C S Part h)) (r : Running N H C S Part h) → Suits names cache t zones clock workers → AreAfter names cache zones clock (lines_before t.rounds k) workers
@@ -58,9 +59,10 @@ module _ {N H C S Part : Type 0} {h : Ghosts H Part} (names : NameGhosts N H C S
         few = few_lines (before-few t.rounds k) own suits.few;
         asks = few_asks (done_by n before) (length (own_ops t.rounds k n)) asked.asked_few done own suits.few;
         gave_up = few_given_up asked.gave_up_few done own suits.few;
-        fits = after.stand.fits n r.worker (in_crew n workers r at);
-        stands = after.stand.stands n r.worker (in_crew n workers r at);
+        fits = after.stand.fits n (worker_in r) (in_crew n workers r at);
+        stands = after.stand.stands n (worker_in r) (in_crew n workers r at);
         named = after.named n r at;
+        absent = after.absent n r at;
       }
 
   pub all_ready : (t : Trace) (zones : List (CountedZone H Part h)) (clock : Clock H Part) (k : ℕ) (workers : List (Running N H C S Part h)) → Suits names cache t zones clock workers → AreAfter names cache zones clock (lines_before t.rounds k) workers
@@ -126,11 +128,11 @@ module _ {N H C S Part : Type 0} {h : Ghosts H Part} where
   pub record Member (workers : List (Running N H C S Part h)) (n : ℕ) (w : Worker H Part h) : Type 0 where
     pub running : Running N H C S Part h
     pub at : slice_get workers n ≡ Some running
-    pub is : running.worker ≡ w
+    pub is : worker_in running ≡ w
 
   pub member : (workers : List (Running N H C S Part h)) (n : ℕ) (w : Worker H Part h) → slice_get (crew workers) n ≡ Some w → Member workers n w
   member [] n w at = absurd (none-some w at)
-  member (r ∷ workers) zero w at = record { running = r; at = refl; is = same_Some r.worker w at }
+  member (r ∷ workers) zero w at = record { running = r; at = refl; is = same_Some (worker_in r) w at }
   member (r ∷ workers) (suc n) w at = let rest = member workers n w at in record { running = rest.running; at = rest.at; is = rest.is }
 
 -- the lines of names of a worker are as many in both
@@ -173,12 +175,15 @@ module _ {N H C S Part : Type 0} {h : Ghosts H Part} (names : NameGhosts N H C S
     stands = λ n w at.
         let m = member new n w at in
         subst (Stands zones clock n (after_workers t.rounds k)) m.is
-        (stands_as zones clock n (after_workers t.rounds k) (worked n (own_ops t.rounds k n) (lines_before t.rounds k)) m.running.worker (own_of_round t.rounds k n) (turn_of n m.running m.at).stands);
+        (stands_as zones clock n (after_workers t.rounds k) (worked n (own_ops t.rounds k n) (lines_before t.rounds k)) (worker_in m.running) (own_of_round t.rounds k n) (turn_of n m.running m.at).stands);
   }
 
   pub named_after : AllNamed names cache (after_workers t.rounds k) new
   named_after n is now =
-      named_as names cache n (after_workers t.rounds k) (worked n (own_ops t.rounds k n) (lines_before t.rounds k)) is.worker.late is.naming (same_numbers n _ _ (own_of_round t.rounds k n)) (turn_of n is now).named
+      named_as names cache n (after_workers t.rounds k) (worked n (own_ops t.rounds k n) (lines_before t.rounds k)) (worker_in is).late is.naming (same_numbers n _ _ (own_of_round t.rounds k n)) (turn_of n is now).named
+
+  pub absent_after : AllAbsent (after_workers t.rounds k) new
+  absent_after n is now = (turn_of n is now).absent ∙ sym (own_of_round t.rounds k n).alike.same_away
 
   pub asked_after : AllAsked (lines_before t.rounds k) old → AllAsked (after_workers t.rounds k) new
   asked_after asked n is now =

@@ -73,7 +73,7 @@ module _ {H Part : Type 0} {h : Ghosts H Part} where
   unused_at zones domain seats are z seat at_seat =
       let zone = has_too zones seats z seat are.count at_seat in
       let new = are.each z zone.0 seat zone.1 at_seat in
-      record { own = new.fresh.own; ledger = new.fresh.ledger }
+      record { own = new.fresh.own; usable = new.fresh.usable; ledger = new.fresh.ledger }
 
   pub beginner : (zones : List (CountedZone H Part h)) (clock : Clock H Part) (domain : ℕ) (pass : Pass H Part h) (w : Worker H Part h) → Fits zones clock w → IsNewWorker zones pass domain w → IsNewPass clock pass → IsBeginner zones clock domain w
   beginner zones clock domain pass w fits new new_pass = record {

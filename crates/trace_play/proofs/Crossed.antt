@@ -6,22 +6,26 @@ use denote.Builtin.{u64}
 use denote.Ref.{ShrRef}
 use denote.Slice.{ShrSlice}
 use base.Fml.{Lft}
-use denote.Param.Send.{AllSync, IsSend, IsSync, recorded_send, recorded_sync, struct_send, struct_sync, shr_sync, shr_slice_sync, sendable}
+use denote.Param.Send.{AllSync, IsSend, IsSync, enum_send, recorded_send, recorded_sync, struct_send, struct_sync, shr_sync, shr_slice_sync, sendable}
 use denote.Struct.Field.{rows}
 use denote.Struct.Tuple.{TupleAt, parts, type_at}
 use denote.Struct.Struct.{Struct}
 use mir.Syntax.{Lifetime, Sym}
 use Rattle.std.proofs.Common.{List, [], ◌∷◌}
 use denote.Struct.Declared.{shape}
+use denote.Enum.Declared.{shape as enum_shape}
 use Rattle.crossbeam_utils.proofs.cache_padded.CachePadded.TheSendSync as padded
 use Rattle.smr_clock.specs.declared.host.Host as host
 use Rattle.smr_clock.specs.contracts.clock.Clock as Clock
 use Rattle.smr_clock.proofs.clock.Clock.TheSendSync as clock
 use Rattle.smr_clock.proofs.pass.Pass.TheSendSync as pass
+use Rattle.smr_clock.proofs.vacancy.Vacancy.TheSendSync as vacancy
 use Rattle.trace_text.specs.contracts.trace.Trace as Trace
 use Rattle.trace_text.proofs.trace.Trace.TheSendSync as trace
 use Rattle.uma_zone.specs.contracts.zone.Zone as Zone
 use Rattle.uma_zone.proofs.Shared.{seat_send, zone_sync}
+use Rattle.trace_worker.specs.contracts.absentee.Absentee as Absentee
+use Rattle.trace_worker.specs.contracts.attendance.Attendance as Attendance
 use Rattle.trace_worker.specs.contracts.count_hooks.CountHooks as CountHooks
 use Rattle.trace_worker.specs.contracts.count_hooks.CountHooksHooksCounted.TheImpl as count_hooks
 use Rattle.trace_worker.specs.contracts.counted.Counted as Counted
@@ -44,6 +48,18 @@ module _ (H P : RattleType) (h : host.Ghosts H.Denot P.Denot) (s : IsSend H) (y 
     ),
   )
 
+  absentee_field_send : IsSend (Absentee.the_field H P h).row
+  absentee_field_send = struct_send (shape (Absentee.the_type H P h)) (
+    search (vacancy.the_field_send),
+    (
+      Vec-send _ (seat_send Counted.the_row H P _ h counted.the_send s y),
+      (search (slots.the_send), (search sendable, (search sendable, tt))),
+    ),
+  )
+
+  attendance_field_send : IsSend (Attendance.the_field H P h).row
+  attendance_field_send = enum_send (enum_shape (Attendance.the_type H P h)) ((worker_field_send, tt), ((absentee_field_send, tt), tt))
+
   abbrev pub ZoneRow : RattleType
   ZoneRow = Zone.the_row Counted.the_row CountHooks.the_row H P counted_body.ghosts count_hooks.ghosts h
 
@@ -59,7 +75,7 @@ module _ (N H C S P : RattleType) (h : host.Ghosts H.Denot P.Denot) (s : IsSend 
 
   running_field_send : IsSend (Running.the_field N H C S P h).row
   running_field_send = struct_send (shape (Running.the_type N H C S P h))
-      (worker_field_send H P h s y, (naming_field_send, (search sendable, (search sendable, (search (crosses, sendable) depth 20, (search (padded.the_field_send, sendable), tt))))))
+      (attendance_field_send H P h s y, (naming_field_send, (search sendable, (search sendable, (search (crosses, sendable) depth 20, (search (padded.the_field_send, sendable), tt))))))
 
   pub running_send : IsSend (Running.the_row N H C S P h)
   running_send = recorded_send (Running.the_field N H C S P h).row _ _ (Running.the_type N H C S P h).to_one running_field_send

@@ -13,6 +13,7 @@ use Rattle.trace_worker.specs.declared.held.Held.{Held}
 use Rattle.trace_worker.specs.declared.name_calls.NameCalls.{Ghosts as NameGhosts}
 use Rattle.trace_worker.specs.declared.running.Running.{Running}
 use Rattle.trace_worker.specs.declared.worker.Worker.{Worker}
+use Rattle.trace_worker.specs.Attendance.{worker_in}
 use Rattle.trace_worker.specs.Items.{CountedSeat, CountedZone}
 use Rattle.trace_worker.specs.Live.{is_of, live_count}
 use Rattle.trace_worker.specs.OwnLines.{lines_before}
@@ -76,12 +77,12 @@ module _ {N H C S Part : Type 0} {h : Ghosts H Part} (names : NameGhosts N H C S
       let m = member old n was at in
       let v = member new n is now in
       let turn = done.each n m.running v.running m.at v.at in
-      let P : Worker H Part h → Type 0 = λ w. Balances z w v.running.worker in
+      let P : Worker H Part h → Type 0 = λ w. Balances z w (worker_in v.running) in
       let Q : Worker H Part h → Type 0 = λ w. Balances z was w in
       worker_adds zones clock z was is (all.fits n was at) ((stand_after names cache t zones clock k old new done).fits n is now) (subst Q v.is (subst P m.is (turn.balances z)))
 
   pub adds_after : (z : ℕ) → AllStand zones clock (lines_before t.rounds k) (crew old) → AddsUp z (crew old) → AddsUp z (crew new)
   adds_after z all adds =
-      let size : length (crew new) ≡ length (crew old) = length-map new (λ (r : Running N H C S Part h). r.worker) ∙ (done.size ∙ sym (length-map old (λ (r : Running N H C S Part h). r.worker))) in
+      let size : length (crew new) ≡ length (crew old) = length-map new worker_in ∙ (done.size ∙ sym (length-map old worker_in)) in
       sums_still (all_live z (crew old)) (all_frees z (crew old)) (all_live z (crew new)) (all_frees z (crew new)) adds
       (sums_balance (lives_at z) (frees_at z) (allocs_at z) (crew old) (crew new) size (λ n was is at now. each_adds z n was is all at now))

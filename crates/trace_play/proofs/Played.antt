@@ -12,20 +12,24 @@ use Rattle.trace_text.specs.declared.head.Head.{Head}
 use Rattle.trace_text.specs.declared.round.Round.{Round}
 use Rattle.trace_text.specs.declared.trace.Trace.{Trace}
 use Rattle.trace_text.specs.Lines.{Line, Moves, lines_of}
+use Rattle.trace_text.specs.Reading.{is_away}
 use Rattle.trace_text.specs.Valid.{BetweenFits, RoundFits}
 use Rattle.trace_worker.specs.declared.name_calls.NameCalls.{Ghosts as NameGhosts}
 use Rattle.trace_worker.specs.declared.naming.Naming.{Naming}
 use Rattle.trace_worker.specs.declared.running.Running.{Running}
+use Rattle.trace_worker.specs.declared.worker.Worker.{Worker}
+use Rattle.trace_worker.specs.Attendance.{worker_in}
 use Rattle.trace_worker.specs.Giving.{KeepsRest, with_slots}
 use Rattle.trace_worker.specs.Items.{CountedZone}
 use Rattle.trace_worker.specs.NamesStand.{NamesStand}
 use Rattle.trace_worker.specs.OwnLines.{stacked, lines_before}
-use Rattle.trace_worker.specs.Together.{AllNamed}
+use Rattle.trace_worker.specs.Together.{AllAbsent, AllNamed}
+use Rattle.trace_worker.proofs.Attending.{same_bare, same_out}
 use Rattle.trace_worker.proofs.LineCounts.{binds-more, looks-more, unbinds-more}
 use Rattle.trace_play.specs.DoneBy.{done_by}
 use Rattle.trace_play.specs.Parts.{after_workers, betweens_of, IsAmong}
 use Rattle.trace_play.specs.Rounds.{AllAsked, AllMoved, AllWorked, AreAfter, GaveUpAsBefore, HasEnded, IsBegun, Suits}
-use Rattle.trace_play.proofs.AfterRound.{SameNumbers, turns, stand_after, named_after, named_as, asked_after}
+use Rattle.trace_play.proofs.AfterRound.{SameNumbers, absent_after, turns, stand_after, named_after, named_as, asked_after}
 use Rattle.trace_play.proofs.Bounds.{below_as, some_of, none_done, none_asked, none_given_up, done_as, asked_as}
 use Rattle.trace_play.proofs.Items.{adds_after}
 use Rattle.trace_play.proofs.RoundLists.{before, map-same}
@@ -91,12 +95,22 @@ module _ {N H C S Part : Type 0} {h : Ghosts H Part} (names : NameGhosts N H C S
   named_moved betweens lines old new keeps named n r at =
       let b = before (λ (x : Running N H C S Part h). with_slots x []) old new n r keeps at in
       let P : ℕ → Type 0 = λ late. NamesStand names cache n (stacked (map Moves betweens) lines) late r.naming in
-      let Q : Naming N H C S Part → Type 0 = λ naming. NamesStand names cache n (stacked (map Moves betweens) lines) b.was.worker.late naming in
-      subst P (sym (ap (λ (x : Running N H C S Part h). x.worker.late) b.same))
+      let Q : Naming N H C S Part → Type 0 = λ naming. NamesStand names cache n (stacked (map Moves betweens) lines) (worker_in b.was).late naming in
+      subst P (sym (ap (λ (w : Worker H Part h). w.late) (same_bare r b.was b.same)))
       (subst Q (sym (ap (λ (x : Running N H C S Part h). x.naming) b.same))
-      (named_as names cache n (stacked (map Moves betweens) lines) lines b.was.worker.late b.was.naming (same_numbers-moves n betweens lines) (named n b.was b.at)))
+      (named_as names cache n (stacked (map Moves betweens) lines) lines (worker_in b.was).late b.was.naming (same_numbers-moves n betweens lines) (named n b.was b.at)))
+
+is_away-moves : (n : ℕ) (betweens : List Between) (lines : List Line) → is_away (stacked (map Moves betweens) lines) n ≡ is_away lines n
+unfolding stacked
+is_away-moves n [] lines = refl
+is_away-moves n (b ∷ betweens) lines = is_away-moves n betweens (Moves b ∷ lines)
 
 module _ {N H C S Part : Type 0} {h : Ghosts H Part} where
+  absent_moved : (betweens : List Between) (lines : List Line) (old new : List (Running N H C S Part h)) → KeepsRest old new → AllAbsent lines old → AllAbsent (stacked (map Moves betweens) lines) new
+  absent_moved betweens lines old new keeps absent n r at =
+      let b = before (λ (x : Running N H C S Part h). with_slots x []) old new n r keeps at in
+      same_out r b.was b.same ∙ (absent n b.was b.at ∙ sym (is_away-moves n betweens lines))
+
   asked_moved : (betweens : List Between) (lines : List Line) (old new : List (Running N H C S Part h)) → KeepsRest old new → AllAsked lines old → AllAsked (stacked (map Moves betweens) lines) new
   asked_moved betweens lines old new keeps asked n r at =
       let b = before (λ (x : Running N H C S Part h). with_slots x []) old new n r keeps at in
@@ -130,6 +144,7 @@ module _ {N H C S Part : Type 0} {h : Ghosts H Part} (names : NameGhosts N H C S
         stand = now.stand;
         adds_up = λ z. now.adds_up z (adds_after names cache t zones clock k old mid done z after.stand (after.adds_up z));
         named = named_moved names cache (betweens_of t.rounds k) (after_workers t.rounds k) mid new keeps (named_after names cache t zones clock k old mid done);
+        absent = absent_moved (betweens_of t.rounds k) (after_workers t.rounds k) mid new keeps (absent_after names cache t zones clock k old mid done);
         asked = asked_moved (betweens_of t.rounds k) (after_workers t.rounds k) mid new keeps (asked_after names cache t zones clock k old mid done after.asked);
       }
 
@@ -142,6 +157,7 @@ module _ {N H C S Part : Type 0} {h : Ghosts H Part} (names : NameGhosts N H C S
         stand = ready.stand;
         adds_up = ready.adds_up;
         named = ready.named;
+        absent = ready.absent;
         asked = λ n r at. record {
           asked_some = none_done (done_by-none n);
           asked_few = none_asked (done_by n []) (ready.unasked n r at).0;

@@ -15,6 +15,7 @@ use Rattle.trace_worker.specs.NameLines.{Doing, doing}
 use Rattle.trace_worker.specs.OwnLines.{own_ops}
 use Rattle.trace_play.specs.Plays.{AllPlay, AllPlayRound, PlaysRound, PlaysRounds, ops_in}
 use Rattle.trace_play.specs.Rounds.{AllWorked, HasEnded}
+use Rattle.trace_worker.proofs.Attending.{same_bare, same_out}
 use Rattle.trace_play.proofs.AfterRound.{turns}
 use Rattle.trace_play.proofs.RoundLists.{at_other, before}
 
@@ -28,7 +29,7 @@ module _ {N H C S Part : Type 0} {h : Ghosts H Part} (names : NameGhosts N H C S
       record {
         worked = doing b.was;
         does = (done.each n was b.was at b.at).plays;
-        given = record { worker = ap (λ (x : Running N H C S Part h). x.worker) b.same; naming = ap (λ (x : Running N H C S Part h). x.naming) b.same };
+        given = record { worker = same_bare is b.was b.same; naming = ap (λ (x : Running N H C S Part h). x.naming) b.same; out = same_out is b.was b.same };
       }
 
 module _ {N H C S Part : Type 0} {h : Ghosts H Part} (names : NameGhosts N H C S Part) (cache : C) (zones : List (CountedZone H Part h)) (n : ℕ) where

@@ -2,7 +2,7 @@
 use Rattle.std.specs.Prelude.{◌≡◌, ◌%◌, ℕ, List, [], length, Some, slice_get}
 use Rattle.smr_clock.specs.declared.clock.Clock.{Clock}
 use Rattle.smr_clock.specs.declared.host.Host.{Ghosts}
-use Rattle.uma_seat.specs.Seat.{seat_domain, ledger_of}
+use Rattle.uma_seat.specs.Seat.{seat_domain, usable_of, ledger_of}
 use Rattle.zone_stats.specs.LedgerSteps.{IsNew}
 use Rattle.trace_worker.specs.declared.worker.Worker.{Worker}
 use Rattle.trace_worker.specs.Items.{CountedSeat, CountedZone}
@@ -10,9 +10,10 @@ use Rattle.trace_worker.specs.Stands.{Stands}
 use Rattle.trace_worker.specs.Worker.{Fits}
 
 module _ {H P : Type 0} {h : Ghosts H P} where
-  -- a seat in this memory domain that counted nothing
+  -- a seat in this memory domain of which no item is usable, and that counted nothing
   pub record IsUnused (domain : ℕ) (seat : CountedSeat H P h) : Type 0 where
     pub own : seat_domain seat ≡ domain
+    pub usable : usable_of seat ≡ []
     pub ledger : IsNew (ledger_of seat)
 
   -- A worker of the zones and the clock with its seats in this domain. It stands for no line.

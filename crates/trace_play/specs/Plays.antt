@@ -11,10 +11,11 @@ use Rattle.trace_worker.specs.NameLines.{Doing, DoesAll, doing}
 use Rattle.trace_worker.specs.OwnLines.{own_ops}
 
 module _ {N H C S P : Type 0} {h : Ghosts H P} where
-  -- the worker is as it was but for its slots, and so is what it has of the names
+  -- the worker is as it was but for its slots, there or away, and so is what it has of the names
   pub record KeepsButSlots (old new : Doing N H C S P h) : Type 0 where
     pub worker : record new.worker { slots = [] } ≡ record old.worker { slots = [] }
     pub naming : new.naming ≡ old.naming
+    pub out : new.out ≡ old.out
 
 module _ {N H C S P : Type 0} {h : Ghosts H P} (names : NameGhosts N H C S P) (cache : C) where
   -- One round of a worker: its own list, line after line, and then what the `give` lines behind it did to its slots.

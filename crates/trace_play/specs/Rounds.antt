@@ -12,7 +12,7 @@ use Rattle.trace_worker.specs.Giving.{HasMoved}
 use Rattle.trace_worker.specs.Items.{CountedZone}
 use Rattle.trace_worker.specs.NamesStand.{NamesOfClock}
 use Rattle.trace_worker.specs.OwnLines.{stacked}
-use Rattle.trace_worker.specs.Together.{AddsUp, AllNamed, AllStand, crew}
+use Rattle.trace_worker.specs.Together.{AddsUp, AllAbsent, AllNamed, AllStand, crew}
 use Rattle.trace_worker.specs.Turn.{HasWorked, IsReady, most_asks}
 use Rattle.trace_worker.specs.Worker.{AreOfClock}
 use Rattle.trace_play.specs.DoneBy.{done_by}
@@ -45,6 +45,7 @@ module _ {N H C S P : Type 0} {h : Ghosts H P} (names : NameGhosts N H C S P) (c
     pub stand : AllStand zones clock lines (crew workers)
     pub adds_up : (z : ℕ) → AddsUp z (crew workers)
     pub named : AllNamed names cache lines workers
+    pub absent : AllAbsent lines workers
     pub asked : AllAsked lines workers
 
   -- The workers before the first round: none was asked yet.
@@ -52,6 +53,7 @@ module _ {N H C S P : Type 0} {h : Ghosts H P} (names : NameGhosts N H C S P) (c
     pub stand : AllStand zones clock [] (crew workers)
     pub adds_up : (z : ℕ) → AddsUp z (crew workers)
     pub named : AllNamed names cache [] workers
+    pub absent : AllAbsent [] workers
     pub unasked : (n : ℕ) (r : Running N H C S P h) → slice_get workers n ≡ Some r → (r.asked ≡ 0) × (r.gave_up ≡ 0)
 
   -- each worker is ready for round `k`

@@ -138,7 +138,7 @@ impl NameCalls for PlainNames {
         Err(Memory)
     }
 
-    fn sums<R: Wait>(&self, _cache: &Clock<Bare>, _rt: &R) -> Sums {
-        Sums::none()
+    fn sums<R: Wait>(&self, _cache: &Clock<Bare>, _rt: &R) -> Result<Sums, Memory> {
+        Ok(Sums::none())
     }
 }

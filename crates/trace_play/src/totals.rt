@@ -80,7 +80,8 @@ fn all_sums<H: Host, R: Wait>(
 {
     let mut all = Vec::new(alloc);
     for place in 0..zones.len() {
-        all.push(zone_sums(rt, &zones[place], place, workers))?;
+        let sums = zone_sums(rt, &zones[place], place, workers)?;
+        all.push(sums)?;
     }
     Ok(all)
 }

@@ -22,7 +22,7 @@ use Rattle.trace_text.specs.declared.head.ZoneHead.{ZoneHead}
 use Rattle.trace_text.specs.declared.head.ZoneKind.{ZoneKind}
 use Rattle.trace_text.specs.declared.head.ZoneKind.TheVariants.{Plain, Smr}
 use Rattle.trace_text.specs.declared.op.Op.{Op}
-use Rattle.trace_text.specs.declared.op.Op.TheVariants.{Alloc, Free, Enter, Exit, Bind, Unbind, Look, Trim, Drain, DrainSeat, Prealloc}
+use Rattle.trace_text.specs.declared.op.Op.TheVariants.{Alloc, Free, Enter, Exit, Bind, Unbind, Look, Trim, Drain, DrainSeat, Prealloc, Away, Back}
 use Rattle.trace_text.specs.declared.round.Round.{Round}
 use Rattle.trace_text.specs.declared.trace.Trace.{Trace}
 use Rattle.trace_text.specs.declared.version.Version.{Version}
@@ -230,6 +230,7 @@ head_right h fits =
 version_is_word : (version : Version) → IsWord (version_word version)
 version_is_word versions.One = IsWord-from_is_word (codes "1") refl
 version_is_word versions.Two = IsWord-from_is_word (codes "2") refl
+version_is_word versions.Three = IsWord-from_is_word (codes "3") refl
 
 first_right : (version : Version) → IsRow (first_row version)
 first_right version = row_of (codes "uma") (version_word version ∷ []) refl (version_is_word version, tt)
@@ -253,6 +254,8 @@ op_right h w names lt (Alloc zone slot arg reserve) fits =
 op_right h w names lt (Free slot) fits = row_of (codes "free") (decimal w ∷ decimal slot ∷ []) refl (number_word w lt, (number_word slot (omega (arith, fits)), tt))
 op_right h w names lt Enter fits = row_of (codes "enter") (decimal w ∷ []) refl (number_word w lt, tt)
 op_right h w names lt Exit fits = row_of (codes "exit") (decimal w ∷ []) refl (number_word w lt, tt)
+op_right h w names lt Away fits = row_of (codes "away") (decimal w ∷ []) refl (number_word w lt, tt)
+op_right h w names lt Back fits = row_of (codes "back") (decimal w ∷ []) refl (number_word w lt, tt)
 op_right h w names lt (Bind key value) fits = row_of (codes "bind") (decimal w ∷ decimal key ∷ decimal value ∷ []) refl (number_word w lt, (number_word key fits.1, (number_word value fits.2, tt)))
 op_right h w names lt (Unbind key) fits = row_of (codes "unbind") (decimal w ∷ decimal key ∷ []) refl (number_word w lt, (number_word key fits.1, tt))
 op_right h w names lt (Look key) fits = row_of (codes "look") (decimal w ∷ decimal key ∷ []) refl (number_word w lt, (number_word key fits.1, tt))

@@ -18,7 +18,7 @@ use Rattle.trace_text.specs.declared.head.ZoneHead.{ZoneHead}
 use Rattle.trace_text.specs.declared.head.ZoneKind.{ZoneKind}
 use Rattle.trace_text.specs.declared.head.ZoneKind.TheVariants.{Plain, Smr}
 use Rattle.trace_text.specs.declared.op.Op.{Op}
-use Rattle.trace_text.specs.declared.op.Op.TheVariants.{Alloc, Free, Enter, Exit, Bind, Unbind, Look, Trim, Drain, DrainSeat, Prealloc}
+use Rattle.trace_text.specs.declared.op.Op.TheVariants.{Alloc, Free, Enter, Exit, Bind, Unbind, Look, Trim, Drain, DrainSeat, Prealloc, Away, Back}
 use Rattle.trace_text.specs.declared.round.Round.{Round}
 use Rattle.trace_text.specs.declared.trace.Trace.{Trace}
 use Rattle.trace_text.specs.declared.trace_reading.said.Said.{Said}
@@ -33,7 +33,7 @@ use Rattle.trace_text.specs.declared.trace_reading.word.ZoneWord.TheVariants as 
 use Rattle.trace_print.specs.CanonicalText.{kind_word, zone_fields, arg_fields, reserve_fields, op_fields, between_fields}
 use Rattle.trace_text.specs.NamedZones.{zone_name}
 use Rattle.trace_text.specs.declared.version.Version.{Version}
-use Rattle.trace_text.specs.Lines.{Moves}
+use Rattle.trace_text.specs.Lines.{Does, Moves}
 use Rattle.trace_text.specs.Limits.{IsWithin, last_slot}
 use Rattle.schedule_text.specs.ScheduleGrammar.{start_in, window_in}
 use Rattle.trace_text.specs.TraceLine.{word_named, is_known, is_within, may_follow, name_in, kind_in, worker_in, slot_in, options, arg_in, said_by, says}
@@ -71,6 +71,8 @@ op_saying zones w (Alloc zone slot arg reserve) = said.InZone w (zone_name zones
 op_saying zones w (Free slot) = said.Work w (Free slot)
 op_saying zones w Enter = said.Work w Enter
 op_saying zones w Exit = said.Work w Exit
+op_saying zones w Away = said.Work w Away
+op_saying zones w Back = said.Work w Back
 op_saying zones w (Bind key value) = said.Work w (Bind key value)
 op_saying zones w (Unbind key) = said.Work w (Unbind key)
 op_saying zones w (Look key) = said.Work w (Look key)
@@ -276,41 +278,47 @@ alloc_row_says version stage workers zones w zone slot arg reserve follows worke
       arg_says arg (eqb arg 0) refl arg_is,
     ) refl)
 
--- a row of a worker
-pub op_row_says : (version : Version) (stage : Stage) (workers : ℕ) (h : Head) (w : ℕ) (op : Op) → is_within 3 9 stage ≡ true → w < workers → workers ≤ 2 ^ 64
+-- a row of a worker, where the version has it
+pub op_row_says : (version : Version) (stage : Stage) (workers : ℕ) (h : Head) (w : ℕ) (op : Op) → is_within 3 9 stage ≡ true → IsKnown version (Does w op) → w < workers → workers ≤ 2 ^ 64
     → AreNamed h.zones → OpFits h op → says version stage workers (op_fields h.zones w op) ≡ Ok (op_saying h.zones w op)
-op_row_says version stage workers h w (Alloc zone slot arg reserve) follows below few named fits =
+op_row_says version stage workers h w (Alloc zone slot arg reserve) follows has below few named fits =
     alloc_row_says version stage workers h.zones w zone slot arg reserve follows (worker_says workers w below few) (named zone fits.0) fits.1 fits.2
-op_row_says version stage workers h w (Free slot) follows below few named fits =
+op_row_says version stage workers h w (Free slot) follows has below few named fits =
     by_word version stage workers (codes "free") (decimal w ∷ decimal slot ∷ []) (words.Work by_self.Free) (Ok (said.Work w (Free slot))) refl refl follows
     (rw (worker_says workers w below few, slot_says slot fits) refl)
-op_row_says version stage workers h w Enter follows below few named fits =
+op_row_says version stage workers h w Enter follows has below few named fits =
     by_word version stage workers (codes "enter") (decimal w ∷ []) (words.Work by_self.Enter) (Ok (said.Work w Enter)) refl refl follows
     (rw (worker_says workers w below few) refl)
-op_row_says version stage workers h w Exit follows below few named fits =
+op_row_says version stage workers h w Exit follows has below few named fits =
     by_word version stage workers (codes "exit") (decimal w ∷ []) (words.Work by_self.Exit) (Ok (said.Work w Exit)) refl refl follows
     (rw (worker_says workers w below few) refl)
-op_row_says version stage workers h w (Bind key value) follows below few named fits =
+op_row_says version stage workers h w (Bind key value) follows has below few named fits =
     by_word version stage workers (codes "bind") (decimal w ∷ decimal key ∷ decimal value ∷ []) (words.Work by_self.Bind) (Ok (said.Work w (Bind key value))) refl refl follows
     (rw (worker_says workers w below few, number_says key fits.1, number_says value fits.2) refl)
-op_row_says version stage workers h w (Unbind key) follows below few named fits =
+op_row_says version stage workers h w (Unbind key) follows has below few named fits =
     by_word version stage workers (codes "unbind") (decimal w ∷ decimal key ∷ []) (words.Work by_self.Unbind) (Ok (said.Work w (Unbind key))) refl refl follows
     (rw (worker_says workers w below few, number_says key fits.1) refl)
-op_row_says version stage workers h w (Look key) follows below few named fits =
+op_row_says version stage workers h w (Look key) follows has below few named fits =
     by_word version stage workers (codes "look") (decimal w ∷ decimal key ∷ []) (words.Work by_self.Look) (Ok (said.Work w (Look key))) refl refl follows
     (rw (worker_says workers w below few, number_says key fits.1) refl)
-op_row_says version stage workers h w (Trim zone) follows below few named fits =
+op_row_says version stage workers h w (Trim zone) follows has below few named fits =
     by_word version stage workers (codes "trim") (decimal w ∷ zone_name h.zones zone ∷ []) (words.Zone in_zone.Trim) (Ok (op_saying h.zones w (Trim zone))) refl refl follows
     (rw (worker_says workers w below few, name_says (zone_name h.zones zone) (named zone fits)) refl)
-op_row_says version stage workers h w (Drain zone) follows below few named fits =
+op_row_says version stage workers h w (Drain zone) follows has below few named fits =
     by_word version stage workers (codes "drain") (decimal w ∷ zone_name h.zones zone ∷ []) (words.Zone in_zone.Drain) (Ok (op_saying h.zones w (Drain zone))) refl refl follows
     (rw (worker_says workers w below few, name_says (zone_name h.zones zone) (named zone fits)) refl)
-op_row_says version stage workers h w (DrainSeat zone) follows below few named fits =
+op_row_says version stage workers h w (DrainSeat zone) follows has below few named fits =
     by_word version stage workers (codes "drainseat") (decimal w ∷ zone_name h.zones zone ∷ []) (words.Zone in_zone.DrainSeat) (Ok (op_saying h.zones w (DrainSeat zone))) refl refl follows
     (rw (worker_says workers w below few, name_says (zone_name h.zones zone) (named zone fits)) refl)
-op_row_says version stage workers h w (Prealloc zone items) follows below few named fits =
+op_row_says version stage workers h w (Prealloc zone items) follows has below few named fits =
     by_word version stage workers (codes "prealloc") (decimal w ∷ zone_name h.zones zone ∷ decimal items ∷ []) (words.Zone in_zone.Prealloc) (Ok (op_saying h.zones w (Prealloc zone items))) refl refl follows
     (rw (worker_says workers w below few, name_says (zone_name h.zones zone) (named zone fits.0), number_within_says 0 262144 items (omega arith) fits.1 (omega arith)) refl)
+op_row_says version stage workers h w Away follows has below few named fits =
+    by_word version stage workers (codes "away") (decimal w ∷ []) (words.Work by_self.Away) (Ok (said.Work w Away)) refl has follows
+    (rw (worker_says workers w below few) refl)
+op_row_says version stage workers h w Back follows has below few named fits =
+    by_word version stage workers (codes "back") (decimal w ∷ []) (words.Work by_self.Back) (Ok (said.Work w Back)) refl has follows
+    (rw (worker_says workers w below few) refl)
 
 -- ---- between the rounds
 

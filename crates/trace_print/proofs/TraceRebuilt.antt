@@ -10,7 +10,7 @@ use Rattle.trace_text.specs.declared.trace_reading.entry.Entry.{Entry}
 use Rattle.trace_text.specs.declared.trace_reading.said.Said.{Said}
 use Rattle.trace_text.specs.Grammar.{stage_of, last_stage, version_after, version_of, workers_after, workers_of, domains_after, clock_after, detail_after, names_after, new_zone, zones_of, head_of, entry_of, entries_of, line_of, done, clash_after}
 use Rattle.trace_text.specs.Lines.{Line}
-use Rattle.trace_text.specs.Reading.{held, in_section}
+use Rattle.trace_text.specs.Reading.{held, in_section, is_away}
 use Rattle.trace_text.specs.TraceLine.{says, rank, is_within}
 use Rattle.trace_text.specs.Valid.{IsKnown, LinesFit}
 use Rattle.trace_text.proofs.TraceTests.{IsClear, no_clash}
@@ -91,7 +91,7 @@ may_stand {before = before} {low = low} {high = high} from to less more stands =
 
 -- behind this header and these lines
 abbrev pub IsClearBehind : Head → List Line → Said → Type 0
-IsClearBehind h lines s = IsClear (is_some h.clock) (is_some h.names) h.zones (λ worker slot. is_some (held lines worker slot)) (λ worker. in_section lines worker) s
+IsClearBehind h lines s = IsClear (is_some h.clock) (is_some h.names) h.zones (λ worker slot. is_some (held lines worker slot)) (λ worker. in_section lines worker) (λ worker. is_away lines worker) s
 
 -- the header with what this line says of it
 abbrev pub and_so : Said → Head → Head
@@ -107,7 +107,7 @@ and_so s h = record {
 clear_behind : (before : List Said) (s : Said) (h : Head) → head_of before ≡ h → IsClearBehind h (done before) s → clash_after before s ≡ None
 clear_behind before s h is clear =
     let at : IsClearBehind (head_of before) (done before) s = subst (λ (g : Head). IsClearBehind g (done before) s) (sym is) clear in
-    no_clash (is_some (head_of before).clock) (is_some (head_of before).names) (head_of before).zones (λ worker slot. is_some (held (done before) worker slot)) (λ worker. in_section (done before) worker) s at
+    no_clash (is_some (head_of before).clock) (is_some (head_of before).names) (head_of before).zones (λ worker slot. is_some (held (done before) worker slot)) (λ worker. in_section (done before) worker) (λ worker. is_away (done before) worker) s at
 
 -- what one line more adds
 pub record Adds (before : List Said) (s : Said) (h g : Head) (added : List Entry) (left : List Line) (low high : ℕ) : Type 0 where

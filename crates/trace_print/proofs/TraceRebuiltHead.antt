@@ -26,7 +26,7 @@ clock_step h (Some c) before rest fits stands =
     next_line _ (said.Clock c) stands
     (clock_row_says (version_of before) (last_stage before) (workers_of before) c follows fits)
     (record {
-      clear = record { clock = refl; names = refl; name = refl; zone = refl; most = refl; filled = refl; empty = refl; opened = refl; closed = refl };
+      clear = record { clock = refl; names = refl; name = refl; zone = refl; most = refl; filled = refl; empty = refl; opened = refl; closed = refl; away = refl; there = refl };
       head_is = refl;
       entry_is = refl;
       fit = stands.fit;
@@ -44,7 +44,7 @@ detail_step h clock true before rest stands =
     next_line _ said.Detail stands
     (detail_row_says (version_of before) (last_stage before) (workers_of before) follows)
     (record {
-      clear = record { clock = refl; names = refl; name = refl; zone = refl; most = refl; filled = refl; empty = refl; opened = refl; closed = refl };
+      clear = record { clock = refl; names = refl; name = refl; zone = refl; most = refl; filled = refl; empty = refl; opened = refl; closed = refl; away = refl; there = refl };
       head_is = refl;
       entry_is = refl;
       fit = stands.fit;
@@ -67,7 +67,7 @@ workers_step version h rest fits fit known =
     next_line (codes "workers" ∷ decimal h.workers ∷ []) (said.Workers h.workers) (first_line version rest fit known)
     (workers_row_says version (last_stage (said.Uma version ∷ [])) 0 h.workers refl fits.workers)
     (record {
-      clear = record { clock = refl; names = refl; name = refl; zone = refl; most = refl; filled = refl; empty = refl; opened = refl; closed = refl };
+      clear = record { clock = refl; names = refl; name = refl; zone = refl; most = refl; filled = refl; empty = refl; opened = refl; closed = refl; away = refl; there = refl };
       head_is = refl;
       entry_is = refl;
       fit = fit;
@@ -83,7 +83,7 @@ domains_step version h rest fits fit known stands =
     next_line (codes "domains" ∷ decimal h.domains ∷ []) (said.Domains h.domains) stands
     (domains_row_says version (last_stage (said.Workers h.workers ∷ said.Uma version ∷ [])) h.workers h.domains refl fits.domains)
     (record {
-      clear = record { clock = refl; names = refl; name = refl; zone = refl; most = refl; filled = refl; empty = refl; opened = refl; closed = refl };
+      clear = record { clock = refl; names = refl; name = refl; zone = refl; most = refl; filled = refl; empty = refl; opened = refl; closed = refl; away = refl; there = refl };
       head_is = refl;
       entry_is = refl;
       fit = fit;

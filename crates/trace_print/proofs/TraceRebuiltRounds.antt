@@ -9,7 +9,7 @@ use Rattle.trace_text.specs.declared.between.Between.TheVariants.{Give, SetMax}
 use Rattle.trace_text.specs.declared.head.Head.{Head}
 use Rattle.trace_text.specs.declared.head.ZoneHead.{ZoneHead}
 use Rattle.trace_text.specs.declared.op.Op.{Op}
-use Rattle.trace_text.specs.declared.op.Op.TheVariants.{Alloc, Free, Enter, Exit, Bind, Unbind, Look, Trim, Drain, DrainSeat, Prealloc}
+use Rattle.trace_text.specs.declared.op.Op.TheVariants.{Alloc, Free, Enter, Exit, Bind, Unbind, Look, Trim, Drain, DrainSeat, Prealloc, Away, Back}
 use Rattle.trace_text.specs.declared.round.Round.{Round}
 use Rattle.trace_text.specs.declared.trace_reading.entry.Entry.{Entry}
 use Rattle.trace_text.specs.declared.trace_reading.entry.Entry.TheVariants as entries
@@ -20,7 +20,7 @@ use Rattle.trace_text.specs.NamedZones.{zone_name}
 use Rattle.trace_text.specs.Grammar.{stage_of, last_stage, version_after, version_of, workers_of, entry_of, done, zone_named}
 use Rattle.trace_text.specs.declared.version.Version.{Version}
 use Rattle.trace_text.specs.Lines.{Line, Does, Moves, worker_lines, lines_of}
-use Rattle.trace_text.specs.Reading.{held, in_section}
+use Rattle.trace_text.specs.Reading.{held, in_section, is_away}
 use Rattle.trace_text.specs.TraceLine.{rank}
 use Rattle.trace_text.specs.Valid.{HeadFits, OpFits, BetweenFits, RoundFits, LastRoundEnds, LineFits, LinesFit, IsKnown}
 use Rattle.trace_print.proofs.CanonicalRows.{ops_rows, rounds_rows}
@@ -41,7 +41,7 @@ zone_is_not_lacking h zone fits lt = ap (λ (o : Option ℕ). not (is_some o)) (
 given : (b : Bool) → b ≡ true → not b ≡ false
 given b e = ap not e
 
--- it fails no test: what it needs of the header, the slots and the sections is there
+-- it fails no test: what it needs of the header and the lines before it is there
 op_is_clear : (h : Head) (w : ℕ) (op : Op) (lines : List Line) → HeadFits h → OpFits h op → LineFits lines (Does w op) → IsClearBehind h lines (op_saying h.zones w op)
 op_is_clear h w (Alloc zone slot arg reserve) lines head fits line = record {
   clock = refl;
@@ -49,10 +49,12 @@ op_is_clear h w (Alloc zone slot arg reserve) lines head fits line = record {
   name = refl;
   zone = zone_is_not_lacking h zone head fits.0;
   most = refl;
-  filled = ap (λ (o : Option ℕ). is_some o) line;
+  filled = ap (λ (o : Option ℕ). is_some o) line.0;
   empty = refl;
   opened = refl;
   closed = refl;
+  away = line.1;
+  there = refl;
 }
 op_is_clear h w (Free slot) lines head fits line = record {
   clock = refl;
@@ -61,9 +63,11 @@ op_is_clear h w (Free slot) lines head fits line = record {
   zone = refl;
   most = refl;
   filled = refl;
-  empty = given (is_some (held lines w slot)) line;
+  empty = given (is_some (held lines w slot)) line.0;
   opened = refl;
   closed = refl;
+  away = line.1;
+  there = refl;
 }
 op_is_clear h w Enter lines head fits line = record {
   clock = given (is_some h.clock) fits;
@@ -73,8 +77,10 @@ op_is_clear h w Enter lines head fits line = record {
   most = refl;
   filled = refl;
   empty = refl;
-  opened = line;
+  opened = line.0;
   closed = refl;
+  away = line.1;
+  there = refl;
 }
 op_is_clear h w Exit lines head fits line = record {
   clock = given (is_some h.clock) fits;
@@ -85,7 +91,9 @@ op_is_clear h w Exit lines head fits line = record {
   filled = refl;
   empty = refl;
   opened = refl;
-  closed = given (in_section lines w) line;
+  closed = given (in_section lines w) line.0;
+  away = line.1;
+  there = refl;
 }
 op_is_clear h w (Bind key value) lines head fits line = record {
   clock = refl;
@@ -97,6 +105,8 @@ op_is_clear h w (Bind key value) lines head fits line = record {
   empty = refl;
   opened = refl;
   closed = refl;
+  away = line.1;
+  there = refl;
 }
 op_is_clear h w (Unbind key) lines head fits line = record {
   clock = refl;
@@ -108,6 +118,8 @@ op_is_clear h w (Unbind key) lines head fits line = record {
   empty = refl;
   opened = refl;
   closed = refl;
+  away = line.1;
+  there = refl;
 }
 op_is_clear h w (Look key) lines head fits line = record {
   clock = refl;
@@ -119,6 +131,8 @@ op_is_clear h w (Look key) lines head fits line = record {
   empty = refl;
   opened = refl;
   closed = refl;
+  away = line.1;
+  there = refl;
 }
 op_is_clear h w (Trim zone) lines head fits line = record {
   clock = refl;
@@ -130,6 +144,8 @@ op_is_clear h w (Trim zone) lines head fits line = record {
   empty = refl;
   opened = refl;
   closed = refl;
+  away = line.1;
+  there = refl;
 }
 op_is_clear h w (Drain zone) lines head fits line = record {
   clock = refl;
@@ -141,6 +157,8 @@ op_is_clear h w (Drain zone) lines head fits line = record {
   empty = refl;
   opened = refl;
   closed = refl;
+  away = line.1;
+  there = refl;
 }
 op_is_clear h w (DrainSeat zone) lines head fits line = record {
   clock = refl;
@@ -152,6 +170,8 @@ op_is_clear h w (DrainSeat zone) lines head fits line = record {
   empty = refl;
   opened = refl;
   closed = refl;
+  away = line.1;
+  there = refl;
 }
 op_is_clear h w (Prealloc zone items) lines head fits line = record {
   clock = refl;
@@ -163,6 +183,34 @@ op_is_clear h w (Prealloc zone items) lines head fits line = record {
   empty = refl;
   opened = refl;
   closed = refl;
+  away = line.1;
+  there = refl;
+}
+op_is_clear h w Away lines head fits line = record {
+  clock = given (is_some h.clock) fits;
+  names = refl;
+  name = refl;
+  zone = refl;
+  most = refl;
+  filled = refl;
+  empty = refl;
+  opened = line.0;
+  closed = refl;
+  away = line.1;
+  there = refl;
+}
+op_is_clear h w Back lines head fits line = record {
+  clock = given (is_some h.clock) fits;
+  names = refl;
+  name = refl;
+  zone = refl;
+  most = refl;
+  filled = refl;
+  empty = refl;
+  opened = refl;
+  closed = refl;
+  away = refl;
+  there = given (is_away lines w) line.1;
 }
 
 -- no header line: the header stays
@@ -174,6 +222,8 @@ op_keeps_head h w (Alloc zone slot arg reserve) = same_head h
 op_keeps_head h w (Free slot) = same_head h
 op_keeps_head h w Enter = same_head h
 op_keeps_head h w Exit = same_head h
+op_keeps_head h w Away = same_head h
+op_keeps_head h w Back = same_head h
 op_keeps_head h w (Bind key value) = same_head h
 op_keeps_head h w (Unbind key) = same_head h
 op_keeps_head h w (Look key) = same_head h
@@ -188,6 +238,8 @@ op_keeps_version zones w (Alloc zone slot arg reserve) version = refl
 op_keeps_version zones w (Free slot) version = refl
 op_keeps_version zones w Enter version = refl
 op_keeps_version zones w Exit version = refl
+op_keeps_version zones w Away version = refl
+op_keeps_version zones w Back version = refl
 op_keeps_version zones w (Bind key value) version = refl
 op_keeps_version zones w (Unbind key) version = refl
 op_keeps_version zones w (Look key) version = refl
@@ -202,6 +254,8 @@ op_place zones w (Alloc zone slot arg reserve) = refl
 op_place zones w (Free slot) = refl
 op_place zones w Enter = refl
 op_place zones w Exit = refl
+op_place zones w Away = refl
+op_place zones w Back = refl
 op_place zones w (Bind key value) = refl
 op_place zones w (Unbind key) = refl
 op_place zones w (Look key) = refl
@@ -216,6 +270,8 @@ op_entry h w (Alloc zone slot arg reserve) head fits = rw (zone_is_there h zone 
 op_entry h w (Free slot) head fits = refl
 op_entry h w Enter head fits = refl
 op_entry h w Exit head fits = refl
+op_entry h w Away head fits = refl
+op_entry h w Back head fits = refl
 op_entry h w (Bind key value) head fits = refl
 op_entry h w (Unbind key) head fits = refl
 op_entry h w (Look key) head fits = refl
@@ -236,10 +292,11 @@ op_step h w op before earlier rest head lt fits stands =
     let place : rank (stage_of (op_saying h.zones w op)) ≡ 8 = op_place h.zones w op in
     let most : h.workers ≤ 16 = head.workers.1 in
     let P : Version → Type 0 = λ version. All (IsKnown version) rest in
+    let has = All-head (IsKnown (version_of before)) (Does w op) rest stands.known in
     let known : P (version_after (op_saying h.zones w op) (version_of before)) =
     subst P (sym (op_keeps_version h.zones w op (version_of before))) (All-tail (IsKnown (version_of before)) (Does w op) rest stands.known) in
     next_line (op_fields h.zones w op) (op_saying h.zones w op) stands
-    (op_row_says (version_of before) (last_stage before) (workers_of before) h w op (may_stand 3 9 (omega arith) (omega arith) stands) (omega arith) (omega arith) (zones_are_named h head) fits)
+    (op_row_says (version_of before) (last_stage before) (workers_of before) h w op (may_stand 3 9 (omega arith) (omega arith) stands) has (omega arith) (omega arith) (zones_are_named h head) fits)
     (record {
       clear = op_is_clear h w op (done before) head fits stands.fit.0;
       head_is = op_keeps_head h w op;
@@ -281,6 +338,8 @@ between_adds h (Give giver slot taker slot2) before rest head fits line fit know
     empty = given (is_some (held (done before) giver slot)) line.0;
     opened = refl;
     closed = refl;
+    away = refl;
+    there = refl;
   };
   head_is = same_head h;
   entry_is = refl;
@@ -300,6 +359,8 @@ between_adds h (SetMax zone limit) before rest head fits line fit known = record
     empty = refl;
     opened = refl;
     closed = refl;
+    away = refl;
+    there = refl;
   };
   head_is = same_head h;
   entry_is = rw (zone_is_there h zone head fits.0) refl;
@@ -326,7 +387,7 @@ round_step h before earlier rest stands =
     next_line (codes "round" ∷ []) said.Round stands
     (round_row_says (version_of before) (last_stage before) (workers_of before) (may_stand 3 9 (omega arith) (omega arith) stands))
     (record {
-      clear = record { clock = refl; names = refl; name = refl; zone = refl; most = refl; filled = refl; empty = refl; opened = refl; closed = refl };
+      clear = record { clock = refl; names = refl; name = refl; zone = refl; most = refl; filled = refl; empty = refl; opened = refl; closed = refl; away = refl; there = refl };
       head_is = same_head h;
       entry_is = refl;
       fit = stands.fit;
@@ -342,7 +403,7 @@ end_step h before earlier stands =
     next_line (codes "end" ∷ []) said.End stands
     (end_row_says (version_of before) (last_stage before) (workers_of before) (may_stand 3 9 (omega arith) (omega arith) stands))
     (record {
-      clear = record { clock = refl; names = refl; name = refl; zone = refl; most = refl; filled = refl; empty = refl; opened = refl; closed = refl };
+      clear = record { clock = refl; names = refl; name = refl; zone = refl; most = refl; filled = refl; empty = refl; opened = refl; closed = refl; away = refl; there = refl };
       head_is = same_head h;
       entry_is = refl;
       fit = stands.fit;

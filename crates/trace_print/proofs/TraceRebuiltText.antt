@@ -182,10 +182,12 @@ ends_with_end rows earlier = ap (λ (lines : List TextLine). is_ended lines) (nu
 first_says : (version : Version) → version_or_first (version_in (first_row version)) ≡ version
 first_says versions.One = refl
 first_says versions.Two = refl
+first_says versions.Three = refl
 
 first_passes : (version : Version) → trace_test [] (line_behind [] (first_row version)) ≡ None
 first_passes versions.One = refl
 first_passes versions.Two = refl
+first_passes versions.Three = refl
 
 trace_understood : (t : Trace) → IsValid t → Understood (other_rows t) (other_saids t) (line_behind [] (first_row t.version)) []
 trace_understood t valid =

@@ -136,6 +136,8 @@ zone_adds h front more z None before rest fits e is keg fit known =
         empty = refl;
         opened = refl;
         closed = refl;
+        away = refl;
+        there = refl;
       };
       head_is = refl;
       entry_is = refl;
@@ -162,6 +164,8 @@ zone_adds h front more z (Some p) before rest fits e is keg fit known =
         empty = refl;
         opened = refl;
         closed = refl;
+        away = refl;
+        there = refl;
       };
       head_is = ap (λ (zs : List ZoneHead). part h h.clock h.detail (front ++ zs) None) (second_is front p (zone_name h.zones p) z (get_or h.zones p nowhere) over is);
       entry_is = refl;
@@ -230,6 +234,8 @@ names_by h (Some n) before rest fits is stands =
         empty = refl;
         opened = refl;
         closed = refl;
+        away = refl;
+        there = refl;
       };
       head_is = ap (λ (zs : List ZoneHead). part h h.clock h.detail zs (Some n)) (append-nil h.zones);
       entry_is = refl;

@@ -11,7 +11,7 @@ use Rattle.trace_text.specs.declared.head.ZoneHead.{ZoneHead}
 use Rattle.trace_text.specs.declared.head.ZoneKind.{ZoneKind}
 use Rattle.trace_text.specs.declared.head.ZoneKind.TheVariants.{Plain, Smr}
 use Rattle.trace_text.specs.declared.op.Op.{Op}
-use Rattle.trace_text.specs.declared.op.Op.TheVariants.{Alloc, Free, Enter, Exit, Bind, Unbind, Look, Trim, Drain, DrainSeat, Prealloc}
+use Rattle.trace_text.specs.declared.op.Op.TheVariants.{Alloc, Free, Enter, Exit, Bind, Unbind, Look, Trim, Drain, DrainSeat, Prealloc, Away, Back}
 use Rattle.trace_text.specs.declared.between.Between.{Between}
 use Rattle.trace_text.specs.declared.between.Between.TheVariants.{Give, SetMax}
 use Rattle.trace_text.specs.declared.round.Round.{Round}
@@ -23,6 +23,7 @@ use Rattle.trace_text.specs.NamedZones.{zone_name}
 abbrev pub version_word : Version → List ℕ
 version_word versions.One = codes "1"
 version_word versions.Two = codes "2"
+version_word versions.Three = codes "3"
 
 abbrev pub first_line : Version → List ℕ
 first_line version = line (codes "uma" ∷ version_word version ∷ [])
@@ -79,6 +80,8 @@ op_fields zones w (Trim zone) = codes "trim" ∷ decimal w ∷ zone_name zones z
 op_fields zones w (Drain zone) = codes "drain" ∷ decimal w ∷ zone_name zones zone ∷ []
 op_fields zones w (DrainSeat zone) = codes "drainseat" ∷ decimal w ∷ zone_name zones zone ∷ []
 op_fields zones w (Prealloc zone items) = codes "prealloc" ∷ decimal w ∷ zone_name zones zone ∷ decimal items ∷ []
+op_fields zones w Away = codes "away" ∷ decimal w ∷ []
+op_fields zones w Back = codes "back" ∷ decimal w ∷ []
 
 abbrev pub op_line : List ZoneHead → ℕ → Op → List ℕ
 op_line zones w op = line (op_fields zones w op)

@@ -15,6 +15,7 @@ pub fn push_version(text: &mut Vec<u8>, version: Version) -> Result<(), AllocErr
     text.extend_from_slice(match version {
         Version::One => b"uma 1\n",
         Version::Two => b"uma 2\n",
+        Version::Three => b"uma 3\n",
     })
 }
 

@@ -84,6 +84,8 @@ fn push_op(
                 &[u128::from(items)],
             )
         }
+        Op::Away => push_line(alloc, text, b"away", &[worker]),
+        Op::Back => push_line(alloc, text, b"back", &[worker]),
     }
 }
 

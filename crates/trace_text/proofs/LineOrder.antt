@@ -3,38 +3,44 @@ use Rattle.std.proofs.Common.{◌≡◌, ℕ, Bool, true, false, cond, List, [],
 use Rattle.std.specs.Prelude.{is_some, ◌==◌, ◌&&◌}
 use Rattle.trace_text.specs.declared.between.Between.TheVariants.{Give, SetMax}
 use Rattle.trace_text.specs.declared.op.Op.{Op}
-use Rattle.trace_text.specs.declared.op.Op.TheVariants.{Alloc, Free, Enter, Exit, Bind, Unbind, Look, Trim, Drain, DrainSeat, Prealloc}
+use Rattle.trace_text.specs.declared.op.Op.TheVariants.{Alloc, Free, Enter, Exit, Bind, Unbind, Look, Trim, Drain, DrainSeat, Prealloc, Away, Back}
 use Rattle.trace_text.specs.Lines.{Line, Does, Moves}
-use Rattle.trace_text.specs.Reading.{held, held_after, in_section, open_after}
-use Rattle.trace_text.specs.Valid.{LineFits, LinesFit}
+use Rattle.trace_text.specs.Reading.{held, held_after, in_section, open_after, is_away, away_after}
+use Rattle.trace_text.specs.Valid.{SlotFits, LineFits, LinesFit}
 
--- ---- the same slots and sections
+-- ---- the same slots, sections and workers that are away
 
--- After both lists of lines, of which the last one comes first, the worker's slots hold the same, and it is in a section after both or neither.
+-- After both lists of lines, of which the last one comes first, the worker's slots hold the same, and it is in a section, and away, after both or neither.
 record SameOf (w : ℕ) (a b : List Line) : Type 0 where
   pub slots : (slot : ℕ) → held a w slot ≡ held b w slot
   pub inside : in_section a w ≡ in_section b w
+  pub away : is_away a w ≡ is_away b w
 
 -- so of each worker
 abbrev Same : List Line → List Line → Type 0
 Same a b = (w : ℕ) → SameOf w a b
 
 turned : (w : ℕ) (a b : List Line) → SameOf w a b → SameOf w b a
-turned w a b same = record { slots = λ slot. sym (same.slots slot); inside = sym same.inside }
+turned w a b same = record { slots = λ slot. sym (same.slots slot); inside = sym same.inside; away = sym same.away }
 
--- an operation needs only what its worker's slots hold, and whether it is in a section
+-- an operation needs only what its worker's slots hold, and whether it is in a section or away
+slot_fits : (w : ℕ) (op : Op) (a b : List Line) → SameOf w a b → SlotFits a w op → SlotFits b w op
+slot_fits w (Alloc zone slot arg reserve) a b same fits = sym (same.slots slot) ∙ fits
+slot_fits w (Free slot) a b same fits = ap is_some (sym (same.slots slot)) ∙ fits
+slot_fits w Enter a b same fits = sym same.inside ∙ fits
+slot_fits w Exit a b same fits = sym same.inside ∙ fits
+slot_fits w (Bind key value) a b same fits = tt
+slot_fits w (Unbind key) a b same fits = tt
+slot_fits w (Look key) a b same fits = tt
+slot_fits w (Trim zone) a b same fits = tt
+slot_fits w (Drain zone) a b same fits = tt
+slot_fits w (DrainSeat zone) a b same fits = tt
+slot_fits w (Prealloc zone items) a b same fits = tt
+slot_fits w Away a b same fits = sym same.inside ∙ fits
+slot_fits w Back a b same fits = tt
+
 does_fit : (w : ℕ) (op : Op) (a b : List Line) → SameOf w a b → LineFits a (Does w op) → LineFits b (Does w op)
-does_fit w (Alloc zone slot arg reserve) a b same fits = sym (same.slots slot) ∙ fits
-does_fit w (Free slot) a b same fits = ap is_some (sym (same.slots slot)) ∙ fits
-does_fit w Enter a b same fits = sym same.inside ∙ fits
-does_fit w Exit a b same fits = sym same.inside ∙ fits
-does_fit w (Bind key value) a b same fits = tt
-does_fit w (Unbind key) a b same fits = tt
-does_fit w (Look key) a b same fits = tt
-does_fit w (Trim zone) a b same fits = tt
-does_fit w (Drain zone) a b same fits = tt
-does_fit w (DrainSeat zone) a b same fits = tt
-does_fit w (Prealloc zone items) a b same fits = tt
+does_fit w op a b same fits = (slot_fits w op a b same fits.0, sym same.away ∙ fits.1)
 
 line_fits : (line : Line) (a b : List Line) → Same a b → LineFits a line → LineFits b line
 line_fits (Does w op) a b same fits = does_fit w op a b (same w) fits
@@ -47,12 +53,14 @@ next_same : (line : Line) (a b : List Line) → Same a b → Same (line ∷ a) (
 next_same (Does v op) a b same = λ w. record {
   slots = λ slot. ap (λ (h : Option ℕ). cond (v == w) (held_after op slot h) h) ((same w).slots slot);
   inside = ap (λ (o : Bool). cond (v == w) (open_after op o) o) (same w).inside;
+  away = ap (λ (o : Bool). cond (v == w) (away_after op o) o) (same w).away;
 }
 next_same (Moves (Give giver from taker to)) a b same = λ w. record {
   slots = λ slot. ap₂ (λ (h k : Option ℕ). cond ((taker == w) && (to == slot)) h (cond ((giver == w) && (from == slot)) None k)) ((same giver).slots from) ((same w).slots slot);
   inside = (same w).inside;
+  away = (same w).away;
 }
-next_same (Moves (SetMax zone limit)) a b same = λ w. record { slots = λ slot. (same w).slots slot; inside = (same w).inside }
+next_same (Moves (SetMax zone limit)) a b same = λ w. record { slots = λ slot. (same w).slots slot; inside = (same w).inside; away = (same w).away }
 
 lines_fit : (lines a b : List Line) → Same a b → LinesFit a lines → LinesFit b lines
 lines_fit [] a b same fits = tt
@@ -74,11 +82,12 @@ either_first v w p q earlier ne = λ x.
     record {
       slots = λ slot. one_at_most (v == x) (w == x) (held_after p slot) (held_after q slot) (held earlier x slot) never;
       inside = one_at_most (v == x) (w == x) (open_after p) (open_after q) (in_section earlier x) never;
+      away = one_at_most (v == x) (w == x) (away_after p) (away_after q) (is_away earlier x) never;
     }
 
 -- an operation of another worker leaves all as it was
 of_another : (v w : ℕ) (op : Op) (earlier : List Line) → (v ≡ w → ⊥) → SameOf w (Does v op ∷ earlier) earlier
-of_another v w op earlier ne = record { slots = λ slot. rw (ne_eqb v w ne) refl; inside = rw (ne_eqb v w ne) refl }
+of_another v w op earlier ne = record { slots = λ slot. rw (ne_eqb v w ne) refl; inside = rw (ne_eqb v w ne) refl; away = rw (ne_eqb v w ne) refl }
 
 -- ---- lines that still fit in another order
 

@@ -4,7 +4,7 @@ use Rattle.std.specs.Prelude.{is_some}
 use Rattle.trace_text.specs.declared.trace_reading.said.Said.{Said}
 use Rattle.trace_text.specs.declared.trace_reading.said.Said.TheVariants as said
 use Rattle.trace_text.specs.declared.version.Version.{Version}
-use Rattle.trace_text.specs.Grammar.{clock_of, is_filled_by, is_open_by, last_stage, names_of, version_of, workers_of, zones_of}
+use Rattle.trace_text.specs.Grammar.{clock_of, is_away_by, is_filled_by, is_open_by, last_stage, names_of, version_of, workers_of, zones_of}
 use Rattle.trace_text.proofs.HeadLines.{HeadIsRead}
 use Rattle.trace_text.proofs.TraceSaying.{NumbersFit, StandsBehind, is_known_saying, says_right}
 use Rattle.trace_text.proofs.TraceTests.{IsClear, clear_without_clash}
@@ -13,7 +13,7 @@ use Rattle.trace_text.proofs.TraceTold.{Told}
 -- ---- a line behind others
 
 abbrev pub ClashesWithNone : List Said → Said → Type 0
-ClashesWithNone before s = IsClear (is_some (clock_of before)) (is_some (names_of before)) (zones_of before) (is_filled_by before) (is_open_by before) s
+ClashesWithNone before s = IsClear (is_some (clock_of before)) (is_some (names_of before)) (zones_of before) (is_filled_by before) (is_open_by before) (is_away_by before) s
 
 pub record Behind (before : List Said) (s : Said) : Type 0 where
   pub known : is_known_saying (version_of before) s ≡ true
@@ -30,7 +30,7 @@ behind last before s t =
       place = right.place;
       own = right.own;
       numbers = right.numbers;
-      clashes = clear_without_clash (is_some (clock_of (last ∷ before))) (is_some (names_of (last ∷ before))) (zones_of (last ∷ before)) (is_filled_by (last ∷ before)) (is_open_by (last ∷ before)) s t.1;
+      clashes = clear_without_clash (is_some (clock_of (last ∷ before))) (is_some (names_of (last ∷ before))) (zones_of (last ∷ before)) (is_filled_by (last ∷ before)) (is_open_by (last ∷ before)) (is_away_by (last ∷ before)) s t.1;
     }
 
 -- what holds of no lines and of the first line, and of one line more behind those of which it holds, holds of all lines that are told

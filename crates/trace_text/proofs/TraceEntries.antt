@@ -1,5 +1,5 @@
 -- The lines below the header of lines that are told: their numbers are in their ranges, what they name is there, the version has them,
--- `give` and `setmax` lines stand behind a `round` line, and each line fits the slots and sections before it.
+-- `give` and `setmax` lines stand behind a `round` line, and each line fits the lines before it.
 use Rattle.std.proofs.Common.{◌≡◌, ℕ, ◌<◌, ◌≤◌, Bool, true, false, eqb, leb, List, [], ◌∷◌, ◌++◌, length, Option, Some, None, refl, sym, ap, subst, ◌∙◌, arith}
 use Rattle.std.specs.Prelude.{◌&&◌, All, IsSome, is_some}
 use Rattle.std.specs.List.{flat_map}
@@ -23,15 +23,15 @@ use Rattle.trace_text.specs.declared.trace_reading.said.Said.TheVariants as said
 use Rattle.trace_text.specs.declared.trace_reading.said.ZoneWork.{ZoneWork}
 use Rattle.trace_text.specs.declared.trace_reading.said.ZoneWork.TheVariants as works
 use Rattle.trace_text.specs.declared.version.Version.{Version}
-use Rattle.trace_text.specs.Grammar.{clock_after, clock_of, done, entries_of, entry_in, entry_of, finds_filled, head_of, last_stage, limit_in, line_of, names_after, names_of, new_zone, stage_of, version_of, work_op, workers_after, workers_of, zone_named, zones_of}
+use Rattle.trace_text.specs.Grammar.{clock_after, clock_of, done, entries_of, entry_in, entry_of, finds_away, finds_filled, finds_there, head_of, last_stage, limit_in, line_of, names_after, names_of, new_zone, stage_of, version_of, work_op, workers_after, workers_of, zone_named, zones_of}
 use Rattle.trace_text.specs.Lines.{Line, Does}
-use Rattle.trace_text.specs.Reading.{held, in_section}
+use Rattle.trace_text.specs.Reading.{held, in_section, is_away}
 use Rattle.trace_text.specs.Limits.{IsWithin}
 use Rattle.trace_text.specs.TraceLine.{rank}
-use Rattle.trace_text.specs.Valid.{LineFits, LinesFit, OpFits, changes_limits}
+use Rattle.trace_text.specs.Valid.{SlotFits, LineFits, LinesFit, OpFits, IsKnownOp, changes_limits, comes_back}
 use Rattle.trace_text.proofs.TraceBehind.{Behind, ClashesWithNone, behind, by_lines}
 use Rattle.trace_text.proofs.TraceParts.{FitsHead, BetweensStand, HasEntry, entry_line}
-use Rattle.trace_text.proofs.TraceSaying.{OpNumbersFit, WorkNumbersFit}
+use Rattle.trace_text.proofs.TraceSaying.{OpNumbersFit, WorkNumbersFit, is_known_saying}
 use Rattle.trace_text.proofs.TraceTold.{Told}
 
 -- ---- the lines of the header come first
@@ -79,6 +79,8 @@ still_fits_op old new g (ops.Look key) f = (g.names f.0, f.1)
 still_fits_op old new g (ops.Trim zone) f = let b = g.zones in omega arith
 still_fits_op old new g (ops.Drain zone) f = let b = g.zones in omega arith
 still_fits_op old new g (ops.DrainSeat zone) f = let b = g.zones in omega arith
+still_fits_op old new g ops.Away f = g.clock f
+still_fits_op old new g ops.Back f = g.clock f
 still_fits_op old new g (ops.Prealloc zone items) f = let more : zone < length new.zones = let a = f.0 in let b = g.zones in omega arith in (more, f.1)
 
 still_fits : (old new : Head) → Grows old new → (entry : Entry) → FitsHead old entry → FitsHead new entry
@@ -109,6 +111,8 @@ op_fits : (before : List Said) (worker : ℕ) (op : Op) → OpNumbersFit op → 
 op_fits before worker (ops.Free slot) n c = n
 op_fits before worker ops.Enter n c = not-false (is_some (clock_of before)) c.clock
 op_fits before worker ops.Exit n c = not-false (is_some (clock_of before)) c.clock
+op_fits before worker ops.Away n c = not-false (is_some (clock_of before)) c.clock
+op_fits before worker ops.Back n c = not-false (is_some (clock_of before)) c.clock
 op_fits before worker (ops.Bind key value) n c = (not-false (is_some (names_of before)) c.names, n.0, n.1)
 op_fits before worker (ops.Unbind key) n c = (not-false (is_some (names_of before)) c.names, n)
 op_fits before worker (ops.Look key) n c = (not-false (is_some (names_of before)) c.names, n)
@@ -167,16 +171,29 @@ entries_fit =
 
 -- ---- each line is one that the version has
 
+op_known : (version : Version) (worker : ℕ) (op : Op) → is_known_saying version (said.Work worker op) ≡ true → IsKnownOp version op
+op_known version worker ops.Away is = is
+op_known version worker ops.Back is = is
+op_known version worker other is = tt
+
+work_known : (version : Version) (work : ZoneWork) (zone : ℕ) → IsKnownOp version (work_op work zone)
+work_known version (works.Alloc slot arg reserve) zone = tt
+work_known version works.Trim zone = tt
+work_known version works.Drain zone = tt
+work_known version works.DrainSeat zone = tt
+work_known version (works.Prealloc items) zone = tt
+
 in_zone_known : (version : Version) (worker : ℕ) (work : ZoneWork) (o : Option ℕ) → All (HasEntry version) (entry_in worker work o)
 in_zone_known version worker work None = All-nil (HasEntry version)
-in_zone_known version worker work (Some zone) = All-push (HasEntry version) [] (entries.Does worker (work_op work zone)) (All-nil (HasEntry version)) tt
+in_zone_known version worker work (Some zone) = All-push (HasEntry version) [] (entries.Does worker (work_op work zone)) (All-nil (HasEntry version)) (work_known version work zone)
 
 limit_known : (version : Version) (limit : ℕ) (o : Option ℕ) → changes_limits version ≡ true → All (HasEntry version) (limit_in limit o)
 limit_known version limit None is = All-nil (HasEntry version)
 limit_known version limit (Some zone) is = All-push (HasEntry version) [] (entries.Moves (SetMax zone limit)) (All-nil (HasEntry version)) is
 
 entry_known : (before : List Said) (s : Said) → Behind before s → All (HasEntry (version_of before)) (entry_of (zones_of before) s)
-entry_known before (said.Work worker op) b = All-push (HasEntry (version_of before)) [] (entries.Does worker op) (All-nil (HasEntry (version_of before))) tt
+entry_known before (said.Work worker op) b =
+    All-push (HasEntry (version_of before)) [] (entries.Does worker op) (All-nil (HasEntry (version_of before))) (op_known (version_of before) worker op b.known)
 entry_known before (said.InZone worker zone work) b = in_zone_known (version_of before) worker work (zone_named (zones_of before) zone)
 entry_known before said.Round b = All-push (HasEntry (version_of before)) [] entries.Round (All-nil (HasEntry (version_of before))) tt
 entry_known before (said.Give giver slot taker slot2) b =
@@ -259,7 +276,7 @@ betweens_stand =
     by_lines (λ before. BetweensStand false (entries_of before)) tt (λ version. tt)
     (λ before s t b stand. stand-append false (entries_of before) (entry_of (zones_of before) s) stand (entry_stands before s t b))
 
--- ---- the slots and sections before a line
+-- ---- the lines before a line
 
 -- these lines, the last one first, and then others
 abbrev onto : List Line → List Line → List Line
@@ -300,22 +317,46 @@ none_held : (o : Option ℕ) → is_some o ≡ false → o ≡ None
 none_held None e = refl
 none_held (Some x) e = absurd cc
 
+op_slot_fits : (before : List Said) (worker : ℕ) (op : Op) → OpNumbersFit op → ClashesWithNone before (said.Work worker op) → SlotFits (done before) worker op
+op_slot_fits before worker (ops.Free slot) n c = not-false (is_some (held (done before) worker slot)) c.empty
+op_slot_fits before worker ops.Enter n c = c.opened
+op_slot_fits before worker ops.Exit n c = not-false (in_section (done before) worker) c.closed
+op_slot_fits before worker ops.Away n c = c.opened
+op_slot_fits before worker (ops.Alloc zone slot arg reserve) n c = absurd n
+op_slot_fits before worker other n c = tt
+
+-- a worker is there unless the operation is `back`
+presence_fits : (earlier : List Line) (worker : ℕ) (op : Op) → finds_away (λ w. is_away earlier w) (said.Work worker op) ≡ false → finds_there (λ w. is_away earlier w) (said.Work worker op) ≡ false
+    → is_away earlier worker ≡ comes_back op
+presence_fits earlier worker ops.Back away there = not-false (is_away earlier worker) there
+presence_fits earlier worker (ops.Alloc zone slot arg reserve) away there = away
+presence_fits earlier worker (ops.Free slot) away there = away
+presence_fits earlier worker ops.Enter away there = away
+presence_fits earlier worker ops.Exit away there = away
+presence_fits earlier worker (ops.Bind key value) away there = away
+presence_fits earlier worker (ops.Unbind key) away there = away
+presence_fits earlier worker (ops.Look key) away there = away
+presence_fits earlier worker (ops.Trim zone) away there = away
+presence_fits earlier worker (ops.Drain zone) away there = away
+presence_fits earlier worker (ops.DrainSeat zone) away there = away
+presence_fits earlier worker (ops.Prealloc zone items) away there = away
+presence_fits earlier worker ops.Away away there = away
+
 op_line_fits : (before : List Said) (worker : ℕ) (op : Op) → OpNumbersFit op → ClashesWithNone before (said.Work worker op) → LineFits (done before) (Does worker op)
-op_line_fits before worker (ops.Free slot) n c = not-false (is_some (held (done before) worker slot)) c.empty
-op_line_fits before worker ops.Enter n c = c.opened
-op_line_fits before worker ops.Exit n c = not-false (in_section (done before) worker) c.closed
-op_line_fits before worker (ops.Alloc zone slot arg reserve) n c = absurd n
-op_line_fits before worker other n c = tt
+op_line_fits before worker op n c = (op_slot_fits before worker op n c, presence_fits (done before) worker op c.away c.there)
 
 work_line_fits : (earlier : List Line) (worker : ℕ) (name : List ℕ) (work : ZoneWork) (zone : ℕ) → finds_filled (λ w slot. is_some (held earlier w slot)) (said.InZone worker name work) ≡ false
-    → LineFits earlier (Does worker (work_op work zone))
-work_line_fits earlier worker name (works.Alloc slot arg reserve) zone e = none_held (held earlier worker slot) e
-work_line_fits earlier worker name other zone e = tt
+    → is_away earlier worker ≡ false → LineFits earlier (Does worker (work_op work zone))
+work_line_fits earlier worker name (works.Alloc slot arg reserve) zone e there = (none_held (held earlier worker slot) e, there)
+work_line_fits earlier worker name works.Trim zone e there = (tt, there)
+work_line_fits earlier worker name works.Drain zone e there = (tt, there)
+work_line_fits earlier worker name works.DrainSeat zone e there = (tt, there)
+work_line_fits earlier worker name (works.Prealloc items) zone e there = (tt, there)
 
 in_zone_line_fits : (earlier : List Line) (worker : ℕ) (name : List ℕ) (work : ZoneWork) (o : Option ℕ) → finds_filled (λ w slot. is_some (held earlier w slot)) (said.InZone worker name work) ≡ false
-    → LinesFit earlier (flat_map entry_line (entry_in worker work o))
-in_zone_line_fits earlier worker name work None e = tt
-in_zone_line_fits earlier worker name work (Some zone) e = (work_line_fits earlier worker name work zone e, tt)
+    → is_away earlier worker ≡ false → LinesFit earlier (flat_map entry_line (entry_in worker work o))
+in_zone_line_fits earlier worker name work None e there = tt
+in_zone_line_fits earlier worker name work (Some zone) e there = (work_line_fits earlier worker name work zone e there, tt)
 
 limit_line_fits : (earlier : List Line) (limit : ℕ) (o : Option ℕ) → LinesFit earlier (flat_map entry_line (limit_in limit o))
 limit_line_fits earlier limit None = tt
@@ -323,7 +364,7 @@ limit_line_fits earlier limit (Some zone) = (tt, tt)
 
 entry_line_fits : (before : List Said) (s : Said) → Behind before s → LinesFit (done before) (flat_map entry_line (entry_of (zones_of before) s))
 entry_line_fits before (said.Work worker op) b = (op_line_fits before worker op b.numbers.1 b.clashes, tt)
-entry_line_fits before (said.InZone worker zone work) b = in_zone_line_fits (done before) worker zone work (zone_named (zones_of before) zone) b.clashes.filled
+entry_line_fits before (said.InZone worker zone work) b = in_zone_line_fits (done before) worker zone work (zone_named (zones_of before) zone) b.clashes.filled b.clashes.away
 entry_line_fits before (said.SetMax zone limit) b = limit_line_fits (done before) limit (zone_named (zones_of before) zone)
 entry_line_fits before (said.Give giver slot taker slot2) b =
     let to = or_parts (eqb giver taker && eqb slot slot2) (is_some (held (done before) taker slot2)) b.clashes.filled in

@@ -25,16 +25,16 @@ use Rattle.trace_text.specs.declared.trace_reading.stage.Stage.TheVariants as st
 use Rattle.trace_text.specs.declared.trace_reading.tables.Tables.{Tables}
 use Rattle.trace_text.specs.declared.version.Version.{Version}
 use Rattle.trace_text.specs.declared.version.Version.TheVariants as versions
-use Rattle.trace_text.specs.Grammar.{head_wrong, stage_of, version_after, version_of, version_or_first, workers_after, domains_after, clock_after, detail_after, names_after, new_zone, last_stage, workers_of, zones_of, entry_of, entry_in, limit_in, zone_named, line_of, done, finds_filled, finds_empty, finds_open, finds_closed, clash_after, is_filled_by, is_open_by, sayings, and_said, tells, trace_test}
+use Rattle.trace_text.specs.Grammar.{head_wrong, stage_of, version_after, version_of, version_or_first, workers_after, domains_after, clock_after, detail_after, names_after, new_zone, last_stage, workers_of, zones_of, entry_of, entry_in, limit_in, zone_named, line_of, done, finds_filled, finds_empty, finds_open, finds_closed, finds_away, finds_there, clash_after, is_filled_by, is_open_by, is_away_by, sayings, and_said, tells, trace_test}
 use Rattle.trace_text.specs.Limits.{last_slot, slots}
-use Rattle.trace_text.specs.Reading.{held, in_section}
+use Rattle.trace_text.specs.Reading.{held, in_section, is_away}
 use Rattle.trace_text.specs.TraceHeard.{Hears, MarksAll, clash_found}
 use Rattle.trace_text.specs.TraceKnown.{Knows, KnowsSaid, KnowsTables, is_start, is_last}
 use Rattle.trace_text.specs.TraceLine.{says, version_in}
-use Rattle.trace_text.specs.TraceShown.{slot_at, open_at, filled_by, filled_after, opened_after, NamesFit}
+use Rattle.trace_text.specs.TraceShown.{slot_at, is_marked, filled_by, filled_after, opened_after, left_after, NamesFit}
 use Rattle.trace_text.specs.TraceTables.{AreEmpty}
 use Rattle.trace_text.proofs.TraceClash.{same_clash}
-use Rattle.trace_text.proofs.TraceSlots.{filled_next, opened_next}
+use Rattle.trace_text.proofs.TraceSlots.{filled_next, opened_next, left_next}
 use Rattle.trace_text.proofs.TraceSpoken.{end_is_told, head_no_end}
 
 -- ---- the tables say what the lines say, of the slots that a line names
@@ -42,8 +42,8 @@ use Rattle.trace_text.proofs.TraceSpoken.{end_is_told, head_no_end}
 abbrev pub SameSlots : (ℕ → ℕ → Bool) → (ℕ → ℕ → Bool) → Type 0
 SameSlots a b = (w slot : ℕ) → slot ≤ last_slot → a w slot ≡ b w slot
 
-abbrev pub SameSections : (ℕ → Bool) → (ℕ → Bool) → Type 0
-SameSections p q = (w : ℕ) → p w ≡ q w
+abbrev pub SameWorkers : (ℕ → Bool) → (ℕ → Bool) → Type 0
+SameWorkers p q = (w : ℕ) → p w ≡ q w
 
 same_filled : (a b : ℕ → ℕ → Bool) → SameSlots a b → (n : ℕ) (s : Said) → NamesFit n s → finds_filled a s ≡ finds_filled b s
 same_filled a b same n (said.Uma version) fit = refl
@@ -85,13 +85,15 @@ same_empty a b same n (said.Work w (ops.Trim zone)) fit = refl
 same_empty a b same n (said.Work w (ops.Drain zone)) fit = refl
 same_empty a b same n (said.Work w (ops.DrainSeat zone)) fit = refl
 same_empty a b same n (said.Work w (ops.Prealloc zone items)) fit = refl
+same_empty a b same n (said.Work w ops.Away) fit = refl
+same_empty a b same n (said.Work w ops.Back) fit = refl
 same_empty a b same n (said.InZone w zone work) fit = refl
 same_empty a b same n said.Round fit = refl
 same_empty a b same n (said.Give giver slot taker slot2) fit = ap not (same giver slot fit.1)
 same_empty a b same n (said.SetMax zone limit) fit = refl
 same_empty a b same n said.End fit = refl
 
-open_op : (p q : ℕ → Bool) → SameSections p q → (w : ℕ) (op : Op) → (finds_open p (said.Work w op) ≡ finds_open q (said.Work w op)) × (finds_closed p (said.Work w op) ≡ finds_closed q (said.Work w op))
+open_op : (p q : ℕ → Bool) → SameWorkers p q → (w : ℕ) (op : Op) → (finds_open p (said.Work w op) ≡ finds_open q (said.Work w op)) × (finds_closed p (said.Work w op) ≡ finds_closed q (said.Work w op))
 open_op p q same w (ops.Alloc zone slot arg reserve) = (refl, refl)
 open_op p q same w (ops.Free slot) = (refl, refl)
 open_op p q same w ops.Enter = (same w, refl)
@@ -103,8 +105,10 @@ open_op p q same w (ops.Trim zone) = (refl, refl)
 open_op p q same w (ops.Drain zone) = (refl, refl)
 open_op p q same w (ops.DrainSeat zone) = (refl, refl)
 open_op p q same w (ops.Prealloc zone items) = (refl, refl)
+open_op p q same w ops.Away = (same w, refl)
+open_op p q same w ops.Back = (refl, refl)
 
-same_open : (p q : ℕ → Bool) → SameSections p q → (s : Said) → (finds_open p s ≡ finds_open q s) × (finds_closed p s ≡ finds_closed q s)
+same_open : (p q : ℕ → Bool) → SameWorkers p q → (s : Said) → (finds_open p s ≡ finds_open q s) × (finds_closed p s ≡ finds_closed q s)
 same_open p q same (said.Uma version) = (refl, refl)
 same_open p q same (said.Workers count) = (refl, refl)
 same_open p q same (said.Domains count) = (refl, refl)
@@ -120,13 +124,34 @@ same_open p q same (said.Give giver slot taker slot2) = (refl, refl)
 same_open p q same (said.SetMax zone limit) = (refl, refl)
 same_open p q same said.End = (refl, refl)
 
+away_op : (p q : ℕ → Bool) → SameWorkers p q → (w : ℕ) (op : Op) → (finds_away p (said.Work w op) ≡ finds_away q (said.Work w op)) × (finds_there p (said.Work w op) ≡ finds_there q (said.Work w op))
+away_op p q same w (ops.Alloc zone slot arg reserve) = (same w, refl)
+away_op p q same w (ops.Free slot) = (same w, refl)
+away_op p q same w ops.Enter = (same w, refl)
+away_op p q same w ops.Exit = (same w, refl)
+away_op p q same w (ops.Bind key value) = (same w, refl)
+away_op p q same w (ops.Unbind key) = (same w, refl)
+away_op p q same w (ops.Look key) = (same w, refl)
+away_op p q same w (ops.Trim zone) = (same w, refl)
+away_op p q same w (ops.Drain zone) = (same w, refl)
+away_op p q same w (ops.DrainSeat zone) = (same w, refl)
+away_op p q same w (ops.Prealloc zone items) = (same w, refl)
+away_op p q same w ops.Away = (same w, refl)
+away_op p q same w ops.Back = (refl, ap not (same w))
+
+same_away : (p q : ℕ → Bool) → SameWorkers p q → (s : Said) → (finds_away p s ≡ finds_away q s) × (finds_there p s ≡ finds_there q s)
+same_away p q same (said.Work w op) = away_op p q same w op
+same_away p q same (said.InZone w zone work) = (same w, refl)
+same_away p q same other = (refl, refl)
+
 same_found : (reader : TraceReader) (before : List Said) (n : ℕ) (s : Said) → NamesFit n s → KnowsSaid reader before → clash_found reader s ≡ clash_after before s
 same_found reader before n s fit knows =
     let filled = same_filled (slot_at reader.tables.slots.items) (is_filled_by before) knows.tables.filled n s fit in
     let empty = same_empty (slot_at reader.tables.slots.items) (is_filled_by before) knows.tables.filled n s fit in
-    let opened = same_open (open_at reader.tables.sections.items) (is_open_by before) knows.tables.opened s in
-    let agree = same_clash (is_some reader.clock) (is_some reader.names) reader.zones (slot_at reader.tables.slots.items) (is_filled_by before) (open_at reader.tables.sections.items) (is_open_by before) s
-    (record { filled = filled; empty = empty; opened = opened.0; closed = opened.1 }) in
+    let opened = same_open (is_marked reader.tables.sections.items) (is_open_by before) knows.tables.opened s in
+    let left = same_away (is_marked reader.tables.away.items) (is_away_by before) knows.tables.left s in
+    let agree = same_clash (is_some reader.clock) (is_some reader.names) reader.zones (slot_at reader.tables.slots.items) (is_filled_by before) (is_marked reader.tables.sections.items) (is_open_by before) (is_marked reader.tables.away.items) (is_away_by before) s
+    (record { filled = filled; empty = empty; opened = opened.0; closed = opened.1; away = left.0; there = left.1 }) in
     agree ∙ rw (knows.clock, knows.names, knows.zones) refl
 
 -- ---- the tables after one line more
@@ -172,10 +197,15 @@ filled_as (entries.Moves (Give giver from taker to)) more a b same fit w slot le
 filled_as (entries.Moves (SetMax zone limit)) more a b same fit w slot le = same w slot le
 filled_as entries.Round more a b same fit w slot le = same w slot le
 
-opened_as : (e : Entry) (p q : ℕ → Bool) → SameSections p q → (w : ℕ) → opened_after e p w ≡ opened_after e q w
+opened_as : (e : Entry) (p q : ℕ → Bool) → SameWorkers p q → (w : ℕ) → opened_after e p w ≡ opened_after e q w
 opened_as (entries.Does v op) p q same w = rw (same w) refl
 opened_as (entries.Moves between) p q same w = same w
 opened_as entries.Round p q same w = same w
+
+left_as : (e : Entry) (p q : ℕ → Bool) → SameWorkers p q → (w : ℕ) → left_after e p w ≡ left_after e q w
+left_as (entries.Does v op) p q same w = rw (same w) refl
+left_as (entries.Moves between) p q same w = same w
+left_as entries.Round p q same w = same w
 
 first_line : (e : Entry) (more : List Entry) → line_of (e ∷ more) ≡ line_of (e ∷ [])
 first_line (entries.Does w op) more = refl
@@ -189,10 +219,11 @@ none_set table all i = elim (cases_lt i (length table)) [
 ]
 
 -- before the first line
-empty_tables : (tables : Tables) → AreEmpty tables → KnowsTables tables.slots.items tables.sections.items []
+empty_tables : (tables : Tables) → AreEmpty tables → KnowsTables tables.slots.items tables.sections.items tables.away.items []
 empty_tables tables empty = record {
   filled = λ w slot le. none_set tables.slots.items empty.empty (w * slots + slot);
   opened = λ w. none_set tables.sections.items empty.closed w;
+  left = λ w. none_set tables.away.items empty.there w;
 }
 
 pub knows_none : (reader : TraceReader) → reader.stage ≡ stages.Start → reader.version ≡ versions.One → reader.workers ≡ 0 → reader.domains ≡ 0 → reader.clock ≡ None → reader.detail ≡ false → reader.zones ≡ [] → reader.names ≡ None
@@ -222,7 +253,7 @@ begins old new number fields version start head is [] shown =
       zones = s.zones ∙ refl;
       names = s.names;
       entries = s.entries;
-      tables = record { filled = s.tables.filled; opened = s.tables.opened };
+      tables = record { filled = s.tables.filled; opened = s.tables.opened; left = s.tables.left };
     } in
     (e, subst P (sym is) (record { said = known; begun = refl; ended = sym (head_no_end fields e) }))
 begins old new number fields version start head is (last ∷ before) shown = absurd (let some = shown.begun in cc)
@@ -237,16 +268,22 @@ after_end old new number fields end [] shown = absurd (let none = shown.begun in
 after_end old new number fields end (last ∷ before) shown =
     let ended : is_ended (last ∷ before) ≡ true = sym shown.ended ∙ ap is_last end in rw ended refl
 
-tables_next : (old new : Tables) (before : List Said) (found : List Entry) → FirstFits found → MarksAll found old new → KnowsTables old.slots.items old.sections.items before
+tables_next : (old new : Tables) (before : List Said) (found : List Entry) → FirstFits found → MarksAll found old new → KnowsTables old.slots.items old.sections.items old.away.items before
     → ((w slot : ℕ) → slot ≤ last_slot → slot_at new.slots.items w slot ≡ is_some (held (line_of found ++ done before) w slot))
-    × ((w : ℕ) → open_at new.sections.items w ≡ in_section (line_of found ++ done before) w)
-tables_next old new before [] fits marks knows =
-    (λ w slot le. ap (λ (t : Tables). slot_at t.slots.items w slot) marks ∙ knows.filled w slot le, λ w. ap (λ (t : Tables). open_at t.sections.items w) marks ∙ knows.opened w)
+    × ((w : ℕ) → is_marked new.sections.items w ≡ in_section (line_of found ++ done before) w)
+    × ((w : ℕ) → is_marked new.away.items w ≡ is_away (line_of found ++ done before) w)
+tables_next old new before [] fits marks knows = (
+  λ w slot le. ap (λ (t : Tables). slot_at t.slots.items w slot) marks ∙ knows.filled w slot le,
+  λ w. ap (λ (t : Tables). is_marked t.sections.items w) marks ∙ knows.opened w,
+  λ w. ap (λ (t : Tables). is_marked t.away.items w) marks ∙ knows.left w,
+)
 tables_next old new before (e ∷ more) fits marks knows = (
   λ w slot le. marks.filled w slot le ∙ (filled_as e more (slot_at old.slots.items) (is_filled_by before) knows.filled fits w slot le
       ∙ (sym (filled_next e (done before) w slot) ∙ ap (λ ls. is_some (held (ls ++ done before) w slot)) (sym (first_line e more)))),
-  λ w. marks.opened w ∙ (opened_as e (open_at old.sections.items) (is_open_by before) knows.opened w
+  λ w. marks.opened w ∙ (opened_as e (is_marked old.sections.items) (is_open_by before) knows.opened w
       ∙ (sym (opened_next e (done before) w) ∙ ap (λ ls. in_section (ls ++ done before) w) (sym (first_line e more)))),
+  λ w. marks.left w ∙ (left_as e (is_marked old.away.items) (is_away_by before) knows.left w
+      ∙ (sym (left_next e (done before) w) ∙ ap (λ ls. is_away (ls ++ done before) w) (sym (first_line e more)))),
 )
 
 -- the state after lines that said this, and then what it took in
@@ -264,7 +301,7 @@ said_next old new before n s fit hears knows =
       zones = hears.zones ∙ ap (λ (zones : List ZoneHead). zones ++ new_zone zones s) knows.zones;
       names = hears.names ∙ ap (names_after s) knows.names;
       entries = hears.entries ∙ rw (knows.entries, knows.zones) refl;
-      tables = record { filled = tables.0; opened = tables.1 };
+      tables = record { filled = tables.0; opened = tables.1; left = tables.2 };
     }
 
 -- ---- a line taken in, or refused

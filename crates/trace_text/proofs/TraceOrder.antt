@@ -14,7 +14,7 @@ use Rattle.trace_text.specs.declared.trace_reading.entry.Entry.TheVariants as en
 use Rattle.trace_text.specs.declared.version.Version.{Version}
 use Rattle.trace_text.specs.Grammar.{is_round, op_by, between_in, ops_in, rounds_in}
 use Rattle.trace_text.specs.Lines.{Line, Does, Moves, lines_of, worker_lines}
-use Rattle.trace_text.specs.Valid.{OpFits, BetweenFits, RoundFits, LastRoundEnds, LinesFit, IsKnown}
+use Rattle.trace_text.specs.Valid.{OpFits, BetweenFits, RoundFits, LastRoundEnds, LinesFit, IsKnown, IsKnownOp}
 use Rattle.trace_text.proofs.LineOrder.{StillFit}
 use Rattle.trace_text.proofs.TraceParts.{entry_line, FitsHead, BetweensStand, HasEntry}
 use Rattle.trace_text.proofs.WorkerOrder.{lines_from, IsWith, joins_its_own}
@@ -109,25 +109,42 @@ known_betweens version (entries.Moves between ∷ part) all =
     (known_betweens version part (All-tail (HasEntry version) (entries.Moves between) part all))
 known_betweens version (entries.Round ∷ part) all = known_betweens version part (All-tail (HasEntry version) entries.Round part all)
 
-known_ops : (version : Version) (w : ℕ) (ops : List Op) → All (IsKnown version) (map (Does w) ops)
-known_ops version w [] = All-nil (IsKnown version)
-known_ops version w (op ∷ ops) = All-cons (IsKnown version) (Does w op) (map (Does w) ops) tt (known_ops version w ops)
+known_if : (version : Version) (b : Bool) (op : Op) → IsKnownOp version op → All (IsKnownOp version) (cond b (op ∷ []) [])
+known_if version true op is = All-cons (IsKnownOp version) op [] is (All-nil (IsKnownOp version))
+known_if version false op is = All-nil (IsKnownOp version)
 
-known_workers : (version : Version) (w : ℕ) (lists : List (List Op)) → All (IsKnown version) (worker_lines w lists)
-known_workers version w [] = All-nil (IsKnown version)
-known_workers version w (ops ∷ lists) = All-append (IsKnown version) (map (Does w) ops) (worker_lines (w + 1) lists) (known_ops version w ops) (known_workers version (w + 1) lists)
+known_by : (version : Version) (w : ℕ) (part : List Entry) → All (HasEntry version) part → All (IsKnownOp version) (flat_map (op_by w) part)
+known_by version w [] all = All-nil (IsKnownOp version)
+known_by version w (entries.Does v op ∷ part) all =
+    All-append (IsKnownOp version) (cond (v == w) (op ∷ []) []) (flat_map (op_by w) part)
+    (known_if version (v == w) op (All-head (HasEntry version) (entries.Does v op) part all))
+    (known_by version w part (All-tail (HasEntry version) (entries.Does v op) part all))
+known_by version w (entries.Moves between ∷ part) all = known_by version w part (All-tail (HasEntry version) (entries.Moves between) part all)
+known_by version w (entries.Round ∷ part) all = known_by version w part (All-tail (HasEntry version) entries.Round part all)
+
+known_ops : (version : Version) (w : ℕ) (ops : List Op) → All (IsKnownOp version) ops → All (IsKnown version) (map (Does w) ops)
+known_ops version w [] all = All-nil (IsKnown version)
+known_ops version w (op ∷ ops) all =
+    All-cons (IsKnown version) (Does w op) (map (Does w) ops) (All-head (IsKnownOp version) op ops all) (known_ops version w ops (All-tail (IsKnownOp version) op ops all))
+
+known_workers : (version : Version) (part : List Entry) → All (HasEntry version) part → (k n : ℕ) → All (IsKnown version) (lines_from k n (λ w. flat_map (op_by w) part))
+known_workers version part all k zero = All-nil (IsKnown version)
+known_workers version part all k (suc n) =
+    All-append (IsKnown version) (map (Does k) (flat_map (op_by k) part)) (lines_from (k + 1) n (λ w. flat_map (op_by w) part))
+    (known_ops version k (flat_map (op_by k) part) (known_by version k part all)) (known_workers version part all (k + 1) n)
 
 known_parts : (version : Version) (workers : ℕ) (parts : List (List Entry)) → All (All (HasEntry version)) parts → All (IsKnown version) (lines_of (rounds_in workers parts))
 known_parts version workers [] all = All-nil (IsKnown version)
 known_parts version workers (part ∷ []) all =
     let own : List Line = worker_lines 0 (ops_in workers part) in
-    All-append (IsKnown version) (own ++ []) [] (All-append (IsKnown version) own [] (known_workers version 0 (ops_in workers part)) (All-nil (IsKnown version))) (All-nil (IsKnown version))
+    let own_known = known_workers version part (All-head (All (HasEntry version)) part [] all) 0 workers in
+    All-append (IsKnown version) (own ++ []) [] (All-append (IsKnown version) own [] own_known (All-nil (IsKnown version))) (All-nil (IsKnown version))
 known_parts version workers (part ∷ next ∷ parts) all =
     let more : All (All (HasEntry version)) (next ∷ parts) = All-tail (All (HasEntry version)) part (next ∷ parts) all in
     let own : List Line = worker_lines 0 (ops_in workers part) in
     let betweens : List Line = map Moves (flat_map between_in next) in
     All-append (IsKnown version) (own ++ betweens) (lines_of (rounds_in workers (next ∷ parts)))
-    (All-append (IsKnown version) own betweens (known_workers version 0 (ops_in workers part)) (known_betweens version next (All-head (All (HasEntry version)) next parts more)))
+    (All-append (IsKnown version) own betweens (known_workers version part (All-head (All (HasEntry version)) part (next ∷ parts) all) 0 workers) (known_betweens version next (All-head (All (HasEntry version)) next parts more)))
     (known_parts version workers (next ∷ parts) more)
 
 pub lines_known : (version : Version) (workers : ℕ) (entries : List Entry) → All (HasEntry version) entries → All (IsKnown version) (lines_of (rounds_in workers (slice_split is_round entries)))

@@ -5,7 +5,7 @@ use Rattle.trace_text.specs.declared.trace_reading.entry.Entry.{Entry}
 use Rattle.trace_text.specs.declared.trace_reading.entry.Entry.TheVariants as entries
 use Rattle.trace_text.specs.declared.version.Version.{Version}
 use Rattle.trace_text.specs.Lines.{Line, Does, Moves}
-use Rattle.trace_text.specs.Valid.{OpFits, BetweenFits, IsKnown}
+use Rattle.trace_text.specs.Valid.{OpFits, BetweenFits, IsKnown, IsKnownOp}
 
 -- the line that it is, if it is more than a `round` line
 abbrev pub entry_line : Entry → List Line
@@ -21,7 +21,7 @@ FitsHead h entries.Round = Unit {0}
 
 -- the version has such a line
 abbrev pub HasEntry : Version → Entry → Type 0
-HasEntry version (entries.Does w op) = Unit {0}
+HasEntry version (entries.Does w op) = IsKnownOp version op
 HasEntry version (entries.Moves between) = IsKnown version (Moves between)
 HasEntry version entries.Round = Unit {0}
 

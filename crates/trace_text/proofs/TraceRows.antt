@@ -72,6 +72,33 @@ bad_limits :
 unfolding number_of digits lowers four box
 bad_limits = (refl, refl, refl, refl, refl, refl, refl, refl, refl, refl)
 
+-- a worker that leaves and comes back, of version 3: the slots and the section are tested before whether it is there, and a `give` may name it
+left : List Said
+left = said.Work 0 ops.Away ∷ asks 0 ∷ five
+
+bad_presence :
+    (says versions.Two (last_stage five) 1 (codes "away" ∷ codes "0" ∷ []) ≡ Err kinds.Word)
+    × (says versions.Two (last_stage five) 1 (codes "back" ∷ codes "0" ∷ []) ≡ Err kinds.Word)
+    × (says versions.Three (last_stage five) 1 (codes "away" ∷ codes "0" ∷ []) ≡ Ok (said.Work 0 ops.Away))
+    × (says versions.Three (last_stage five) 1 (codes "back" ∷ codes "1" ∷ []) ≡ Err kinds.Range)
+    × (clash_after four (said.Work 0 ops.Away) ≡ Some kinds.NoClock)
+    × (clash_after four (said.Work 0 ops.Back) ≡ Some kinds.NoClock)
+    × (clash_after (said.Work 0 ops.Enter ∷ five) (said.Work 0 ops.Away) ≡ Some kinds.SectionOpen)
+    × (clash_after (said.Work 0 ops.Enter ∷ five) (said.Work 0 ops.Back) ≡ Some kinds.Present)
+    × (clash_after five (said.Work 0 ops.Back) ≡ Some kinds.Present)
+    × (clash_after left (said.Work 0 ops.Back) ≡ None)
+    × (clash_after left (said.Work 0 ops.Away) ≡ Some kinds.Absent)
+    × (clash_after left (said.Work 0 ops.Enter) ≡ Some kinds.Absent)
+    × (clash_after left (said.Work 0 ops.Exit) ≡ Some kinds.SectionClosed)
+    × (clash_after left (said.Work 0 (ops.Free 0)) ≡ Some kinds.Absent)
+    × (clash_after left (said.Work 0 (ops.Free 1)) ≡ Some kinds.SlotEmpty)
+    × (clash_after left (asks 0) ≡ Some kinds.SlotBusy)
+    × (clash_after left (asks 1) ≡ Some kinds.Absent)
+    × (clash_after (said.Round ∷ left) (said.Give 0 0 0 7) ≡ None)
+    × (clash_after (said.Work 0 ops.Back ∷ left) (asks 1) ≡ None)
+unfolding number_of digits left five four asks box
+bad_presence = (refl, refl, refl, refl, refl, refl, refl, refl, refl, refl, refl, refl, refl, refl, refl, refl, refl, refl, refl)
+
 -- seven secondary zones, and an eighth
 seven : List Said
 seven =

@@ -30,7 +30,7 @@ use Rattle.trace_text.specs.Grammar.{stage_of}
 use Rattle.trace_text.specs.Limits.{IsWithin, last_slot}
 use Rattle.trace_text.specs.TraceKnown.{is_last}
 use Rattle.trace_text.specs.TraceLine.{word_named, word_or_wrong, rank, may_follow, is_within, placed, name_in, worker_in, slot_in, clock_in, zone_in, second_in, names_in, head_said, alloc_fields, arg_in, alloc_said, worker_and_zone, prealloc_said, zone_said, only_worker, worker_and_key, free_said, bind_said, work_said, give_said, setmax_said, said_by, says, is_known, known}
-use Rattle.trace_text.specs.Valid.{ClockFits, changes_limits}
+use Rattle.trace_text.specs.Valid.{ClockFits, changes_limits, lets_leave}
 use Rattle.trace_text.proofs.HeadLines.{HeadIsRead, ZoneIsRead, SecondIsRead, NamesAreRead, within_fits, clock_is_read, zone_is_read, second_is_read, names_are_read}
 use Rattle.schedule_text.proofs.ScheduleFollowing.{ends_line, is_end_by, not_last}
 use Rattle.schedule_text.proofs.Steps.{bound, step, any, where_true, is_some_value, is_true}
@@ -77,6 +77,8 @@ OpNumbersFit ops.Exit = Unit {0}
 OpNumbersFit (ops.Bind key value) = (key < 2 ^ 64) × (value < 2 ^ 64)
 OpNumbersFit (ops.Unbind key) = key < 2 ^ 64
 OpNumbersFit (ops.Look key) = key < 2 ^ 64
+OpNumbersFit ops.Away = Unit {0}
+OpNumbersFit ops.Back = Unit {0}
 OpNumbersFit other = ⊥
 
 -- the numbers of what a worker does in a zone are in their ranges
@@ -96,6 +98,8 @@ NumbersFit workers other = Unit {0}
 -- the version has a line that says this
 abbrev pub is_known_saying : Version → Said → Bool
 is_known_saying version (said.SetMax zone limit) = changes_limits version
+is_known_saying version (said.Work worker ops.Away) = lets_leave version
+is_known_saying version (said.Work worker ops.Back) = lets_leave version
 is_known_saying version other = true
 
 pub record SaysRight (version : Version) (stage : Stage) (workers : ℕ) (fields : List (List ℕ)) (s : Said) : Type 0 where
@@ -187,6 +191,10 @@ work_by workers by_self.Unbind rest =
     step (λ (p : ℕ × ℕ). (p.0 < workers) × (p.1 < 2 ^ 64)) _ (worker_and_key workers rest) _ (key_fits workers rest) (λ parts fit. record { known = λ version. refl; place = λ stage. refl; ends = not_last rest; own = tt; numbers = fit })
 work_by workers by_self.Look rest =
     step (λ (p : ℕ × ℕ). (p.0 < workers) × (p.1 < 2 ^ 64)) _ (worker_and_key workers rest) _ (key_fits workers rest) (λ parts fit. record { known = λ version. refl; place = λ stage. refl; ends = not_last rest; own = tt; numbers = fit })
+work_by workers by_self.Away rest =
+    step (λ n. n < workers) _ (only_worker workers rest) _ (only_fits workers rest) (λ worker lt. record { known = λ version. refl; place = λ stage. refl; ends = not_last rest; own = tt; numbers = (lt, tt) })
+work_by workers by_self.Back rest =
+    step (λ n. n < workers) _ (only_worker workers rest) _ (only_fits workers rest) (λ worker lt. record { known = λ version. refl; place = λ stage. refl; ends = not_last rest; own = tt; numbers = (lt, tt) })
 
 alloc_by : (workers : ℕ) (rest : List (List ℕ)) → IfOk (alloc_said workers rest) (SaidBy workers (words.Zone in_zone.Alloc) rest)
 alloc_by workers rest =
@@ -288,6 +296,8 @@ word_is_end first =
     (before_end (is (codes "bind")) b (words.Work by_self.Bind) _ (apart first (codes "bind") refl) refl
     (before_end (is (codes "unbind")) b (words.Work by_self.Unbind) _ (apart first (codes "unbind") refl) refl
     (before_end (is (codes "look")) b (words.Work by_self.Look) _ (apart first (codes "look") refl) refl
+    (before_end (is (codes "away")) b (words.Work by_self.Away) _ (apart first (codes "away") refl) refl
+    (before_end (is (codes "back")) b (words.Work by_self.Back) _ (apart first (codes "back") refl) refl
     (before_end (is (codes "trim")) b (words.Zone in_zone.Trim) _ (apart first (codes "trim") refl) refl
     (before_end (is (codes "drain")) b (words.Zone in_zone.Drain) _ (apart first (codes "drain") refl) refl
     (before_end (is (codes "drainseat")) b (words.Zone in_zone.DrainSeat) _ (apart first (codes "drainseat") refl) refl
@@ -295,7 +305,7 @@ word_is_end first =
     (before_end (is (codes "round")) b words.Round _ (apart first (codes "round") refl) refl
     (before_end (is (codes "give")) b words.Give _ (apart first (codes "give") refl) refl
     (before_end (is (codes "setmax")) b words.SetMax _ (apart first (codes "setmax") refl) refl
-    (at_end b _ others))))))))))))))
+    (at_end b _ others))))))))))))))))
 
 -- ---- the line
 

@@ -1,15 +1,15 @@
--- Which slots are filled and who is in a section after one line more.
+-- Which slots are filled, who is in a section and who is away after one line more.
 use Rattle.std.proofs.Common.{◌≡◌, ℕ, Bool, true, false, cond, List, [], ◌∷◌, ◌++◌, Option, Some, None, refl}
 use Rattle.std.specs.Prelude.{is_some, ◌&&◌, ◌==◌}
 use Rattle.trace_text.specs.declared.between.Between.TheVariants.{Give, SetMax}
 use Rattle.trace_text.specs.declared.op.Op.{Op}
-use Rattle.trace_text.specs.declared.op.Op.TheVariants.{Alloc, Free, Enter, Exit, Bind, Unbind, Look, Trim, Drain, DrainSeat, Prealloc}
+use Rattle.trace_text.specs.declared.op.Op.TheVariants.{Alloc, Free, Enter, Exit, Bind, Unbind, Look, Trim, Drain, DrainSeat, Prealloc, Away, Back}
 use Rattle.trace_text.specs.declared.trace_reading.entry.Entry.{Entry}
 use Rattle.trace_text.specs.declared.trace_reading.entry.Entry.TheVariants as entries
 use Rattle.trace_text.specs.Grammar.{line_of}
 use Rattle.trace_text.specs.Lines.{Line}
-use Rattle.trace_text.specs.Reading.{held, held_after, in_section}
-use Rattle.trace_text.specs.TraceShown.{filled_by, filled_after, opened_after}
+use Rattle.trace_text.specs.Reading.{held, held_after, in_section, is_away}
+use Rattle.trace_text.specs.TraceShown.{filled_by, filled_after, opened_after, left_after}
 
 some_if : (b : Bool) (x y : Option ℕ) → is_some (cond b x y) ≡ cond b (is_some x) (is_some y)
 some_if true x y = refl
@@ -27,6 +27,8 @@ filled_by_op (Trim zone) slot h = refl
 filled_by_op (Drain zone) slot h = refl
 filled_by_op (DrainSeat zone) slot h = refl
 filled_by_op (Prealloc zone items) slot h = refl
+filled_by_op Away slot h = refl
+filled_by_op Back slot h = refl
 
 pub filled_next : (e : Entry) (lines : List Line) (w slot : ℕ) → is_some (held (line_of (e ∷ []) ++ lines) w slot) ≡ filled_after e (λ v t. is_some (held lines v t)) w slot
 filled_next (entries.Does v op) lines w slot =
@@ -43,3 +45,8 @@ pub opened_next : (e : Entry) (lines : List Line) (w : ℕ) → in_section (line
 opened_next (entries.Does v op) lines w = refl
 opened_next (entries.Moves between) lines w = refl
 opened_next entries.Round lines w = refl
+
+pub left_next : (e : Entry) (lines : List Line) (w : ℕ) → is_away (line_of (e ∷ []) ++ lines) w ≡ left_after e (λ v. is_away lines v) w
+left_next (entries.Does v op) lines w = refl
+left_next (entries.Moves between) lines w = refl
+left_next entries.Round lines w = refl

@@ -1,5 +1,5 @@
--- The grammar of traces (own): `uma 1` or `uma 2`, the other header lines, then what the workers do, then `end`. The test of a line
--- looks at what the earlier lines said, of which the last one comes first. Limits change in version 2 alone.
+-- The grammar of traces (own): `uma 1`, `uma 2` or `uma 3`, the other header lines, then what the workers do, then `end`. The test of a line
+-- looks at what the earlier lines said, of which the last one comes first. Limits change from version 2 on, and workers leave and come back in version 3.
 use Rattle.std.specs.Prelude.{ℕ, ◌≡◌, List, [], ◌∷◌, ◌++◌, map, length, Bool, true, false, ◌&&◌, ◌||◌, ◌==◌, not, nat_le, if◌then◌else◌, Option, Some, None, Result, Ok, Err, is_some, position, slice_get}
 use Rattle.std.specs.List.{flat_map, slice_split, range_with_len}
 use Rattle.std.specs.Str.{bytes_eq}
@@ -31,7 +31,7 @@ use Rattle.trace_text.specs.declared.trace_reading.said.ZoneWork.TheVariants as 
 use Rattle.trace_text.specs.declared.trace_reading.stage.Stage.{Stage}
 use Rattle.trace_text.specs.declared.trace_reading.stage.Stage.TheVariants as stages
 use Rattle.trace_text.specs.Lines.{Line, Does, Moves}
-use Rattle.trace_text.specs.Reading.{held, in_section}
+use Rattle.trace_text.specs.Reading.{held, in_section, is_away}
 use Rattle.trace_text.specs.TraceLine.{says, version_in}
 use Rattle.trace_text.specs.Valid.{sharer_count}
 
@@ -192,7 +192,7 @@ done (s ∷ before) = line_of (entry_of (zones_of before) s) ++ done before
 
 -- ---- the tests of a line by the earlier ones, in this order
 
--- an SMR zone, the names and sections need a clock
+-- an SMR zone, the names, sections, and workers that leave and come back need a clock
 abbrev pub is_smr : ZoneKind → Bool
 is_smr Plain = false
 is_smr Smr = true
@@ -203,6 +203,8 @@ needs_clock (said.Second second) = is_smr second.kind
 needs_clock (said.Names names) = true
 needs_clock (said.Work worker ops.Enter) = true
 needs_clock (said.Work worker ops.Exit) = true
+needs_clock (said.Work worker ops.Away) = true
+needs_clock (said.Work worker ops.Back) = true
 needs_clock other = false
 
 abbrev pub needs_names : Said → Bool
@@ -249,43 +251,67 @@ finds_empty is_filled (said.Work worker (ops.Free slot)) = not (is_filled worker
 finds_empty is_filled (said.Give giver slot taker slot2) = not (is_filled giver slot)
 finds_empty is_filled other = false
 
+-- the worker of an `enter` or `away` line is in a section
 abbrev pub finds_open : (ℕ → Bool) → Said → Bool
 finds_open is_open (said.Work worker ops.Enter) = is_open worker
+finds_open is_open (said.Work worker ops.Away) = is_open worker
 finds_open is_open other = false
 
 abbrev pub finds_closed : (ℕ → Bool) → Said → Bool
 finds_closed is_open (said.Work worker ops.Exit) = not (is_open worker)
 finds_closed is_open other = false
 
+-- the worker of an operation other than `back` is away
+abbrev pub finds_away : (ℕ → Bool) → Said → Bool
+finds_away is_away (said.Work worker ops.Back) = false
+finds_away is_away (said.Work worker op) = is_away worker
+finds_away is_away (said.InZone worker zone work) = is_away worker
+finds_away is_away other = false
+
+-- the worker of a `back` line isn't away
+abbrev pub finds_there : (ℕ → Bool) → Said → Bool
+finds_there is_away (said.Work worker ops.Back) = not (is_away worker)
+finds_there is_away other = false
+
 -- the kind of the first test that is failed
 abbrev pub first_failed : List (Bool × TraceKind) → Option TraceKind
 first_failed [] = None
 first_failed ((failed, kind) ∷ more) = if failed then Some kind else first_failed more
 
--- what is wrong with a line that says this, where there are these zones, slots and sections
-abbrev pub clash : Bool → Bool → List ZoneHead → (ℕ → ℕ → Bool) → (ℕ → Bool) → Said → Option TraceKind
-clash has_clock has_names zones is_filled is_open s = first_failed (
+-- the tests of what a line says of a worker: of its slots, of its section, and of whether it is away
+abbrev pub worker_tests : (ℕ → ℕ → Bool) → (ℕ → Bool) → (ℕ → Bool) → Said → List (Bool × TraceKind)
+worker_tests is_filled is_open is_away s =
+    (finds_filled is_filled s, kinds.SlotBusy)
+    ∷ (finds_empty is_filled s, kinds.SlotEmpty)
+    ∷ (finds_open is_open s, kinds.SectionOpen)
+    ∷ (finds_closed is_open s, kinds.SectionClosed)
+    ∷ (finds_away is_away s, kinds.Absent)
+    ∷ (finds_there is_away s, kinds.Present)
+    ∷ []
+
+-- what is wrong with a line that says this, where there are these zones, slots and sections, and workers that are away
+abbrev pub clash : Bool → Bool → List ZoneHead → (ℕ → ℕ → Bool) → (ℕ → Bool) → (ℕ → Bool) → Said → Option TraceKind
+clash has_clock has_names zones is_filled is_open is_away s = first_failed (
     (needs_clock s && not has_clock, kinds.NoClock)
     ∷ (needs_names s && not has_names, kinds.NoNames)
     ∷ (takes_name zones s, kinds.DoubleName)
     ∷ (lacks_zone zones s, kinds.NoZone)
     ∷ (passes_most zones s, kinds.Zones)
-    ∷ (finds_filled is_filled s, kinds.SlotBusy)
-    ∷ (finds_empty is_filled s, kinds.SlotEmpty)
-    ∷ (finds_open is_open s, kinds.SectionOpen)
-    ∷ (finds_closed is_open s, kinds.SectionClosed)
-    ∷ [])
+    ∷ worker_tests is_filled is_open is_away s)
 
--- whether a slot is filled, and whether a worker is in a section, after what was said
+-- whether a slot is filled, whether a worker is in a section, and whether it is away, after what was said
 abbrev pub is_filled_by : List Said → ℕ → ℕ → Bool
 is_filled_by before worker slot = is_some (held (done before) worker slot)
 
 abbrev pub is_open_by : List Said → ℕ → Bool
 is_open_by before worker = in_section (done before) worker
 
+abbrev pub is_away_by : List Said → ℕ → Bool
+is_away_by before worker = is_away (done before) worker
+
 abbrev pub clash_after : List Said → Said → Option TraceKind
 clash_after before s =
-    clash (is_some (clock_of before)) (is_some (names_of before)) (zones_of before) (is_filled_by before) (is_open_by before) s
+    clash (is_some (clock_of before)) (is_some (names_of before)) (zones_of before) (is_filled_by before) (is_open_by before) (is_away_by before) s
 
 -- ---- all lines
 

@@ -1,9 +1,9 @@
--- The reading of a trace's text (own): which slot is filled and who is in a section, by looking back over the lines.
+-- The reading of a trace's text (own): which slot is filled, who is in a section and who is away, by looking back over the lines.
 -- A list of earlier lines has the last one first. Where a request is refused, its slot is filled in the reading all the
 -- same: the reading speaks of the text, not of a run.
 use Rattle.std.specs.Prelude.{ℕ, List, [], ◌∷◌, Bool, true, false, Option, Some, None, if◌then◌else◌, ◌==◌, ◌&&◌}
 use Rattle.trace_text.specs.declared.op.Op.{Op}
-use Rattle.trace_text.specs.declared.op.Op.TheVariants.{Alloc, Free, Enter, Exit}
+use Rattle.trace_text.specs.declared.op.Op.TheVariants.{Alloc, Free, Enter, Exit, Away, Back}
 use Rattle.trace_text.specs.declared.between.Between.TheVariants.{Give, SetMax}
 use Rattle.trace_text.specs.Lines.{Line, Does, Moves}
 
@@ -33,3 +33,14 @@ abbrev pub in_section : List Line → ℕ → Bool
 in_section [] w = false
 in_section (Does v op ∷ earlier) w = if v == w then open_after op (in_section earlier w) else in_section earlier w
 in_section (Moves between ∷ earlier) w = in_section earlier w
+
+abbrev pub away_after : Op → Bool → Bool
+away_after Away before = true
+away_after Back before = false
+away_after op before = before
+
+-- whether worker `w` is away after these lines: its last away or back is an away
+abbrev pub is_away : List Line → ℕ → Bool
+is_away [] w = false
+is_away (Does v op ∷ earlier) w = if v == w then away_after op (is_away earlier w) else is_away earlier w
+is_away (Moves between ∷ earlier) w = is_away earlier w

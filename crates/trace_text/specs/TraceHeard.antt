@@ -6,13 +6,13 @@ use Rattle.trace_text.specs.declared.trace_reading.reader.TraceReader.{TraceRead
 use Rattle.trace_text.specs.declared.trace_reading.said.Said.{Said}
 use Rattle.trace_text.specs.declared.trace_reading.tables.Tables.{Tables}
 use Rattle.trace_text.specs.Grammar.{stage_of, version_after, workers_after, domains_after, clock_after, detail_after, names_after, new_zone, entry_of, clash}
-use Rattle.trace_text.specs.TraceShown.{slot_at, open_at}
+use Rattle.trace_text.specs.TraceShown.{slot_at, is_marked}
 use Rattle.trace_text.specs.TraceTables.{Marks}
 
 -- what is wrong with a line that says this, by the running state
 abbrev pub clash_found : TraceReader → Said → Option TraceKind
 clash_found reader s =
-    clash (is_some reader.clock) (is_some reader.names) reader.zones (slot_at reader.tables.slots.items) (open_at reader.tables.sections.items) s
+    clash (is_some reader.clock) (is_some reader.names) reader.zones (slot_at reader.tables.slots.items) (is_marked reader.tables.sections.items) (is_marked reader.tables.away.items) s
 
 -- what the header says is as it was
 pub record KeepsHead (old new : TraceReader) : Type 0 where

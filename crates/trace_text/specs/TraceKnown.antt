@@ -7,9 +7,9 @@ use Rattle.trace_text.specs.declared.trace_reading.said.Said.{Said}
 use Rattle.trace_text.specs.declared.trace_reading.stage.Stage.{Stage}
 use Rattle.trace_text.specs.declared.trace_reading.stage.Stage.TheVariants as stages
 use Rattle.trace_text.specs.declared.trace.Trace.{Trace}
-use Rattle.trace_text.specs.Grammar.{is_round, rounds_in, last_stage, version_of, workers_of, domains_of, clock_of, has_detail, zones_of, names_of, entries_of, sayings, is_filled_by, is_open_by}
+use Rattle.trace_text.specs.Grammar.{is_round, rounds_in, last_stage, version_of, workers_of, domains_of, clock_of, has_detail, zones_of, names_of, entries_of, sayings, is_filled_by, is_open_by, is_away_by}
 use Rattle.trace_text.specs.Limits.{last_slot, most_workers}
-use Rattle.trace_text.specs.TraceShown.{slot_at, open_at}
+use Rattle.trace_text.specs.TraceShown.{slot_at, is_marked}
 use Rattle.trace_text.specs.TraceTables.{AreWhole}
 
 -- what the state keeps between any two lines, whatever they are
@@ -30,9 +30,10 @@ are_none [] = true
 are_none (last ∷ before) = false
 
 -- the tables are those after lines that said this
-pub record KnowsTables (slots sections : List Bool) (before : List Said) : Type 0 where
+pub record KnowsTables (slots sections away : List Bool) (before : List Said) : Type 0 where
   pub filled : (w slot : ℕ) → slot ≤ last_slot → slot_at slots w slot ≡ is_filled_by before w slot
-  pub opened : (w : ℕ) → open_at sections w ≡ is_open_by before w
+  pub opened : (w : ℕ) → is_marked sections w ≡ is_open_by before w
+  pub left : (w : ℕ) → is_marked away w ≡ is_away_by before w
 
 -- the state is the one after lines that said this, the last one first
 pub record KnowsSaid (reader : TraceReader) (before : List Said) : Type 0 where
@@ -45,7 +46,7 @@ pub record KnowsSaid (reader : TraceReader) (before : List Said) : Type 0 where
   pub zones : reader.zones ≡ zones_of before
   pub names : reader.names ≡ names_of before
   pub entries : reader.entries.items ≡ entries_of before
-  pub tables : KnowsTables reader.tables.slots.items reader.tables.sections.items before
+  pub tables : KnowsTables reader.tables.slots.items reader.tables.sections.items reader.tables.away.items before
 
 -- the state is the one after these lines, the last one first
 pub record Knows (reader : TraceReader) (lines : List TextLine) : Type 0 where

@@ -30,7 +30,7 @@ use Rattle.trace_text.specs.declared.trace_reading.word.ZoneWord.TheVariants as 
 use Rattle.trace_text.specs.declared.version.Version.{Version}
 use Rattle.trace_text.specs.declared.version.Version.TheVariants as versions
 use Rattle.trace_text.specs.Limits.{last_slot}
-use Rattle.trace_text.specs.Valid.{changes_limits}
+use Rattle.trace_text.specs.Valid.{changes_limits, lets_leave}
 use Rattle.schedule_text.specs.ScheduleGrammar.{start_in, window_in}
 
 -- ---- the first line
@@ -39,9 +39,10 @@ abbrev pub version_named : List ℕ → Option Version
 version_named field =
     if bytes_eq field (codes "1") then Some versions.One else
     if bytes_eq field (codes "2") then Some versions.Two else
+    if bytes_eq field (codes "3") then Some versions.Three else
     None
 
--- the version that a first line with these fields says: `uma 1` or `uma 2`
+-- the version that a first line with these fields says: `uma 1`, `uma 2` or `uma 3`
 abbrev pub version_in : List (List ℕ) → Option Version
 version_in (word ∷ version ∷ []) = if bytes_eq word (codes "uma") then version_named version else None
 version_in other = None
@@ -58,6 +59,8 @@ word_named field =
     if bytes_eq field (codes "bind") then Some (words.Work by_self.Bind) else
     if bytes_eq field (codes "unbind") then Some (words.Work by_self.Unbind) else
     if bytes_eq field (codes "look") then Some (words.Work by_self.Look) else
+    if bytes_eq field (codes "away") then Some (words.Work by_self.Away) else
+    if bytes_eq field (codes "back") then Some (words.Work by_self.Back) else
     if bytes_eq field (codes "trim") then Some (words.Zone in_zone.Trim) else
     if bytes_eq field (codes "drain") then Some (words.Zone in_zone.Drain) else
     if bytes_eq field (codes "drainseat") then Some (words.Zone in_zone.DrainSeat) else
@@ -80,9 +83,11 @@ abbrev pub word_or_wrong : Option Word → Result Word TraceKind
 word_or_wrong (Some word) = Ok word
 word_or_wrong None = Err kinds.Word
 
--- the version has this word: version 1 has none that changes a limit
+-- the version has this word: version 1 has none that changes a limit, and only version 3 has those of workers that leave and come back
 abbrev pub is_known : Version → Word → Bool
 is_known version words.SetMax = changes_limits version
+is_known version (words.Work by_self.Away) = lets_leave version
+is_known version (words.Work by_self.Back) = lets_leave version
 is_known version word = true
 
 abbrev pub known : Bool → Result Unit TraceKind
@@ -350,6 +355,12 @@ work_said workers by_self.Unbind fields = do
 work_said workers by_self.Look fields = do
   parts ← worker_and_key workers fields
   Ok (said.Work parts.0 (ops.Look parts.1))
+work_said workers by_self.Away fields = do
+  worker ← only_worker workers fields
+  Ok (said.Work worker ops.Away)
+work_said workers by_self.Back fields = do
+  worker ← only_worker workers fields
+  Ok (said.Work worker ops.Back)
 
 -- W SLOT V SLOT2
 abbrev pub give_said : ℕ → List (List ℕ) → Result Said TraceKind

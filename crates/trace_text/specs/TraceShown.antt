@@ -1,4 +1,4 @@
--- The running state of a trace's reading (own): a table of all workers' slots, one worker's behind the other's, and one of sections.
+-- The running state of a trace's reading (own): a table of all workers' slots, one worker's behind the other's, one of sections, and one of workers that are away.
 use Rattle.std.specs.Prelude.{ℕ, ◌<◌, ◌≤◌, ◌+◌, ◌*◌, List, Bool, true, false, ◌&&◌, ◌==◌, if◌then◌else◌, slice_index_or}
 use Rattle.trace_text.specs.declared.between.Between.TheVariants.{Give, SetMax}
 use Rattle.trace_text.specs.declared.op.Op.{Op}
@@ -10,15 +10,15 @@ use Rattle.trace_text.specs.declared.trace_reading.said.Said.TheVariants as said
 use Rattle.trace_text.specs.declared.trace_reading.said.ZoneWork.{ZoneWork}
 use Rattle.trace_text.specs.declared.trace_reading.said.ZoneWork.TheVariants as works
 use Rattle.trace_text.specs.Limits.{last_slot, most_workers, slots}
-use Rattle.trace_text.specs.Reading.{open_after}
+use Rattle.trace_text.specs.Reading.{open_after, away_after}
 
 -- the table says that this worker's slot is filled
 abbrev pub slot_at : List Bool → ℕ → ℕ → Bool
 slot_at table worker slot = slice_index_or table (worker * slots + slot) false
 
--- the table says that this worker is in a section
-abbrev pub open_at : List Bool → ℕ → Bool
-open_at table worker = slice_index_or table worker false
+-- the table of workers marks this one: that of the sections, or that of those who are away
+abbrev pub is_marked : List Bool → ℕ → Bool
+is_marked table worker = slice_index_or table worker false
 
 -- whether the slot is filled after an operation of its worker, where it was `before`
 abbrev pub filled_by : Op → ℕ → Bool → Bool
@@ -40,6 +40,12 @@ abbrev pub opened_after : Entry → (ℕ → Bool) → ℕ → Bool
 opened_after (entries.Does v op) is_open w = if v == w then open_after op (is_open w) else is_open w
 opened_after (entries.Moves between) is_open w = is_open w
 opened_after entries.Round is_open w = is_open w
+
+-- the same of workers that are away
+abbrev pub left_after : Entry → (ℕ → Bool) → ℕ → Bool
+left_after (entries.Does v op) is_away w = if v == w then away_after op (is_away w) else is_away w
+left_after (entries.Moves between) is_away w = is_away w
+left_after entries.Round is_away w = is_away w
 
 -- the slot that an operation names is one of a worker's
 abbrev pub OpSlotFits : Op → Type 0

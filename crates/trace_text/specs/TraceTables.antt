@@ -1,4 +1,4 @@
--- The tables of a trace's reading (own): which slots are filled, and which workers are in a section.
+-- The tables of a trace's reading (own): which slots are filled, which workers are in a section, and which are away.
 use Rattle.std.specs.Prelude.{ℕ, ◌≡◌, ◌<◌, ◌≤◌, ◌*◌, All, length, false}
 use Rattle.trace_text.specs.declared.between.Between.TheVariants.{Give, SetMax}
 use Rattle.trace_text.specs.declared.trace_reading.entry.Entry.{Entry}
@@ -7,16 +7,18 @@ use Rattle.trace_text.specs.declared.trace_reading.tables.Tables.{Tables}
 pub use Rattle.trace_text.specs.Limits.{most_workers}
 use Rattle.trace_text.specs.Limits.{last_slot, slots}
 pub use Rattle.trace_text.specs.TraceShown.{OpSlotFits}
-use Rattle.trace_text.specs.TraceShown.{slot_at, open_at, filled_after, opened_after}
+use Rattle.trace_text.specs.TraceShown.{slot_at, is_marked, filled_after, opened_after, left_after}
 
 pub record AreWhole (tables : Tables) : Type 0 where
   pub slots_whole : length tables.slots.items ≡ most_workers * slots
   pub sections_whole : length tables.sections.items ≡ most_workers
+  pub away_whole : length tables.away.items ≡ most_workers
 
--- all slots are empty, and no section is open
+-- all slots are empty, no section is open, and no worker is away
 pub record AreEmpty (tables : Tables) : Type 0 where
   pub empty : All (λ filled. filled ≡ false) tables.slots.items
   pub closed : All (λ is_open. is_open ≡ false) tables.sections.items
+  pub there : All (λ is_away. is_away ≡ false) tables.away.items
 
 -- there is room for the workers and the slots that a line names
 abbrev pub EntryFits : Entry → Type 0
@@ -28,4 +30,5 @@ EntryFits entries.Round = Unit {0}
 -- the line was done to the tables
 pub record Marks (entry : Entry) (old new : Tables) : Type 0 where
   pub filled : (w slot : ℕ) → slot ≤ last_slot → slot_at new.slots.items w slot ≡ filled_after entry (slot_at old.slots.items) w slot
-  pub opened : (w : ℕ) → open_at new.sections.items w ≡ opened_after entry (open_at old.sections.items) w
+  pub opened : (w : ℕ) → is_marked new.sections.items w ≡ opened_after entry (is_marked old.sections.items) w
+  pub left : (w : ℕ) → is_marked new.away.items w ≡ left_after entry (is_marked old.away.items) w

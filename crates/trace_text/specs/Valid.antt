@@ -9,7 +9,7 @@ use Rattle.trace_text.specs.declared.head.ZoneHead.{ZoneHead}
 use Rattle.trace_text.specs.declared.head.ZoneKind.{ZoneKind}
 use Rattle.trace_text.specs.declared.head.ZoneKind.TheVariants.{Plain, Smr}
 use Rattle.trace_text.specs.declared.op.Op.{Op}
-use Rattle.trace_text.specs.declared.op.Op.TheVariants.{Alloc, Free, Enter, Exit, Bind, Unbind, Look, Trim, Drain, DrainSeat, Prealloc}
+use Rattle.trace_text.specs.declared.op.Op.TheVariants.{Alloc, Free, Enter, Exit, Bind, Unbind, Look, Trim, Drain, DrainSeat, Prealloc, Away, Back}
 use Rattle.trace_text.specs.declared.between.Between.{Between}
 use Rattle.trace_text.specs.declared.between.Between.TheVariants.{Give, SetMax}
 use Rattle.trace_text.specs.declared.round.Round.{Round}
@@ -18,7 +18,7 @@ use Rattle.trace_text.specs.declared.version.Version.{Version}
 use Rattle.trace_text.specs.declared.version.Version.TheVariants as versions
 use Rattle.trace_text.specs.Limits.{IsWithin, last_slot}
 use Rattle.trace_text.specs.Lines.{Line, Does, Moves, lines_of}
-use Rattle.trace_text.specs.Reading.{held, in_section}
+use Rattle.trace_text.specs.Reading.{held, in_section, is_away}
 
 -- START is odd and below 2^63, and WINDOW even, from 4 to 2^30
 pub record ClockFits (c : ClockHead) : Type 0 where
@@ -94,6 +94,8 @@ OpFits h (Trim zone) = zone < length h.zones
 OpFits h (Drain zone) = zone < length h.zones
 OpFits h (DrainSeat zone) = zone < length h.zones
 OpFits h (Prealloc zone items) = (zone < length h.zones) × (items ≤ 262144)
+OpFits h Away = IsSome h.clock
+OpFits h Back = IsSome h.clock
 
 abbrev pub BetweenFits : Head → Between → Type 0
 BetweenFits h (Give giver slot taker slot2) =
@@ -111,13 +113,23 @@ LastRoundEnds [] = ⊥
 LastRoundEnds (r ∷ []) = r.between ≡ []
 LastRoundEnds (r ∷ next ∷ rounds) = LastRoundEnds (next ∷ rounds)
 
--- what a line needs of the slots and sections before it
+-- what an operation needs of its worker's slots and section before it
+abbrev pub SlotFits : List Line → ℕ → Op → Type 0
+SlotFits before w (Alloc zone slot arg reserve) = held before w slot ≡ None
+SlotFits before w (Free slot) = IsSome (held before w slot)
+SlotFits before w Enter = in_section before w ≡ false
+SlotFits before w Exit = in_section before w ≡ true
+SlotFits before w Away = in_section before w ≡ false
+SlotFits before w op = Unit {0}
+
+-- the operation is the one of a worker that is away
+abbrev pub comes_back : Op → Bool
+comes_back Back = true
+comes_back op = false
+
+-- what a line needs of the lines before it: a worker that is away comes back before it does anything else, and no other comes back
 abbrev pub LineFits : List Line → Line → Type 0
-LineFits before (Does w (Alloc zone slot arg reserve)) = held before w slot ≡ None
-LineFits before (Does w (Free slot)) = IsSome (held before w slot)
-LineFits before (Does w Enter) = in_section before w ≡ false
-LineFits before (Does w Exit) = in_section before w ≡ true
-LineFits before (Does w op) = Unit {0}
+LineFits before (Does w op) = SlotFits before w op × (is_away before w ≡ comes_back op)
 LineFits before (Moves (Give giver from taker to)) = IsSome (held before giver from) × (held before taker to ≡ None)
 LineFits before (Moves (SetMax zone limit)) = Unit {0}
 
@@ -126,14 +138,27 @@ abbrev pub LinesFit : List Line → List Line → Type 0
 LinesFit before [] = Unit {0}
 LinesFit before (next ∷ lines) = LineFits before next × LinesFit (next ∷ before) lines
 
--- limits change between two rounds in version 2 alone
+-- limits change between two rounds from version 2 on
 abbrev pub changes_limits : Version → Bool
 changes_limits versions.One = false
 changes_limits versions.Two = true
+changes_limits versions.Three = true
+
+-- workers leave and come back in version 3
+abbrev pub lets_leave : Version → Bool
+lets_leave versions.One = false
+lets_leave versions.Two = false
+lets_leave versions.Three = true
+
+-- the version has such an operation
+abbrev pub IsKnownOp : Version → Op → Type 0
+IsKnownOp version Away = lets_leave version ≡ true
+IsKnownOp version Back = lets_leave version ≡ true
+IsKnownOp version op = Unit {0}
 
 -- the version has such a line
 abbrev pub IsKnown : Version → Line → Type 0
-IsKnown version (Does w op) = Unit {0}
+IsKnown version (Does w op) = IsKnownOp version op
 IsKnown version (Moves (Give giver from taker to)) = Unit {0}
 IsKnown version (Moves (SetMax zone limit)) = changes_limits version ≡ true
 

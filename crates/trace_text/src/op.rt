@@ -48,6 +48,10 @@ pub enum Op {
         zone: u32,
         items: u64,
     },
+    /// Leaves: the worker's seat is empty until it comes back. Of version 3.
+    Away,
+    /// Comes back. Of version 3.
+    Back,
 }
 
 /// The operations of one worker in one round, in order. Contracts see the list of them.

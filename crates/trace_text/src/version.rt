@@ -1,7 +1,7 @@
 ghost use Rattle.std.specs.Prelude.{◌≡◌};
 ghost use Rattle.text_lines.specs.TextLines.{fields_of};
 ghost use Rattle.trace_text.specs.TraceLine.{version_in};
-ghost use Rattle.trace_text.specs.Valid.{changes_limits};
+ghost use Rattle.trace_text.specs.Valid.{changes_limits, lets_leave};
 
 use text_lines::two_fields;
 
@@ -12,6 +12,8 @@ pub enum Version {
     One,
     /// Limits change between two rounds.
     Two,
+    /// Limits change, and workers leave and come back.
+    Three,
 }
 
 impl Version {
@@ -28,6 +30,8 @@ impl Version {
             Some(Version::One)
         } else if version == b"2".as_slice() {
             Some(Version::Two)
+        } else if version == b"3".as_slice() {
+            Some(Version::Three)
         } else {
             None
         }
@@ -39,7 +43,17 @@ impl Version {
     {
         match self {
             Version::One => false,
-            Version::Two => true,
+            Version::Two | Version::Three => true,
+        }
+    }
+
+    /// Whether workers leave and come back.
+    pub(crate) fn lets_leave(self) -> bool
+        ensures { result ≡ lets_leave self }
+    {
+        match self {
+            Version::One | Version::Two => false,
+            Version::Three => true,
         }
     }
 }

@@ -2,26 +2,28 @@
 use Rattle.std.proofs.Common.{◌≡◌, ◌≢◌, ℕ, zero, suc, ◌+◌, List, [], ◌∷◌, ◌++◌, None, Some, refl, sym, ap, ◌∙◌, subst, arith, map, take}
 use Rattle.std.specs.Prelude.{IsSome, slice_get}
 use Rattle.trace_text.specs.declared.op.Op.{Op}
-use Rattle.trace_text.specs.declared.op.Op.TheVariants.{Alloc, Free, Enter, Exit, Bind, Unbind, Look, Trim, Drain, DrainSeat, Prealloc}
+use Rattle.trace_text.specs.declared.op.Op.TheVariants.{Alloc, Free, Enter, Exit, Bind, Unbind, Look, Trim, Drain, DrainSeat, Prealloc, Away, Back}
 use Rattle.trace_text.specs.declared.round.Round.{Round}
 use Rattle.trace_text.specs.Lines.{Line, Does, Moves, worker_lines, lines_of}
-use Rattle.trace_text.specs.Reading.{held, held_after, in_section, open_after}
-use Rattle.trace_text.specs.Valid.{LineFits, LinesFit}
+use Rattle.trace_text.specs.Reading.{held, held_after, in_section, open_after, is_away, away_after}
+use Rattle.trace_text.specs.Valid.{LineFits, LinesFit, SlotFits}
 use Rattle.trace_worker.specs.OwnLines.{stacked}
-use Rattle.trace_worker.proofs.SlotReading.{held-own, in_section-own, held-others, in_section-others}
+use Rattle.trace_worker.proofs.SlotReading.{held-own, in_section-own, is_away-own, held-others, in_section-others, is_away-others}
 
 pub record Alike (n : ℕ) (a b : List Line) : Type 0 where
   pub same_held : (slot : ℕ) → held a n slot ≡ held b n slot
   pub same_section : in_section a n ≡ in_section b n
+  pub same_away : is_away a n ≡ is_away b n
 
 pub Alike-self : (n : ℕ) (a : List Line) → Alike n a a
-Alike-self n a = record { same_held = λ slot. refl; same_section = refl }
+Alike-self n a = record { same_held = λ slot. refl; same_section = refl; same_away = refl }
 
 -- another worker's line on top of the one list
 pub Alike-others : (n v : ℕ) (op : Op) (a b : List Line) → v ≢ n → Alike n a b → Alike n (Does v op ∷ a) b
 Alike-others n v op a b apart same = record {
   same_held = λ slot. held-others a n v slot op apart ∙ same.same_held slot;
   same_section = in_section-others a n v op apart ∙ same.same_section;
+  same_away = is_away-others a n v op apart ∙ same.same_away;
 }
 
 -- the worker's own line on top of both
@@ -29,6 +31,7 @@ pub Alike-own : (n : ℕ) (op : Op) (a b : List Line) → Alike n a b → Alike 
 Alike-own n op a b same = record {
   same_held = λ slot. held-own a n slot op ∙ (ap (held_after op slot) (same.same_held slot) ∙ sym (held-own b n slot op));
   same_section = in_section-own a n op ∙ (ap (open_after op) same.same_section ∙ sym (in_section-own b n op));
+  same_away = is_away-own a n op ∙ (ap (away_after op) same.same_away ∙ sym (is_away-own b n op));
 }
 
 -- another worker's whole list
@@ -37,19 +40,25 @@ unfolding stacked
 Alike-list n v [] a b apart same = same
 Alike-list n v (op ∷ ops) a b apart same = Alike-list n v ops (Does v op ∷ a) b apart (Alike-others n v op a b apart same)
 
--- what a line of the worker needs
+-- what a line of the worker needs of its slots and section
+slots_alike : (n : ℕ) (op : Op) (a b : List Line) → Alike n a b → SlotFits a n op → SlotFits b n op
+slots_alike n (Alloc z slot arg reserve) a b same fits = sym (same.same_held slot) ∙ fits
+slots_alike n (Free slot) a b same fits = subst IsSome (same.same_held slot) fits
+slots_alike n Enter a b same fits = sym same.same_section ∙ fits
+slots_alike n Exit a b same fits = sym same.same_section ∙ fits
+slots_alike n (Bind key value) a b same fits = tt
+slots_alike n (Unbind key) a b same fits = tt
+slots_alike n (Look key) a b same fits = tt
+slots_alike n (Trim zone) a b same fits = tt
+slots_alike n (Drain zone) a b same fits = tt
+slots_alike n (DrainSeat zone) a b same fits = tt
+slots_alike n (Prealloc zone items) a b same fits = tt
+slots_alike n Away a b same fits = sym same.same_section ∙ fits
+slots_alike n Back a b same fits = tt
+
+-- and of whether it is away
 line_alike : (n : ℕ) (op : Op) (a b : List Line) → Alike n a b → LineFits a (Does n op) → LineFits b (Does n op)
-line_alike n (Alloc z slot arg reserve) a b same fits = sym (same.same_held slot) ∙ fits
-line_alike n (Free slot) a b same fits = subst IsSome (same.same_held slot) fits
-line_alike n Enter a b same fits = sym same.same_section ∙ fits
-line_alike n Exit a b same fits = sym same.same_section ∙ fits
-line_alike n (Bind key value) a b same fits = tt
-line_alike n (Unbind key) a b same fits = tt
-line_alike n (Look key) a b same fits = tt
-line_alike n (Trim zone) a b same fits = tt
-line_alike n (Drain zone) a b same fits = tt
-line_alike n (DrainSeat zone) a b same fits = tt
-line_alike n (Prealloc zone items) a b same fits = tt
+line_alike n op a b same fits = (slots_alike n op a b same fits.0, sym same.same_away ∙ fits.1)
 
 pub LinesFit-alike : (n : ℕ) (ops : List Op) (a b : List Line) → Alike n a b → LinesFit a (map (Does n) ops) → LinesFit b (map (Does n) ops)
 LinesFit-alike n [] a b same fit = tt

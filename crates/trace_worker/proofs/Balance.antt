@@ -6,7 +6,7 @@ use Rattle.std.proofs.lemmas.Option.{slice_get_within, get_or_from_slice_get, sa
 use Rattle.std.specs.Prelude.{slice_get, slice_set, option_map, ◌==◌}
 use Rattle.smr_clock.specs.declared.host.Host.{Ghosts}
 use Rattle.trace_text.specs.declared.op.Op.{Op}
-use Rattle.trace_text.specs.declared.op.Op.TheVariants.{Alloc, Free, Enter, Exit, Prealloc, Bind, Unbind, Look, Trim, Drain, DrainSeat}
+use Rattle.trace_text.specs.declared.op.Op.TheVariants.{Alloc, Free, Enter, Exit, Prealloc, Bind, Unbind, Look, Trim, Drain, DrainSeat, Away, Back}
 use Rattle.uma_seat.specs.Seat.{ledger_of}
 use Rattle.uma_zone.specs.declared.alloc_ask.AllocAsk.{AllocAsk}
 use Rattle.uma_zone.specs.declared.alloc_ask.AllocRefused.TheVariants.{Refused}
@@ -166,6 +166,8 @@ module _ {H Part : Type 0} {h : Ghosts H Part} where
   balance_step zones old new (Bind key value) can step = absurd can
   balance_step zones old new (Unbind key) can step = absurd can
   balance_step zones old new (Look key) can step = absurd can
+  balance_step zones old new Away can step = absurd can
+  balance_step zones old new Back can step = absurd can
   balance_step zones old new (Trim zone) can step = balance_reclaim zones old new zone (flushed_keeps zones old new zone step)
   balance_step zones old new (Drain zone) can step = balance_reclaim zones old new zone (flushed_keeps zones old new zone step)
   balance_step zones old new (DrainSeat zone) can step = balance_reclaim zones old new zone (drained_keeps zones old new zone step)

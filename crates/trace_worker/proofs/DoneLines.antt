@@ -1,18 +1,26 @@
 -- A worker that did a line, of names or not: it stands for one line more, its items and ledgers go together, and its pass forgets nothing.
-use Rattle.std.proofs.Common.{ℕ, ◌≤◌, inl, inr, List, ◌∷◌, refl}
+use Rattle.std.proofs.Common.{◌≡◌, ◌≢◌, ℕ, ◌≤◌, inl, inr, List, ◌∷◌, false, refl, sym, ap, ◌∙◌, subst}
 use Rattle.smr_clock.specs.declared.clock.Clock.{Clock}
 use Rattle.smr_clock.specs.declared.host.Host.{Ghosts}
 use Rattle.smr_clock.specs.Belongs.{IsOf}
 use Rattle.trace_text.specs.declared.op.Op.{Op}
-use Rattle.trace_text.specs.declared.op.Op.TheVariants.{Alloc, Free, Enter, Exit, Prealloc, Bind, Unbind, Look, Trim, Drain, DrainSeat}
+use Rattle.trace_text.specs.declared.op.Op.TheVariants.{Alloc, Free, Enter, Exit, Prealloc, Bind, Unbind, Look, Trim, Drain, DrainSeat, Away, Back}
 use Rattle.trace_text.specs.Lines.{Line, Does}
+use Rattle.trace_text.specs.Valid.{comes_back}
+use Rattle.trace_worker.specs.declared.attendance.Attendance.{Attendance}
+use Rattle.trace_worker.specs.declared.attendance.Attendance.TheVariants.{There}
 use Rattle.trace_worker.specs.declared.name_calls.NameCalls.{Ghosts as NameGhosts}
+use Rattle.trace_worker.specs.declared.naming.Naming.{Naming}
+use Rattle.trace_worker.specs.declared.running.Running.{Running}
+use Rattle.trace_worker.specs.declared.worker.Worker.{Worker}
+use Rattle.trace_worker.specs.Attendance.{is_out, worker_at}
 use Rattle.trace_worker.specs.Items.{CountedZone}
-use Rattle.trace_worker.specs.NameLines.{CanDo, Doing, DoesLine, LooksLine}
+use Rattle.trace_worker.specs.NameLines.{Acts, CanDo, Changes, Doing, DoesLine, GoesOrComes, LooksLine, doing, doing_there}
 use Rattle.trace_worker.specs.Performs.{CanPerform, KeepsHolds, Performs}
 use Rattle.trace_worker.specs.Stands.{Stands}
 use Rattle.trace_worker.specs.Turn.{Balances}
 use Rattle.trace_worker.specs.Worker.{seen_of}
+use Rattle.trace_worker.proofs.Attending.{keeps_holds, keeps_section}
 use Rattle.trace_worker.proofs.Balance.{balance_holds, balance_step}
 use Rattle.trace_worker.proofs.SeenSteps.{seen_step}
 use Rattle.trace_worker.proofs.StandSteps.{stand_step, stands_find, stands_late, stands_look, stands_quiet}
@@ -49,7 +57,15 @@ module _ {N H C S Part : Type 0} {h : Ghosts H Part} (names : NameGhosts N H C S
     seen = seen_step zones op old.worker new.worker can step;
   }
 
-  pub line_step : (clock : Clock H Part) (n : ℕ) (op : Op) (lines : List Line) (old new : Doing N H C S Part h) → IsOf clock old.worker.pass → CanDo names zones old.worker op → DoesLine names cache zones old op new
+  -- the pass left or came
+  went : (clock : Clock H Part) (n : ℕ) (op : Op) (lines : List Line) (old new : Doing N H C S Part h) → GoesOrComes old new → Stands zones clock n (Does n op ∷ lines) new.worker → Leaves clock n op lines old new
+  went clock n op lines old new step stands = record {
+    stands = stands;
+    balances = balance_holds old.worker new.worker (keeps_holds old.worker new.worker step.keeps);
+    seen = (keeps_section old.worker new.worker step.keeps).seen;
+  }
+
+  pub line_step : (clock : Clock H Part) (n : ℕ) (op : Op) (lines : List Line) (old new : Doing N H C S Part h) → IsOf clock old.worker.pass → CanDo names zones old.worker op → Changes names cache zones old op new
       → Stands zones clock n lines old.worker → Leaves clock n op lines old new
   line_step clock n (Bind key value) lines old new of can step stands = record {
     stands = stands_quiet zones clock n (Bind key value) lines old.worker new.worker (λ z. refl) (λ z. refl) (λ slot o. refl) refl (λ b. refl) step.holds step.section stands;
@@ -74,3 +90,36 @@ module _ {N H C S Part : Type 0} {h : Ghosts H Part} (names : NameGhosts N H C S
   line_step clock n (Trim zone) lines old new of can step stands = performed clock n (Trim zone) lines old new of can step.0 stands
   line_step clock n (Drain zone) lines old new of can step stands = performed clock n (Drain zone) lines old new of can step.0 stands
   line_step clock n (DrainSeat zone) lines old new of can step stands = performed clock n (DrainSeat zone) lines old new of can step.0 stands
+  line_step clock n Away lines old new of can step stands =
+      went clock n Away lines old new step
+      (stands_quiet zones clock n Away lines old.worker new.worker (λ z. refl) (λ z. refl) (λ slot o. refl) refl (λ b. refl)
+      (keeps_holds old.worker new.worker step.keeps) (keeps_section old.worker new.worker step.keeps) stands)
+  line_step clock n Back lines old new of can step stands =
+      went clock n Back lines old new step
+      (stands_quiet zones clock n Back lines old.worker new.worker (λ z. refl) (λ z. refl) (λ slot o. refl) refl (λ b. refl)
+      (keeps_holds old.worker new.worker step.keeps) (keeps_section old.worker new.worker step.keeps) stands)
+
+  -- ---- a worker that is there and stays
+
+  there_line : (op : Op) (old new : Worker H Part h) (naming naming' : Naming N H C S Part) → op ≢ Away → op ≢ Back → false ≡ comes_back op
+      → Acts names cache zones (doing_there old naming) op (doing_there new naming') → DoesLine names cache zones (doing_there old naming) op (doing_there new naming')
+  there_line (Alloc zone slot arg reserve) old new naming naming' here stays was acts = record { changes = acts; was = was; is = refl }
+  there_line (Free slot) old new naming naming' here stays was acts = record { changes = acts; was = was; is = refl }
+  there_line Enter old new naming naming' here stays was acts = record { changes = acts; was = was; is = refl }
+  there_line Exit old new naming naming' here stays was acts = record { changes = acts; was = was; is = refl }
+  there_line (Bind key value) old new naming naming' here stays was acts = record { changes = acts; was = was; is = refl }
+  there_line (Unbind key) old new naming naming' here stays was acts = record { changes = acts; was = was; is = refl }
+  there_line (Look key) old new naming naming' here stays was acts = record { changes = acts; was = was; is = refl }
+  there_line (Trim zone) old new naming naming' here stays was acts = record { changes = acts; was = was; is = refl }
+  there_line (Drain zone) old new naming naming' here stays was acts = record { changes = acts; was = was; is = refl }
+  there_line (DrainSeat zone) old new naming naming' here stays was acts = record { changes = acts; was = was; is = refl }
+  there_line (Prealloc zone items) old new naming naming' here stays was acts = record { changes = acts; was = was; is = refl }
+  there_line Away old new naming naming' here stays was acts = absurd (here refl)
+  there_line Back old new naming naming' here stays was acts = absurd (stays refl)
+
+  pub acts_there : (r : Running N H C S Part h) (op : Op) (old new : Worker H Part h) (naming : Naming N H C S Part) → op ≢ Away → op ≢ Back → r.attendance ≡ There old → is_out r.attendance ≡ comes_back op
+      → Acts names cache zones (doing_there old r.naming) op (doing_there new naming) → DoesLine names cache zones (doing r) op (doing_there new naming)
+  acts_there r op old new naming here stays is was acts =
+      let of : Attendance H Part h → Doing N H C S Part h = λ a. record { worker = worker_at a; naming = r.naming; out = is_out a } in
+      let P : Doing N H C S Part h → Type 0 = λ d. DoesLine names cache zones d op (doing_there new naming) in
+      subst P (sym (ap of is)) (there_line op old new r.naming naming here stays (sym (ap is_out is) ∙ was) acts)

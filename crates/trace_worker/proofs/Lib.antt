@@ -1,5 +1,6 @@
 pub mod Alike
 pub mod AtPlace
+pub mod Attending
 pub mod Balance
 pub mod Belongs
 pub mod Boxes

@@ -7,23 +7,27 @@ use Rattle.std.specs.Option.{option_map_or}
 use Rattle.smr_clock.specs.declared.clock.Clock.{Clock}
 use Rattle.smr_clock.specs.declared.host.Host.{Ghosts}
 use Rattle.trace_text.specs.declared.op.Op.{Op}
-use Rattle.trace_text.specs.declared.op.Op.TheVariants.{Alloc, Free, Enter, Exit, Prealloc, Bind, Unbind, Look, Trim, Drain, DrainSeat}
+use Rattle.trace_text.specs.declared.op.Op.TheVariants.{Alloc, Free, Enter, Exit, Prealloc, Bind, Unbind, Look, Trim, Drain, DrainSeat, Away, Back}
 use Rattle.trace_text.specs.declared.head.Head.{Head}
 use Rattle.trace_text.specs.declared.round.Round.{Round}
 use Rattle.trace_text.specs.declared.trace.Trace.{Trace}
 use Rattle.trace_text.specs.Lines.{Line, Does}
-use Rattle.trace_text.specs.Valid.{IsValid, LineFits, LinesFit, OpFits, RoundFits}
+use Rattle.trace_text.specs.Reading.{is_away, away_after}
+use Rattle.trace_text.specs.Valid.{IsValid, LinesFit, OpFits, RoundFits, SlotFits, comes_back}
+use Rattle.trace_worker.specs.declared.attendance.Attendance.{Attendance}
 use Rattle.trace_worker.specs.declared.held.Held.{Held}
 use Rattle.trace_worker.specs.declared.name_calls.NameCalls.{Ghosts as NameGhosts}
 use Rattle.trace_worker.specs.declared.naming.Naming.{Naming}
 use Rattle.trace_worker.specs.declared.running.Running.{Running}
 use Rattle.trace_worker.specs.declared.worker.Worker.{Worker}
+use Rattle.trace_worker.specs.Attendance.{is_out, worker_at, worker_in}
 use Rattle.trace_worker.specs.Items.{CountedZone}
 use Rattle.trace_worker.specs.NameLines.{CanDo, Doing, DoesAll, DoesLine, HasNameRooms, doing}
 use Rattle.trace_worker.specs.NamesStand.{NamesStand}
 use Rattle.trace_worker.specs.OwnLines.{worked, lines_before, own_ops}
 use Rattle.trace_worker.specs.Slots.{slot_at}
 use Rattle.trace_worker.specs.Stands.{Stands}
+use Rattle.trace_worker.specs.Together.{IsAbsent}
 use Rattle.trace_worker.specs.Turn.{Balances, IsReady, most_asks}
 use Rattle.trace_worker.specs.Worker.{Fits, HasRooms, seen_of}
 use Rattle.trace_worker.proofs.Alike.{own_fit}
@@ -34,17 +38,19 @@ use Rattle.trace_worker.proofs.LineCounts.{asked-few, freed-few, looks-few, sect
 use Rattle.trace_worker.proofs.NameSteps.{name_rooms, named_step}
 use Rattle.trace_worker.proofs.Numbers.{below_as, room_for, rooms_for, no_more, up_to_none, none_few, few_so_far, one_more_within, some_more, few_more, one_more, asks_left, gave_up_left}
 use Rattle.trace_worker.proofs.Plays.{plays-none, plays-more}
+use Rattle.trace_worker.proofs.SlotReading.{is_away-own}
 use Rattle.trace_worker.proofs.Worked.{worked-none, worked-more, length-worked, next_fits}
 
 module _ {N H C S Part : Type 0} {h : Ghosts H Part} (names : NameGhosts N H C S Part) (cache : C) where
   pub record Midway (zones : List (CountedZone H Part h)) (clock : Clock H Part) (n : ℕ) (before : List Line) (ops : List Op) (i : ℕ) (old now : Running N H C S Part h) : Type 0 where
     pub within : i ≤ length ops
-    pub fits : Fits zones clock now.worker
-    pub stands : Stands zones clock n (worked n (take i ops) before) now.worker
-    pub named : NamesStand names cache n (worked n (take i ops) before) now.worker.late now.naming
+    pub fits : Fits zones clock (worker_in now)
+    pub stands : Stands zones clock n (worked n (take i ops) before) (worker_in now)
+    pub named : NamesStand names cache n (worked n (take i ops) before) (worker_in now).late now.naming
+    pub absent : IsAbsent n (worked n (take i ops) before) now
     pub plays : DoesAll names cache zones (doing old) (take i ops) (doing now)
-    pub balances : (z : ℕ) → Balances z old.worker now.worker
-    pub seen : seen_of old.worker ≤ seen_of now.worker
+    pub balances : (z : ℕ) → Balances z (worker_in old) (worker_in now)
+    pub seen : seen_of (worker_in old) ≤ seen_of (worker_in now)
     pub asked_some : old.asked + i ≤ now.asked
     pub asked_few : now.asked ≤ old.asked + most_asks * i
     pub gave_up_few : now.gave_up ≤ old.gave_up + i
@@ -89,7 +95,7 @@ none_from None never = refl
 none_from (Some it) never = absurd (never it refl)
 
 module _ {N H C S Part : Type 0} {h : Ghosts H Part} (names : NameGhosts N H C S Part) where
-  can_of : (zones : List (CountedZone H Part h)) (clock : Clock H Part) (head : Head) (n : ℕ) (lines : List Line) (op : Op) (w : Worker H Part h) → names.serves ≡ is_some head.names → OpFits head op → LineFits lines (Does n op)
+  can_of : (zones : List (CountedZone H Part h)) (clock : Clock H Part) (head : Head) (n : ℕ) (lines : List Line) (op : Op) (w : Worker H Part h) → names.serves ≡ is_some head.names → OpFits head op → SlotFits lines n op
       → length zones ≡ length head.zones → Stands zones clock n lines w → CanDo names zones w op
   can_of zones clock head n lines (Alloc zone slot arg reserve) w serves fits line count stands = (
     below_as fits.0 count,
@@ -107,6 +113,8 @@ module _ {N H C S Part : Type 0} {h : Ghosts H Part} (names : NameGhosts N H C S
   can_of zones clock head n lines (Trim zone) w serves fits line count stands = below_as fits count
   can_of zones clock head n lines (Drain zone) w serves fits line count stands = below_as fits count
   can_of zones clock head n lines (DrainSeat zone) w serves fits line count stands = below_as fits count
+  can_of zones clock head n lines Away w serves fits line count stands = stands.outside line
+  can_of zones clock head n lines Back w serves fits line count stands = tt
 
 module _ {H Part : Type 0} {h : Ghosts H Part} where
   -- each ledger can count one more, and so can the counts of sections
@@ -126,23 +134,26 @@ module _ {N H C S Part : Type 0} {h : Ghosts H Part} (names : NameGhosts N H C S
   pub Midway-new : (t : Trace) (zones : List (CountedZone H Part h)) (clock : Clock H Part) (k n : ℕ) (ops : List Op) (r : Running N H C S Part h) → IsReady names cache t zones clock k n r
       → Midway names cache zones clock n (lines_before t.rounds k) ops 0 r r
   Midway-new t zones clock k n ops r ready =
-      let P : List Line → Type 0 = λ lines. Stands zones clock n lines r.worker in
+      let P : List Line → Type 0 = λ lines. Stands zones clock n lines (worker_in r) in
       record {
         within = zero-le;
         fits = ready.fits;
         stands = subst P (sym (worked-none n ops (lines_before t.rounds k))) ready.stands;
-        named = let Q : List Line → Type 0 = λ lines. NamesStand names cache n lines r.worker.late r.naming in subst Q (sym (worked-none n ops (lines_before t.rounds k))) ready.named;
+        named = let Q : List Line → Type 0 = λ lines. NamesStand names cache n lines (worker_in r).late r.naming in subst Q (sym (worked-none n ops (lines_before t.rounds k))) ready.named;
+        absent = let A : List Line → Type 0 = λ lines. IsAbsent n lines r in subst A (sym (worked-none n ops (lines_before t.rounds k))) ready.absent;
         plays = plays-none names cache zones ops (doing r);
-        balances = Balances-self r.worker r.worker refl;
-        seen = le_refl (seen_of r.worker);
+        balances = Balances-self (worker_in r) (worker_in r) refl;
+        seen = le_refl (seen_of (worker_in r));
         asked_some = no_more r.asked;
         asked_few = none_few most_asks r.asked;
         gave_up_few = up_to_none r.gave_up;
       }
 
-  pub Midway-can : (t : Trace) (zones : List (CountedZone H Part h)) (clock : Clock H Part) (k n i : ℕ) (ops : List Op) (d : Op) (old now : Running N H C S Part h) → IsReady names cache t zones clock k n old
-      → ops ≡ own_ops t.rounds k n → i < length ops → Midway names cache zones clock n (lines_before t.rounds k) ops i old now → CanDo names zones now.worker (get_or ops i d)
-  Midway-can t zones clock k n i ops d old now ready is below midway =
+  -- the next line fits the lines so far
+  fits_so_far : (t : Trace) (zones : List (CountedZone H Part h)) (clock : Clock H Part) (k n i : ℕ) (ops : List Op) (d : Op) (old : Running N H C S Part h) → IsReady names cache t zones clock k n old
+      → ops ≡ own_ops t.rounds k n → i < length ops
+      → OpFits t.head (get_or ops i d) × SlotFits (worked n (take i ops) (lines_before t.rounds k)) n (get_or ops i d) × (is_away (worked n (take i ops) (lines_before t.rounds k)) n ≡ comes_back (get_or ops i d))
+  fits_so_far t zones clock k n i ops d old ready is below =
       let own = own_of t k n ready.valid ready.round ready.worker in
       let same : ops ≡ own.ops = is ∙ own.same in
       let before = lines_before t.rounds k in
@@ -151,8 +162,20 @@ module _ {N H C S Part : Type 0} {h : Ghosts H Part} (names : NameGhosts N H C S
       let R : List Op → Type 0 = λ list. LinesFit before (map (Does n) list) in
       let op_fits : All (OpFits t.head) ops = subst P (sym same) (list_of (OpFits t.head) own.r.ops n own.ops fits.ops own.is_list) in
       let lines_fit : LinesFit before (map (Does n) ops) = subst R (sym same) (own_fit t.rounds k n own.r own.ops own.is_round own.is_list ready.valid.lines) in
-      can_of names zones clock t.head n (worked n (take i ops) before) (get_or ops i d) now.worker
-      ready.served (op_fits i d below) (next_fits n i ops d before below lines_fit) ready.zone_count midway.stands
+      let line = next_fits n i ops d before below lines_fit in
+      (op_fits i d below, line.0, line.1)
+
+  pub Midway-can : (t : Trace) (zones : List (CountedZone H Part h)) (clock : Clock H Part) (k n i : ℕ) (ops : List Op) (d : Op) (old now : Running N H C S Part h) → IsReady names cache t zones clock k n old
+      → ops ≡ own_ops t.rounds k n → i < length ops → Midway names cache zones clock n (lines_before t.rounds k) ops i old now → CanDo names zones (worker_in now) (get_or ops i d)
+  Midway-can t zones clock k n i ops d old now ready is below midway =
+      let fit = fits_so_far t zones clock k n i ops d old ready is below in
+      can_of names zones clock t.head n (worked n (take i ops) (lines_before t.rounds k)) (get_or ops i d) (worker_in now) ready.served fit.0 fit.1 ready.zone_count midway.stands
+
+  -- only a worker that is away comes back
+  pub Midway-there : (t : Trace) (zones : List (CountedZone H Part h)) (clock : Clock H Part) (k n i : ℕ) (ops : List Op) (d : Op) (old now waited : Running N H C S Part h) → IsReady names cache t zones clock k n old
+      → ops ≡ own_ops t.rounds k n → i < length ops → Midway names cache zones clock n (lines_before t.rounds k) ops i old now → waited.attendance ≡ now.attendance → is_out waited.attendance ≡ comes_back (get_or ops i d)
+  Midway-there t zones clock k n i ops d old now waited ready is below midway same =
+      ap is_out same ∙ (midway.absent ∙ (fits_so_far t zones clock k n i ops d old ready is below).2)
 
   -- the lines so far are few
   few_lines : (t : Trace) (zones : List (CountedZone H Part h)) (clock : Clock H Part) (k n i : ℕ) (ops : List Op) (old : Running N H C S Part h) → IsReady names cache t zones clock k n old
@@ -164,65 +187,67 @@ module _ {N H C S Part : Type 0} {h : Ghosts H Part} (names : NameGhosts N H C S
       few_so_far (length (lines_before t.rounds k)) below all taken size ready.few
 
   pub Midway-rooms : (t : Trace) (zones : List (CountedZone H Part h)) (clock : Clock H Part) (k n i : ℕ) (ops : List Op) (old now : Running N H C S Part h) → IsReady names cache t zones clock k n old
-      → ops ≡ own_ops t.rounds k n → i < length ops → Midway names cache zones clock n (lines_before t.rounds k) ops i old now → HasRooms now.worker × HasNameRooms names now.naming
+      → ops ≡ own_ops t.rounds k n → i < length ops → Midway names cache zones clock n (lines_before t.rounds k) ops i old now → HasRooms (worker_in now) × HasNameRooms names now.naming
   Midway-rooms t zones clock k n i ops old now ready is below midway =
       let lines = worked n (take i ops) (lines_before t.rounds k) in
       let few = few_lines t zones clock k n i ops old ready is below in
-      (rooms_of zones clock n lines now.worker few midway.fits midway.stands, name_rooms names cache n lines now.worker.late now.naming few midway.named)
+      (rooms_of zones clock n lines (worker_in now) few midway.fits midway.stands, name_rooms names cache n lines (worker_in now).late now.naming few midway.named)
 
   -- what a worker has for its next line, once the gate was asked, which leaves it as it is
   pub record Waits (zones : List (CountedZone H Part h)) (clock : Clock H Part) (waited : Running N H C S Part h) : Type 0 where
-    pub fits : Fits zones clock waited.worker
+    pub fits : Fits zones clock (worker_in waited)
     pub seat : names.IsSeat cache waited.naming.seat
-    pub rooms : HasRooms waited.worker
+    pub rooms : HasRooms (worker_in waited)
     pub name_rooms : HasNameRooms names waited.naming
 
   pub Midway-waits : (t : Trace) (zones : List (CountedZone H Part h)) (clock : Clock H Part) (k n i : ℕ) (ops : List Op) (old now waited : Running N H C S Part h) → IsReady names cache t zones clock k n old
-      → ops ≡ own_ops t.rounds k n → i < length ops → Midway names cache zones clock n (lines_before t.rounds k) ops i old now → waited.worker ≡ now.worker → waited.naming ≡ now.naming → Waits zones clock waited
+      → ops ≡ own_ops t.rounds k n → i < length ops → Midway names cache zones clock n (lines_before t.rounds k) ops i old now → waited.attendance ≡ now.attendance → waited.naming ≡ now.naming → Waits zones clock waited
   Midway-waits t zones clock k n i ops old now waited ready is below midway same same_naming =
       let rooms = Midway-rooms t zones clock k n i ops old now ready is below midway in
       let F : Worker H Part h → Type 0 = λ w. Fits zones clock w in
       let I : Naming N H C S Part → Type 0 = λ x. names.IsSeat cache x.seat in
       record {
-        fits = subst F (sym same) midway.fits;
+        fits = subst F (sym (ap worker_at same)) midway.fits;
         seat = subst I (sym same_naming) midway.named.seat;
-        rooms = subst HasRooms (sym same) rooms.0;
+        rooms = subst HasRooms (sym (ap worker_at same)) rooms.0;
         name_rooms = subst (HasNameRooms names) (sym same_naming) rooms.1;
       }
 
   pub Midway-can-waiting : (t : Trace) (zones : List (CountedZone H Part h)) (clock : Clock H Part) (k n i : ℕ) (ops : List Op) (d : Op) (old now waited : Running N H C S Part h) → IsReady names cache t zones clock k n old
-      → ops ≡ own_ops t.rounds k n → i < length ops → Midway names cache zones clock n (lines_before t.rounds k) ops i old now → waited.worker ≡ now.worker → CanDo names zones waited.worker (get_or ops i d)
+      → ops ≡ own_ops t.rounds k n → i < length ops → Midway names cache zones clock n (lines_before t.rounds k) ops i old now → waited.attendance ≡ now.attendance → CanDo names zones (worker_in waited) (get_or ops i d)
   Midway-can-waiting t zones clock k n i ops d old now waited ready is below midway same =
       let P : Worker H Part h → Type 0 = λ w. CanDo names zones w (get_or ops i d) in
-      subst P (sym same) (Midway-can t zones clock k n i ops d old now ready is below midway)
+      subst P (sym (ap worker_at same)) (Midway-can t zones clock k n i ops d old now ready is below midway)
 
-  same_doing : (a b : Running N H C S Part h) → a.worker ≡ b.worker → a.naming ≡ b.naming → doing a ≡ doing b
-  same_doing a b worker naming =
-      let with_worker : Worker H Part h → Doing N H C S Part h = λ w. record { worker = w; naming = a.naming } in
-      let with_naming : Naming N H C S Part → Doing N H C S Part h = λ x. record { worker = b.worker; naming = x } in
-      ap with_worker worker ∙ ap with_naming naming
+  same_doing : (a b : Running N H C S Part h) → a.attendance ≡ b.attendance → a.naming ≡ b.naming → doing a ≡ doing b
+  same_doing a b attendance naming =
+      let with_attendance : Attendance H Part h → Doing N H C S Part h = λ x. record { worker = worker_at x; naming = a.naming; out = is_out x } in
+      let with_naming : Naming N H C S Part → Doing N H C S Part h = λ x. record { worker = worker_in b; naming = x; out = is_out b.attendance } in
+      ap with_attendance attendance ∙ ap with_naming naming
 
   -- The gate was asked, and the next operation is done.
   pub Midway-more : (zones : List (CountedZone H Part h)) (clock : Clock H Part) (n i : ℕ) (before : List Line) (ops : List Op) (d : Op) (old now waited next : Running N H C S Part h) → i < length ops
-      → Midway names cache zones clock n before ops i old now → waited.worker ≡ now.worker → waited.naming ≡ now.naming → CanDo names zones now.worker (get_or ops i d)
-      → DoesLine names cache zones (doing waited) (get_or ops i d) (doing next) → Fits zones clock next.worker → names.IsSeat cache next.naming.seat
+      → Midway names cache zones clock n before ops i old now → waited.attendance ≡ now.attendance → waited.naming ≡ now.naming → CanDo names zones (worker_in now) (get_or ops i d)
+      → DoesLine names cache zones (doing waited) (get_or ops i d) (doing next) → Fits zones clock (worker_in next) → names.IsSeat cache next.naming.seat
       → now.asked + 1 ≤ next.asked → next.asked ≤ now.asked + most_asks → next.gave_up ≤ now.gave_up + 1
       → Midway names cache zones clock n before ops (i + 1) old next
   Midway-more zones clock n i before ops d old now waited next below midway same same_naming can does fits seat some few gave_up =
       let op : Op = get_or ops i d in
       let lines : List Line = worked n (take i ops) before in
-      let P : List Line → Type 0 = λ lines. Stands zones clock n lines next.worker in
+      let P : List Line → Type 0 = λ lines. Stands zones clock n lines (worker_in next) in
       let Q : Doing N H C S Part h → Type 0 = λ d. DoesLine names cache zones d op (doing next) in
-      let L : List Line → Type 0 = λ lines. NamesStand names cache n lines next.worker.late next.naming in
+      let L : List Line → Type 0 = λ lines. NamesStand names cache n lines (worker_in next).late next.naming in
+      let A : List Line → Type 0 = λ lines. IsAbsent n lines next in
       let step : DoesLine names cache zones (doing now) op (doing next) = subst Q (same_doing waited now same same_naming) does in
-      let leaves = line_step names cache zones clock n op lines (doing now) (doing next) midway.fits.pass can step midway.stands in
+      let leaves = line_step names cache zones clock n op lines (doing now) (doing next) midway.fits.pass can step.changes midway.stands in
       record {
         within = one_more_within below;
         fits = fits;
         stands = subst P (sym (worked-more n i ops d before below)) leaves.stands;
-        named = subst L (sym (worked-more n i ops d before below)) (named_step names cache zones n op lines (doing now) (doing next) step seat midway.named);
+        named = subst L (sym (worked-more n i ops d before below)) (named_step names cache zones n op lines (doing now) (doing next) step.changes seat midway.named);
+        absent = subst A (sym (worked-more n i ops d before below)) (step.is ∙ (ap (away_after op) midway.absent ∙ sym (is_away-own lines n op)));
         plays = plays-more names cache zones i ops d (doing old) (doing now) (doing next) below midway.plays step;
-        balances = λ z. Balances-chain z old.worker now.worker next.worker (midway.fits.seats.count ∙ sym fits.seats.count) (midway.balances z) (leaves.balances z);
+        balances = λ z. Balances-chain z (worker_in old) (worker_in now) (worker_in next) (midway.fits.seats.count ∙ sym fits.seats.count) (midway.balances z) (leaves.balances z);
         seen = le_trans midway.seen leaves.seen;
         asked_some = some_more old.asked i midway.asked_some some;
         asked_few = few_more old.asked i midway.asked_few few;
@@ -230,8 +255,8 @@ module _ {N H C S Part : Type 0} {h : Ghosts H Part} (names : NameGhosts N H C S
       }
 
   pub Midway-step : (t : Trace) (zones : List (CountedZone H Part h)) (clock : Clock H Part) (k n i : ℕ) (ops : List Op) (d : Op) (old now waited next : Running N H C S Part h) → IsReady names cache t zones clock k n old
-      → ops ≡ own_ops t.rounds k n → i < length ops → Midway names cache zones clock n (lines_before t.rounds k) ops i old now → waited.worker ≡ now.worker → waited.naming ≡ now.naming
-      → DoesLine names cache zones (doing waited) (get_or ops i d) (doing next) → Fits zones clock next.worker → names.IsSeat cache next.naming.seat
+      → ops ≡ own_ops t.rounds k n → i < length ops → Midway names cache zones clock n (lines_before t.rounds k) ops i old now → waited.attendance ≡ now.attendance → waited.naming ≡ now.naming
+      → DoesLine names cache zones (doing waited) (get_or ops i d) (doing next) → Fits zones clock (worker_in next) → names.IsSeat cache next.naming.seat
       → now.asked + 1 ≤ next.asked → next.asked ≤ now.asked + most_asks → next.gave_up ≤ now.gave_up + 1 → Midway names cache zones clock n (lines_before t.rounds k) ops (i + 1) old next
   Midway-step t zones clock k n i ops d old now waited next ready is below midway same same_naming does fits seat some few gave_up =
       Midway-more zones clock n i (lines_before t.rounds k) ops d old now waited next below midway same same_naming (Midway-can t zones clock k n i ops d old now ready is below midway) does fits seat some few gave_up

@@ -3,33 +3,41 @@ use Rattle.std.proofs.Common.{◌≡◌, ℕ, ◌<◌, ◌≤◌, List, Option, 
 use Rattle.std.proofs.lemmas.List.{get_or_default}
 use Rattle.std.specs.Prelude.{Result, Ok, Err, OnOk, slice_set}
 use Rattle.smr_clock.specs.declared.host.Host.{Ghosts}
+use Rattle.trace_worker.specs.declared.attendance.Attendance.{Attendance}
 use Rattle.trace_worker.specs.declared.held.Held.{Held}
 use Rattle.trace_worker.specs.declared.running.Running.{Running}
-use Rattle.trace_worker.specs.Giving.{Gives, KeepsRest, MovesOn, PutsInto, SetsSlots, TakesFrom, with_slots}
+use Rattle.trace_worker.specs.Attendance.{with_slots_at, worker_in}
+use Rattle.trace_worker.specs.Giving.{Gives, KeepsRest, MovesOn, PutsInto, SetsSlots, TakesFrom}
 use Rattle.trace_worker.specs.Slots.{slot_at, filled, emptied}
 use Rattle.trace_worker.proofs.GiveSteps.{moves_on}
 use Rattle.trace_worker.proofs.GiveSums.{rest_gives}
 
 module _ {N H C S Part : Type 0} {h : Ghosts H Part} where
-  sets_at : (workers : List (Running N H C S Part h)) (n : ℕ) (seen : Running N H C S Part h) (after : List (Option Held) → List (Option Held)) (slots : List (Option Held)) → n < length workers → slots ≡ after (get_or workers n seen).worker.slots
-      → SetsSlots n after workers (slice_set workers n (with_slots (get_or workers n seen) slots))
-  sets_at workers n seen after slots below is = record {
+  -- the worker, there or away so
+  abbrev attending : Running N H C S Part h → Attendance H Part h → Running N H C S Part h
+  attending r attendance = record r { attendance = attendance }
+
+  sets_at : (workers : List (Running N H C S Part h)) (n : ℕ) (seen : Running N H C S Part h) (after : List (Option Held) → List (Option Held)) (attendance : Attendance H Part h) → n < length workers
+      → attendance ≡ with_slots_at (get_or workers n seen).attendance (after (worker_in (get_or workers n seen)).slots)
+      → SetsSlots n after workers (slice_set workers n (attending (get_or workers n seen) attendance))
+  sets_at workers n seen after attendance below is = record {
     before = get_or workers n seen;
     at = λ d. get_or_default workers n d seen below;
-    set = ap (λ (s : List (Option Held)). slice_set workers n (with_slots (get_or workers n seen) s)) is;
+    set = ap (λ (a : Attendance H Part h). slice_set workers n (attending (get_or workers n seen) a)) is;
   }
 
-  pub takes_at : (workers : List (Running N H C S Part h)) (n slot : ℕ) (seen : Running N H C S Part h) (got : Option Held) (slots : List (Option Held)) → n < length workers → got ≡ slot_at (get_or workers n seen).worker.slots slot
-      → slots ≡ emptied (get_or workers n seen).worker.slots slot → TakesFrom n slot workers got (slice_set workers n (with_slots (get_or workers n seen) slots))
-  takes_at workers n slot seen got slots below took is = record {
-    took = λ d. took ∙ ap (λ (r : Running N H C S Part h). slot_at r.worker.slots slot) (get_or_default workers n seen d below);
-    sets = sets_at workers n seen (λ slots. emptied slots slot) slots below is;
+  pub takes_at : (workers : List (Running N H C S Part h)) (n slot : ℕ) (seen : Running N H C S Part h) (got : Option Held) (attendance : Attendance H Part h) → n < length workers → got ≡ slot_at (worker_in (get_or workers n seen)).slots slot
+      → attendance ≡ with_slots_at (get_or workers n seen).attendance (emptied (worker_in (get_or workers n seen)).slots slot) → TakesFrom n slot workers got (slice_set workers n (attending (get_or workers n seen) attendance))
+  takes_at workers n slot seen got attendance below took is = record {
+    took = λ d. took ∙ ap (λ (r : Running N H C S Part h). slot_at (worker_in r).slots slot) (get_or_default workers n seen d below);
+    sets = sets_at workers n seen (λ slots. emptied slots slot) attendance below is;
   }
 
-  pub puts_at : {T E : Type 0} (r : Result T E) (workers : List (Running N H C S Part h)) (n slot : ℕ) (seen : Running N H C S Part h) (got : Option Held) (slots : List (Option Held)) → n < length workers
-      → OnOk r (slots ≡ filled (get_or workers n seen).worker.slots slot got) → OnOk r (PutsInto n slot got workers (slice_set workers n (with_slots (get_or workers n seen) slots)))
-  puts_at (Ok x) workers n slot seen got slots below is = record { sets = sets_at workers n seen (λ slots. filled slots slot got) slots below is }
-  puts_at (Err e) workers n slot seen got slots below is = tt
+  pub puts_at : {T E : Type 0} (r : Result T E) (workers : List (Running N H C S Part h)) (n slot : ℕ) (seen : Running N H C S Part h) (got : Option Held) (attendance : Attendance H Part h) → n < length workers
+      → OnOk r (attendance ≡ with_slots_at (get_or workers n seen).attendance (filled (worker_in (get_or workers n seen)).slots slot got))
+      → OnOk r (PutsInto n slot got workers (slice_set workers n (attending (get_or workers n seen) attendance)))
+  puts_at (Ok x) workers n slot seen got attendance below is = record { sets = sets_at workers n seen (λ slots. filled slots slot got) attendance below is }
+  puts_at (Err e) workers n slot seen got attendance below is = tt
 
   pub gives_of : {T E : Type 0} (r : Result T E) (giver slot taker slot2 : ℕ) (old between new : List (Running N H C S Part h)) (got : Option Held) → TakesFrom giver slot old got between
       → OnOk r (PutsInto taker slot2 got between new) → OnOk r (Gives giver slot taker slot2 old new)

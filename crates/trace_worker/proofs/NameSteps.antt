@@ -4,7 +4,7 @@ use Rattle.std.proofs.lemmas.Option.{same_Some}
 use Rattle.std.specs.Prelude.{IfSome}
 use Rattle.smr_clock.specs.declared.host.Host.{Ghosts}
 use Rattle.trace_text.specs.declared.op.Op.{Op}
-use Rattle.trace_text.specs.declared.op.Op.TheVariants.{Alloc, Free, Enter, Exit, Prealloc, Bind, Unbind, Look, Trim, Drain, DrainSeat}
+use Rattle.trace_text.specs.declared.op.Op.TheVariants.{Alloc, Free, Enter, Exit, Prealloc, Bind, Unbind, Look, Trim, Drain, DrainSeat, Away, Back}
 use Rattle.trace_text.specs.Lines.{Line, Does}
 use Rattle.zone_stats.specs.declared.ledger.SeatLedger.{SeatLedger}
 use Rattle.zone_stats.specs.declared.refusal.Refusal.{Refusal}
@@ -17,7 +17,7 @@ use Rattle.trace_worker.specs.Counting.{is_bind, is_look, is_unbind, binds, look
 use Rattle.trace_worker.specs.Items.{CountedZone}
 use Rattle.trace_worker.specs.NameCalls.{OnBoth}
 use Rattle.trace_worker.specs.NameLedger.{BindCounts, MayCountFree, NamesRefuse, UnbindCounts}
-use Rattle.trace_worker.specs.NameLines.{BindsLine, Doing, DoesLine, HasNameRooms, LooksLine, UnbindsLine}
+use Rattle.trace_worker.specs.NameLines.{BindsLine, Changes, Doing, HasNameRooms, LooksLine, UnbindsLine}
 use Rattle.trace_worker.specs.NamesStand.{NameCountsStand, NameLedgerStands, NamesStand}
 use Rattle.trace_worker.specs.Naming.{CountsAnswer, CountsBind, CountsLate, CountsUnbind}
 use Rattle.trace_worker.specs.Performs.{Performs}
@@ -132,6 +132,8 @@ module _ {H Part : Type 0} {h : Ghosts H Part} where
   late_step zones (Bind key value) old new step = absurd step
   late_step zones (Unbind key) old new step = absurd step
   late_step zones (Look key) old new step = absurd step
+  late_step zones Away old new step = absurd step
+  late_step zones Back old new step = absurd step
   late_step zones (Trim zone) old new step = same_of step.section.late
   late_step zones (Drain zone) old new step = same_of step.section.late
   late_step zones (DrainSeat zone) old new step = same_of step.section.late
@@ -418,7 +420,7 @@ module _ {N H C S Part : Type 0} {h : Ghosts H Part} (names : NameGhosts N H C S
   }
 
   -- a line of any kind
-  pub named_step : (zones : List (CountedZone H Part h)) (n : ℕ) (op : Op) (lines : List Line) (old new : Doing N H C S Part h) → DoesLine names cache zones old op new → names.IsSeat cache new.naming.seat
+  pub named_step : (zones : List (CountedZone H Part h)) (n : ℕ) (op : Op) (lines : List Line) (old new : Doing N H C S Part h) → Changes names cache zones old op new → names.IsSeat cache new.naming.seat
       → NamesStand names cache n lines old.worker.late old.naming → NamesStand names cache n (Does n op ∷ lines) new.worker.late new.naming
   named_step zones n (Bind key value) lines old new step seat stands = named_bind n key value lines old new step seat stands
   named_step zones n (Unbind key) lines old new step seat stands = named_unbind n key lines old new step seat stands
@@ -439,3 +441,7 @@ module _ {N H C S Part : Type 0} {h : Ghosts H Part} (names : NameGhosts N H C S
       named_quiet names cache n (Drain zone) lines old.worker.late new.worker.late old.naming new.naming refl refl refl (late_step zones (Drain zone) old.worker new.worker step.0) step.1 stands
   named_step zones n (DrainSeat zone) lines old new step seat stands =
       named_quiet names cache n (DrainSeat zone) lines old.worker.late new.worker.late old.naming new.naming refl refl refl (late_step zones (DrainSeat zone) old.worker new.worker step.0) step.1 stands
+  named_step zones n Away lines old new step seat stands =
+      named_quiet names cache n Away lines old.worker.late new.worker.late old.naming new.naming refl refl refl (same_of step.keeps.late) step.naming stands
+  named_step zones n Back lines old new step seat stands =
+      named_quiet names cache n Back lines old.worker.late new.worker.late old.naming new.naming refl refl refl (same_of step.keeps.late) step.naming stands

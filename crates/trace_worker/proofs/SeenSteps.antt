@@ -2,7 +2,7 @@
 use Rattle.std.proofs.Common.{◌≡◌, ◌≤◌, List, inl, inr, sym, ap, le_of_eq}
 use Rattle.smr_clock.specs.declared.host.Host.{Ghosts}
 use Rattle.trace_text.specs.declared.op.Op.{Op}
-use Rattle.trace_text.specs.declared.op.Op.TheVariants.{Alloc, Free, Enter, Exit, Prealloc, Bind, Unbind, Look, Trim, Drain, DrainSeat}
+use Rattle.trace_text.specs.declared.op.Op.TheVariants.{Alloc, Free, Enter, Exit, Prealloc, Bind, Unbind, Look, Trim, Drain, DrainSeat, Away, Back}
 use Rattle.trace_worker.specs.declared.worker.Worker.{Worker}
 use Rattle.trace_worker.specs.Items.{CountedZone}
 use Rattle.trace_worker.specs.Performs.{CanPerform, Performs}
@@ -25,6 +25,8 @@ module _ {H Part : Type 0} {h : Ghosts H Part} where
   seen_step zones (Bind key value) old new can step = absurd can
   seen_step zones (Unbind key) old new can step = absurd can
   seen_step zones (Look key) old new can step = absurd can
+  seen_step zones Away old new can step = absurd can
+  seen_step zones Back old new can step = absurd can
   seen_step zones (Trim zone) old new can step = step.section.seen
   seen_step zones (Drain zone) old new can step = step.section.seen
   seen_step zones (DrainSeat zone) old new can step = step.section.seen

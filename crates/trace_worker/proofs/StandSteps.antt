@@ -10,7 +10,7 @@ use Rattle.smr_clock.specs.declared.host.Host.{Ghosts}
 use Rattle.smr_core.specs.declared.phase.Phase.{Phase}
 use Rattle.smr_core.specs.declared.phase.Phase.TheVariants.{Outside, Inside}
 use Rattle.trace_text.specs.declared.op.Op.{Op}
-use Rattle.trace_text.specs.declared.op.Op.TheVariants.{Alloc, Free, Enter, Exit, Prealloc, Bind, Unbind, Look, Trim, Drain, DrainSeat}
+use Rattle.trace_text.specs.declared.op.Op.TheVariants.{Alloc, Free, Enter, Exit, Prealloc, Bind, Unbind, Look, Trim, Drain, DrainSeat, Away, Back}
 use Rattle.trace_text.specs.Lines.{Line, Does}
 use Rattle.trace_text.specs.Reading.{held, held_after, in_section, open_after}
 use Rattle.uma_seat.specs.Seat.{ledger_of}
@@ -412,6 +412,8 @@ module _ {H Part : Type 0} {h : Ghosts H Part} where
   stand_step zones clock n (Bind key value) lines old new of can step stands = absurd can
   stand_step zones clock n (Unbind key) lines old new of can step stands = absurd can
   stand_step zones clock n (Look key) lines old new of can step stands = absurd can
+  stand_step zones clock n Away lines old new of can step stands = absurd can
+  stand_step zones clock n Back lines old new of can step stands = absurd can
   stand_step zones clock n (Trim zone) lines old new of can step stands = stands_trim zones clock n zone lines old new (flushed_keeps zones old new zone step) stands
   stand_step zones clock n (Drain zone) lines old new of can step stands = stands_drain zones clock n zone lines old new (flushed_keeps zones old new zone step) stands
   stand_step zones clock n (DrainSeat zone) lines old new of can step stands = stands_drain_seat zones clock n zone lines old new (drained_keeps zones old new zone step) stands

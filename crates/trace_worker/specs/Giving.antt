@@ -8,24 +8,25 @@ use Rattle.trace_text.specs.Reading.{held}
 use Rattle.trace_worker.specs.declared.held.Held.{Held}
 use Rattle.trace_worker.specs.declared.running.Running.{Running}
 use Rattle.trace_worker.specs.declared.worker.Worker.{Worker}
+use Rattle.trace_worker.specs.Attendance.{with_slots_at, worker_in}
 use Rattle.trace_worker.specs.Items.{CountedZone}
 use Rattle.trace_worker.specs.Slots.{slot_at, filled, emptied}
 use Rattle.trace_worker.specs.Together.{AddsUp, AllStand, crew}
 
 module _ {N H C S P : Type 0} {h : Ghosts H P} where
-  -- the worker with other slots
+  -- the worker with other slots, there or away as it was
   abbrev pub with_slots : Running N H C S P h → List (Option Held) → Running N H C S P h
-  with_slots r slots = record r { worker = record r.worker { slots = slots } }
+  with_slots r slots = record r { attendance = with_slots_at r.attendance slots }
 
   -- One worker's slots become these, and nothing else changes.
   pub record SetsSlots (n : ℕ) (after : List (Option Held) → List (Option Held)) (old new : List (Running N H C S P h)) : Type 0 where
     pub before : Running N H C S P h
     pub at : (d : Running N H C S P h) → slice_index_or old n d ≡ before
-    pub set : new ≡ slice_set old n (with_slots before (after before.worker.slots))
+    pub set : new ≡ slice_set old n (with_slots before (after (worker_in before).slots))
 
   -- what a worker's slot holds
   abbrev pub slot_of : List (Running N H C S P h) → ℕ → ℕ → Running N H C S P h → Option Held
-  slot_of workers n slot d = slot_at (slice_index_or workers n d).worker.slots slot
+  slot_of workers n slot d = slot_at (worker_in (slice_index_or workers n d)).slots slot
 
   -- it is taken out of the slot
   pub record TakesFrom (n slot : ℕ) (old : List (Running N H C S P h)) (held : Option Held) (new : List (Running N H C S P h)) : Type 0 where

@@ -1,3 +1,4 @@
+pub mod Attendance
 pub mod Boxed
 pub mod Clocks
 pub mod Counting

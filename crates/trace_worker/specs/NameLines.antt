@@ -1,32 +1,45 @@
 -- What each kind of line does to its worker and to what the worker has of the names (own).
-use Rattle.std.specs.Prelude.{◌≡◌, ◌⊎◌, ◌≤◌, ◌+◌, ℕ, Bool, List, [], ◌∷◌, Option, IsTrue, IfSome}
+use Rattle.std.specs.Prelude.{◌≡◌, ◌⊎◌, ◌≤◌, ◌+◌, ℕ, Bool, false, List, [], ◌∷◌, Option, IsTrue, IfSome}
 use Rattle.smr_clock.specs.declared.host.Host.{Ghosts}
 use Rattle.smr_clock.specs.declared.refused.Overtaken.{Overtaken}
 use Rattle.smr_clock.specs.Belongs.{view}
 use Rattle.smr_clock.specs.Sections.{Misses}
 use Rattle.smr_core.specs.declared.phase.Phase.TheVariants.{Outside, Inside}
 use Rattle.trace_text.specs.declared.op.Op.{Op}
-use Rattle.trace_text.specs.declared.op.Op.TheVariants.{Bind, Unbind, Look}
+use Rattle.trace_text.specs.declared.op.Op.TheVariants.{Bind, Unbind, Look, Away, Back}
+use Rattle.trace_text.specs.Reading.{away_after}
+use Rattle.trace_text.specs.Valid.{comes_back}
 use Rattle.trace_worker.specs.declared.name_calls.NameCalls.{Ghosts as NameGhosts}
 use Rattle.trace_worker.specs.declared.naming.Naming.{Naming}
 use Rattle.trace_worker.specs.declared.running.Running.{Running}
 use Rattle.trace_worker.specs.declared.worker.Worker.{Worker}
+use Rattle.trace_worker.specs.Attendance.{is_out, worker_in}
 use Rattle.trace_worker.specs.Items.{CountedZone}
 use Rattle.trace_worker.specs.Knowing.{StillKnows, Finds}
 use Rattle.trace_worker.specs.NameCalls.{Bound, Unbound, CountedBind, CountedUnbind}
 use Rattle.trace_worker.specs.NameLedger.{HasRoomToBind}
 use Rattle.trace_worker.specs.Naming.{CountsFew, CountsBind, CountsUnbind, CountsAnswer, CountsLate}
-use Rattle.trace_worker.specs.Performs.{CanPerform, IsBetween, KeepsHolds, KeepsSection, Performs}
+use Rattle.trace_worker.specs.Performs.{CanPerform, IsBetween, KeepsAll, KeepsHolds, KeepsSection, Performs}
 use Rattle.trace_worker.specs.Worker.{phase_of, seen_of}
 
--- what a worker's lines change: itself, and what it has of the names
+-- what a worker's lines change: itself, what it has of the names, and whether it is away; then the worker is that as which it comes back
 pub record Doing (N H C S P : Type 0) (h : Ghosts H P) : Type 0 where
   pub worker : Worker H P h
   pub naming : Naming N H C S P
+  pub out : Bool
 
 module _ {N H C S P : Type 0} {h : Ghosts H P} where
   abbrev pub doing : Running N H C S P h → Doing N H C S P h
-  doing r = record { worker = r.worker; naming = r.naming }
+  doing r = record { worker = worker_in r; naming = r.naming; out = is_out r.attendance }
+
+  -- the same of a worker that is there
+  abbrev pub doing_there : Worker H P h → Naming N H C S P → Doing N H C S P h
+  doing_there w naming = record { worker = w; naming = naming; out = false }
+
+  -- An `away` or a `back` line: the pass leaves, or comes, and nothing is counted.
+  pub record GoesOrComes (old new : Doing N H C S P h) : Type 0 where
+    pub keeps : KeepsAll old.worker new.worker
+    pub naming : new.naming ≡ old.naming
 
   -- what it counted of its gate, and how its last turn ended, stay
   pub record KeepsGate (old new : Running N H C S P h) : Type 0 where
@@ -109,12 +122,23 @@ module _ {N H C S P : Type 0} {h : Ghosts H P} (names : NameGhosts N H C S P) (c
   abbrev pub LooksLine : Doing N H C S P h → ℕ → Doing N H C S P h → Type 0
   LooksLine old key new = FindsLine old key new ⊎ LookEnds old key new
 
-  -- what a line does; one that isn't of names leaves what the worker has of them
-  abbrev pub DoesLine : List (CountedZone H P h) → Doing N H C S P h → Op → Doing N H C S P h → Type 0
-  DoesLine zones old (Bind key value) new = BindsLine old key value new
-  DoesLine zones old (Unbind key) new = UnbindsLine old key new
-  DoesLine zones old (Look key) new = LooksLine old key new
-  DoesLine zones old op new = Performs zones old.worker op new.worker × (new.naming ≡ old.naming)
+  -- what a line of a worker that is there and stays does; one that isn't of names leaves what the worker has of them
+  abbrev pub Acts : List (CountedZone H P h) → Doing N H C S P h → Op → Doing N H C S P h → Type 0
+  Acts zones old (Bind key value) new = BindsLine old key value new
+  Acts zones old (Unbind key) new = UnbindsLine old key new
+  Acts zones old (Look key) new = LooksLine old key new
+  Acts zones old op new = Performs zones old.worker op new.worker × (new.naming ≡ old.naming)
+
+  abbrev pub Changes : List (CountedZone H P h) → Doing N H C S P h → Op → Doing N H C S P h → Type 0
+  Changes zones old Away new = GoesOrComes old new
+  Changes zones old Back new = GoesOrComes old new
+  Changes zones old op new = Acts zones old op new
+
+  -- What a line does. A worker that is away comes back before it does anything else, and is away after an `away` line alone.
+  pub record DoesLine (zones : List (CountedZone H P h)) (old : Doing N H C S P h) (op : Op) (new : Doing N H C S P h) : Type 0 where
+    pub changes : Changes zones old op new
+    pub was : old.out ≡ comes_back op
+    pub is : new.out ≡ away_after op old.out
 
   -- what lines do, one after another
   unfoldable pub DoesAll : List (CountedZone H P h) → Doing N H C S P h → List Op → Doing N H C S P h → Type 0
@@ -122,9 +146,15 @@ module _ {N H C S P : Type 0} {h : Ghosts H P} (names : NameGhosts N H C S P) (c
   DoesAll zones old (op ∷ ops) new = (next : Doing N H C S P h) × DoesLine zones old op next × DoesAll zones next ops new
 
 module _ {N H C S P : Type 0} {h : Ghosts H P} (names : NameGhosts N H C S P) where
-  -- what a line needs
+  -- what a line of a worker that is there and stays needs
+  abbrev pub CanAct : List (CountedZone H P h) → Worker H P h → Op → Type 0
+  CanAct zones w (Bind key value) = IsTrue names.serves
+  CanAct zones w (Unbind key) = IsTrue names.serves
+  CanAct zones w (Look key) = IsTrue names.serves × IsBetween w
+  CanAct zones w op = CanPerform zones w op
+
+  -- what a line needs of its worker, be it there or away
   abbrev pub CanDo : List (CountedZone H P h) → Worker H P h → Op → Type 0
-  CanDo zones w (Bind key value) = IsTrue names.serves
-  CanDo zones w (Unbind key) = IsTrue names.serves
-  CanDo zones w (Look key) = IsTrue names.serves × IsBetween w
-  CanDo zones w op = CanPerform zones w op
+  CanDo zones w Away = phase_of w ≡ Outside
+  CanDo zones w Back = Unit {0}
+  CanDo zones w op = CanAct zones w op

@@ -27,6 +27,14 @@ module _ {H P : Type 0} {h : Ghosts H P} where
     pub entered : new.entered ≡ old.entered
     pub late : new.late ≡ old.late
 
+  -- Its pass knows what it knew and stands where it stood with its section, and nothing else of it changes.
+  pub record KeepsAll (old new : Worker H P h) : Type 0 where
+    pub known : view new.pass ≡ view old.pass
+    pub seats : new.seats ≡ old.seats
+    pub slots : new.slots ≡ old.slots
+    pub entered : new.entered ≡ old.entered
+    pub late : new.late ≡ old.late
+
   -- an `alloc` line: one request by the worker's seat of its zone, whose item, if there is one, its slot holds
   pub record Allocs (zones : List (CountedZone H P h)) (old : Worker H P h) (zone slot : ℕ) (ask : AllocAsk) (new : Worker H P h) : Type 0 where
     pub of : CountedZone H P h

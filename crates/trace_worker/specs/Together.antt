@@ -5,11 +5,13 @@ use Rattle.std.specs.Option.{option_map_or}
 use Rattle.smr_clock.specs.declared.clock.Clock.{Clock}
 use Rattle.smr_clock.specs.declared.host.Host.{Ghosts}
 use Rattle.trace_text.specs.Lines.{Line}
+use Rattle.trace_text.specs.Reading.{is_away}
 use Rattle.uma_seat.specs.Seat.{ledger_of}
 use Rattle.zone_stats.specs.declared.ledger.SeatLedger.{SeatLedger}
 use Rattle.trace_worker.specs.declared.name_calls.NameCalls.{Ghosts as NameGhosts}
 use Rattle.trace_worker.specs.declared.running.Running.{Running}
 use Rattle.trace_worker.specs.declared.worker.Worker.{Worker}
+use Rattle.trace_worker.specs.Attendance.{is_out, worker_in}
 use Rattle.trace_worker.specs.Items.{CountedZone}
 use Rattle.trace_worker.specs.Live.{live_count}
 use Rattle.trace_worker.specs.NamesStand.{NamesStand}
@@ -17,9 +19,17 @@ use Rattle.trace_worker.specs.Stands.{Stands}
 use Rattle.trace_worker.specs.Worker.{Fits}
 
 module _ {N H C S P : Type 0} {h : Ghosts H P} where
-  -- the workers of these turns
+  -- the workers of these turns; those that are away, as which they come back
   abbrev pub crew : List (Running N H C S P h) → List (Worker H P h)
-  crew runnings = map (λ r. r.worker) runnings
+  crew runnings = map worker_in runnings
+
+  -- it is away where the reading of the lines says so
+  abbrev pub IsAbsent : ℕ → List Line → Running N H C S P h → Type 0
+  IsAbsent n lines r = is_out r.attendance ≡ is_away lines n
+
+  -- each of them is
+  abbrev pub AllAbsent : List Line → List (Running N H C S P h) → Type 0
+  AllAbsent lines workers = (n : ℕ) (r : Running N H C S P h) → slice_get workers n ≡ Some r → IsAbsent n lines r
 
 module _ {H P : Type 0} {h : Ghosts H P} where
   -- Each worker's seats, pass and items belong to the zones and the clock, and it stands for these lines.
@@ -50,4 +60,4 @@ module _ {H P : Type 0} {h : Ghosts H P} where
 module _ {N H C S P : Type 0} {h : Ghosts H P} (names : NameGhosts N H C S P) (cache : C) where
   -- what each of them has of the names stands for these lines
   abbrev pub AllNamed : List Line → List (Running N H C S P h) → Type 0
-  AllNamed lines workers = (n : ℕ) (r : Running N H C S P h) → slice_get workers n ≡ Some r → NamesStand names cache n lines r.worker.late r.naming
+  AllNamed lines workers = (n : ℕ) (r : Running N H C S P h) → slice_get workers n ≡ Some r → NamesStand names cache n lines (worker_in r).late r.naming

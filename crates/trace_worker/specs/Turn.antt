@@ -6,12 +6,14 @@ use Rattle.uma_seat.specs.Seat.{ledger_of}
 use Rattle.trace_worker.specs.declared.name_calls.NameCalls.{Ghosts as NameGhosts}
 use Rattle.trace_worker.specs.declared.running.Running.{Running}
 use Rattle.trace_worker.specs.declared.worker.Worker.{Worker}
+use Rattle.trace_worker.specs.Attendance.{worker_in}
 use Rattle.trace_worker.specs.Items.{CountedSeat, CountedZone}
 use Rattle.trace_worker.specs.OwnLines.{lines_before, own_ops, worked}
 use Rattle.trace_worker.specs.Live.{live_count}
 use Rattle.trace_worker.specs.NameLines.{DoesAll, doing}
 use Rattle.trace_worker.specs.NamesStand.{NamesOfClock, NamesStand}
 use Rattle.trace_worker.specs.Stands.{Stands}
+use Rattle.trace_worker.specs.Together.{IsAbsent}
 use Rattle.trace_worker.specs.Worker.{AreOfClock, Fits, seen_of}
 use Rattle.std.specs.Prelude.{Some, slice_get}
 use Rattle.smr_clock.specs.declared.clock.Clock.{Clock}
@@ -40,19 +42,21 @@ module _ {N H C S P : Type 0} {h : Ghosts H P} (names : NameGhosts N H C S P) (c
     pub few : length (lines_before t.rounds k) + length (own_ops t.rounds k n) < 2 ^ 32
     pub asks : r.asked + most_asks * length (own_ops t.rounds k n) < 2 ^ 64
     pub gave_up : r.gave_up + length (own_ops t.rounds k n) < 2 ^ 64
-    pub fits : Fits zones clock r.worker
-    pub stands : Stands zones clock n (lines_before t.rounds k) r.worker
-    pub named : NamesStand names cache n (lines_before t.rounds k) r.worker.late r.naming
+    pub fits : Fits zones clock (worker_in r)
+    pub stands : Stands zones clock n (lines_before t.rounds k) (worker_in r)
+    pub named : NamesStand names cache n (lines_before t.rounds k) (worker_in r).late r.naming
+    pub absent : IsAbsent n (lines_before t.rounds k) r
 
   -- What its turn leaves: its own list on top of the lines before, and items and ledgers that go together. Line after line it did what each says.
   pub record HasWorked (t : Trace) (zones : List (CountedZone H P h)) (clock : Clock H P) (k n : ℕ) (old new : Running N H C S P h) : Type 0 where
-    pub fits : Fits zones clock new.worker
-    pub stands : Stands zones clock n (worked n (own_ops t.rounds k n) (lines_before t.rounds k)) new.worker
-    pub named : NamesStand names cache n (worked n (own_ops t.rounds k n) (lines_before t.rounds k)) new.worker.late new.naming
+    pub fits : Fits zones clock (worker_in new)
+    pub stands : Stands zones clock n (worked n (own_ops t.rounds k n) (lines_before t.rounds k)) (worker_in new)
+    pub named : NamesStand names cache n (worked n (own_ops t.rounds k n) (lines_before t.rounds k)) (worker_in new).late new.naming
+    pub absent : IsAbsent n (worked n (own_ops t.rounds k n) (lines_before t.rounds k)) new
     pub plays : DoesAll names cache zones (doing old) (own_ops t.rounds k n) (doing new)
-    pub balances : (z : ℕ) → Balances z old.worker new.worker
+    pub balances : (z : ℕ) → Balances z (worker_in old) (worker_in new)
     -- its pass forgets nothing
-    pub seen : seen_of old.worker ≤ seen_of new.worker
+    pub seen : seen_of (worker_in old) ≤ seen_of (worker_in new)
     -- it was asked at least once and at most so often before each operation, and gave up waiting at most once before each
     pub asked_some : old.asked + length (own_ops t.rounds k n) ≤ new.asked
     pub asked_few : new.asked ≤ old.asked + most_asks * length (own_ops t.rounds k n)

@@ -5,12 +5,11 @@ ghost use Rattle.trace_worker.specs.Giving.{TakesFrom, PutsInto, Gives, KeepsRes
 use crate::Memory;
 use crate::held::Held;
 use crate::name_calls::NameCalls;
-use crate::requesting::fill;
 use crate::running::Running;
 use std::alloc::Global;
 
 /// A `give` line: moves what a slot of the giver holds to a slot of the taker, or its emptiness. The taker's slot is empty
-/// before. After `Memory`, which comes where the taker's slots have to grow, the item is lost, and the replay is over.
+/// before. Giver and taker may be away. After `Memory`, which comes where the taker's slots have to grow, the item is lost, and the replay is over.
 pub fn move_slot<N: NameCalls>(
     alloc: Global,
     workers: &mut [Running<N>],
@@ -35,7 +34,7 @@ fn take_from<N: NameCalls>(workers: &mut [Running<N>], number: usize, slot: u32)
     requires { number < length workers.old }
     ensures { TakesFrom number slot workers.old result workers.new }
 {
-    workers[number].worker.slots.take(slot)
+    workers[number].attendance.take(slot)
 }
 
 /// Puts what is held, if there is something, into a worker's slot.
@@ -49,5 +48,5 @@ fn put_into<N: NameCalls>(
     requires { number < length workers.old }
     ensures { OnOk result (PutsInto number slot held workers.old workers.new) }
 {
-    fill(alloc, &mut workers[number].worker.slots, slot, held)
+    workers[number].attendance.put(alloc, slot, held)
 }

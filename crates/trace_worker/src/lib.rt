@@ -1,15 +1,18 @@
 //! The worker of a replay over zones: what each line of a trace does to it, and its turn in a round.
 //!
 //! A [`Worker`] owns a pass of the clock, a seat of each zone and what its slots hold, and shares the zones and the clock
-//! with the other workers by reference. [`Running::turn`] does a worker's own list of lines in one round, for a thread of
-//! its own; [`move_slot`] moves what a slot holds to another worker, between two rounds. The lines of reclaim and of names
-//! are done through [`ReclaimCalls`] and [`NameCalls`], which the replay brings along: so it stands neither on uma_reclaim
-//! nor on name_cache.
+//! with the other workers by reference. Its pass may leave and come back ([`Attendance`]). [`Running::turn`] does a worker's
+//! own list of lines in one round, for a thread of its own; [`move_slot`] moves what a slot holds to another worker, between
+//! two rounds. The lines of reclaim and of names are done through [`ReclaimCalls`] and [`NameCalls`], which the replay brings
+//! along: so it stands neither on uma_reclaim nor on name_cache.
 //!
 //! # Choices
 //!
 //! - That a worker's seats, pass and items belong to the shared zones and clock is an equation of values. Of a pass lines
 //!   use only what each host's clock promises, so all is over any `H: Host`.
+//! - A worker that is away is all that it was, with a vacancy for its pass. Contracts see the worker as which it comes back
+//!   (`worker_in`), which is known before, since a vacancy is left as it is. std has no way to change a value in its place
+//!   into one of another variant; core's `replace_with` has.
 //! - What a worker stands for is said over the lines so far (`Stands`), never over what others do. Lists of lines that read
 //!   alike for a worker are exchanged (`Alike`), so its own list on top of the rounds before gives the whole round.
 //! - [`ReclaimCalls`] says what a call leaves of seat and pass, which is all that a report needs; how much goes back no
@@ -22,6 +25,8 @@
 //!   list, and would write to one cache line.
 #![tactic(auto)]
 
+mod absentee;
+mod attendance;
 mod count_hooks;
 mod counted;
 mod freeing;
@@ -42,6 +47,8 @@ mod sections;
 mod slots;
 mod worker;
 
+pub use absentee::Absentee;
+pub use attendance::Attendance;
 pub use count_hooks::CountHooks;
 pub use counted::Counted;
 pub use gate::{FreeGate, Gate, Go};

@@ -211,9 +211,9 @@ pub trait NameCalls {
         ensures cap { IfOk result (λ census. (census_counts census).cap ≡ (sizes_of cache.now).slabs) }
         ensures reserve { IfOk result (λ census. (census_counts census).reserve ≡ 0) };
 
-    /// How often the entries that the domains list and the rows link passed each hook, and how many are freed. Waits until
-    /// it has the lock of each domain and of each row.
-    fn sums<R: Wait>(&self, cache: &Self::Cache, rt: &R) -> Sums
-        ensures few { AreOfAtMost (2 ^ 35) result }
-        ensures linked { HasLinked (sizes_of cache.now).rows result };
+    /// How often the entries that the domains have in lists and inboxes and the rows link passed each hook, and how many are
+    /// freed. Waits until it has the lock of each domain and of each row.
+    fn sums<R: Wait>(&self, cache: &Self::Cache, rt: &R) -> Result<Sums, Memory>
+        ensures few { IfOk result (AreOfAtMost (2 ^ 35)) }
+        ensures linked { IfOk result (HasLinked (sizes_of cache.now).rows) };
 }

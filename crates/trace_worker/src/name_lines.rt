@@ -1,26 +1,77 @@
 ghost use Rattle.std.specs.Prelude.{◌≡◌, ◌⊎◌, IsTrue, OnOk};
 ghost use Rattle.smr_clock.specs.Belongs.{IsOf, clock_id};
 ghost use Rattle.smr_core.specs.declared.phase.Phase.{Phase};
-ghost use Rattle.trace_worker.specs.NameLines.{BindsLine, FindsLine, HasNameRooms, KeepsGate, LookEnds, LooksLine, UnbindsLine, doing};
+ghost use Rattle.trace_worker.specs.NameLines.{Acts, BindsLine, CanAct, FindsLine, HasNameRooms, LookEnds, LooksLine, UnbindsLine, doing_there};
 ghost use Rattle.trace_worker.specs.Naming.{CountsAnswer, CountsBind, CountsFew, CountsUnbind};
 ghost use Rattle.trace_worker.specs.Performs.{IsBetween};
-ghost use Rattle.trace_worker.specs.Worker.{HasRooms, phase_of};
+ghost use Rattle.trace_worker.specs.NamesStand.{NamesOfClock};
+ghost use Rattle.trace_worker.specs.Worker.{AreOfClock, Fits, HasRooms, phase_of};
 
 use crate::Memory;
+use crate::items::CountedZone;
 use crate::name_calls::NameCalls;
-use crate::naming::NameCounts;
-use crate::running::Running;
+use crate::naming::{NameCounts, Naming};
+use crate::reclaim_calls::ReclaimCalls;
+use crate::worker::Worker;
 use smr_clock::Clock;
 use smr_core::Phase;
 use std::alloc::Global;
 use std::sync::Wait;
+use trace_text::Op;
 
-impl<N: NameCalls> Running<N> {
+impl<N: NameCalls> Naming<N> {
+    /// Does a line of a worker that is there and stays, by its kind. Waits where the zones' calls do, and those of the names.
+    ///
+    /// After the Err, which is want of memory, the replay is over.
+    pub(crate) fn act<R: Wait, C: ReclaimCalls>(
+        &mut self,
+        worker: &mut Worker<N::H>,
+        rt: &R,
+        alloc: Global,
+        zones: &[CountedZone<N::H>],
+        clock: &Clock<N::H>,
+        names: &N,
+        cache: &N::Cache,
+        reclaim: &C,
+        op: Op,
+    ) -> Result<(), Memory>
+        requires can { CanAct N.NameCalls zones.now worker.old op }
+        requires clock { AreOfClock clock.now zones.now }
+        requires of_clock { NamesOfClock N.NameCalls cache.now clock.now }
+        requires fits { Fits zones.now clock.now worker.old }
+        requires seat { N.IsSeat cache.now self.old.seat }
+        requires rooms { HasRooms worker.old }
+        requires name_rooms { HasNameRooms N.NameCalls self.old }
+        ensures fits { OnOk result (Fits zones.now clock.now worker.new) }
+        ensures seat { OnOk result (N.IsSeat cache.now self.new.seat) }
+        ensures acts { OnOk result (Acts N.NameCalls cache.now zones.now (doing_there worker.old self.old) op (doing_there worker.new self.new)) }
+    {
+        match op {
+            Op::Bind { key, value } => {
+                self.bind(worker, rt, alloc, names, cache, clock, key, value)?;
+                Ok(())
+            }
+            Op::Unbind { key } => {
+                self.unbind(worker, rt, alloc, names, cache, clock, key)?;
+                Ok(())
+            }
+            Op::Look { key } => {
+                self.look(worker, names, cache, clock, key);
+                Ok(())
+            }
+            _ => {
+                worker.perform(rt, alloc, zones, clock, reclaim, op)?;
+                Ok(())
+            }
+        }
+    }
+
     /// A `bind` line, by the worker's seat of the names. It counts a bind, or a refused one. Waits as the call does.
     ///
     /// After `Memory` the replay is over.
     pub(crate) fn bind<R: Wait>(
         &mut self,
+        worker: &mut Worker<N::H>,
         rt: &R,
         alloc: Global,
         names: &N,
@@ -31,26 +82,16 @@ impl<N: NameCalls> Running<N> {
     ) -> Result<(), Memory>
         requires serves { IsTrue N.serves }
         requires clock { clock_id clock.now ≡ N.clock_of cache.now }
-        requires pass { IsOf clock.now self.old.worker.pass }
-        requires seat { N.IsSeat cache.now self.old.naming.seat }
-        requires rooms { HasNameRooms N.NameCalls self.old.naming }
-        ensures pass { IsOf clock.now self.new.worker.pass }
-        ensures seat { N.IsSeat cache.now self.new.naming.seat }
-        ensures gate { KeepsGate self.old self.new }
-        ensures binds { OnOk result (BindsLine N.NameCalls cache.now (doing self.old) key value (doing self.new)) }
+        requires pass { IsOf clock.now worker.old.pass }
+        requires seat { N.IsSeat cache.now self.old.seat }
+        requires rooms { HasNameRooms N.NameCalls self.old }
+        ensures pass { IsOf clock.now worker.new.pass }
+        ensures seat { N.IsSeat cache.now self.new.seat }
+        ensures binds { OnOk result (BindsLine N.NameCalls cache.now (doing_there worker.old self.old) key value (doing_there worker.new self.new)) }
     {
-        let pass = &mut self.worker.pass;
-        let done = names.bind(
-            cache,
-            rt,
-            alloc,
-            clock,
-            pass,
-            &mut self.naming.seat,
-            key,
-            value,
-        )?;
-        self.naming.counts = counted_bind(self.naming.counts, done);
+        let pass = &mut worker.pass;
+        let done = names.bind(cache, rt, alloc, clock, pass, &mut self.seat, key, value)?;
+        self.counts = counted_bind(self.counts, done);
         Ok(())
     }
 
@@ -59,6 +100,7 @@ impl<N: NameCalls> Running<N> {
     /// After `Memory` the replay is over.
     pub(crate) fn unbind<R: Wait>(
         &mut self,
+        worker: &mut Worker<N::H>,
         rt: &R,
         alloc: Global,
         names: &N,
@@ -68,82 +110,99 @@ impl<N: NameCalls> Running<N> {
     ) -> Result<(), Memory>
         requires serves { IsTrue N.serves }
         requires clock { clock_id clock.now ≡ N.clock_of cache.now }
-        requires pass { IsOf clock.now self.old.worker.pass }
-        requires seat { N.IsSeat cache.now self.old.naming.seat }
-        requires rooms { HasNameRooms N.NameCalls self.old.naming }
-        ensures pass { IsOf clock.now self.new.worker.pass }
-        ensures seat { N.IsSeat cache.now self.new.naming.seat }
-        ensures gate { KeepsGate self.old self.new }
-        ensures unbinds { OnOk result (UnbindsLine N.NameCalls cache.now (doing self.old) key (doing self.new)) }
+        requires pass { IsOf clock.now worker.old.pass }
+        requires seat { N.IsSeat cache.now self.old.seat }
+        requires rooms { HasNameRooms N.NameCalls self.old }
+        ensures pass { IsOf clock.now worker.new.pass }
+        ensures seat { N.IsSeat cache.now self.new.seat }
+        ensures unbinds { OnOk result (UnbindsLine N.NameCalls cache.now (doing_there worker.old self.old) key (doing_there worker.new self.new)) }
     {
-        let pass = &mut self.worker.pass;
-        let done = names.unbind(cache, rt, alloc, clock, pass, &mut self.naming.seat, key)?;
-        self.naming.counts = counted_unbind(self.naming.counts, done);
+        let pass = &mut worker.pass;
+        let done = names.unbind(cache, rt, alloc, clock, pass, &mut self.seat, key)?;
+        self.counts = counted_unbind(self.counts, done);
         Ok(())
     }
 
     /// A `look` line. In a section the key is looked up there; elsewhere, so also after a late enter, in a section of its
     /// own, which is counted as entered, or as late where it was overtaken. A value is a hit, none a miss, and a late look
     /// neither.
-    pub(crate) fn look(&mut self, names: &N, cache: &N::Cache, clock: &Clock<N::H>, key: u64)
+    pub(crate) fn look(
+        &mut self,
+        worker: &mut Worker<N::H>,
+        names: &N,
+        cache: &N::Cache,
+        clock: &Clock<N::H>,
+        key: u64,
+    )
         requires serves { IsTrue N.serves }
         requires clock { clock_id clock.now ≡ N.clock_of cache.now }
-        requires pass { IsOf clock.now self.old.worker.pass }
-        requires seat { N.IsSeat cache.now self.old.naming.seat }
-        requires between { IsBetween self.old.worker }
-        requires rooms { HasRooms self.old.worker }
-        requires name_rooms { HasNameRooms N.NameCalls self.old.naming }
-        ensures pass { IsOf clock.now self.new.worker.pass }
-        ensures seat { N.IsSeat cache.now self.new.naming.seat }
-        ensures gate { KeepsGate self.old self.new }
-        ensures looks { LooksLine N.NameCalls cache.now (doing self.old) key (doing self.new) }
+        requires pass { IsOf clock.now worker.old.pass }
+        requires seat { N.IsSeat cache.now self.old.seat }
+        requires between { IsBetween worker.old }
+        requires rooms { HasRooms worker.old }
+        requires name_rooms { HasNameRooms N.NameCalls self.old }
+        ensures pass { IsOf clock.now worker.new.pass }
+        ensures seat { N.IsSeat cache.now self.new.seat }
+        ensures looks { LooksLine N.NameCalls cache.now (doing_there worker.old self.old) key (doing_there worker.new self.new) }
     {
-        if self.worker.pass.phase() == Phase::Inside {
-            self.find_inside(names, cache, clock, key);
+        if worker.pass.phase() == Phase::Inside {
+            self.find_inside(worker, names, cache, clock, key);
         } else {
-            self.look_outside(names, cache, clock, key);
+            self.look_outside(worker, names, cache, clock, key);
         }
     }
 
     // A look in the section that is open.
-    fn find_inside(&mut self, names: &N, cache: &N::Cache, clock: &Clock<N::H>, key: u64)
+    fn find_inside(
+        &mut self,
+        worker: &mut Worker<N::H>,
+        names: &N,
+        cache: &N::Cache,
+        clock: &Clock<N::H>,
+        key: u64,
+    )
         requires serves { IsTrue N.serves }
         requires clock { clock_id clock.now ≡ N.clock_of cache.now }
-        requires pass { IsOf clock.now self.old.worker.pass }
-        requires seat { N.IsSeat cache.now self.old.naming.seat }
-        requires inside { phase_of self.old.worker ≡ Phase.Inside }
-        requires name_rooms { HasNameRooms N.NameCalls self.old.naming }
-        ensures pass { IsOf clock.now self.new.worker.pass }
-        ensures seat { N.IsSeat cache.now self.new.naming.seat }
-        ensures gate { KeepsGate self.old self.new }
-        ensures finds { FindsLine N.NameCalls cache.now (doing self.old) key (doing self.new) }
+        requires pass { IsOf clock.now worker.old.pass }
+        requires seat { N.IsSeat cache.now self.old.seat }
+        requires inside { phase_of worker.old ≡ Phase.Inside }
+        requires name_rooms { HasNameRooms N.NameCalls self.old }
+        ensures pass { IsOf clock.now worker.new.pass }
+        ensures seat { N.IsSeat cache.now self.new.seat }
+        ensures finds { FindsLine N.NameCalls cache.now (doing_there worker.old self.old) key (doing_there worker.new self.new) }
     {
-        let found = names.find(cache, clock, &mut self.worker.pass, key);
-        self.naming.counts = counted_answer(self.naming.counts, found);
+        let found = names.find(cache, clock, &mut worker.pass, key);
+        self.counts = counted_answer(self.counts, found);
     }
 
     // A look in a section of its own.
-    fn look_outside(&mut self, names: &N, cache: &N::Cache, clock: &Clock<N::H>, key: u64)
+    fn look_outside(
+        &mut self,
+        worker: &mut Worker<N::H>,
+        names: &N,
+        cache: &N::Cache,
+        clock: &Clock<N::H>,
+        key: u64,
+    )
         requires serves { IsTrue N.serves }
         requires clock { clock_id clock.now ≡ N.clock_of cache.now }
-        requires pass { IsOf clock.now self.old.worker.pass }
-        requires seat { N.IsSeat cache.now self.old.naming.seat }
-        requires outside { phase_of self.old.worker ≡ Phase.Outside }
-        requires rooms { HasRooms self.old.worker }
-        requires name_rooms { HasNameRooms N.NameCalls self.old.naming }
-        ensures pass { IsOf clock.now self.new.worker.pass }
-        ensures seat { N.IsSeat cache.now self.new.naming.seat }
-        ensures gate { KeepsGate self.old self.new }
-        ensures looks { LookEnds N.NameCalls cache.now (doing self.old) key (doing self.new) }
+        requires pass { IsOf clock.now worker.old.pass }
+        requires seat { N.IsSeat cache.now self.old.seat }
+        requires outside { phase_of worker.old ≡ Phase.Outside }
+        requires rooms { HasRooms worker.old }
+        requires name_rooms { HasNameRooms N.NameCalls self.old }
+        ensures pass { IsOf clock.now worker.new.pass }
+        ensures seat { N.IsSeat cache.now self.new.seat }
+        ensures looks { LookEnds N.NameCalls cache.now (doing_there worker.old self.old) key (doing_there worker.new self.new) }
     {
-        match names.look(cache, clock, &mut self.worker.pass, key) {
+        match names.look(cache, clock, &mut worker.pass, key) {
             Ok(found) => {
-                self.worker.entered += 1;
-                self.naming.counts = counted_answer(self.naming.counts, found);
+                worker.entered += 1;
+                self.counts = counted_answer(self.counts, found);
             }
             Err(_) => {
-                self.worker.late += 1;
-                self.naming.counts.late += 1;
+                worker.late += 1;
+                self.counts.late += 1;
             }
         }
     }

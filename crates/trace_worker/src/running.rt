@@ -1,4 +1,7 @@
 ghost use Rattle.std.specs.Prelude.{◌≡◌, ◌<◌, ◌≤◌, ◌+◌, ◌^◌, Some, length, IfOk, IfSome, OnOk, slice_get};
+ghost use Rattle.trace_text.specs.Valid.{comes_back};
+ghost use Rattle.trace_worker.specs.declared.attendance.Attendance.TheVariants.{There};
+ghost use Rattle.trace_worker.specs.Attendance.{is_out, worker_in};
 ghost use Rattle.trace_worker.specs.NameLines.{CanDo, DoesLine, HasNameRooms, KeepsGate, doing};
 ghost use Rattle.trace_worker.specs.NamesStand.{NamesOfClock};
 ghost use Rattle.trace_worker.specs.Naming.{no_counts};
@@ -7,6 +10,7 @@ ghost use Rattle.trace_worker.specs.Turn.{IsReady, HasWorked, most_asks};
 ghost use Rattle.trace_worker.specs.Worker.{AreOfClock, Fits, HasRooms};
 
 use crate::Memory;
+use crate::attendance::Attendance;
 use crate::gate::{Gate, Go};
 use crate::items::CountedZone;
 use crate::name_calls::NameCalls;
@@ -25,7 +29,7 @@ const MOST_ASKS: u64 = 100_000_000;
 /// A worker between its turns, with what the report counts of its gate, and how its last turn ended.
 #[derive(Drop)]
 pub struct Running<N: NameCalls> {
-    pub worker: Worker<N::H>,
+    pub attendance: Attendance<N::H>,
     pub naming: Naming<N>,
     /// How often the gate was asked.
     pub asked: u64,
@@ -41,14 +45,14 @@ pub struct Running<N: NameCalls> {
 impl<N: NameCalls> Running<N> {
     /// A worker before its first turn.
     pub fn new(worker: Worker<N::H>, seat: N::Seat) -> Running<N>
-        ensures worker { result.worker ≡ worker }
+        ensures worker { result.attendance ≡ There worker }
         ensures seat { result.naming.seat ≡ seat }
         ensures counts { result.naming.counts ≡ no_counts }
         ensures asked { result.asked ≡ 0 }
         ensures gave_up { result.gave_up ≡ 0 }
     {
         Running {
-            worker,
+            attendance: Attendance::There(worker),
             naming: Naming::new(seat),
             asked: 0,
             gave_up: 0,
@@ -124,33 +128,34 @@ impl<N: NameCalls> Running<N> {
         reclaim: &C,
         op: Op,
     ) -> Result<(), Memory>
-        requires can { CanDo N.NameCalls zones.now self.old.worker op }
+        requires can { CanDo N.NameCalls zones.now (worker_in self.old) op }
+        requires there { is_out self.old.attendance ≡ comes_back op }
         requires clock { AreOfClock clock.now zones.now }
         requires of_clock { NamesOfClock N.NameCalls cache.now clock.now }
-        requires fits { Fits zones.now clock.now self.old.worker }
+        requires fits { Fits zones.now clock.now (worker_in self.old) }
         requires seat { N.IsSeat cache.now self.old.naming.seat }
-        requires rooms { HasRooms self.old.worker }
+        requires rooms { HasRooms (worker_in self.old) }
         requires name_rooms { HasNameRooms N.NameCalls self.old.naming }
-        ensures fits { OnOk result (Fits zones.now clock.now self.new.worker) }
+        ensures fits { OnOk result (Fits zones.now clock.now (worker_in self.new)) }
         ensures seat { OnOk result (N.IsSeat cache.now self.new.naming.seat) }
         ensures does { OnOk result (DoesLine N.NameCalls cache.now zones.now (doing self.old) op (doing self.new)) }
         ensures gate { KeepsGate self.old self.new }
     {
         match op {
-            Op::Bind { key, value } => {
-                self.bind(rt, alloc, names, cache, clock, key, value)?;
+            Op::Away => {
+                self.attendance.leave(clock);
                 Ok(())
             }
-            Op::Unbind { key } => {
-                self.unbind(rt, alloc, names, cache, clock, key)?;
-                Ok(())
-            }
-            Op::Look { key } => {
-                self.look(names, cache, clock, key);
+            Op::Back => {
+                self.attendance.come(clock);
                 Ok(())
             }
             _ => {
-                self.worker.perform(rt, alloc, zones, clock, reclaim, op)?;
+                let Attendance::There(worker) = &mut self.attendance else {
+                    unreachable!()
+                };
+                let naming = &mut self.naming;
+                naming.act(worker, rt, alloc, zones, clock, names, cache, reclaim, op)?;
                 Ok(())
             }
         }
@@ -160,7 +165,7 @@ impl<N: NameCalls> Running<N> {
     fn await_gate<G: Gate>(&mut self, gate: &G, worker: u32, op: u64)
         requires asks { self.old.asked + most_asks < 2 ^ 64 }
         requires gave_up { self.old.gave_up + 1 < 2 ^ 64 }
-        ensures worker { self.new.worker ≡ self.old.worker }
+        ensures attendance { self.new.attendance ≡ self.old.attendance }
         ensures naming { self.new.naming ≡ self.old.naming }
         ensures asked_some { self.old.asked + 1 ≤ self.new.asked }
         ensures asked_few { self.new.asked ≤ self.old.asked + most_asks }

@@ -1,2 +1,5 @@
+pub mod Shared
+mod Knows
+mod NoneLeft
 mod Ready
 mod Freed

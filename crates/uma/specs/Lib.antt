@@ -1,7 +1,13 @@
 pub mod Plan
+pub mod NamePlan
+pub mod Phases
 pub mod Passes
+pub mod NoPass
 pub mod Making
 pub mod Pool
+pub mod Taken
+pub mod Section
 pub mod Local
 pub mod Drained
 pub mod Table
+pub mod Directory

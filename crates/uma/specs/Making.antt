@@ -1,11 +1,11 @@
--- Own: why no pool is made, and why a pool gives no local.
-use Rattle.std.specs.Prelude.{◌≡◌, ◌<◌, ◌⊎◌, ℕ}
+-- Own: why no pool is made.
+use Rattle.std.specs.Prelude.{◌≡◌, ◌<◌, ◌⊎◌}
 use Rattle.smr_core.specs.Making.{IsSeatCount}
 use Rattle.uma_zone.specs.Making.{RefusesPrimary}
 use Rattle.uma_zone.specs.declared.zone_refused.ZoneRefused.TheVariants as zone
 use Rattle.uma.specs.declared.plan.Plan.{Plan}
 use Rattle.uma.specs.declared.refused.Refused.{Refused}
-use Rattle.uma.specs.declared.refused.Refused.TheVariants.{Workers, Size, Slabs, Bucket, Domains, Taken, Memory}
+use Rattle.uma.specs.declared.refused.Refused.TheVariants.{Workers, Size, Slabs, Bucket, Domains, Memory}
 use Rattle.uma.specs.Plan.{IsGood, set_of}
 
 -- The first number of the plan that is out of its range, in the order workers, size, slabs, bucket, domains; memory is wanted for good ones alone.
@@ -17,9 +17,3 @@ RefusesPlan plan (Bucket bucket) = IsSeatCount plan.workers × RefusesPrimary pl
 RefusesPlan plan (Domains domains) = IsSeatCount plan.workers × RefusesPrimary plan.size (set_of plan) (zone.Domains domains)
 RefusesPlan plan Memory = IsGood plan
 RefusesPlan plan _ = ⊥
-
--- Why a pool gives no local: as many have one as its plan has workers, or memory is wanting.
-abbrev pub RefusesLocal : Plan → Refused → Type 0
-RefusesLocal plan (Taken workers) = workers ≡ plan.workers
-RefusesLocal plan Memory = Unit {0}
-RefusesLocal plan _ = ⊥

@@ -6,14 +6,15 @@ ghost use Rattle.uma_zone.specs.Zone.{IsSeatOf};
 
 use crate::not_freed::NotFreed;
 use crate::pool::Pool;
+use crate::pool_ledger::PoolLedger;
 use crate::refused::Refused;
 use smr_clock::{Bare, Pass};
 use std::alloc::Global;
+use std::snapshot::Snapshot;
 use std::sync::Wait;
 use uma_life::{Body, Hooks, Live};
 use uma_seat::SeatCache;
 use uma_zone::{AllocAsk, AllocRefused};
-use zone_stats::SeatLedger;
 
 /// What one worker has of a pool: a cache of items, with what it counted. It may be sent to another thread, and is used by one at a
 /// time. A dropped one keeps what it had cached: [`Local::drain`] it first.
@@ -29,6 +30,7 @@ pub struct Local<'a, T: Body, K: Hooks<T>> {
 
 impl<'a, T: Body + Drop, K: Hooks<T>> Local<'a, T, K> {
     ghost use Rattle.uma.specs.Pool.{IsItemOf, pool_plan};
+    ghost use Rattle.uma.specs.Table.{IsLedgerOf};
     ghost use Rattle.uma_life.specs.Live.{live_domain};
     ghost use Rattle.uma.specs.Local.{pool_of, ledger_in, Allocs, RefusesAlloc, CanHold, Puts, Defers, Frees, IsNotReady, KeepsLocal, KeepsUsable};
     ghost use Rattle.zone_stats.specs.LedgerSteps.{HasRoom, CountsAlloc, CountsFree};
@@ -197,9 +199,13 @@ impl<'a, T: Body + Drop, K: Hooks<T>> Local<'a, T, K> {
     }
 
     /// What it counted.
-    pub fn ledger(&self) -> SeatLedger
-        ensures { result ≡ ledger_in self.now }
+    pub fn ledger(&self) -> PoolLedger<T, K>
+        ensures counts { result.counts ≡ ledger_in self.now }
+        ensures pool { IsLedgerOf (pool_of self.now) result }
     {
-        self.seat.ledger()
+        PoolLedger {
+            counts: self.seat.ledger(),
+            pool: Snapshot::of(self.pool),
+        }
     }
 }

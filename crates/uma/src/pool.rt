@@ -1,19 +1,18 @@
-ghost use Rattle.std.specs.Prelude.{◌≡◌, ◌<◌, false, All, IfOk, IfErr, IfSome, OnOk};
+ghost use Rattle.std.specs.Prelude.{◌≡◌, ◌<◌, false, All, IfOk, IfErr, IfSome, IfNone, OnOk};
 ghost use Rattle.keyed_lock.specs.KeyedLock.{lock_key};
 ghost use Rattle.smr_clock.specs.Belongs.{clock_id};
 ghost use Rattle.uma_zone.specs.Zone.{zone_clock, zone_size, zone_cap, zone_bucket, zone_limit, zone_reserve, zone_domains, zone_smr};
 ghost use Rattle.uma.specs.Passes.{IsReady};
 ghost use Rattle.uma.specs.Plan.{IsGood};
-ghost use Rattle.uma.specs.Making.{RefusesPlan, RefusesLocal};
+ghost use Rattle.uma.specs.Making.{RefusesPlan};
 
 use crate::local::Local;
-use crate::passes::{PassKey, PassRule, ReadyPasses};
+use crate::passes::{PassLock, lock_up};
 use crate::plan::Plan;
+use crate::reader::Reader;
 use crate::refused::Refused;
-use keyed_lock::KeyedLock;
 use smr_clock::{Bare, Clock, Pass};
 use std::alloc::Global;
-use std::snapshot::Snapshot;
 use std::sync::Wait;
 use uma_item::{Item, ItemHooks, TrailHooks};
 use uma_life::{Body, Hooks};
@@ -33,7 +32,7 @@ pub struct Pool<T: Body, K: Hooks<T>> {
     // That of its readers. A pool without any asks it nothing.
     pub(crate) clock: Clock<Bare>,
     pub(crate) plan: Plan,
-    passes: KeyedLock<ReadyPasses, PassKey, PassRule>,
+    passes: PassLock<Bare>,
     pub ghost good: { IsGood plan },
     pub ghost same_clock: { zone_clock zone ≡ clock_id clock },
     pub ghost size: { zone_size zone ≡ plan.size },
@@ -71,6 +70,10 @@ impl<T: Body + Drop, K: Hooks<T>> Pool<T, K> {
     ghost use Rattle.zone_stats.specs.LedgerSteps.{IsNew};
     ghost use Rattle.uma.specs.Pool.{pool_plan, pool_hooks, pool_home};
     ghost use Rattle.uma.specs.Local.{pool_of, ledger_in};
+    ghost use Rattle.smr_clock.specs.contracts.bare.BareHost.TheImpl.{ghosts as bare};
+    ghost use Rattle.uma.specs.NoPass.{HasNoPass};
+    ghost use Rattle.uma.specs.Section.{IsReaderOf};
+    ghost use Rattle.uma.specs.Taken.{RefusesLocal, RefusesReader};
 
     /// An empty pool with the numbers of the plan, by hooks for the requests, and the same for the items of the slabs.
     ///
@@ -113,11 +116,11 @@ impl<T: Body + Drop, K: Hooks<T>> Pool<T, K> {
     ///
     /// # Errors
     ///
-    /// `Taken` where as many locals were given as the plan has workers, and else `Memory`.
+    /// `Taken` where as many locals and readers were given as the plan has workers, and else `Memory`: another may ask then.
     pub fn local<'a, R: Wait>(&'a self, rt: &R, alloc: Global) -> Result<Local<'a, T, K>, Refused>
         ensures pool { IfOk result (λ local. pool_of local ≡ self.now) }
         ensures ledger { IfOk result (λ local. IsNew (ledger_in local)) }
-        ensures refused { IfErr result (RefusesLocal (pool_plan self.now)) }
+        ensures refused { IfErr result (RefusesLocal self.now) }
     {
         self.local_in(rt, alloc, 0)
     }
@@ -132,29 +135,61 @@ impl<T: Body + Drop, K: Hooks<T>> Pool<T, K> {
         requires { domain < (pool_plan self.now).domains }
         ensures pool { IfOk result (λ local. pool_of local ≡ self.now) }
         ensures ledger { IfOk result (λ local. IsNew (ledger_in local)) }
-        ensures refused { IfErr result (RefusesLocal (pool_plan self.now)) }
+        ensures refused { IfErr result (RefusesLocal self.now) }
     {
-        let Ok(seat) = self.zone.seat(rt, alloc, domain) else {
-            return Err(Refused::Memory);
+        let Some(pass) = self.take_pass(rt) else {
+            return Err(Refused::Taken {
+                workers: self.plan.workers,
+            });
         };
-        match self.take_pass(rt) {
-            Some(pass) => Ok(Local {
+        match self.zone.seat(rt, alloc, domain) {
+            Ok(seat) => Ok(Local {
                 pool: self,
                 pass,
                 seat,
             }),
-            None => Err(Refused::Taken {
-                workers: self.plan.workers,
-            }),
+            Err(_) => {
+                self.put_pass(rt, pass);
+                Err(Refused::Memory)
+            }
         }
     }
 
-    // A pass that no local has yet. Waits until it has the lock of these.
+    /// Who only reads the pool, one of its workers. Waits until it has the lock of the passes.
+    ///
+    /// # Errors
+    ///
+    /// `Taken` as [`Pool::local`].
+    pub fn reader<R: Wait>(&self, rt: &R) -> Result<Reader<'_>, Refused>
+        ensures pool { IfOk result (IsReaderOf self.now) }
+        ensures refused { IfErr result (RefusesReader self.now) }
+    {
+        let Some(pass) = self.take_pass(rt) else {
+            return Err(Refused::Taken {
+                workers: self.plan.workers,
+            });
+        };
+        Ok(Reader {
+            clock: &self.clock,
+            pass,
+        })
+    }
+
+    // A pass that nobody has yet. Waits until it has the lock of these.
     fn take_pass<R: Wait>(&self, rt: &R) -> Option<Pass<Bare>>
-        ensures { IfSome result (IsReady self.now.clock) }
+        ensures ready { IfSome result (IsReady self.now.clock) }
+        ensures none { IfNone result (HasNoPass bare self.now.clock) }
     {
         let mut guard = self.passes.lock(rt);
         guard.value.take()
+    }
+
+    // Puts back a pass that no local came to have.
+    fn put_pass<R: Wait>(&self, rt: &R, pass: Pass<Bare>)
+        requires { IsReady self.now.clock pass }
+    {
+        let mut guard = self.passes.lock(rt);
+        guard.value.put(pass);
     }
 }
 
@@ -166,24 +201,5 @@ fn new_clock(alloc: Global, workers: u32) -> Result<(Clock<Bare>, Vec<Pass<Bare>
     match Clock::<Bare>::new(alloc, workers, START, WINDOW) {
         Ok(made) => Ok(made),
         Err(_) => Err(Refused::Memory),
-    }
-}
-
-// Puts passes of this clock under a lock.
-fn lock_up(
-    alloc: Global,
-    clock: &Clock<Bare>,
-    passes: Vec<Pass<Bare>>,
-) -> Option<KeyedLock<ReadyPasses, PassKey, PassRule>>
-    requires { All (IsReady clock.now) passes.items }
-    ensures { IfSome result (λ lock. clock_id (lock_key lock).clock.value ≡ clock_id clock.now) }
-{
-    let key = PassKey {
-        clock: Snapshot::of(clock),
-    };
-    let ready = ReadyPasses::new(clock, passes);
-    match KeyedLock::new(alloc, ready, &key) {
-        Ok(lock) => Some(lock),
-        Err(_ready) => None,
     }
 }

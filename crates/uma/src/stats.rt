@@ -1,14 +1,16 @@
-ghost use Rattle.std.specs.Prelude.{IfOk, IfErr};
-ghost use Rattle.uma.specs.Table.{IsLineOf, RefusesLine};
+ghost use Rattle.std.specs.Prelude.{◌≡◌, All, IfOk, IfErr, map};
 
 use crate::pool::Pool;
+use crate::pool_ledger::PoolLedger;
 use crate::refused::Refused;
-use std::alloc::Global;
+use std::alloc::{AllocError, Global};
 use std::sync::Wait;
 use uma_life::{Body, Hooks, Lives};
 use zone_stats::{SeatLedger, ZoneLine, ZoneName, sum};
 
 impl<T: Body + Drop, K: Hooks<T>> Pool<T, K> {
+    ghost use Rattle.uma.specs.Table.{IsLedgerOf, IsLineOf, RefusesLine, counts_of};
+
     /// What the pool's locals counted together, as a line of a table under this name. They are those whose ledgers are given; what is
     /// free is by a census of the pool's slabs, of this moment. Waits until it has the pool's lock.
     ///
@@ -20,9 +22,10 @@ impl<T: Body + Drop, K: Hooks<T>> Pool<T, K> {
         rt: &R,
         alloc: Global,
         name: &[u8],
-        ledgers: &[SeatLedger],
+        ledgers: &[PoolLedger<T, K>],
     ) -> Result<ZoneLine, Refused>
-        ensures line { IfOk result (IsLineOf self.now name.now ledgers.now) }
+        requires { All (IsLedgerOf self.now) ledgers.now }
+        ensures line { IfOk result (IsLineOf self.now name.now (counts_of ledgers.now)) }
         ensures refused { IfErr result (RefusesLine name.now) }
     {
         let Some(name) = ZoneName::new(name) else {
@@ -32,8 +35,25 @@ impl<T: Body + Drop, K: Hooks<T>> Pool<T, K> {
         let Ok((census, _lives)) = self.zone.census(rt, alloc, lives) else {
             return Err(Refused::Memory);
         };
+        let Ok(counts) = counts_in(alloc, ledgers) else {
+            return Err(Refused::Memory);
+        };
         let (size, limit) = (self.plan.size, self.plan.limit);
         let (out, free) = (census.outs()[0], census.counts().free);
-        Ok(sum(name, size, limit, ledgers, out, free))
+        Ok(sum(name, size, limit, counts.as_slice(), out, free))
     }
+}
+
+// What the ledgers count, in order.
+fn counts_in<T: Body, K: Hooks<T>>(
+    alloc: Global,
+    ledgers: &[PoolLedger<T, K>],
+) -> Result<Vec<SeatLedger>, AllocError>
+    ensures { IfOk result (λ counts. counts.items ≡ map (λ ledger. ledger.counts) ledgers.now) }
+{
+    let mut counts = Vec::new(alloc);
+    for ledger in ledgers {
+        counts.push(ledger.counts)?;
+    }
+    Ok(counts)
 }

@@ -8,3 +8,5 @@ pub mod Finished
 pub mod Sealed
 pub mod Ripe
 pub mod Sums
+pub mod Shelved
+pub mod Inboxes

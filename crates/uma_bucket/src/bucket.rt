@@ -80,6 +80,7 @@ impl<T: Body> Bucket<T> {
     pub fn len(&self) -> u32
         ensures len { result ≡ length (items_of self.now) }
         ensures within { result ≤ size_of self.now }
+        ensures most { result ≤ 64 }
     {
         self.room.len() as u32
     }

@@ -21,6 +21,7 @@
 mod bucket;
 mod freed;
 mod held;
+mod inbox_key;
 mod loose;
 mod refused;
 mod ripe;
@@ -30,6 +31,7 @@ mod sums;
 
 pub use bucket::Bucket;
 pub use freed::Freed;
+pub use inbox_key::{Inbox, InboxKey, Port, ShelvedOfKey, Taker};
 pub use loose::Loose;
 pub use refused::BucketRefused;
 pub use ripe::Ripe;

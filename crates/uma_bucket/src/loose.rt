@@ -66,6 +66,7 @@ impl<T: Body> Loose<T> {
     pub fn len(&self) -> u32
         ensures len { result ≡ length (loose_items self.now) }
         ensures within { result ≤ loose_size self.now }
+        ensures most { result ≤ 64 }
     {
         self.room.len() as u32
     }

@@ -69,6 +69,7 @@ impl<T: Body, H: Host> Sealed<T, H> {
     pub fn len(&self) -> u32
         ensures len { result ≡ length (loose_items (sealed_bucket self.now)) }
         ensures within { result ≤ loose_size (sealed_bucket self.now) }
+        ensures most { result ≤ 64 }
     {
         self.loose.len()
     }

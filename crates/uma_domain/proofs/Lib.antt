@@ -2,6 +2,7 @@ pub mod Places
 pub mod Polled
 pub mod Trimmed
 pub mod Tried
+pub mod Came
 pub mod Kept
 pub mod Summed
 pub mod Shared

@@ -9,16 +9,22 @@ use denote.RattleType.{RattleType}
 use denote.Param.Send.{IsSend, IsSync, recorded_send, recorded_sync, struct_send, struct_sync, sendable}
 use denote.Struct.Declared.{shape}
 use Rattle.deed_book.proofs.fail_book.FailBook.TheSendSync as book
+use Rattle.inbox.proofs.Shared.{taker_field_send}
+use Rattle.inbox.proofs.inbox.Inbox.TheSendSync as inbox
 use Rattle.keyed_lock.proofs.lock.KeyedLock.TheSendSync as lock
 use Rattle.uma_bucket.proofs.bucket.Bucket.TheSendSync as bucket
 use Rattle.uma_bucket.proofs.loose.Loose.TheSendSync as loose
 use Rattle.uma_bucket.proofs.sealed.Sealed.TheSendSync as sealed
+use Rattle.uma_bucket.proofs.shelved.Shelved.TheSendSync as shelved
 use Rattle.smr_clock.specs.declared.host.Host as host
 use Rattle.uma_bucket.specs.contracts.bucket.Bucket as Bucket
 use Rattle.uma_bucket.specs.contracts.loose.Loose as Loose
+use Rattle.uma_bucket.specs.contracts.inbox_key.InboxKey as InboxKey
 use Rattle.uma_bucket.specs.contracts.sealed.Sealed as Sealed
+use Rattle.uma_bucket.specs.contracts.shelved.Shelved as Shelved
 use Rattle.uma_domain.specs.contracts.domain.Domain as Domain
 use Rattle.uma_domain.specs.contracts.lists.Lists as Lists
+use Rattle.uma_domain.specs.contracts.locked.Locked as Locked
 use Rattle.uma_domain.specs.contracts.working.Working as Working
 use Rattle.uma_life.specs.declared.body.Body as body
 
@@ -42,14 +48,23 @@ module _ (T H P : RattleType) (g : body.Ghosts T.Denot) (h : host.Ghosts H.Denot
   pub lists_send : IsSend (Lists.the_row T H P g h)
   lists_send = recorded_send (Lists.the_field T H P g h).row _ _ (Lists.the_type T H P g h).to_one lists_field_send
 
-  boxed_send : IsSend (Box.the_row (Lists.the_row T H P g h) heap.the_row ghosts)
-  boxed_send = Box-send _ lists_send
+  pub shelved_send : IsSend (Shelved.the_row T H P g h)
+  shelved_send = search (shelved.the_send, sendable) depth 20
+
+  locked_field_send : IsSend (Locked.the_field T H P g h).row
+  locked_field_send = struct_send (shape (Locked.the_type T H P g h)) (lists_field_send, (taker_field_send (Shelved.the_row T H P g h) (InboxKey.the_row H P h) shelved_send, tt))
+
+  locked_send : IsSend (Locked.the_row T H P g h)
+  locked_send = recorded_send (Locked.the_field T H P g h).row _ _ (Locked.the_type T H P g h).to_one locked_field_send
+
+  boxed_send : IsSend (Box.the_row (Locked.the_row T H P g h) heap.the_row ghosts)
+  boxed_send = Box-send _ locked_send
 
   pub domain_field_send : IsSend (Domain.the_field T H P g h).row
-  domain_field_send = struct_send (shape (Domain.the_type T H P g h)) (search (lock.the_field_send, boxed_send), tt)
+  domain_field_send = struct_send (shape (Domain.the_type T H P g h)) (search (lock.the_field_send, boxed_send), (search (inbox.the_field_send, shelved_send), tt))
 
   pub domain_field_sync : IsSync (Domain.the_field T H P g h).row
-  domain_field_sync = struct_sync (shape (Domain.the_type T H P g h)) (search (lock.the_field_sync, boxed_send), tt)
+  domain_field_sync = struct_sync (shape (Domain.the_type T H P g h)) (search (lock.the_field_sync, boxed_send), (search (inbox.the_field_sync, shelved_send), tt))
 
   pub domain_send : IsSend (Domain.the_row T H P g h)
   domain_send = recorded_send (Domain.the_field T H P g h).row _ _ (Domain.the_type T H P g h).to_one domain_field_send

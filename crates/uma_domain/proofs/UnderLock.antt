@@ -1,24 +1,29 @@
 -- What a call of a domain did to its lists, from what the lists' own call did.
-use Rattle.std.proofs.Common.{◌≡◌, ◌+◌, ℕ, [], ◌∷◌, ◌++◌, Option, Some, None, IfSome, IfNone, Result, Ok, Err, IfOk, OnOk, OnErr, is_ok, if◌then◌else◌, subst}
+use Rattle.std.proofs.Common.{◌≡◌, ◌+◌, ◌<◌, ℕ, [], ◌∷◌, ◌++◌, Option, Some, None, IfSome, IfNone, Result, Ok, Err, IfOk, OnOk, OnErr, is_ok, if◌then◌else◌, subst}
 use Rattle.smr_clock.specs.declared.setup.Setup.{Setup}
 use Rattle.smr_clock.specs.declared.view.View.{View}
 use Rattle.smr_clock.specs.Belongs.{TableId}
+use Rattle.inbox.specs.Inbox.{popped_by}
+use Rattle.inbox.specs.Rule.{AreAll}
 use Rattle.uma_bucket.specs.declared.bucket.Bucket.{Bucket}
 use Rattle.uma_bucket.specs.declared.loose.Loose.{Loose}
 use Rattle.uma_bucket.specs.declared.sealed.Sealed.{Sealed}
 use Rattle.uma_bucket.specs.declared.ripe.Ripe.{Ripe}
+use Rattle.uma_bucket.specs.declared.sums.Sums.{Sums}
 use Rattle.uma_domain.specs.declared.domain.Domain.{Domain}
 use Rattle.uma_domain.specs.declared.lists.Lists.{Lists}
+use Rattle.uma_domain.specs.declared.locked.Locked.{Locked}
 use Rattle.uma_domain.specs.declared.taken.Taken.{Taken}
 use Rattle.uma_domain.specs.Domain.{domain_identity}
 use Rattle.uma_domain.specs.Listed.{listed}
 use Rattle.uma_domain.specs.Lists.{plain_in, loose_in, sealed_in, working_in, missed_in}
 use Rattle.uma_domain.specs.Scans.{AllStay, TakesRipe}
+use Rattle.uma_domain.specs.Settled.{Settles, SettlesSome, SumsSettled}
 use Rattle.uma_domain.specs.Taken.{taken_in}
 use Rattle.uma_domain.specs.Tries.{SealsEach}
 use Rattle.uma_domain.specs.Trim.{Trims, TakesAll}
 use Rattle.uma_domain.specs.Working.{after, begun, working_set}
-use Rattle.uma_domain.specs.UnderLock.{AreListsOf, PutsPlain, PutsLoose, PutsSealed, TakesPlain, FindsNoPlain, TakesOldestRipe, FindsNoneRipe, SealsLoose, TakesUnused, TakesEach, KeepsLists}
+use Rattle.uma_domain.specs.UnderLock.{AreListsOf, PutsPlain, PutsLoose, PutsSealed, TakesPlain, FindsNoPlain, TakesOldestRipe, FindsNoneRipe, SealsLoose, TakesUnused, TakesEach, KeepsLists, SettlesInbox, SettlesPart, SumsListed}
 
 module _ {T H P : Type 0} {g h : _} (domain : Domain T H P g h) (was is : Lists T H P g h) (of : AreListsOf domain was) where
   pub puts_plain : (bucket : Bucket T g) (result : Result (Unit {0}) (Bucket T g)) → plain_in is ≡ (if is_ok result then plain_in was ++ bucket ∷ [] else plain_in was) → OnOk result (PutsPlain domain bucket)
@@ -70,3 +75,17 @@ module _ {T H P : Type 0} {g h : _} (domain : Domain T H P g h) (was is : Lists 
   pub keeps_lists : {E : Type 0} (result : Result (Taken T H P g h) E) → OnErr result ((plain_in is ≡ plain_in was) × (sealed_in is ≡ sealed_in was) × (working_in is ≡ working_in was)) → loose_in is ≡ loose_in was → OnErr result (KeepsLists domain)
   keeps_lists (Ok taken) kept loose = tt
   keeps_lists (Err e) kept loose = record { was = was; is = is; of_domain = of; plain = kept.0; loose = loose; sealed = kept.1; working = kept.2 }
+
+-- by the inbox
+module _ {T H P : Type 0} {g h : _} (domain : Domain T H P g h) (was is : Locked T H P g h) (of : AreListsOf domain was.lists) where
+  pub settles_inbox : {E : Type 0} (result : Result ℕ E) → IfOk result (λ count. Settles was count is) → IfOk result (λ count. count < 65536 → AreAll (popped_by is.taker)) → IfOk result (SettlesInbox domain)
+  settles_inbox (Ok count) settles all = record { was = was; is = is; of_domain = of; settles = settles; all = all }
+  settles_inbox (Err e) settles all = tt
+
+  pub settles_part : {A E : Type 0} (result : Result A E) → OnErr result (SettlesSome was is) → OnErr result (SettlesPart domain)
+  settles_part (Ok count) settles = tt
+  settles_part (Err e) settles = record { was = was; is = is; of_domain = of; settles = settles }
+
+  pub sums_listed : {E : Type 0} (result : Result Sums E) → IfOk result (λ sums. SumsSettled was sums is) → IfOk result (SumsListed domain)
+  sums_listed (Ok sums) adds = record { was = was; is = is; of_domain = of; adds = adds }
+  sums_listed (Err e) adds = tt

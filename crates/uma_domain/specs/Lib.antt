@@ -8,4 +8,5 @@ pub mod Tries
 pub mod Lists
 pub mod Domain
 pub mod Sums
+pub mod Settled
 pub mod UnderLock

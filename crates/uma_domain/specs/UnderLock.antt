@@ -1,20 +1,26 @@
 -- Own: what a call of a domain did to its lists. They lie behind a lock, so each record names the lists of this very domain as the call found them under the lock, and as it left them.
-use Rattle.std.specs.Prelude.{◌≡◌, ◌+◌, ℕ, [], ◌∷◌, ◌++◌}
+use Rattle.std.specs.Prelude.{◌≡◌, ◌+◌, ◌<◌, ◌⊎◌, ℕ, [], ◌∷◌, ◌++◌}
 use Rattle.smr_clock.specs.declared.view.View.{View}
+use Rattle.inbox.specs.declared.port.Port.{Port}
+use Rattle.inbox.specs.Inbox.{sent_by, turned_by, popped_by}
+use Rattle.inbox.specs.Rule.{AreAll}
 use Rattle.uma_bucket.specs.declared.bucket.Bucket.{Bucket}
+use Rattle.uma_bucket.specs.declared.inbox_key.InboxKey.{InboxKey}
 use Rattle.uma_bucket.specs.declared.loose.Loose.{Loose}
 use Rattle.uma_bucket.specs.declared.sealed.Sealed.{Sealed}
 use Rattle.uma_bucket.specs.declared.ripe.Ripe.{Ripe}
+use Rattle.uma_bucket.specs.declared.shelved.Shelved.{Shelved}
+use Rattle.uma_bucket.specs.declared.shelved.Shelved.TheVariants.{Plain as Plain', Loose as Loose', Sealed as Sealed'}
 use Rattle.uma_bucket.specs.declared.sums.Sums.{Sums}
-use Rattle.uma_bucket.specs.Sums.{nothing_held, Adds}
 use Rattle.uma_domain.specs.declared.domain.Domain.{Domain}
 use Rattle.uma_domain.specs.declared.lists.Lists.{Lists}
+use Rattle.uma_domain.specs.declared.locked.Locked.{Locked}
 use Rattle.uma_domain.specs.declared.taken.Taken.{Taken}
 use Rattle.uma_domain.specs.Domain.{domain_identity}
 use Rattle.uma_domain.specs.Listed.{listed}
 use Rattle.uma_domain.specs.Lists.{lists_identity, plain_in, loose_in, sealed_in, working_in, missed_in}
 use Rattle.uma_domain.specs.Scans.{AllStay, TakesRipe}
-use Rattle.uma_domain.specs.Sums.{times_listed, deferred_listed}
+use Rattle.uma_domain.specs.Settled.{Settles, SettlesSome, SumsSettled}
 use Rattle.uma_domain.specs.Taken.{taken_in}
 use Rattle.uma_domain.specs.Tries.{SealsEach}
 use Rattle.uma_domain.specs.Trim.{Trims, TakesAll}
@@ -45,6 +51,37 @@ module _ {T H P : Type 0} {g h : _} where
     pub is : Lists T H P g h
     pub of_domain : AreListsOf domain was
     pub newest : sealed_in is ≡ sealed_in was ++ bucket ∷ []
+
+  -- the bucket is the newest of its kind
+  abbrev pub PutsShelved : Domain T H P g h → Shelved T H P g h → Type 0
+  PutsShelved domain (Plain' number bucket) = PutsPlain domain bucket
+  PutsShelved domain (Loose' number bucket) = PutsLoose domain bucket
+  PutsShelved domain (Sealed' number bucket) = PutsSealed domain bucket
+
+  -- as it lies in the domain's own inbox, where it needs no number of a domain
+  abbrev pub unnumbered : Shelved T H P g h → Shelved T H P g h
+  unnumbered (Plain' number bucket) = Plain' 0 bucket
+  unnumbered (Loose' number bucket) = Loose' 0 bucket
+  unnumbered (Sealed' number bucket) = Sealed' 0 bucket
+
+  -- The bucket is the last that the port pushed into the domain's inbox. Or the inbox handed it back, and it is the newest of its kind in the domain's lists.
+  pub record HandsOver (domain : Domain T H P g h) (was : Port (Shelved T H P g h) (InboxKey H P)) (shelved : Shelved T H P g h) (is : Port (Shelved T H P g h) (InboxKey H P)) : Type 0 where
+    pub went : (sent_by is ≡ sent_by was ++ unnumbered shelved ∷ []) ⊎ ((sent_by is ≡ sent_by was) × (turned_by is ≡ turned_by was + 1) × PutsShelved domain shelved)
+
+  -- so many buckets of the domain's inbox are listed; where they are fewer than 65,536, the inbox was empty at a step of the call
+  pub record SettlesInbox (domain : Domain T H P g h) (count : ℕ) : Type 0 where
+    pub was : Locked T H P g h
+    pub is : Locked T H P g h
+    pub of_domain : AreListsOf domain was.lists
+    pub settles : Settles was count is
+    pub all : count < 65536 → AreAll (popped_by is.taker)
+
+  -- some buckets of the domain's inbox are listed, and the rest is in the inbox
+  pub record SettlesPart (domain : Domain T H P g h) : Type 0 where
+    pub was : Locked T H P g h
+    pub is : Locked T H P g h
+    pub of_domain : AreListsOf domain was.lists
+    pub settles : SettlesSome was is
 
   -- the bucket was the newest plain one, and is taken
   pub record TakesPlain (domain : Domain T H P g h) (bucket : Bucket T g) : Type 0 where
@@ -132,8 +169,9 @@ module _ {T H P : Type 0} {g h : _} where
     pub same_least : least ≡ (working_in was).least
     pub same_greatest : greatest ≡ (working_in was).greatest
 
-  -- these are the sums of what was listed
+  -- these are the sums of what is listed after a settle
   pub record SumsListed (domain : Domain T H P g h) (sums : Sums) : Type 0 where
-    pub was : Lists T H P g h
-    pub of_domain : AreListsOf domain was
-    pub adds : Adds (times_listed (plain_in was) (loose_in was) (sealed_in was)) (deferred_listed (loose_in was) (sealed_in was)) nothing_held sums
+    pub was : Locked T H P g h
+    pub is : Locked T H P g h
+    pub of_domain : AreListsOf domain was.lists
+    pub adds : SumsSettled was sums is

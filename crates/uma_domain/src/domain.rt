@@ -1,43 +1,52 @@
-ghost use Rattle.std.specs.Prelude.{◌≡◌, ◌≤◌, ◌<◌, ◌^◌, ◌-◌, [], All, true, false, IfOk, IfErr, OnOk, OnErr, IfSome, IfNone};
+ghost use Rattle.std.specs.Prelude.{◌≡◌, ◌≤◌, ◌<◌, ◌+◌, ◌^◌, ◌-◌, [], All, true, false, IfOk, IfErr, OnOk, OnErr, IfSome, IfNone};
 ghost use Rattle.deed_book.specs.Book.{book_table};
+ghost use Rattle.deed_book.specs.FailBook.{fail_book_table, causes_of};
 ghost use Rattle.deed_book.specs.FailShare.{share_table, causes_in};
+ghost use Rattle.inbox.specs.Inbox.{inbox_id, port_number, sent_by, turned_by};
+ghost use Rattle.keyed_lock.specs.KeyedLock.{lock_key};
 ghost use Rattle.smr_clock.specs.Belongs.{IsOf, clock_id, view, holder};
+ghost use Rattle.uma_bucket.specs.Inboxes.{port_origin, taker_origin};
+ghost use Rattle.uma_bucket.specs.Shelved.{CanBeListed};
 ghost use Rattle.uma_bucket.specs.Sums.{AreOfAtMost, Balance};
-ghost use Rattle.uma_domain.specs.Domain.{domain_identity};
-ghost use Rattle.uma_domain.specs.Identity.{home_of};
+ghost use Rattle.uma_domain.specs.Identity.{home_of, key_identity, origin_of};
 ghost use Rattle.uma_domain.specs.Listed.{IsPlainOf, IsLooseOf, IsSealedOf, IsRipeOf};
 ghost use Rattle.uma_domain.specs.Lists.{IsRaised};
 ghost use Rattle.uma_domain.specs.Taken.{taken_in, IsTakenOf};
-ghost use Rattle.uma_domain.specs.UnderLock.{PutsPlain, PutsLoose, PutsSealed, TakesPlain, FindsNoPlain, TakesOldestRipe, FindsNoneRipe, SealsLoose, TakesUnused, TakesEach, KeepsLists, Marks, CountsListed, TellsWorking, SumsListed};
 
 use crate::key::DomainKey;
 use crate::lists::Lists;
+use crate::locked::Locked;
 use crate::rule::ListsOfKey;
 use crate::taken::Taken;
 use deed_book::{Book, FailBook, FailShare, Memory};
+use inbox::InboxName;
 use keyed_lock::KeyedLock;
 use smr_clock::{Clock, Host, Pass};
 use std::alloc::Global;
 use std::snapshot::Snapshot;
 use std::sync::Wait;
-use uma_bucket::{Bucket, Loose, Ripe, Sealed, Sums};
+use uma_bucket::{Bucket, Inbox, InboxKey, Loose, Port, Ripe, Sealed, Shelved, Sums, Taker};
 use uma_life::Body;
 
-/// The lists of one memory domain of a zone, behind a lock.
+/// The lists of one memory domain of a zone, behind a lock, and its inbox, into which a seat pushes by a port without it.
 ///
-/// Each call waits for the lock, makes the call of the same name on the lists, and lets the lock go. What it did to the
+/// Each call but a put waits for the lock, makes the call of the same name on the lists, and lets the lock go. What it did to the
 /// lists is said by lists of this domain as they stood under the lock, and as the call left them. What comes out was listed
 /// by this domain, so it isn't empty, its items are at home in the domain's book, zone and count of domains, and its note is
 /// of the domain's clock.
 #[derive(Drop)]
 pub struct Domain<T: Body, H: Host> {
     /// In a box, since each lock moves the value out and each unlock moves it in.
-    lists: KeyedLock<Box<Lists<T, H>>, DomainKey<H>, ListsOfKey>,
+    lists: KeyedLock<Box<Locked<T, H>>, DomainKey<H>, ListsOfKey>,
+    inbox: Inbox<T, H>,
+    ghost one_inbox: { inbox_id inbox ≡ (key_identity (lock_key lists)).inbox },
 }
 
 impl<T: Body + Drop, H: Host> Domain<T, H> {
-    /// A domain with empty lists, of a zone with so many domains over the keg whose item numbers are those of the book.
-    /// `smr` says whether readers of the zone hold no lock. The clock is that of the zone.
+    ghost use Rattle.uma_domain.specs.Domain.{domain_identity};
+
+    /// A domain with empty lists and an empty inbox, of a zone with so many domains over the keg whose item numbers are those
+    /// of the book. `smr` says whether readers of the zone hold no lock. The clock is that of the zone.
     pub fn new(
         alloc: Global,
         clock: &Clock<H>,
@@ -51,56 +60,204 @@ impl<T: Body + Drop, H: Host> Domain<T, H> {
         ensures smr { IfOk result (λ domain. (domain_identity domain).smr ≡ smr) }
     {
         let misses = FailBook::new(alloc)?;
-        let key = DomainKey {
+        let buckets = InboxKey {
             clock: Snapshot::of(clock),
+            book,
+            zone,
+            domains,
+        };
+        let (inbox, taker) = Inbox::<T, H>::new(alloc, &buckets)?;
+        let InboxKey { clock, book, .. } = buckets;
+        let key = DomainKey {
+            clock,
             book,
             misses: Snapshot::of(&misses),
             zone,
             domains,
             smr,
+            inbox: InboxName::of(&inbox),
         };
-        let Ok(lists) = Box::new(alloc, Lists::new(alloc, &key, misses)) else {
+        let lists = Domain::<T, H>::locked(alloc, &key, misses, taker)?;
+        Ok(Domain { lists, inbox })
+    }
+
+    // Empty lists behind their lock.
+    fn locked(
+        alloc: Global,
+        key: &DomainKey<H>,
+        misses: FailBook,
+        taker: Taker<T, H>,
+    ) -> Result<KeyedLock<Box<Locked<T, H>>, DomainKey<H>, ListsOfKey>, Memory>
+        requires book { fail_book_table misses ≡ (key_identity key.now).misses }
+        requires none { causes_of misses ≡ [] }
+        requires taker { taker_origin taker ≡ origin_of (key_identity key.now) }
+        ensures { IfOk result (λ lists. lock_key lists ≡ key.now) }
+    {
+        let locked = Locked {
+            lists: Lists::new(alloc, key, misses),
+            taker,
+        };
+        let Ok(locked) = Box::new(alloc, locked) else {
             return Err(Memory);
         };
-        match KeyedLock::new(alloc, lists, &key) {
-            Ok(lists) => Ok(Domain { lists }),
-            Err(_lists) => Err(Memory),
+        match KeyedLock::new(alloc, locked, key) {
+            Ok(lists) => Ok(lists),
+            Err(_locked) => Err(Memory),
         }
     }
 }
 
+/// What goes by the inbox.
+impl<T: Body + Drop, H: Host> Domain<T, H> {
+    ghost use Rattle.uma_domain.specs.Domain.{domain_identity};
+    ghost use Rattle.uma_domain.specs.UnderLock.{HandsOver, SettlesInbox, SettlesPart, SumsListed};
+
+    /// Hands a full plain bucket over by a port: pushes it into the inbox. Where the inbox hands it back, the bucket is
+    /// listed as the newest plain one, under the lock. It comes back where memory is wanting for that too, or where 2^32
+    /// items or more would be listed.
+    pub fn put_plain<R: Wait>(
+        &self,
+        rt: &R,
+        port: &mut Port<T, H>,
+        bucket: Bucket<T>,
+    ) -> Result<(), Bucket<T>>
+        requires port { port_origin port.old ≡ origin_of (domain_identity self.now) }
+        requires bucket { IsPlainOf (domain_identity self.now).home bucket }
+        ensures port { port_origin port.new ≡ port_origin port.old }
+        ensures number { port_number port.new ≡ port_number port.old }
+        ensures back { IfErr result (λ back. back ≡ bucket) }
+        ensures put { OnOk result (HandsOver self.now port.old (Shelved.Plain 0 bucket) port.new) }
+        ensures still { OnErr result (sent_by port.new ≡ sent_by port.old) }
+        ensures turned { OnErr result (turned_by port.new ≡ turned_by port.old + 1) }
+    {
+        let shelved = Shelved::Plain { domain: 0, bucket };
+        match self.inbox.push(rt, port, shelved) {
+            Ok(()) => Ok(()),
+            Err(Shelved::Plain { bucket, .. }) => self.list_plain(rt, bucket),
+            Err(_) => unreachable!(),
+        }
+    }
+
+    /// Hands a full loose bucket over by a port: pushes it into the inbox. Where the inbox hands it back, the bucket is
+    /// listed as the newest loose one, under the lock. It comes back where memory is wanting for that too, or where 2^32
+    /// items or more would be listed.
+    pub fn put_loose<R: Wait>(
+        &self,
+        rt: &R,
+        port: &mut Port<T, H>,
+        bucket: Loose<T>,
+    ) -> Result<(), Loose<T>>
+        requires port { port_origin port.old ≡ origin_of (domain_identity self.now) }
+        requires bucket { IsLooseOf (domain_identity self.now).home bucket }
+        ensures port { port_origin port.new ≡ port_origin port.old }
+        ensures number { port_number port.new ≡ port_number port.old }
+        ensures back { IfErr result (λ back. back ≡ bucket) }
+        ensures put { OnOk result (HandsOver self.now port.old (Shelved.Loose 0 bucket) port.new) }
+        ensures still { OnErr result (sent_by port.new ≡ sent_by port.old) }
+        ensures turned { OnErr result (turned_by port.new ≡ turned_by port.old + 1) }
+    {
+        let shelved = Shelved::Loose { domain: 0, bucket };
+        match self.inbox.push(rt, port, shelved) {
+            Ok(()) => Ok(()),
+            Err(Shelved::Loose { bucket, .. }) => self.list_loose(rt, bucket),
+            Err(_) => unreachable!(),
+        }
+    }
+
+    /// Hands a full sealed bucket over by a port: pushes it into the inbox. Where the inbox hands it back, the bucket is
+    /// listed as the newest sealed one, under the lock. It comes back where memory is wanting for that too, or where 2^32
+    /// items or more would be listed.
+    pub fn put_sealed<R: Wait>(
+        &self,
+        rt: &R,
+        port: &mut Port<T, H>,
+        bucket: Sealed<T, H>,
+    ) -> Result<(), Sealed<T, H>>
+        requires port { port_origin port.old ≡ origin_of (domain_identity self.now) }
+        requires bucket { IsSealedOf (domain_identity self.now) bucket }
+        ensures port { port_origin port.new ≡ port_origin port.old }
+        ensures number { port_number port.new ≡ port_number port.old }
+        ensures back { IfErr result (λ back. back ≡ bucket) }
+        ensures put { OnOk result (HandsOver self.now port.old (Shelved.Sealed 0 bucket) port.new) }
+        ensures still { OnErr result (sent_by port.new ≡ sent_by port.old) }
+        ensures turned { OnErr result (turned_by port.new ≡ turned_by port.old + 1) }
+    {
+        let shelved = Shelved::Sealed { domain: 0, bucket };
+        match self.inbox.push(rt, port, shelved) {
+            Ok(()) => Ok(()),
+            Err(Shelved::Sealed { bucket, .. }) => self.list_sealed(rt, bucket),
+            Err(_) => unreachable!(),
+        }
+    }
+
+    /// Lists what is in the inbox, each bucket as the newest of its kind, in the order in which they come, until the inbox is
+    /// empty or 65,536 buckets were listed in this call. Answers how many were. Where memory is wanting, or where 2^32 items
+    /// or more could be listed, what was listed stays listed, and the rest is in the inbox.
+    pub fn settle<R: Wait>(&self, rt: &R) -> Result<u32, Memory>
+        ensures settled { IfOk result (SettlesInbox self.now) }
+        ensures most { IfOk result (λ count. count ≤ 65536) }
+        ensures stays { OnErr result (SettlesPart self.now) }
+    {
+        let mut guard = self.lists.lock(rt);
+        guard.value.settle(rt, &self.inbox)
+    }
+
+    /// How often the items listed and those in the inbox passed each hook, and how many of them are freed: settles first. In
+    /// the domain's own zone the ctors exceed the dtors by those that are freed, and in every other zone they are equal,
+    /// modulo 2^64. Each is below 2^96.
+    pub fn sums<R: Wait>(&self, rt: &R) -> Result<Sums, Memory>
+        ensures adds { IfOk result (SumsListed self.now) }
+        ensures few { IfOk result (AreOfAtMost (2 ^ 32)) }
+        ensures below { IfOk result (AreOfAtMost (2 ^ 32 - 1)) }
+        ensures balance { IfOk result (Balance (domain_identity self.now).home.zone) }
+        ensures stays { OnErr result (SettlesPart self.now) }
+    {
+        let mut guard = self.lists.lock(rt);
+        guard.value.sums(rt, &self.inbox)
+    }
+}
+
 impl<T: Body, H: Host> Domain<T, H> {
-    /// Lists a bucket as the newest plain one. It comes back where memory is wanting, or where 2^32 items or more would be
-    /// listed.
-    pub fn put_plain<R: Wait>(&self, rt: &R, bucket: Bucket<T>) -> Result<(), Bucket<T>>
+    ghost use Rattle.uma_domain.specs.Domain.{domain_identity};
+    ghost use Rattle.uma_domain.specs.UnderLock.{PutsPlain, PutsLoose, PutsSealed, TakesPlain, FindsNoPlain, TakesOldestRipe, FindsNoneRipe, SealsLoose, TakesUnused, TakesEach, KeepsLists, Marks, CountsListed, TellsWorking};
+
+    /// The next port of the domain's inbox, which pushed nothing.
+    pub fn port<R: Wait>(&self, rt: &R) -> Port<T, H>
+        ensures origin { port_origin result ≡ origin_of (domain_identity self.now) }
+        ensures none { sent_by result ≡ [] }
+    {
+        let mut guard = self.lists.lock(rt);
+        guard.value.port(&self.inbox)
+    }
+
+    // Lists a bucket as the newest plain one.
+    fn list_plain<R: Wait>(&self, rt: &R, bucket: Bucket<T>) -> Result<(), Bucket<T>>
         requires { IsPlainOf (domain_identity self.now).home bucket }
         ensures back { IfErr result (λ back. back ≡ bucket) }
         ensures put { OnOk result (PutsPlain self.now bucket) }
     {
         let mut guard = self.lists.lock(rt);
-        guard.value.put_plain(bucket)
+        guard.value.lists.put_plain(bucket)
     }
 
-    /// Lists a bucket as the newest loose one. It comes back where memory is wanting, or where 2^32 items or more would be
-    /// listed.
-    pub fn put_loose<R: Wait>(&self, rt: &R, bucket: Loose<T>) -> Result<(), Loose<T>>
+    // Lists a bucket as the newest loose one.
+    fn list_loose<R: Wait>(&self, rt: &R, bucket: Loose<T>) -> Result<(), Loose<T>>
         requires { IsLooseOf (domain_identity self.now).home bucket }
         ensures back { IfErr result (λ back. back ≡ bucket) }
         ensures put { OnOk result (PutsLoose self.now bucket) }
     {
         let mut guard = self.lists.lock(rt);
-        guard.value.put_loose(bucket)
+        guard.value.lists.put_loose(bucket)
     }
 
-    /// Lists a bucket as the newest sealed one. It comes back where memory is wanting, or where 2^32 items or more would be
-    /// listed.
-    pub fn put_sealed<R: Wait>(&self, rt: &R, bucket: Sealed<T, H>) -> Result<(), Sealed<T, H>>
+    // Lists a bucket as the newest sealed one.
+    fn list_sealed<R: Wait>(&self, rt: &R, bucket: Sealed<T, H>) -> Result<(), Sealed<T, H>>
         requires { IsSealedOf (domain_identity self.now) bucket }
         ensures back { IfErr result (λ back. back ≡ bucket) }
         ensures put { OnOk result (PutsSealed self.now bucket) }
     {
         let mut guard = self.lists.lock(rt);
-        guard.value.put_sealed(bucket)
+        guard.value.lists.put_sealed(bucket)
     }
 
     /// A share of the domain's book of misses that has no cause.
@@ -109,7 +266,7 @@ impl<T: Body, H: Host> Domain<T, H> {
         ensures book { share_table result ≡ (domain_identity self.now).misses }
     {
         let mut guard = self.lists.lock(rt);
-        guard.value.open_misses()
+        guard.value.lists.open_misses()
     }
 
     /// Takes the newest plain bucket. None where there was none, which is one more miss in the share.
@@ -123,7 +280,7 @@ impl<T: Body, H: Host> Domain<T, H> {
         ensures looked { IfNone result (FindsNoPlain self.now) }
     {
         let mut guard = self.lists.lock(rt);
-        guard.value.take_plain(share)
+        guard.value.lists.take_plain(share)
     }
 
     /// Takes the oldest sealed bucket whose poll in this call says yes. None where each listed one's poll said no, which is
@@ -144,7 +301,7 @@ impl<T: Body, H: Host> Domain<T, H> {
         ensures looked { IfNone result (FindsNoneRipe self.now) }
     {
         let mut guard = self.lists.lock(rt);
-        guard.value.take_ripe(clock, share)
+        guard.value.lists.take_ripe(clock, share)
     }
 
     /// Each loose bucket tries once to be sealed, oldest first. Answers how many buckets were sealed.
@@ -158,7 +315,7 @@ impl<T: Body, H: Host> Domain<T, H> {
         ensures tried { SealsLoose self.now H.copied (view pass.old) result (view pass.new) }
     {
         let mut guard = self.lists.lock(rt);
-        guard.value.seal_loose(clock, pass)
+        guard.value.lists.seal_loose(clock, pass)
     }
 
     /// Takes what the domain didn't use since the last mark, and begins a new interval.
@@ -174,7 +331,7 @@ impl<T: Body, H: Host> Domain<T, H> {
         ensures unchanged { OnErr result (KeepsLists self.now) }
     {
         let mut guard = self.lists.lock(rt);
-        guard.value.take_trim(alloc, clock)
+        guard.value.lists.take_trim(alloc, clock)
     }
 
     /// Takes every plain bucket, and each sealed one whose poll in this call says yes.
@@ -190,7 +347,7 @@ impl<T: Body, H: Host> Domain<T, H> {
         ensures unchanged { OnErr result (KeepsLists self.now) }
     {
         let mut guard = self.lists.lock(rt);
-        guard.value.take_all(alloc, clock)
+        guard.value.lists.take_all(alloc, clock)
     }
 
     /// How many items are listed.
@@ -199,7 +356,7 @@ impl<T: Body, H: Host> Domain<T, H> {
         ensures counted { CountsListed self.now result }
     {
         let guard = self.lists.lock(rt);
-        guard.value.count()
+        guard.value.lists.count()
     }
 
     /// The least and the greatest count of items listed since the last mark.
@@ -208,7 +365,7 @@ impl<T: Body, H: Host> Domain<T, H> {
         ensures told { TellsWorking self.now result.0 result.1 }
     {
         let guard = self.lists.lock(rt);
-        guard.value.working()
+        guard.value.lists.working()
     }
 
     /// Begins a new interval.
@@ -216,18 +373,6 @@ impl<T: Body, H: Host> Domain<T, H> {
         ensures marked { Marks self.now }
     {
         let mut guard = self.lists.lock(rt);
-        guard.value.mark();
-    }
-
-    /// How often the items listed passed each hook, and how many of them are freed. In the domain's own zone the ctors
-    /// exceed the dtors by those that are freed, and in every other zone they are equal, modulo 2^64. Each is below 2^96.
-    pub fn sums<R: Wait>(&self, rt: &R) -> Sums
-        ensures adds { SumsListed self.now result }
-        ensures few { AreOfAtMost (2 ^ 32) result }
-        ensures below { AreOfAtMost (2 ^ 32 - 1) result }
-        ensures balance { Balance (domain_identity self.now).home.zone result }
-    {
-        let guard = self.lists.lock(rt);
-        guard.value.sums()
+        guard.value.lists.mark();
     }
 }

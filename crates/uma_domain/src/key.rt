@@ -1,4 +1,5 @@
 use deed_book::{Book, FailBook};
+use inbox::InboxName;
 use smr_clock::{Clock, Host};
 use std::snapshot::Snapshot;
 
@@ -15,4 +16,6 @@ pub struct DomainKey<H: Host> {
     pub domains: u8,
     /// Whether readers of the zone hold no lock, so that a freed item waits until no section may see it.
     pub smr: bool,
+    /// Its inbox.
+    pub inbox: InboxName,
 }

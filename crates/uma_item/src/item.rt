@@ -3,24 +3,14 @@ ghost use Rattle.uma_item.specs.Counts.{stay_at, kept_stays, KeepsItsStays};
 ghost use Rattle.uma_life.specs.Trail.{keg_inits_by, keg_finis_by, open_builds, open_stays};
 
 use crate::stay_counts::StayCounts;
+use crate::trailed::Trailed;
 use uma_life::{Body, BodyPhase, Tally, ZoneTally};
 
-/// An item that keeps the user's data with its own trail, which takes at most 32 bytes.
-///
-/// 1. What the life trail lets one derive isn't kept: the keg's counts follow from the phase, a zone's dtors from its
-///    ctors and the phase, its finis from its inits and the phase.
-/// 2. An item that never enters a secondary zone keeps the count of its ctors alone. One that may has its other counts
-///    in a box, which is taken when the item is made.
+/// An item that keeps the user's data with its own trail, in one block that is made with its slab: what moves is one word.
 #[derive(Drop)]
 pub struct Item<B> {
-    pub(crate) data: B,
-    pub(crate) no: u32,
-    pub(crate) phase: BodyPhase,
-    /// The ctors of the primary zone.
-    pub(crate) ctors: u64,
-    /// The counts of zones 1 to 7, each at one place less.
-    pub(crate) stays: Option<Box<[StayCounts; 7]>>,
-    pub ghost counted: { KeepsItsStays phase (kept_stays stays) },
+    pub(crate) whole: Box<Trailed<B>>,
+    pub ghost counted: { KeepsItsStays whole.value.phase (kept_stays whole.value.stays) },
 }
 
 /// 1 where an item of this phase is built in the zone, else 0.
@@ -72,29 +62,7 @@ impl<B> Item<B> {
     pub fn data(&self) -> &B
         ensures { result.now ≡ item_data self.now }
     {
-        &self.data
-    }
-
-    /// The data, and the item without it.
-    pub(crate) fn part(self) -> (B, Item<()>)
-        ensures data { result.0 ≡ item_data self }
-        ensures life { item_life result.1 ≡ item_life self }
-    {
-        let Item {
-            data,
-            no,
-            phase,
-            ctors,
-            stays,
-        } = self;
-        let trail = Item {
-            data: (),
-            no,
-            phase,
-            ctors,
-            stays,
-        };
-        (data, trail)
+        &self.whole.data
     }
 
     /// The kept counts of a secondary zone; 0 where the item keeps none.
@@ -103,7 +71,7 @@ impl<B> Item<B> {
         ensures { result ≡ stay_at (item_stays self.now) zone }
     {
         let none = StayCounts { inits: 0, ctors: 0 };
-        match &self.stays {
+        match &self.whole.stays {
             Some(counts) => counts.get(zone as usize - 1).copied().unwrap_or(none),
             None => none,
         }
@@ -116,8 +84,8 @@ impl<B> Item<B> {
         if zone == 0 {
             return ZoneTally {
                 inits: 0,
-                ctors: self.ctors,
-                dtors: self.ctors.wrapping_sub(builds(self.phase, 0)),
+                ctors: self.whole.ctors,
+                dtors: self.whole.ctors.wrapping_sub(builds(self.whole.phase, 0)),
                 finis: 0,
             };
         }
@@ -125,8 +93,8 @@ impl<B> Item<B> {
         ZoneTally {
             inits: stay.inits,
             ctors: stay.ctors,
-            dtors: stay.ctors.wrapping_sub(builds(self.phase, zone)),
-            finis: stay.inits.wrapping_sub(stays(self.phase, zone)),
+            dtors: stay.ctors.wrapping_sub(builds(self.whole.phase, zone)),
+            finis: stay.inits.wrapping_sub(stays(self.whole.phase, zone)),
         }
     }
 
@@ -135,8 +103,8 @@ impl<B> Item<B> {
         ensures { result ≡ item_tally self.now }
     {
         Tally {
-            keg_inits: keg_inits(self.phase),
-            keg_finis: keg_finis(self.phase),
+            keg_inits: keg_inits(self.whole.phase),
+            keg_finis: keg_finis(self.whole.phase),
             zones: [
                 self.counts(0),
                 self.counts(1),
@@ -151,42 +119,17 @@ impl<B> Item<B> {
     }
 }
 
-impl Item<()> {
-    ghost use Rattle.uma_item.specs.Item.{item_data, item_life};
-
-    /// The item with data in it.
-    pub(crate) fn with_data<B>(self, data: B) -> Item<B>
-        ensures data { item_data result ≡ «data» }
-        ensures life { item_life result ≡ item_life self }
-    {
-        let Item {
-            data: _,
-            no,
-            phase,
-            ctors,
-            stays,
-        } = self;
-        Item {
-            data,
-            no,
-            phase,
-            ctors,
-            stays,
-        }
-    }
-}
-
 impl<B> Body for Item<B> {
     ghost use Rattle.uma_item.specs.Item.{item_life};
 
     ghost life = { λ item. item_life item };
 
     fn no(&self) -> u32 {
-        self.no
+        self.whole.no
     }
 
     fn phase(&self) -> BodyPhase {
-        self.phase
+        self.whole.phase
     }
 
     fn tally(&self) -> Tally {

@@ -57,7 +57,7 @@ impl<B> Item<B> {
         ensures none { result ≡ false → item_stays self.now ≡ [] }
         ensures all { result ≡ true → length (item_stays self.now) ≡ 7 }
     {
-        match &self.stays {
+        match &self.whole.stays {
             Some(counts) => are_seven(counts),
             None => false,
         }
@@ -69,7 +69,7 @@ impl<B> Item<B> {
         ensures life { item_life self.new ≡ after KegInit (item_life self.old) }
         ensures data { item_data self.new ≡ item_data self.old }
     {
-        self.phase = BodyPhase::Kept;
+        self.whole.phase = BodyPhase::Kept;
     }
 
     /// The item passes `keg_fini`.
@@ -78,7 +78,7 @@ impl<B> Item<B> {
         ensures life { item_life self.new ≡ after KegFini (item_life self.old) }
         ensures data { item_data self.new ≡ item_data self.old }
     {
-        self.phase = BodyPhase::Gone;
+        self.whole.phase = BodyPhase::Gone;
     }
 
     /// The item passes `dtor`.
@@ -87,7 +87,7 @@ impl<B> Item<B> {
         ensures life { item_life self.new ≡ after (Dtor zone) (item_life self.old) }
         ensures data { item_data self.new ≡ item_data self.old }
     {
-        self.phase = unbuilt(zone);
+        self.whole.phase = unbuilt(zone);
     }
 
     /// The item passes `zone_fini`.
@@ -96,7 +96,7 @@ impl<B> Item<B> {
         ensures life { item_life self.new ≡ after (ZoneFini zone) (item_life self.old) }
         ensures data { item_data self.new ≡ item_data self.old }
     {
-        self.phase = BodyPhase::Kept;
+        self.whole.phase = BodyPhase::Kept;
     }
 
     /// The item passes `zone_init` of a secondary zone. It keeps the counts of its stays.
@@ -106,8 +106,8 @@ impl<B> Item<B> {
         ensures life { item_life self.new ≡ after (ZoneInit zone) (item_life self.old) }
         ensures data { item_data self.new ≡ item_data self.old }
     {
-        count_init(&mut self.stays, zone);
-        self.phase = BodyPhase::Zoned { zone };
+        count_init(&mut self.whole.stays, zone);
+        self.whole.phase = BodyPhase::Zoned { zone };
     }
 
     /// The item passes `ctor`.
@@ -128,8 +128,8 @@ impl<B> Item<B> {
         ensures life { item_life self.new ≡ after (Ctor 0) (item_life self.old) }
         ensures data { item_data self.new ≡ item_data self.old }
     {
-        self.ctors = self.ctors.wrapping_add(1);
-        self.phase = BodyPhase::Built { zone: 0 };
+        self.whole.ctors = self.whole.ctors.wrapping_add(1);
+        self.whole.phase = BodyPhase::Built { zone: 0 };
     }
 
     fn begin_use_in_stay(&mut self, zone: u8)
@@ -138,7 +138,7 @@ impl<B> Item<B> {
         ensures life { item_life self.new ≡ after (Ctor zone) (item_life self.old) }
         ensures data { item_data self.new ≡ item_data self.old }
     {
-        count_ctor(&mut self.stays, zone);
-        self.phase = BodyPhase::Built { zone };
+        count_ctor(&mut self.whole.stays, zone);
+        self.whole.phase = BodyPhase::Built { zone };
     }
 }

@@ -5,6 +5,7 @@ ghost use Rattle.uma_item.specs.Item.{item_data, item_stays};
 use crate::item::Item;
 use crate::item_hooks::ItemHooks;
 use crate::stay_counts::StayCounts;
+use crate::trailed::Trailed;
 use std::alloc::Global;
 use std::sync::Wait;
 use uma_life::{BodyPhase, Hooks, Memory, Tally};
@@ -63,6 +64,23 @@ fn first_box(alloc: Global, stays: bool) -> Result<Option<Box<[StayCounts; 7]>>,
     Ok(Some(new_stays(alloc)?))
 }
 
+impl<K> TrailHooks<K> {
+    /// Ends the data of an item, and its trail.
+    fn end<B, R: Wait>(&self, rt: &R, whole: Trailed<B>)
+    where
+        K: ItemHooks<B>,
+    {
+        let Trailed {
+            data,
+            no: _,
+            phase: _,
+            ctors: _,
+            stays: _,
+        } = whole;
+        self.hooks.bury(rt, data);
+    }
+}
+
 impl<B, K: ItemHooks<B>> Hooks<Item<B>> for TrailHooks<K> {
     ghost makes = { λ hooks number made. K.makes hooks.hooks number (item_data made) × (item_stays made ≡ first_stays hooks.stays) };
 
@@ -81,17 +99,24 @@ impl<B, K: ItemHooks<B>> Hooks<Item<B>> for TrailHooks<K> {
     fn raw<R: Wait>(&self, rt: &R, alloc: Global, no: u32) -> Result<Item<B>, Memory> {
         let stays = first_box(alloc, self.stays)?;
         let data = self.hooks.make(rt, alloc, no)?;
-        Ok(Item {
+        let whole = Trailed {
             data,
             no,
             phase: BodyPhase::Raw,
             ctors: 0,
             stays,
-        })
+        };
+        match Box::new(alloc, whole) {
+            Ok(whole) => Ok(Item { whole }),
+            Err(refused) => {
+                self.end(rt, refused.value);
+                Err(Memory)
+            }
+        }
     }
 
     fn keg_init(&self, item: &mut Item<B>) -> Result<(), u8> {
-        self.hooks.init(0, &mut item.data)?;
+        self.hooks.init(0, &mut item.whole.data)?;
         item.come();
         Ok(())
     }
@@ -100,42 +125,35 @@ impl<B, K: ItemHooks<B>> Hooks<Item<B>> for TrailHooks<K> {
         if !item.keeps_stays() {
             return Err(NO_STAYS);
         }
-        self.hooks.init(zone, &mut item.data)?;
+        self.hooks.init(zone, &mut item.whole.data)?;
         item.enter(zone);
         Ok(())
     }
 
     fn ctor(&self, zone: u8, item: &mut Item<B>, arg: u64) -> Result<(), u8> {
-        self.hooks.ctor(zone, &mut item.data, arg)?;
+        self.hooks.ctor(zone, &mut item.whole.data, arg)?;
         item.begin_use(zone);
         Ok(())
     }
 
     fn dtor(&self, zone: u8, item: &mut Item<B>) {
-        self.hooks.dtor(zone, &mut item.data);
+        self.hooks.dtor(zone, &mut item.whole.data);
         item.end_use(zone);
     }
 
     fn zone_fini(&self, zone: u8, item: &mut Item<B>) {
-        self.hooks.fini(zone, &mut item.data);
+        self.hooks.fini(zone, &mut item.whole.data);
         item.leave(zone);
     }
 
     fn keg_fini(&self, item: &mut Item<B>) {
-        self.hooks.fini(0, &mut item.data);
+        self.hooks.fini(0, &mut item.whole.data);
         item.go();
     }
 
     fn bury<R: Wait>(&self, rt: &R, item: Item<B>) -> Tally {
         let tally = item.whole_tally();
-        let Item {
-            data,
-            no: _,
-            phase: _,
-            ctors: _,
-            stays,
-        } = item;
-        self.hooks.bury(rt, data);
+        self.end(rt, Box::into_inner(item.whole));
         tally
     }
 }

@@ -14,7 +14,7 @@ use Rattle.uma_seat.specs.Counts.{fails_in}
 use Rattle.uma_seat.specs.Row.{stacks_of}
 use Rattle.uma_seat.specs.Seating.{home_of}
 use Rattle.uma_seat.specs.Stack.{Stack, stack_of, stack_at, empty_stack}
-use Rattle.uma_seat.specs.Seat.{seat_home, seat_smr, seat_domain, top_of, top_tickets, plain_of, usable_of, is_exchanged, top_ready, plain_ready, Pops, TakesCross, HasNoCross, IsSameSeat, KeepsTop, KeepsPlain, KeepsCounts, KeepsMisses}
+use Rattle.uma_seat.specs.Seat.{seat_home, seat_smr, seat_domain, top_of, top_tickets, plain_of, usable_of, is_exchanged, top_ready, plain_ready, Pops, TakesCross, HasNoCross, IsSameSeat, KeepsTop, KeepsPlain, KeepsCounts, KeepsMisses, KeepsPorts}
 use Rattle.uma_zone.specs.Domains.{domains_home}
 use Rattle.uma_zone.proofs.DomainSeats.{refilled_seat, still_seat}
 use Rattle.uma_zone.specs.declared.zone.Zone.{Zone}
@@ -113,17 +113,17 @@ module _ {T H P : Type 0} {g h : _} where
 
 module _ {T K H P : Type 0} {g k h : _} (zone : Zone T K H P g k h) (old new : SeatCache T H P g h) where
   -- a seat that is made for the same is one of its zone
-  pub taken_of : IsSameSeat old new → AreHome (seat_home new) (top_tickets new) → KeepsCounts old new → KeepsMisses old new → IsSeatOf zone old → IsSeatOf zone new
-  taken_of same here counts misses was =
+  pub taken_of : IsSameSeat old new → AreHome (seat_home new) (top_tickets new) → KeepsCounts old new → KeepsMisses old new → KeepsPorts old new → IsSeatOf zone old → IsSeatOf zone new
+  taken_of same here counts misses ports was =
       let home : seat_home new ≡ domains_home zone.domains = ap home_of same.0 ∙ was.of_domains.same_home in
       record {
-        of_domains = refilled_seat zone.domains old new new.top same.0 misses refl (subst (λ (x : Home). AreHome x (top_tickets new)) home here) was.of_domains;
+        of_domains = refilled_seat zone.domains old new new.top same.0 misses ports refl (subst (λ (x : Home). AreHome x (top_tickets new)) home here) was.of_domains;
         fails = ap (λ (c : Counts). fails_in c) counts ∙ was.fails;
       }
 
   -- one whose allocation bucket is the same too
-  pub still_of : IsSameSeat old new → KeepsTop old new → KeepsCounts old new → KeepsMisses old new → IsSeatOf zone old → IsSeatOf zone new
-  still_of same top counts misses was = record {
-    of_domains = still_seat zone.domains old new same.0 misses top was.of_domains;
+  pub still_of : IsSameSeat old new → KeepsTop old new → KeepsCounts old new → KeepsMisses old new → KeepsPorts old new → IsSeatOf zone old → IsSeatOf zone new
+  still_of same top counts misses ports was = record {
+    of_domains = still_seat zone.domains old new same.0 misses ports top was.of_domains;
     fails = ap (λ (c : Counts). fails_in c) counts ∙ was.fails;
   }

@@ -1,5 +1,5 @@
 -- An empty shelf has the last of any buckets, of which none is left.
-use Rattle.std.proofs.Common.{◌≡◌, List, [], ◌++◌, map, Result, Ok, Err, OnErr, sym, ap, ◌∙◌}
+use Rattle.std.proofs.Common.{◌≡◌, List, [], ◌++◌, map, Result, Ok, Err, OnOk, OnErr, sym, ap, ◌∙◌}
 use Rattle.std.proofs.lemmas.List.{append-nil}
 use Rattle.uma_bucket.specs.declared.shelved.Shelved.{Shelved}
 use Rattle.uma_zone.specs.Flushed.{bound_of, HasLastOf}
@@ -14,3 +14,8 @@ none_stays {T} {H} {P} {g} {h} was is none = record {
 pub at_err : {A E F : Type 0} (result : Result A E) → F → OnErr result F
 at_err (Ok a) x = tt
 at_err (Err e) x = x
+
+-- what follows from what holds at an Ok
+pub then_ok : {A E F G : Type 0} (result : Result A E) → (F → G) → OnOk result F → OnOk result G
+then_ok (Ok a) then x = then x
+then_ok (Err e) then x = tt

@@ -2,13 +2,15 @@
 use Rattle.std.specs.Prelude.{◌≡◌, ℕ, suc, Some, List, [], ◌∷◌, length, map}
 use Rattle.std.specs.List.{All}
 use Rattle.std.specs.declared.snapshot.Snapshot.{Snapshot}
+use Rattle.smr_clock.specs.declared.view.View.{View}
 use Rattle.uma_domain.specs.declared.domain.Domain.{Domain}
 use Rattle.uma_domain.specs.declared.taken.Taken.{Taken}
 use Rattle.uma_domain.specs.declared.taken.TakenBucket.{TakenBucket}
 use Rattle.uma_domain.specs.Taken.{taken_in}
 use Rattle.uma_domain.specs.UnderLock.{TakesUnused, TakesEach}
 use Rattle.uma_zone.specs.declared.zone.Zone.{Zone}
-use Rattle.uma_zone.specs.Zone.{zone_domains, zone_domain}
+use Rattle.uma_zone.specs.OwnDomain.{SettlesFirst}
+use Rattle.uma_zone.specs.Zone.{lists_of, zone_domains, zone_domain}
 use Rattle.uma_reclaim.specs.declared.extent.Extent.{Extent}
 use Rattle.uma_reclaim.specs.declared.extent.Extent.TheVariants.{Unused, All as All'}
 use Rattle.uma_reclaim.specs.declared.reclaimed.Reclaimed.{Reclaimed}
@@ -29,6 +31,12 @@ module _ {T H P : Type 0} {g h : _} where
   Takes All' domain taken = TakesEach domain taken
 
 module _ {T K H P : Type 0} {g k h : _} where
+  -- Each domain of the zone was settled, one after another, in the order of their numbers: its inbox into its lists, and in an SMR zone each loose bucket that they had then was tried once to be sealed.
+  pub record AreSettled (zone : Zone T K H P g k h) (copied : P → P) : Type 0 where
+    pub before : View P
+    pub after : View P
+    pub settles : SettlesFirst (lists_of zone) copied before (zone_domains zone) after
+
   -- As many takes as the zone has domains, each of buckets that a domain of the zone may have listed.
   pub record ComesFrom (zone : Zone T K H P g k h) (takes : List (List (TakenBucket T H P g h))) : Type 0 where
     pub each : length takes ≡ zone_domains zone

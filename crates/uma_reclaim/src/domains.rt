@@ -3,7 +3,7 @@ ghost use Rattle.std.specs.List.{All};
 ghost use Rattle.smr_clock.specs.Belongs.{IsOf, clock_id, view, holder};
 ghost use Rattle.uma_domain.specs.Taken.{taken_in};
 ghost use Rattle.uma_zone.specs.Zone.{zone_clock, zone_domains};
-ghost use Rattle.uma_reclaim.specs.Given.{IsFromZone, items_in, counted};
+ghost use Rattle.uma_reclaim.specs.Given.{IsFromZone, AreGiven, items_in, counted};
 ghost use Rattle.uma_reclaim.specs.Told.{notes_in, TakesInNotes};
 ghost use Rattle.uma_reclaim.specs.Reclaimed.{takes_of, ComesFrom, IsTakenAt, TakesInTurn};
 
@@ -41,6 +41,7 @@ pub(crate) fn give_back<T: Body, K: Hooks<T>, H: Host, R: Wait>(
     ensures from { IfOk result (λ done. ComesFrom zone.now (takes_of done)) }
     ensures own { IfOk result (λ done. TakesInTurn zone.now extent 0 (takes_of done)) }
     ensures items { IfOk result (λ done. done.items ≡ counted (sum_by items_in (takes_of done))) }
+    ensures given { IfOk result (λ done. AreGiven zone.now (takes_of done)) }
     ensures slabs { IfOk result (λ done. done.slabs ≡ 0) }
 {
     let mut items = 0u64;

@@ -3,7 +3,7 @@ ghost use Rattle.std.specs.List.{All};
 ghost use Rattle.smr_clock.specs.Belongs.{IsOf, clock_id, view, holder};
 ghost use Rattle.uma_domain.specs.Taken.{taken_in};
 ghost use Rattle.uma_zone.specs.Zone.{zone_clock};
-ghost use Rattle.uma_reclaim.specs.Given.{IsFromZone, bucket_len, items_in, counted};
+ghost use Rattle.uma_reclaim.specs.Given.{IsFromZone, GivesBucket, bucket_len, items_in, counted};
 ghost use Rattle.uma_reclaim.specs.Told.{notes_of, notes_in};
 
 use smr_clock::{Clock, Host, Pass};
@@ -29,6 +29,7 @@ pub(crate) fn give_taken<T: Body, K: Hooks<T>, H: Host, R: Wait>(
     ensures seen { (holder pass.old).seen ≤ (holder pass.new).seen }
     ensures told { (view pass.new).host ≡ fold H.merged (view pass.old).host (notes_in (taken_in taken)) }
     ensures count { result ≡ counted (items_in (taken_in taken)) }
+    ensures given { All (GivesBucket zone.now) (taken_in taken) }
 {
     let mut count = 0u64;
     while let Some(bucket) = taken.pop() {
@@ -56,6 +57,7 @@ fn give_bucket<T: Body, K: Hooks<T>, H: Host, R: Wait>(
     ensures seen { (holder pass.old).seen ≤ (holder pass.new).seen }
     ensures told { (view pass.new).host ≡ fold H.merged (view pass.old).host (notes_of bucket) }
     ensures count { result ≡ bucket_len bucket }
+    ensures given { GivesBucket zone.now bucket }
 {
     match bucket {
         TakenBucket::Plain { bucket } => zone.give(rt, bucket),

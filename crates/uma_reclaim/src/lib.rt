@@ -21,6 +21,7 @@ mod emptying;
 mod extent;
 mod giving;
 mod reclaimed;
+mod settling;
 mod trimming;
 
 pub use draining::{drain, drain_seat};

@@ -16,6 +16,7 @@ use Rattle.trace_worker.specs.declared.name_calls.NameCalls.{Ghosts as NameGhost
 use Rattle.trace_worker.specs.declared.naming.Naming.{Naming}
 use Rattle.trace_worker.specs.declared.running.Running.{Running}
 use Rattle.trace_worker.specs.declared.worker.Worker.{Worker}
+use Rattle.trace_worker.specs.Attendance.{worker_in}
 use Rattle.trace_worker.specs.NameSizes.{NameSizes, sizes_for}
 use Rattle.trace_worker.specs.NamesStand.{NamesStand}
 use Rattle.trace_worker.specs.Together.{AddsUp, AllNamed, AllStand, crew}
@@ -24,11 +25,13 @@ use Rattle.trace_play.specs.Setting.{IsSetUp}
 use Rattle.trace_play.specs.DoneBy.{done_by, is_by}
 use Rattle.trace_play.specs.Betweens.{DoRounds}
 use Rattle.trace_play.specs.Plays.{AllPlay}
-use Rattle.trace_play.specs.Rounds.{AllAsked, GaveUpAsBefore, IsBegun, Suits}
+use Rattle.trace_play.specs.Rounds.{GaveUpAsBefore, IsBegun, Suits}
 use Rattle.uma_replay.specs.Hall.{AreDone, NamesDone}
-use Rattle.uma_replay.specs.Playing.{AreFirst, HaveEnded, gave_ups_of, namings_of}
-use Rattle.uma_replay.proofs.Playing.{played_of, together_of}
+use Rattle.uma_replay.specs.Playing.{AllBack, AreFirst, HaveEnded, gave_ups_of, namings_of}
+use Rattle.uma_replay.proofs.ComingBack.{back_stay}
+use Rattle.uma_replay.proofs.Playing.{played_of, played_stay, together_of}
 use Rattle.uma_replay.proofs.Runnings.{named_first, of_both}
+use Rattle.uma_replay.proofs.Staying.{found_before}
 
 few_enough : (n : ℕ) → n ≤ 16777216 → n < 2 ^ 31
 few_enough n few = omega arith
@@ -44,7 +47,7 @@ module _ {N H C S Part : Type 0} {h : Ghosts H Part} (names : NameGhosts N H C S
     zone_count = is.zones.count;
     of_clock = is.zones.of_clock;
     names_of_clock = λ serves. sym (of_clock serves);
-    worker_count = sym (length-map begun (λ r. r.worker)) ∙ (ap length first.are ∙ is.begin.one_each);
+    worker_count = sym (length-map begun worker_in) ∙ (ap length first.are ∙ is.begin.one_each);
   }
 
   -- and did no line yet
@@ -55,47 +58,48 @@ module _ {N H C S Part : Type 0} {h : Ghosts H Part} (names : NameGhosts N H C S
       record {
         stand = subst P (sym first.are) is.stand;
         adds_up = subst Q (sym first.are) is.adds_up;
-        named = λ n r at. named_first names cache n r.worker.late (n % t.head.domains) r (first.each n r at);
+        named = λ n r at. named_first names cache n (worker_in r).late (n % t.head.domains) r (first.each n r at);
+        absent = λ n r at. (first.each n r at).there;
         unasked = λ n r at. let one = first.each n r at in (one.asked, one.gave_up);
       }
 
   worker_count : (t : Trace) (s : Setting H Part h) (begun ended : List (Running N H C S Part h)) → IsSetUp t s → AreFirst names cache t.head.domains s.workers.items begun → length ended ≡ length begun → length ended ≡ t.head.workers
-  worker_count t s begun ended is first count = count ∙ (sym (length-map begun (λ r. r.worker)) ∙ (ap length first.are ∙ is.begin.one_each))
+  worker_count t s begun ended is first count = count ∙ (sym (length-map begun worker_in) ∙ (ap length first.are ∙ is.begin.one_each))
 
   -- the workers when all rounds are done
-  pub done_of : (t : Trace) (s : Setting H Part h) (begun ended : List (Running N H C S Part h)) (workers : List (Worker H Part h)) → IsSetUp t s → AreFirst names cache t.head.domains s.workers.items begun → length ended ≡ length begun
-      → AllStand s.zones.items s.clock (reverse (lines_of t.rounds)) (crew ended) → ((z : ℕ) → AddsUp z (crew ended)) → workers ≡ crew ended → AreDone t s.zones.items s.clock workers
-  done_of t s begun ended workers is first count stand adds_up same =
-      let P : List (Worker H Part h) → Type 0 = λ ws. AreDone t s.zones.items s.clock ws in
-      subst P (sym same) (record {
-        clock_made = is.clock;
-        zones_made = is.zones;
-        worker_count = length-map ended (λ r. r.worker) ∙ worker_count t s begun ended is first count;
-        stand = stand;
-        adds_up = adds_up;
-      })
+  pub done_of : (t : Trace) (s : Setting H Part h) (begun ended : List (Running N H C S Part h)) → IsSetUp t s → AreFirst names cache t.head.domains s.workers.items begun → length ended ≡ length begun
+      → AllStand s.zones.items s.clock (reverse (lines_of t.rounds)) (crew ended) → ((z : ℕ) → AddsUp z (crew ended)) → AreDone t s.zones.items s.clock (crew ended)
+  done_of t s begun ended is first count stand adds_up = record {
+    clock_made = is.clock;
+    zones_made = is.zones;
+    worker_count = length-map ended worker_in ∙ worker_count t s begun ended is first count;
+    stand = stand;
+    adds_up = adds_up;
+  }
 
   -- and what each has of the names
-  pub named_of : (t : Trace) (s : Setting H Part h) (begun ended : List (Running N H C S Part h)) (workers : List (Worker H Part h)) (namings : List (Naming N H C S Part)) → IsSetUp t s → AreFirst names cache t.head.domains s.workers.items begun
+  pub named_of : (t : Trace) (s : Setting H Part h) (begun ended : List (Running N H C S Part h)) (back : List (Worker H Part h)) (namings : List (Naming N H C S Part)) → IsSetUp t s → AreFirst names cache t.head.domains s.workers.items begun
       → length ended ≡ length begun → names.serves ≡ is_some t.head.names → (IsTrue names.serves → names.clock_of cache ≡ clock_id s.clock) → IfSome t.head.names (λ line. names.sizes_of cache ≡ sizes_for t.head line)
       → AllStand s.zones.items s.clock (reverse (lines_of t.rounds)) (crew ended) → AllNamed names cache (reverse (lines_of t.rounds)) ended → AllPlay names cache s.zones.items t.rounds begun ended
-      → DoRounds names cache s.zones.items t.rounds begun ended → workers ≡ crew ended → namings ≡ namings_of ended → NamesDone names t cache s.zones.items s.clock workers namings
-  named_of t s begun ended workers namings is first count served of_clock sizes stand named plays did same same_namings =
-      let P : List (Worker H Part h) → Type 0 = λ ws. NamesDone names t cache s.zones.items s.clock ws namings in
-      let Q : List (Naming N H C S Part) → Type 0 = λ gs. NamesDone names t cache s.zones.items s.clock (crew ended) gs in
-      subst P (sym same) (subst Q (sym same_namings) (record {
+      → DoRounds names cache s.zones.items t.rounds begun ended → AllBack s.clock (crew ended) back → namings ≡ namings_of ended → NamesDone names t cache s.zones.items s.clock back namings
+  named_of t s begun ended back namings is first count served of_clock sizes stand named plays did comes same_namings =
+      let Q : List (Naming N H C S Part) → Type 0 = λ gs. NamesDone names t cache s.zones.items s.clock back gs in
+      let stay = back_stay s.clock (crew ended) back comes in
+      subst Q (sym same_namings) (record {
         served = served;
         of_clock = λ serves. sym (of_clock serves);
         sizes = sizes;
         naming_count = length-map ended (λ r. r.naming) ∙ worker_count t s begun ended is first count;
         stand = λ n w naming at at_naming.
-            let both = of_both ended n w naming at at_naming in
+            let was = found_before (crew ended) back n w comes.count at in
+            let both = of_both ended n was.0 naming was.1 at_naming in
             let A : ℕ → Type 0 = λ late. NamesStand names cache n (reverse (lines_of t.rounds)) late naming in
-            let B : Naming N H C S Part → Type 0 = λ g. NamesStand names cache n (reverse (lines_of t.rounds)) both.running.worker.late g in
-            subst A (ap (λ (x : Worker H Part h). x.late) both.is_worker) (subst B both.is_naming (named n both.running both.at));
-        played = played_of names cache t s begun ended is first count (λ n w at. (stand.fits n w at).pass) plays;
-        together = together_of names cache t s begun ended is first (λ n w at. (stand.fits n w at).pass) did;
-      }))
+            let B : Naming N H C S Part → Type 0 = λ g. NamesStand names cache n (reverse (lines_of t.rounds)) (worker_in both.running).late g in
+            subst A (sym (comes.each n was.0 w was.1 at).keeps.late) (subst A (ap (λ (x : Worker H Part h). x.late) both.is_worker) (subst B both.is_naming (named n both.running both.at)));
+        played = played_stay names cache t s.zones.items s.clock (crew ended) back (namings_of ended) stay
+            (played_of names cache t s begun ended is first count (λ n w at. (stand.fits n w at).pass) plays);
+        together = together_of names cache t s begun ended back is first comes did;
+      })
 
 most_workers : (count workers : ℕ) → count ≡ workers → workers ≤ 16 → count ≤ 16
 most_workers count workers same few = omega arith
@@ -148,7 +152,7 @@ module _ {N H C S Part : Type 0} {h : Ghosts H Part} where
       few_sum (sum gave_ups) (sum_by own e.ended) (length e.ended) t.head.workers (ap sum e.gave_ups_are ∙ sum-map own e.ended)
       (sum_most own 16777216 e.ended (λ n r at.
       below_all r.gave_up (done_by n lines) (length (lines_of t.rounds)) (e.asked n r at).gave_up_few (most_same _ _ _ (count_by-le-length (is_by n) lines) (length-reverse (lines_of t.rounds))) few))
-      (sym (length-map e.ended (λ (r : Running N H C S Part h). r.worker)) ∙ (sym e.stay.count ∙ count)) valid.head.workers.1
+      (sym (length-map e.ended worker_in) ∙ (sym e.stay.count ∙ count)) valid.head.workers.1
 
   none_all : (rs : List (Running N H C S Part h)) → ((n : ℕ) (r : Running N H C S Part h) → slice_get rs n ≡ Some r → r.gave_up ≡ 0) → sum_by (λ (r : Running N H C S Part h). r.gave_up) rs ≡ 0
   none_all [] each = refl

@@ -4,7 +4,7 @@ use Rattle.std.proofs.lemmas.Bool.{cases_eq, ne_eqb, and_left, and_right, and_fr
 use Rattle.std.specs.Prelude.{◌==◌, ◌&&◌, IsSome}
 use Rattle.std.specs.Option.{option_map_or}
 use Rattle.trace_text.specs.declared.op.Op.{Op}
-use Rattle.trace_text.specs.declared.op.Op.TheVariants.{Alloc, Free, Enter, Exit, Bind, Unbind, Look, Trim, Drain, DrainSeat, Prealloc}
+use Rattle.trace_text.specs.declared.op.Op.TheVariants.{Alloc, Free, Enter, Exit, Bind, Unbind, Look, Trim, Drain, DrainSeat, Prealloc, Away, Back}
 use Rattle.trace_text.specs.declared.between.Between.TheVariants.{Give, SetMax}
 use Rattle.trace_text.specs.Lines.{Line, Does, Moves}
 use Rattle.trace_text.specs.Reading.{held, held_after}
@@ -167,9 +167,9 @@ filled_zone (Some zone) is = (zone, refl)
 filled_zone None is = absurd (false≢true is)
 
 pub filled-more : (workers size z : ℕ) (lines : List Line) (line : Line) → NamesBelow workers size line → LineFits lines line → Steps workers size z lines line
-filled-more workers size z lines (Does w (Alloc zone slot arg reserve)) below fits = by_alloc workers size z lines w zone slot arg reserve below.0 below.1 fits
+filled-more workers size z lines (Does w (Alloc zone slot arg reserve)) below fits = by_alloc workers size z lines w zone slot arg reserve below.0 below.1 fits.0
 filled-more workers size z lines (Does w (Free slot)) below fits =
-    let found = filled_zone (held lines w slot) fits in by_free workers size z lines w slot found.0 below.0 below.1 found.1
+    let found = filled_zone (held lines w slot) fits.0 in by_free workers size z lines w slot found.0 below.0 below.1 found.1
 filled-more workers size z lines (Does w Enter) below fits = omega (arith, by_other workers size z lines w Enter (λ before slot. refl))
 filled-more workers size z lines (Does w Exit) below fits = omega (arith, by_other workers size z lines w Exit (λ before slot. refl))
 filled-more workers size z lines (Does w (Bind key value)) below fits = omega (arith, by_other workers size z lines w (Bind key value) (λ before slot. refl))
@@ -179,6 +179,8 @@ filled-more workers size z lines (Does w (Trim zone)) below fits = omega (arith,
 filled-more workers size z lines (Does w (Drain zone)) below fits = omega (arith, by_other workers size z lines w (Drain zone) (λ before slot. refl))
 filled-more workers size z lines (Does w (DrainSeat zone)) below fits = omega (arith, by_other workers size z lines w (DrainSeat zone) (λ before slot. refl))
 filled-more workers size z lines (Does w (Prealloc zone items)) below fits = omega (arith, by_other workers size z lines w (Prealloc zone items) (λ before slot. refl))
+filled-more workers size z lines (Does w Away) below fits = omega (arith, by_other workers size z lines w Away (λ before slot. refl))
+filled-more workers size z lines (Does w Back) below fits = omega (arith, by_other workers size z lines w Back (λ before slot. refl))
 filled-more workers size z lines (Moves (Give giver from taker to)) below fits =
     let found = filled_zone (held lines giver from) fits.0 in
     omega (arith, by_give workers size z lines giver from taker to found.0 below.0 below.1 below.2 below.3 found.1 fits.1)

@@ -7,6 +7,7 @@ use Rattle.trace_text.specs.declared.trace.Trace.{Trace}
 use Rattle.trace_text.specs.Valid.{IsValid}
 use Rattle.trace_worker.specs.declared.name_calls.NameCalls.{Ghosts as NameGhosts}
 use Rattle.trace_worker.specs.declared.running.Running.{Running}
+use Rattle.trace_worker.specs.Attendance.{worker_in}
 use Rattle.trace_worker.specs.Items.{CountedZone}
 use Rattle.trace_worker.specs.NamesStand.{NamesOfClock}
 use Rattle.trace_worker.specs.OwnLines.{own_ops, stacked}
@@ -27,7 +28,7 @@ few_given_up gave_up own none few = omega arith
 
 module _ {N H C S Part : Type 0} {h : Ghosts H Part} (names : NameGhosts N H C S Part) (cache : C) where
   pub ready_first : (t : Trace) (zones : List (CountedZone H Part h)) (clock : Clock H Part) (domain n : ℕ) (r : Running N H C S Part h) → IsValid t → names.serves ≡ is_some t.head.names → NamesOfClock names cache clock
-      → length zones ≡ length t.head.zones → AreOfClock clock zones → 0 < length t.rounds → n < t.head.workers → length (own_ops t.rounds 0 n) ≤ 1000 → IsBeginner zones clock domain r.worker → IsFirst names cache domain r
+      → length zones ≡ length t.head.zones → AreOfClock clock zones → 0 < length t.rounds → n < t.head.workers → length (own_ops t.rounds 0 n) ≤ 1000 → IsBeginner zones clock domain (worker_in r) → IsFirst names cache domain r
       → IsReady names cache t zones clock 0 n r
   unfolding stacked
   ready_first t zones clock domain n r valid served names_of_clock zone_count of_clock round worker few is first = record {
@@ -43,5 +44,6 @@ module _ {N H C S Part : Type 0} {h : Ghosts H Part} (names : NameGhosts N H C S
     gave_up = few_given_up r.gave_up (length (own_ops t.rounds 0 n)) first.gave_up few;
     fits = is.fits;
     stands = is.stands n;
-    named = named_first names cache n r.worker.late domain r first;
+    absent = first.there;
+    named = named_first names cache n (worker_in r).late domain r first;
   }

@@ -74,7 +74,7 @@ index_most index before all is most few = omega arith
 module _ {H Part : Type 0} {h : Ghosts H Part} where
   -- ---- what stays
 
-  done_stay : (t : Trace) (zones : List (CountedZone H Part h)) (clock : Clock H Part) (old new : List (Worker H Part h)) → AllStay clock old new → AreDone t zones clock old → AreDone t zones clock new
+  pub done_stay : (t : Trace) (zones : List (CountedZone H Part h)) (clock : Clock H Part) (old new : List (Worker H Part h)) → AllStay clock old new → AreDone t zones clock old → AreDone t zones clock new
   done_stay t zones clock old new s d = record {
     clock_made = d.clock_made;
     zones_made = d.zones_made;

@@ -3,6 +3,7 @@ pub mod Entries
 pub mod Filled
 pub mod FirstTurn
 pub mod HallOf
+pub mod Headline
 pub mod KegLines
 pub mod KegSums
 pub mod KindCounts
@@ -10,6 +11,7 @@ pub mod LimitLines
 mod LimitRows
 pub mod LinesWith
 pub mod NamesFit
+mod NameStory
 pub mod NameTotals
 pub mod OwnCounts
 pub mod PlainStands
@@ -18,8 +20,10 @@ pub mod Primaries
 pub mod Pushed
 pub mod ReportStands
 pub mod Runnings
+mod SeatLines
 pub mod Staying
 pub mod Upto
 pub mod WithNames
 pub mod WorkerSums
 pub mod ZoneFrees
+pub mod ComingBack

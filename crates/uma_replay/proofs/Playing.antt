@@ -12,24 +12,27 @@ use Rattle.trace_worker.specs.declared.name_calls.NameCalls.{Ghosts as NameGhost
 use Rattle.trace_worker.specs.declared.naming.Naming.{Naming}
 use Rattle.trace_worker.specs.declared.running.Running.{Running}
 use Rattle.trace_worker.specs.declared.worker.Worker.{Worker}
+use Rattle.trace_worker.specs.Attendance.{worker_in}
 use Rattle.trace_worker.specs.Items.{CountedZone}
 use Rattle.trace_worker.specs.NameLines.{doing}
 use Rattle.trace_worker.specs.Together.{crew}
 use Rattle.trace_worker.specs.Worker.{seen_of}
 use Rattle.trace_play.specs.declared.setting.Setting.{Setting}
 use Rattle.trace_play.specs.Setting.{IsSetUp}
+use Rattle.trace_play.specs.Clock.{floor_of}
 use Rattle.trace_play.specs.Betweens.{DoRounds}
 use Rattle.trace_play.specs.Plays.{AllPlay}
 use Rattle.trace_play.specs.Rounds.{AllAsked}
 use Rattle.trace_play.proofs.AfterRound.{in_crew}
 use Rattle.trace_play.proofs.RoundLists.{at_other}
-use Rattle.uma_replay.specs.Playing.{AllPlayed, AllStay, AreFirst, HaveEnded, HavePlayed, Stays, gave_ups_of, namings_of}
+use Rattle.uma_replay.specs.Playing.{AllBack, AllPlayed, AllStay, AreFirst, HaveEnded, HavePlayed, Stays, gave_ups_of, namings_of}
+use Rattle.uma_replay.proofs.ComingBack.{back_stay}
 use Rattle.uma_replay.proofs.Runnings.{of_both}
 use Rattle.uma_replay.proofs.Staying.{all_chain, found_before, stays_chain}
 
 module _ {H Part : Type 0} {h : Ghosts H Part} where
   stays_self : (clock : Clock H Part) (w : Worker H Part h) → IsOf clock w.pass → Stays clock w w
-  stays_self clock w here = record { seats = refl; slots = refl; entered = refl; late = refl; here = here; phase = refl; seen = le_refl (seen_of w) }
+  stays_self clock w here = record { seats = refl; slots = refl; entered = refl; late = refl; here = here; phase = refl; seen = le_refl (seen_of w); floor = le_refl (floor_of w) }
 
   all_stay_self : (clock : Clock H Part) (workers : List (Worker H Part h)) → ((n : ℕ) (w : Worker H Part h) → slice_get workers n ≡ Some w → IsOf clock w.pass) → AllStay clock workers workers
   all_stay_self clock workers here = record {
@@ -38,6 +41,10 @@ module _ {H Part : Type 0} {h : Ghosts H Part} where
         let One : Worker H Part h → Type 0 = λ x. Stays clock v x in
         subst One (same_Some v w (sym at ∙ at')) (stays_self clock v (here n v at));
   }
+
+  -- who came back has a pass of the clock
+  backs_here : (clock : Clock H Part) (old back : List (Worker H Part h)) → AllBack clock old back → (n : ℕ) (w : Worker H Part h) → slice_get back n ≡ Some w → IsOf clock w.pass
+  backs_here clock old back comes n w at = let was = found_before old back n w comes.count at in (comes.each n was.0 w was.1 at).here
 
 module _ {N H C S Part : Type 0} {h : Ghosts H Part} (names : NameGhosts N H C S Part) (cache : C) where
   -- of other zones and workers that are the same
@@ -61,10 +68,10 @@ module _ {N H C S Part : Type 0} {h : Ghosts H Part} (names : NameGhosts N H C S
       let both = of_both ended n w naming at at_naming in
       let began = get_or begun n both.running in
       let there = at_other begun ended n both.running count both.at in
-      let in_list : slice_get s.workers.items n ≡ Some began.worker = sym (ap (λ list. slice_get list n) first.are) ∙ in_crew n begun began there in
+      let in_list : slice_get s.workers.items n ≡ Some (worker_in began) = sym (ap (λ list. slice_get list n) first.are) ∙ in_crew n begun began there in
       record {
         begin = began;
-        is_new = is.begin.each n began.worker in_list;
+        is_new = is.begin.each n (worker_in began) in_list;
         is_first = first.each n began there;
         end = doing both.running;
         plays = plays n began both.running there both.at;
@@ -72,16 +79,17 @@ module _ {N H C S Part : Type 0} {h : Ghosts H Part} (names : NameGhosts N H C S
         naming_stays = sym both.is_naming;
       }
 
-  -- all together when all rounds are done
-  pub together_of : (t : Trace) (s : Setting H Part h) (begun ended : List (Running N H C S Part h)) → IsSetUp t s → AreFirst names cache t.head.domains s.workers.items begun
-      → ((n : ℕ) (w : Worker H Part h) → slice_get (crew ended) n ≡ Some w → IsOf s.clock w.pass) → DoRounds names cache s.zones.items t.rounds begun ended
-      → HavePlayed names cache t s.zones.items s.clock (crew ended) (namings_of ended)
-  together_of t s begun ended is first here did = record {
+  -- all together when all rounds are done, and each is back
+  pub together_of : (t : Trace) (s : Setting H Part h) (begun ended : List (Running N H C S Part h)) (back : List (Worker H Part h)) → IsSetUp t s → AreFirst names cache t.head.domains s.workers.items begun
+      → AllBack s.clock (crew ended) back → DoRounds names cache s.zones.items t.rounds begun ended → HavePlayed names cache t s.zones.items s.clock back (namings_of ended)
+  together_of t s begun ended back is first comes did = record {
     begun = begun;
-    are_new = λ n r at. (is.begin.each n r.worker (sym (ap (λ list. slice_get list n) first.are) ∙ in_crew n begun r at), first.each n r at);
+    are_new = λ n r at. (is.begin.each n (worker_in r) (sym (ap (λ list. slice_get list n) first.are) ∙ in_crew n begun r at), first.each n r at);
     ended = ended;
     rounds = did;
-    stay = all_stay_self s.clock (crew ended) here;
+    back = back;
+    comes = comes;
+    stay = all_stay_self s.clock back (backs_here s.clock (crew ended) back comes);
     namings_are = refl;
   }
 
@@ -93,7 +101,9 @@ module _ {N H C S Part : Type 0} {h : Ghosts H Part} (names : NameGhosts N H C S
     are_new = played.are_new;
     ended = played.ended;
     rounds = played.rounds;
-    stay = all_chain clock (crew played.ended) old new played.stay stay;
+    back = played.back;
+    comes = played.comes;
+    stay = all_chain clock played.back old new played.stay stay;
     namings_are = played.namings_are;
   }
 
@@ -116,19 +126,16 @@ module _ {N H C S Part : Type 0} {h : Ghosts H Part} (names : NameGhosts N H C S
 -- ---- how often they gave up
 
 module _ {N H C S Part : Type 0} {h : Ghosts H Part} where
-  -- when all rounds are done
-  pub ended_of : (t : Trace) (clock : Clock H Part) (ended : List (Running N H C S Part h)) (workers : List (Worker H Part h)) (namings : List (Naming N H C S Part)) (gave_ups : List ℕ)
-      → ((n : ℕ) (w : Worker H Part h) → slice_get (crew ended) n ≡ Some w → IsOf clock w.pass) → AllAsked (reverse (lines_of t.rounds)) ended
-      → workers ≡ crew ended → namings ≡ namings_of ended → gave_ups ≡ gave_ups_of ended → HaveEnded t clock workers namings gave_ups
-  ended_of t clock ended workers namings gave_ups here asked same same_namings same_gave_ups =
-      let All : List (Worker H Part h) → Type 0 = λ ws. AllStay clock (crew ended) ws in
-      record {
-        ended = ended;
-        asked = asked;
-        stay = subst All (sym same) (all_stay_self clock (crew ended) here);
-        namings_are = same_namings;
-        gave_ups_are = same_gave_ups;
-      }
+  -- when all rounds are done, and each is back
+  pub ended_of : (t : Trace) (clock : Clock H Part) (ended : List (Running N H C S Part h)) (back : List (Worker H Part h)) (namings : List (Naming N H C S Part)) (gave_ups : List ℕ)
+      → AllAsked (reverse (lines_of t.rounds)) ended → AllBack clock (crew ended) back → namings ≡ namings_of ended → gave_ups ≡ gave_ups_of ended → HaveEnded t clock back namings gave_ups
+  ended_of t clock ended back namings gave_ups asked comes same_namings same_gave_ups = record {
+    ended = ended;
+    asked = asked;
+    stay = back_stay clock (crew ended) back comes;
+    namings_are = same_namings;
+    gave_ups_are = same_gave_ups;
+  }
 
   -- and since then
   pub ended_stay : (t : Trace) (clock : Clock H Part) (old new workers : List (Worker H Part h)) (before namings : List (Naming N H C S Part)) (counts gave_ups : List ℕ) → AllStay clock old new → workers ≡ new

@@ -1,5 +1,5 @@
 -- Workers between turns, by their numbers.
-use Rattle.std.proofs.Common.{◌≡◌, ℕ, zero, suc, ◌+◌, ◌%◌, ◌≤◌, List, [], ◌∷◌, ◌++◌, length, true, Option, None, Some, inl, inr, refl, sym, ap, ◌∙◌, subst, arith}
+use Rattle.std.proofs.Common.{◌≡◌, ℕ, zero, suc, ◌+◌, ◌%◌, ◌≤◌, List, [], ◌∷◌, ◌++◌, length, true, false, Option, None, Some, inl, inr, refl, sym, ap, ◌∙◌, subst, arith}
 use Rattle.std.proofs.lemmas.Bool.{false≢true}
 use Rattle.std.proofs.lemmas.List.{map-append}
 use Rattle.std.proofs.lemmas.Option.{none-some, same_Some}
@@ -12,6 +12,7 @@ use Rattle.trace_worker.specs.declared.naming.NameCounts.{NameCounts}
 use Rattle.trace_worker.specs.declared.naming.Naming.{Naming}
 use Rattle.trace_worker.specs.declared.running.Running.{Running}
 use Rattle.trace_worker.specs.declared.worker.Worker.{Worker}
+use Rattle.trace_worker.specs.Attendance.{is_out, worker_in}
 use Rattle.trace_worker.specs.Counting.{binds, looks, unbinds}
 use Rattle.trace_worker.specs.Naming.{no_counts}
 use Rattle.trace_worker.specs.NamesStand.{NameCountsStand, NameLedgerStands, NamesStand}
@@ -26,12 +27,12 @@ module _ {N H C S Part : Type 0} {h : Ghosts H Part} where
   pub record OfBoth (runnings : List (Running N H C S Part h)) (n : ℕ) (w : Worker H Part h) (naming : Naming N H C S Part) : Type 0 where
     pub running : Running N H C S Part h
     pub at : slice_get runnings n ≡ Some running
-    pub is_worker : running.worker ≡ w
+    pub is_worker : worker_in running ≡ w
     pub is_naming : running.naming ≡ naming
 
   pub of_both : (runnings : List (Running N H C S Part h)) (n : ℕ) (w : Worker H Part h) (naming : Naming N H C S Part) → slice_get (crew runnings) n ≡ Some w → slice_get (namings_of runnings) n ≡ Some naming → OfBoth runnings n w naming
   of_both [] n w naming at at_naming = absurd (none-some w at)
-  of_both (r ∷ runnings) zero w naming at at_naming = record { running = r; at = refl; is_worker = same_Some r.worker w at; is_naming = same_Some r.naming naming at_naming }
+  of_both (r ∷ runnings) zero w naming at at_naming = record { running = r; at = refl; is_worker = same_Some (worker_in r) w at; is_naming = same_Some r.naming naming at_naming }
   of_both (r ∷ runnings) (suc n) w naming at at_naming =
       let later = of_both runnings n w naming at at_naming in
       record { running = later.running; at = later.at; is_worker = later.is_worker; is_naming = later.is_naming }
@@ -78,19 +79,19 @@ module _ {N H C S Part : Type 0} {h : Ghosts H Part} (names : NameGhosts N H C S
 
   -- a worker before its first turn
   pub first_of : (seat : S) (domain : ℕ) (r : Running N H C S Part h) → names.IsSeat cache seat → (IsTrue names.serves → names.domain_of seat ≡ domain) → IfSome (names.counted seat) IsNew → r.naming.seat ≡ seat
-      → r.naming.counts ≡ no_counts → r.asked ≡ 0 → r.gave_up ≡ 0 → IsFirst names cache domain r
-  first_of seat domain r of_cache own new same counts asked gave_up =
+      → r.naming.counts ≡ no_counts → r.asked ≡ 0 → r.gave_up ≡ 0 → is_out r.attendance ≡ false → IsFirst names cache domain r
+  first_of seat domain r of_cache own new same counts asked gave_up there =
       let P : S → Type 0 = λ s. names.IsSeat cache s in
       let Q : S → Type 0 = λ s. IfSome (names.counted s) IsNew in
-      record { seat = subst P (sym same) of_cache; own = λ serves. ap names.domain_of same ∙ own serves; fresh = subst Q (sym same) new; counts = counts; asked = asked; gave_up = gave_up }
+      record { seat = subst P (sym same) of_cache; own = λ serves. ap names.domain_of same ∙ own serves; fresh = subst Q (sym same) new; counts = counts; asked = asked; gave_up = gave_up; there = there }
 
   -- one more
   pub first_more : (domains : ℕ) (workers : List (Worker H Part h)) (runnings all : List (Running N H C S Part h)) (w : Worker H Part h) (r : Running N H C S Part h) → AreFirst names cache domains workers runnings
-      → IsFirst names cache (length runnings % domains) r → r.worker ≡ w → all ≡ runnings ++ r ∷ [] → AreFirst names cache domains (workers ++ w ∷ []) all
+      → IsFirst names cache (length runnings % domains) r → worker_in r ≡ w → all ≡ runnings ++ r ∷ [] → AreFirst names cache domains (workers ++ w ∷ []) all
   first_more domains workers runnings all w r are first same pushed =
       let All : List (Running N H C S Part h) → Type 0 = λ list. AreFirst names cache domains (workers ++ w ∷ []) list in
       subst All (sym pushed) (record {
-        are = map-append (λ (x : Running N H C S Part h). x.worker) runnings (r ∷ []) ∙ (ap (λ list. list ++ r.worker ∷ []) are.are ∙ ap (λ x. workers ++ x ∷ []) same);
+        are = map-append worker_in runnings (r ∷ []) ∙ (ap (λ list. list ++ worker_in r ∷ []) are.are ∙ ap (λ x. workers ++ x ∷ []) same);
         each = λ n x at. elim (at_end runnings r n x at) [
           | inl before ↦ are.each n x before
           | inr last ↦

@@ -40,6 +40,7 @@ module _ {H Part : Type 0} {h : Ghosts H Part} where
     here = l.here;
     phase = l.phase;
     seen = l.seen;
+    floor = l.floor;
   }
 
 same_most : (a b : ℕ) → b ≡ a → a ≤ b
@@ -55,6 +56,7 @@ module _ {H Part : Type 0} {h : Ghosts H Part} where
     here = let P : _ → Type 0 = λ pass. IsOf clock pass in subst P (sym k.pass) here;
     phase = ap (λ pass. phase_of (record old { pass = pass })) k.pass;
     seen = same_most _ _ (ap (λ pass. seen_of (record old { pass = pass })) k.pass);
+    floor = same_most _ _ (ap (λ pass. floor_of (record old { pass = pass })) k.pass);
   }
 
 -- ---- slots
@@ -213,6 +215,7 @@ module _ {H Part : Type 0} {h : Ghosts H Part} where
     here = next.here;
     phase = next.phase ∙ first.phase;
     seen = le_trans first.seen next.seen;
+    floor = le_trans first.floor next.floor;
   }
 
   pub all_chain : (clock : Clock H Part) (old mid new : List (Worker H Part h)) → AllStay clock old mid → AllStay clock mid new → AllStay clock old new

@@ -6,7 +6,7 @@ use Rattle.std.proofs.lemmas.List.Elements.{All-head, All-tail}
 use Rattle.std.specs.Prelude.{All, not, ◌==◌}
 use Rattle.trace_text.specs.declared.head.Head.{Head}
 use Rattle.trace_text.specs.declared.op.Op.{Op}
-use Rattle.trace_text.specs.declared.op.Op.TheVariants.{Alloc, Free, Enter, Exit, Bind, Unbind, Look, Trim, Drain, DrainSeat, Prealloc}
+use Rattle.trace_text.specs.declared.op.Op.TheVariants.{Alloc, Free, Enter, Exit, Bind, Unbind, Look, Trim, Drain, DrainSeat, Prealloc, Away, Back}
 use Rattle.trace_text.specs.declared.between.Between.TheVariants.{Give, SetMax}
 use Rattle.trace_text.specs.Lines.{Line, Does, Moves}
 use Rattle.trace_text.specs.Limits.{last_slot}
@@ -132,6 +132,8 @@ below h size (Does w (Trim zone)) most is = tt
 below h size (Does w (Drain zone)) most is = tt
 below h size (Does w (DrainSeat zone)) most is = tt
 below h size (Does w (Prealloc zone items)) most is = tt
+below h size (Does w Away) most is = tt
+below h size (Does w Back) most is = tt
 below h size (Moves (Give giver from taker to)) most is =
     let top : 65535 < size = most in let first : from ≤ 65535 = is.1 in let second : to ≤ 65535 = is.3 in (is.0, omega arith, is.2, omega arith)
 below h size (Moves (SetMax zone limit)) most is = tt

@@ -1,4 +1,5 @@
 pub mod Counting
+pub mod Headline
 pub mod Limits
 pub mod Names
 pub mod Playing

@@ -1,5 +1,5 @@
 -- How each worker began, and how it came to what it is when all lines are done (own).
-use Rattle.std.specs.Prelude.{◌≡◌, ◌≤◌, ◌%◌, ℕ, List, IfSome, IsTrue, length, map, reverse, Some, slice_get}
+use Rattle.std.specs.Prelude.{◌≡◌, ◌≤◌, ◌%◌, ℕ, List, false, IfSome, IsTrue, length, map, reverse, Some, slice_get}
 use Rattle.smr_clock.specs.declared.clock.Clock.{Clock}
 use Rattle.smr_clock.specs.declared.host.Host.{Ghosts}
 use Rattle.smr_clock.specs.Belongs.{IsOf}
@@ -10,15 +10,18 @@ use Rattle.trace_worker.specs.declared.name_calls.NameCalls.{Ghosts as NameGhost
 use Rattle.trace_worker.specs.declared.naming.Naming.{Naming}
 use Rattle.trace_worker.specs.declared.running.Running.{Running}
 use Rattle.trace_worker.specs.declared.worker.Worker.{Worker}
+use Rattle.trace_worker.specs.Attendance.{is_out, worker_in}
 use Rattle.trace_worker.specs.Items.{CountedZone}
 use Rattle.trace_worker.specs.NameLines.{Doing, doing}
 use Rattle.trace_worker.specs.Naming.{no_counts}
+use Rattle.trace_worker.specs.Performs.{KeepsAll}
 use Rattle.trace_worker.specs.Together.{AddsUp, AllNamed, AllStand, crew}
 use Rattle.trace_worker.specs.Worker.{phase_of, seen_of}
 use Rattle.trace_play.specs.Beginners.{IsBeginner}
 use Rattle.trace_play.specs.Betweens.{DoRounds}
 use Rattle.trace_play.specs.Plays.{AllPlay, PlaysRounds}
 use Rattle.trace_play.specs.Rounds.{AllAsked}
+use Rattle.trace_play.specs.Clock.{floor_of}
 use Rattle.trace_play.specs.Lending.{seen_slot}
 
 module _ {N H C S P : Type 0} {h : Ghosts H P} where
@@ -39,6 +42,7 @@ module _ {N H C S P : Type 0} {h : Ghosts H P} (names : NameGhosts N H C S P) (c
     pub counts : r.naming.counts ≡ no_counts
     pub asked : r.asked ≡ 0
     pub gave_up : r.gave_up ≡ 0
+    pub there : is_out r.attendance ≡ false
 
   -- These workers, each before its first turn. Worker n is in domain n mod `domains`.
   pub record AreFirst (domains : ℕ) (workers : List (Worker H P h)) (runnings : List (Running N H C S P h)) : Type 0 where
@@ -66,14 +70,26 @@ module _ {H P : Type 0} {h : Ghosts H P} where
     pub here : IsOf clock new.pass
     pub phase : phase_of new ≡ phase_of old
     pub seen : seen_of old ≤ seen_of new
+    pub floor : floor_of old ≤ floor_of new
 
   -- each of the workers does
   pub record AllStay (clock : Clock H P) (old new : List (Worker H P h)) : Type 0 where
     pub count : length new ≡ length old
     pub each : (n : ℕ) (before after : Worker H P h) → slice_get old n ≡ Some before → slice_get new n ≡ Some after → Stays clock before after
 
+module _ {H P : Type 0} {h : Ghosts H P} where
+  -- A worker that was away came back, and one that was there stayed: its pass knows what it knew, and nothing was counted.
+  pub record ComesBack (clock : Clock H P) (old new : Worker H P h) : Type 0 where
+    pub here : IsOf clock new.pass
+    pub keeps : KeepsAll old new
+
+  -- each of the workers did
+  pub record AllBack (clock : Clock H P) (old new : List (Worker H P h)) : Type 0 where
+    pub count : length new ≡ length old
+    pub each : (n : ℕ) (before after : Worker H P h) → slice_get old n ≡ Some before → slice_get new n ≡ Some after → ComesBack clock before after
+
 module _ {N H C S P : Type 0} {h : Ghosts H P} where
-  -- The workers that ended stay since then as these, with this of the names. So often each of them gave up waiting for its gate, by its own count: at most once before each of its operations.
+  -- The workers that ended, back where they were away, stay since then as these, with this of the names. So often each of them gave up waiting for its gate, by its own count: at most once before each of its operations.
   pub record HaveEnded (t : Trace) (clock : Clock H P) (workers : List (Worker H P h)) (namings : List (Naming N H C S P)) (gave_ups : List ℕ) : Type 0 where
     pub ended : List (Running N H C S P h)
     pub asked : AllAsked (reverse (lines_of t.rounds)) ended
@@ -85,7 +101,7 @@ module _ {N H C S P : Type 0} {h : Ghosts H P} (names : NameGhosts N H C S P) (c
   -- Worker `n` and what it has of the names when all lines are done: it began new, with its seats in its domain, that of the names too, it did the rounds one after another, and since then it stays.
   pub record HasPlayed (t : Trace) (zones : List (CountedZone H P h)) (clock : Clock H P) (n : ℕ) (w : Worker H P h) (naming : Naming N H C S P) : Type 0 where
     pub begin : Running N H C S P h
-    pub is_new : IsBeginner zones clock (n % t.head.domains) begin.worker
+    pub is_new : IsBeginner zones clock (n % t.head.domains) (worker_in begin)
     pub is_first : IsFirst names cache (n % t.head.domains) begin
     pub end : Doing N H C S P h
     pub plays : PlaysRounds names cache zones n (doing begin) t.rounds end
@@ -100,8 +116,11 @@ module _ {N H C S P : Type 0} {h : Ghosts H P} (names : NameGhosts N H C S P) (c
   -- All workers together: those that began new, each with its seats in its domain, did the rounds of the trace one after another, with the `give` and `setmax` lines between two rounds in their order, and stay since then as these.
   pub record HavePlayed (t : Trace) (zones : List (CountedZone H P h)) (clock : Clock H P) (workers : List (Worker H P h)) (namings : List (Naming N H C S P)) : Type 0 where
     pub begun : List (Running N H C S P h)
-    pub are_new : (n : ℕ) (r : Running N H C S P h) → slice_get begun n ≡ Some r → IsBeginner zones clock (n % t.head.domains) r.worker × IsFirst names cache (n % t.head.domains) r
+    pub are_new : (n : ℕ) (r : Running N H C S P h) → slice_get begun n ≡ Some r → IsBeginner zones clock (n % t.head.domains) (worker_in r) × IsFirst names cache (n % t.head.domains) r
     pub ended : List (Running N H C S P h)
     pub rounds : DoRounds names cache zones t.rounds begun ended
-    pub stay : AllStay clock (crew ended) workers
+    -- before the report each that was away came back
+    pub back : List (Worker H P h)
+    pub comes : AllBack clock (crew ended) back
+    pub stay : AllStay clock back workers
     pub namings_are : namings ≡ namings_of ended

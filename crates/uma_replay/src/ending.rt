@@ -1,15 +1,17 @@
 //! The end of a replay, when all lines are done.
-ghost use Rattle.std.specs.Prelude.{◌≡◌, ◌≤◌, ◌<◌, ◌^◌, IfOk, OnOk, length, sum};
-ghost use Rattle.smr_clock.specs.Belongs.{setup_of};
+ghost use Rattle.std.specs.Prelude.{◌≡◌, ◌≤◌, ◌<◌, ◌^◌, ℕ, IfOk, OnOk, Some, length, slice_get, sum};
+ghost use Rattle.smr_clock.specs.Belongs.{IsOf, setup_of};
 ghost use Rattle.smr_clock.specs.Notes.{IsNoteOf, note_holder};
 ghost use Rattle.trace_worker.specs.Clocks.{window_of as window_for};
 ghost use Rattle.trace_text.specs.Lines.{lines_of};
 ghost use Rattle.trace_text.specs.Valid.{IsValid};
+ghost use Rattle.trace_worker.specs.declared.running.Running.{Running};
+ghost use Rattle.trace_worker.specs.Attendance.{worker_in};
 ghost use Rattle.trace_worker.specs.Together.{crew};
 ghost use Rattle.trace_play.specs.Clock.{ReadsHands};
 ghost use Rattle.trace_play.specs.Closes.{AllClose};
 ghost use Rattle.uma_replay.specs.Hall.{AreDone, HallStands, NamesDone};
-ghost use Rattle.uma_replay.specs.Playing.{AllStay, HaveEnded, gave_ups_of, namings_of};
+ghost use Rattle.uma_replay.specs.Playing.{AllBack, AllStay, HaveEnded, gave_ups_of, namings_of};
 
 use crate::Memory;
 use crate::hall::{GaveUps, Hall, Namings, Played, Workers, ZoneList};
@@ -196,12 +198,14 @@ fn all_gave_up(gave_ups: &[u64]) -> u64
     gave_ups.iter().sum()
 }
 
-/// The workers, out of their turns, what each has of the names, and how often it gave up waiting for its gate.
+/// The workers, out of their turns, each that is away back, which nothing counts; what each has of the names, and how often it gave up waiting for its gate.
 pub(crate) fn dismiss<N: NameCalls>(
     alloc: Global,
+    clock: &Clock<N::H>,
     runnings: Vec<Running<N>>,
 ) -> Result<(Vec<Worker<N::H>>, Vec<Naming<N>>, Vec<u64>), Memory>
-    ensures workers { IfOk result (λ (workers, namings, gave_ups). workers.items ≡ crew runnings.items) }
+    requires here { (n : ℕ) (r : Running N N.H N.Cache N.Seat N.H.Part N.H.Host) → slice_get runnings.items n ≡ Some r → IsOf clock.now (worker_in r).pass }
+    ensures workers { IfOk result (λ (workers, namings, gave_ups). AllBack clock.now (crew runnings.items) workers.items) }
     ensures namings { IfOk result (λ (workers, namings, gave_ups). namings.items ≡ namings_of runnings.items) }
     ensures gave_ups { IfOk result (λ (workers, namings, gave_ups). gave_ups.items ≡ gave_ups_of runnings.items) }
 {
@@ -210,12 +214,12 @@ pub(crate) fn dismiss<N: NameCalls>(
     let mut gave_ups = Vec::with_capacity(alloc, runnings.len())?;
     for running in runnings {
         let Running {
-            worker,
+            attendance,
             naming,
             gave_up,
             ..
         } = running;
-        workers.push(worker)?;
+        workers.push(attendance.into_worker(clock))?;
         namings.push(naming)?;
         gave_ups.push(gave_up)?;
     }

@@ -23,7 +23,7 @@ pub(crate) struct NameTotals {
     pub(crate) deferred: u64,
 }
 
-/// What the zone of the names comes to: a census of its keg, and what its domains list, its rows link and the workers'
+/// What the zone of the names comes to: a census of its keg, and what its domains have, its rows link and the workers'
 /// seats hold. Waits until it has the lock of the keg, of each domain and of each row.
 pub(crate) fn take_names<N: NameCalls, R: Wait>(
     rt: &R,
@@ -38,7 +38,7 @@ pub(crate) fn take_names<N: NameCalls, R: Wait>(
     ensures { IfOk result (λ t. NamesClose N.NameCalls cache.now namings.now t.census t.tally t.deferred) }
 {
     let census = names.census(cache, rt, alloc)?;
-    let sums = name_sums(rt, names, cache, namings);
+    let sums = name_sums(rt, names, cache, namings)?;
     let tally = with_sums(&census, &sums);
     Ok(NameTotals {
         census,
@@ -53,16 +53,16 @@ fn name_sums<N: NameCalls, R: Wait>(
     names: &N,
     cache: &N::Cache,
     namings: &[Naming<N>],
-) -> Sums
+) -> Result<Sums, Memory>
     requires serves { IsTrue N.serves }
     requires few { length namings.now ≤ 16 }
     requires seats { AreSeats N.NameCalls cache.now namings.now }
-    ensures { AreNameSums N.NameCalls cache.now namings.now result }
+    ensures { IfOk result (AreNameSums N.NameCalls cache.now namings.now) }
 {
     let seats = seat_sums(namings);
-    let mut sums = names.sums(cache, rt);
+    let mut sums = names.sums(cache, rt)?;
     sums.add_sums(seats);
-    sums
+    Ok(sums)
 }
 
 /// The same of those that the workers' seats hold.

@@ -6,6 +6,7 @@ ghost use Rattle.trace_text.specs.Lines.{lines_of};
 ghost use Rattle.trace_text.specs.Valid.{IsValid};
 ghost use Rattle.trace_worker.specs.NameSizes.{sizes_for};
 ghost use Rattle.uma_replay.specs.Hall.{HallStands};
+ghost use Rattle.uma_replay.specs.Headline.{Headline};
 ghost use Rattle.uma_replay.specs.Playing.{AreEnded};
 ghost use Rattle.uma_replay.specs.Report.{StandsFor};
 
@@ -25,8 +26,9 @@ use trace_worker::{CountedZone, Gate, NameCalls, ReclaimCalls, Running};
 /// counted, and how often its workers gave up waiting.
 ///
 /// The gate is asked before each operation, `names` does the lines of names, which it serves where the trace has a names
-/// line, and `reclaim` the lines of reclaim. When all lines are done, a census of each keg is taken, and the clock's hands
-/// are read. Waits where a worker's lines do. `Memory` where memory is wanting; nothing else refuses a valid trace.
+/// line, and `reclaim` the lines of reclaim. When all lines are done, each worker that is away comes back, which counts
+/// nothing, a census of each keg is taken, and the clock's hands are read. Waits where a worker's lines do. `Memory` where
+/// memory is wanting; nothing else refuses a valid trace.
 pub fn replay<
     N: NameCalls + Sync,
     R: Threads + Wait + Sync,
@@ -45,6 +47,7 @@ pub fn replay<
     requires few { length (lines_of trace.now.rounds) ≤ 16777216 }
     ensures stands { IfOk result (λ played. StandsFor trace.now played.report) }
     ensures hall { IfOk result (λ played. HallStands N.NameCalls trace.now played.report played.hall) }
+    ensures headline { IfOk result (λ played. Headline N.NameCalls trace.now played.report played.hall) }
     ensures plan { IfOk result (λ played. (setup_of played.hall.clock).plan ≡ N.plans trace.now.head) }
     ensures free { G.is_free gate.now → IfOk result (λ played. played.report.gave_up ≡ 0) }
 {
@@ -91,7 +94,7 @@ fn replay_from<
     let runnings = play_all(
         rt, alloc, trace, zone_list, &clock, names, &cache, gate, reclaim, first,
     )?;
-    let (workers, namings, gave_ups) = dismiss(alloc, runnings)?;
+    let (workers, namings, gave_ups) = dismiss(alloc, &clock, runnings)?;
     close(
         rt, alloc, trace, names, cache, clock, zones, workers, namings, gave_ups, begun,
     )

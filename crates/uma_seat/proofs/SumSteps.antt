@@ -9,7 +9,7 @@ use Rattle.uma_bucket.specs.declared.sums.Sums.{Sums}
 use Rattle.uma_bucket.specs.declared.shelved.Shelved.{Shelved}
 use Rattle.uma_bucket.specs.declared.shelved.Shelved.TheVariants.{Plain, Loose as Loose', Sealed as Sealed'}
 use Rattle.uma_bucket.specs.Sealed.{sealed_bucket}
-use Rattle.uma_seat.specs.Shelf.{count_of}
+use Rattle.uma_bucket.specs.Shelved.{count_of}
 use Rattle.uma_bucket.specs.Bucket.{items_of}
 use Rattle.uma_bucket.specs.Loose.{loose_items}
 use Rattle.uma_bucket.specs.Home.{Home}

@@ -1,5 +1,4 @@
 pub mod Stack
-pub mod Shelf
 pub mod Rack
 pub mod Row
 pub mod Fetches

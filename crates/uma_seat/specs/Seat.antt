@@ -14,6 +14,8 @@ use Rattle.uma_life.specs.declared.live.Live.{Live}
 use Rattle.uma_bucket.specs.declared.shelved.Shelved.{Shelved}
 use Rattle.uma_bucket.specs.Bucket.{tickets_of}
 use Rattle.uma_bucket.specs.Home.{Home}
+use Rattle.uma_bucket.specs.declared.inbox_key.InboxKey.{InboxKey}
+use Rattle.inbox.specs.declared.port.Port.{Port}
 use Rattle.uma_seat.specs.declared.seating.Seating.{Seating}
 use Rattle.uma_seat.specs.declared.seat.SeatCache.{SeatCache}
 use Rattle.uma_seat.specs.Stack.{Stack, stack_of, stack_at, empty_stack}
@@ -102,6 +104,10 @@ module _ {T H P : Type 0} {g h : _} where
   abbrev pub misses_of : SeatCache T H P g h → FailShare
   misses_of seat = seat.misses
 
+  -- its ports, one for each domain's inbox, in order
+  abbrev pub ports_of : SeatCache T H P g h → List (Port (Shelved T H P g h) (InboxKey H P))
+  ports_of seat = seat.ports.items
+
   -- ---- what stays
 
   -- made for the same
@@ -128,7 +134,10 @@ module _ {T H P : Type 0} {g h : _} where
   abbrev pub KeepsMisses : SeatCache T H P g h → SeatCache T H P g h → Type 0
   KeepsMisses old new = new.misses ≡ old.misses
 
-  -- all its lists, and the share of misses
+  abbrev pub KeepsPorts : SeatCache T H P g h → SeatCache T H P g h → Type 0
+  KeepsPorts old new = new.ports ≡ old.ports
+
+  -- all its lists, the share of misses and the ports
   pub record KeepsLists (old new : SeatCache T H P g h) : Type 0 where
     pub same : IsSameSeat old new
     pub top : KeepsTop old new
@@ -136,6 +145,7 @@ module _ {T H P : Type 0} {g h : _} where
     pub freed : KeepsFreed old new
     pub rack : KeepsRack old new
     pub misses : KeepsMisses old new
+    pub ports : KeepsPorts old new
 
   -- ---- an allocation
 

@@ -11,7 +11,7 @@ impl<T: Body, H: Host> SeatCache<T, H> {
     ghost use Rattle.uma_bucket.specs.Bucket.{items_of, tickets_of, size_of};
     ghost use Rattle.uma_bucket.specs.Home.{Home, IsHome, AreHome};
     ghost use Rattle.uma_seat.specs.Stack.{stack_of, with_item};
-    ghost use Rattle.uma_seat.specs.Seat.{seat_home, top_bucket, top_of, top_tickets, plain_of, usable_of, top_ready, plain_ready, Pops, TakesCross, HasNoCross, IsSameSeat, KeepsTop, KeepsPlain, KeepsFreed, KeepsRack, KeepsCounts, KeepsMisses};
+    ghost use Rattle.uma_seat.specs.Seat.{seat_home, top_bucket, top_of, top_tickets, plain_of, usable_of, top_ready, plain_ready, Pops, TakesCross, HasNoCross, IsSameSeat, KeepsTop, KeepsPlain, KeepsFreed, KeepsRack, KeepsCounts, KeepsMisses, KeepsPorts};
 
     /// Takes the item that was put last, from the allocation bucket. In a plain zone that bucket, where it is empty, is
     /// exchanged with the free bucket first. None exactly where no item is usable.
@@ -25,6 +25,7 @@ impl<T: Body, H: Host> SeatCache<T, H> {
         ensures plain { plain_of self.new ≡ plain_ready self.old }
         ensures home { AreHome (seat_home self.old) (top_tickets self.old) → AreHome (seat_home self.new) (top_tickets self.new) × IfSome result (λ item. IsHome (seat_home self.old) (cached_ticket item)) }
         ensures same { IsSameSeat self.old self.new }
+        ensures ports { KeepsPorts self.old self.new }
         ensures freed { KeepsFreed self.old self.new }
         ensures rack { KeepsRack self.old self.new }
         ensures counts { KeepsCounts self.old self.new }
@@ -40,6 +41,7 @@ impl<T: Body, H: Host> SeatCache<T, H> {
         ensures plain { plain_of self.new ≡ plain_ready self.old }
         ensures home { AreHome (seat_home self.old) (top_tickets self.old) → AreHome (seat_home self.new) (top_tickets self.new) }
         ensures same { IsSameSeat self.old self.new }
+        ensures ports { KeepsPorts self.old self.new }
         ensures freed { KeepsFreed self.old self.new }
         ensures rack { KeepsRack self.old self.new }
         ensures counts { KeepsCounts self.old self.new }
@@ -57,6 +59,7 @@ impl<T: Body, H: Host> SeatCache<T, H> {
         ensures top { top_of self.new ≡ with_item (top_of self.old) item }
         ensures home { AreHome (seat_home self.old) (top_tickets self.old) → IsHome (seat_home self.old) (cached_ticket item) → AreHome (seat_home self.new) (top_tickets self.new) }
         ensures same { IsSameSeat self.old self.new }
+        ensures ports { KeepsPorts self.old self.new }
         ensures plain { KeepsPlain self.old self.new }
         ensures freed { KeepsFreed self.old self.new }
         ensures rack { KeepsRack self.old self.new }
@@ -73,6 +76,7 @@ impl<T: Body, H: Host> SeatCache<T, H> {
         ensures none { IfNone result (HasNoCross self.old) }
         ensures unchanged { IfNone result (KeepsPlain self.old self.new) }
         ensures same { IsSameSeat self.old self.new }
+        ensures ports { KeepsPorts self.old self.new }
         ensures top { KeepsTop self.old self.new }
         ensures freed { KeepsFreed self.old self.new }
         ensures rack { KeepsRack self.old self.new }

@@ -1,7 +1,7 @@
 ghost use Rattle.std.specs.Prelude.{◌≡◌, ◌≤◌, ◌<◌, ◌==◌, true, false, not, length, slice_set};
 ghost use Rattle.smr_clock.specs.Belongs.{IsOf, clock_id, view, holder};
 ghost use Rattle.uma_bucket.specs.Loose.{loose_items, loose_tickets};
-ghost use Rattle.uma_seat.specs.Shelf.{count_of, shelved_domain, shelved_tickets, IsShelvedOf};
+ghost use Rattle.uma_bucket.specs.Shelved.{count_of, shelved_domain, shelved_tickets, IsShelvedOf};
 ghost use Rattle.uma_seat.specs.Freeing.{IsTried};
 
 use crate::seat::SeatCache;
@@ -16,7 +16,7 @@ impl<T: Body, H: Host> SeatCache<T, H> {
     ghost use Rattle.uma_bucket.specs.Home.{IsHome};
     ghost use Rattle.uma_seat.specs.Freeing.{ShelvesFreed};
     ghost use Rattle.uma_seat.specs.Stack.{stack_at, with_item, is_filled_by_one};
-    ghost use Rattle.uma_seat.specs.Seat.{seat_home, seat_clock, seat_smr, seat_domain, freed_of, spares_of, ledger_of, fetches_of, seat_fails, IsSameSeat, KeepsTop, KeepsPlain, KeepsRack, KeepsCounts, KeepsMisses};
+    ghost use Rattle.uma_seat.specs.Seat.{seat_home, seat_clock, seat_smr, seat_domain, freed_of, spares_of, ledger_of, fetches_of, seat_fails, IsSameSeat, KeepsTop, KeepsPlain, KeepsRack, KeepsCounts, KeepsMisses, KeepsPorts};
 
     /// Takes in an item of a zone whose readers hold no lock. It stays built, and is deferred: nothing of the seat becomes
     /// usable. It is put into the bucket of its domain. One that is full then is tried once to be sealed, and is the newest
@@ -41,6 +41,7 @@ impl<T: Body, H: Host> SeatCache<T, H> {
         ensures fetches { fetches_of self.new ≡ fetches_of self.old }
         ensures fails { seat_fails self.new ≡ seat_fails self.old }
         ensures same { IsSameSeat self.old self.new }
+        ensures ports { KeepsPorts self.old self.new }
         ensures top { KeepsTop self.old self.new }
         ensures plain { KeepsPlain self.old self.new }
         ensures misses { KeepsMisses self.old self.new }
@@ -61,6 +62,7 @@ impl<T: Body, H: Host> SeatCache<T, H> {
         requires room { is_filled_by_one (stack_at (freed_of self.old) domain) ≡ false }
         ensures put { freed_of self.new ≡ slice_set (freed_of self.old) domain (with_item (stack_at (freed_of self.old) domain) (freed_item item)) }
         ensures same { IsSameSeat self.old self.new }
+        ensures ports { KeepsPorts self.old self.new }
         ensures top { KeepsTop self.old self.new }
         ensures plain { KeepsPlain self.old self.new }
         ensures rack { KeepsRack self.old self.new }
@@ -86,6 +88,7 @@ impl<T: Body, H: Host> SeatCache<T, H> {
         ensures host { (view pass.new).host ≡ (view pass.old).host }
         ensures full { ShelvesFreed H.copied (view pass.old) self.old (live_domain (freed_item item)) (with_item (stack_at (freed_of self.old) (live_domain (freed_item item))) (freed_item item)) self.new (view pass.new) }
         ensures same { IsSameSeat self.old self.new }
+        ensures ports { KeepsPorts self.old self.new }
         ensures top { KeepsTop self.old self.new }
         ensures plain { KeepsPlain self.old self.new }
         ensures counts { KeepsCounts self.old self.new }

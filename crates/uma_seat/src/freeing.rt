@@ -10,7 +10,7 @@ impl<T: Body, H: Host> SeatCache<T, H> {
     ghost use Rattle.uma_bucket.specs.Home.{IsHome};
     ghost use Rattle.uma_seat.specs.Freeing.{ShelvesPlain};
     ghost use Rattle.uma_seat.specs.Stack.{stack_at, with_item, is_filled_by_one};
-    ghost use Rattle.uma_seat.specs.Seat.{seat_home, seat_smr, seat_domain, plain_of, spares_of, ledger_of, fetches_of, seat_fails, IsSameSeat, KeepsTop, KeepsFreed, KeepsRack, KeepsCounts, KeepsMisses};
+    ghost use Rattle.uma_seat.specs.Seat.{seat_home, seat_smr, seat_domain, plain_of, spares_of, ledger_of, fetches_of, seat_fails, IsSameSeat, KeepsTop, KeepsFreed, KeepsRack, KeepsCounts, KeepsMisses, KeepsPorts};
 
     /// Takes in an item whose `dtor` ran: it is put into the bucket of its domain. One that is full then is the newest on
     /// the shelf, and a spare stands in its place.
@@ -27,6 +27,7 @@ impl<T: Body, H: Host> SeatCache<T, H> {
         ensures fetches { fetches_of self.new ≡ fetches_of self.old }
         ensures fails { seat_fails self.new ≡ seat_fails self.old }
         ensures same { IsSameSeat self.old self.new }
+        ensures ports { KeepsPorts self.old self.new }
         ensures top { KeepsTop self.old self.new }
         ensures freed { KeepsFreed self.old self.new }
         ensures misses { KeepsMisses self.old self.new }
@@ -47,6 +48,7 @@ impl<T: Body, H: Host> SeatCache<T, H> {
         requires room { is_filled_by_one (stack_at (plain_of self.old) domain) ≡ false }
         ensures put { plain_of self.new ≡ slice_set (plain_of self.old) domain (with_item (stack_at (plain_of self.old) domain) item) }
         ensures same { IsSameSeat self.old self.new }
+        ensures ports { KeepsPorts self.old self.new }
         ensures top { KeepsTop self.old self.new }
         ensures freed { KeepsFreed self.old self.new }
         ensures rack { KeepsRack self.old self.new }
@@ -67,6 +69,7 @@ impl<T: Body, H: Host> SeatCache<T, H> {
         requires room { is_filled_by_one (stack_at (plain_of self.old) domain) ≡ true }
         ensures full { ShelvesPlain self.old (cached_domain item) (with_item (stack_at (plain_of self.old) (cached_domain item)) item) self.new }
         ensures same { IsSameSeat self.old self.new }
+        ensures ports { KeepsPorts self.old self.new }
         ensures top { KeepsTop self.old self.new }
         ensures freed { KeepsFreed self.old self.new }
         ensures counts { KeepsCounts self.old self.new }

@@ -1,4 +1,4 @@
-ghost use Rattle.std.specs.Prelude.{◌≡◌, ◌≤◌, [], IfOk, IfErr, Err};
+ghost use Rattle.std.specs.Prelude.{◌≡◌, ◌≤◌, [], IfOk, IfErr, Err, length};
 ghost use Rattle.deed_book.specs.FailShare.{share_table, causes_in};
 ghost use Rattle.uma_bucket.specs.Bucket.{IsOutOfRange, Refuses};
 
@@ -11,7 +11,7 @@ use crate::seating::Seating;
 use deed_book::FailShare;
 use smr_clock::Host;
 use std::alloc::Global;
-use uma_bucket::{Bucket, BucketRefused};
+use uma_bucket::{Bucket, BucketRefused, Port};
 use uma_life::Body;
 
 /// The least and the greatest count of items that a bucket can have room for.
@@ -20,27 +20,30 @@ const LEAST_SIZE: u32 = 4;
 const MOST_SIZE: u32 = 64;
 
 impl<T: Body + Drop, H: Host> SeatCache<T, H> {
-    ghost use Rattle.uma_seat.specs.Seat.{IsNewSeat};
+    ghost use Rattle.uma_seat.specs.Seat.{IsNewSeat, ports_of};
 
     /// A seat whose buckets are all empty and have room for `size` items each, 4 to 64; two of them are spares. All room
     /// that the seat ever needs is taken here. `share` is of the zone's fail book and lists nothing yet, `misses` of the
-    /// domain's book of misses.
+    /// domain's book of misses, and there is one port for each domain, in order.
     pub fn new(
         alloc: Global,
         size: u32,
         seating: Seating<H>,
         share: FailShare,
         misses: FailShare,
+        ports: Vec<Port<T, H>>,
     ) -> Result<SeatCache<T, H>, BucketRefused>
-        requires { causes_in share ≡ [] }
+        requires listed { causes_in share ≡ [] }
+        requires ports { length ports.items ≡ seating.domains }
         ensures made { IfOk result (IsNewSeat size seating (share_table share) misses) }
+        ensures ports { IfOk result (λ seat. ports_of seat ≡ ports.items) }
         ensures out_of_range { IsOutOfRange size → result ≡ Err (BucketRefused.Size size) }
         ensures err { IfErr result (Refuses size) }
     {
         if size < LEAST_SIZE || size > MOST_SIZE {
             return Err(BucketRefused::Size { size });
         }
-        SeatCache::of_size(alloc, size, seating, share, misses)
+        SeatCache::of_size(alloc, size, seating, share, misses, ports)
     }
 
     fn of_size(
@@ -49,11 +52,14 @@ impl<T: Body + Drop, H: Host> SeatCache<T, H> {
         seating: Seating<H>,
         share: FailShare,
         misses: FailShare,
+        ports: Vec<Port<T, H>>,
     ) -> Result<SeatCache<T, H>, BucketRefused>
         requires least { 4 ≤ size }
         requires most { size ≤ 64 }
         requires listed { causes_in share ≡ [] }
+        requires ports { length ports.items ≡ seating.domains }
         ensures made { IfOk result (IsNewSeat size seating (share_table share) misses) }
+        ensures ports { IfOk result (λ seat. ports_of seat ≡ ports.items) }
         ensures err { IfErr result (Refuses size) }
     {
         let top = Bucket::make(alloc, size)?;
@@ -69,6 +75,7 @@ impl<T: Body + Drop, H: Host> SeatCache<T, H> {
             rack,
             counts: Counts::new(share),
             misses,
+            ports,
         })
     }
 }

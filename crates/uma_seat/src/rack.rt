@@ -5,7 +5,7 @@ ghost use Rattle.std.specs.VecDeque.{deque_len, deque_capacity};
 ghost use Rattle.uma_bucket.specs.Bucket.{items_of, size_of, Refuses};
 ghost use Rattle.uma_bucket.specs.Home.{Home};
 ghost use Rattle.uma_bucket.specs.Sums.{Adds, AreOfAtMost, Balance};
-ghost use Rattle.uma_seat.specs.Shelf.{count_of, IsShelvedAt};
+ghost use Rattle.uma_bucket.specs.Shelved.{count_of, IsShelvedAt};
 ghost use Rattle.uma_seat.specs.ShelfSums.{times_shelved, deferred_shelved};
 
 use smr_clock::Host;

@@ -1,9 +1,9 @@
-ghost use Rattle.std.specs.Prelude.{◌≡◌, ◌≤◌, cond};
+ghost use Rattle.std.specs.Prelude.{◌≡◌, ◌≤◌, cond, length};
 ghost use Rattle.std.specs.List.{All};
 ghost use Rattle.uma_seat.specs.Rack.{shelf_in};
 ghost use Rattle.uma_seat.specs.Row.{row_len, freed_len, IsRowAt, IsFreedRowAt};
 ghost use Rattle.uma_seat.specs.Seating.{home_of, clock_of};
-ghost use Rattle.uma_seat.specs.Shelf.{IsShelvedAt, IsShelvedOf};
+ghost use Rattle.uma_bucket.specs.Shelved.{IsShelvedAt, IsShelvedOf};
 
 use crate::counts::Counts;
 use crate::freed_row::FreedRow;
@@ -12,7 +12,7 @@ use crate::rack::Rack;
 use crate::seating::Seating;
 use deed_book::FailShare;
 use smr_clock::Host;
-use uma_bucket::Bucket;
+use uma_bucket::{Bucket, Port};
 use uma_life::Body;
 
 /// One seat's cache in one zone.
@@ -29,10 +29,12 @@ pub struct SeatCache<T: Body, H: Host> {
     pub(crate) rack: Rack<T, H>,
     pub(crate) counts: Counts,
     pub(crate) misses: FailShare,
+    pub(crate) ports: Vec<Port<T, H>>,
     pub ghost least: { 4 ≤ size },
     pub ghost most: { size ≤ 64 },
     pub ghost plain_buckets: { row_len plain ≡ cond seating.smr 0 seating.domains },
     pub ghost freed_buckets: { freed_len freed ≡ cond seating.smr seating.domains 0 },
+    pub ghost one_port_each: { length ports.items ≡ seating.domains },
     pub ghost plain_home: { IsRowAt (home_of seating) plain },
     pub ghost freed_home: { IsFreedRowAt (home_of seating) freed },
     pub ghost shelf_home: { All (IsShelvedAt (home_of seating)) (shelf_in rack) },

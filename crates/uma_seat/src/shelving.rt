@@ -10,8 +10,8 @@ use uma_bucket::{Bucket, Shelved};
 use uma_life::Body;
 
 impl<T: Body, H: Host> SeatCache<T, H> {
-    ghost use Rattle.uma_seat.specs.Shelf.{count_of, IsShelvedAt, IsShelvedOf};
-    ghost use Rattle.uma_seat.specs.Seat.{seat_home, seat_clock, seat_domain, seat_size, top_bucket, top_of, spares_of, shelf_of, HasPlace, IsSameSeat, KeepsTop, KeepsPlain, KeepsFreed, KeepsRack, KeepsCounts, KeepsMisses};
+    ghost use Rattle.uma_bucket.specs.Shelved.{count_of, IsShelvedAt, IsShelvedOf};
+    ghost use Rattle.uma_seat.specs.Seat.{seat_home, seat_clock, seat_domain, seat_size, top_bucket, top_of, spares_of, shelf_of, HasPlace, IsSameSeat, KeepsTop, KeepsPlain, KeepsFreed, KeepsRack, KeepsCounts, KeepsMisses, KeepsPorts};
 
     /// The seat's own domain.
     pub fn domain(&self) -> u8
@@ -40,6 +40,7 @@ impl<T: Body, H: Host> SeatCache<T, H> {
         ensures unchanged { IfNone result (shelf_of self.new ≡ []) }
         ensures spares { spares_of self.new ≡ spares_of self.old }
         ensures same { IsSameSeat self.old self.new }
+        ensures ports { KeepsPorts self.old self.new }
         ensures top { KeepsTop self.old self.new }
         ensures plain { KeepsPlain self.old self.new }
         ensures freed { KeepsFreed self.old self.new }
@@ -58,6 +59,7 @@ impl<T: Body, H: Host> SeatCache<T, H> {
         ensures oldest { shelf_of self.new ≡ shelved ∷ shelf_of self.old }
         ensures spares { spares_of self.new ≡ spares_of self.old }
         ensures same { IsSameSeat self.old self.new }
+        ensures ports { KeepsPorts self.old self.new }
         ensures top { KeepsTop self.old self.new }
         ensures plain { KeepsPlain self.old self.new }
         ensures freed { KeepsFreed self.old self.new }
@@ -76,6 +78,7 @@ impl<T: Body, H: Host> SeatCache<T, H> {
         ensures no_place { 2 ≤ length (spares_of self.old) + length (shelf_of self.old) → spares_of self.new ≡ spares_of self.old }
         ensures shelf { shelf_of self.new ≡ shelf_of self.old }
         ensures same { IsSameSeat self.old self.new }
+        ensures ports { KeepsPorts self.old self.new }
         ensures plain { KeepsPlain self.old self.new }
         ensures freed { KeepsFreed self.old self.new }
         ensures counts { KeepsCounts self.old self.new }
@@ -96,6 +99,7 @@ impl<T: Body, H: Host> SeatCache<T, H> {
         ensures err { OnErr result (KeepsRack self.old self.new) }
         ensures shelf { shelf_of self.new ≡ shelf_of self.old }
         ensures same { IsSameSeat self.old self.new }
+        ensures ports { KeepsPorts self.old self.new }
         ensures top { KeepsTop self.old self.new }
         ensures plain { KeepsPlain self.old self.new }
         ensures freed { KeepsFreed self.old self.new }

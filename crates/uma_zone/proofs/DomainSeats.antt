@@ -1,5 +1,6 @@
 -- A seat stays one of its zone.
 use Rattle.std.proofs.Common.{◌≡◌, ◌<◌, ◌≤◌, ◌+◌, ℕ, Some, List, [], ◌∷◌, ◌++◌, length, map, sym, ap, ◌∙◌, subst, inl, inr, arith}
+use Rattle.std.specs.declared.vec.Vec.{Vec}
 use Rattle.std.proofs.lemmas.Bool.{cases_lt}
 use Rattle.std.proofs.lemmas.List.{length-append, length-map}
 use Rattle.std.proofs.lemmas.List.Elements.{All-nil}
@@ -19,14 +20,15 @@ use Rattle.uma_seat.specs.declared.seat.SeatCache.{SeatCache}
 use Rattle.uma_seat.specs.Seat.{seat_home, IsNewSeat}
 use Rattle.uma_seat.specs.Stack.{Stack}
 use Rattle.uma_seat.specs.Seating.{home_of, clock_of}
+use Rattle.uma_zone.specs.Ports.{origins_of, HasPorts}
 use Rattle.uma_zone.specs.declared.domains.ZoneDomains.{ZoneDomains}
 use Rattle.uma_zone.specs.Domains.{domain_count, domains_home, domains_clock, domains_smr, misses_at, IsSeatOf}
 
 module _ {T H P : Type 0} {g h : _} where
-  -- one that is made for the same, with such a bucket to allocate from
-  pub refilled_seat : (them : ZoneDomains T H P g h) (old new : SeatCache T H P g h) (bucket : Bucket T g) → new.seating ≡ old.seating → new.misses ≡ old.misses → new.top ≡ bucket → AreHome (domains_home them) (tickets_of bucket) → IsSeatOf them old
+  -- one that is made for the same, with ports of the same inboxes and such a bucket to allocate from
+  pub put_seat : (them : ZoneDomains T H P g h) (old new : SeatCache T H P g h) (bucket : Bucket T g) → new.seating ≡ old.seating → new.misses ≡ old.misses → HasPorts them new → new.top ≡ bucket → AreHome (domains_home them) (tickets_of bucket) → IsSeatOf them old
       → IsSeatOf them new
-  refilled_seat them old new bucket made misses top here was =
+  put_seat them old new bucket made misses has top here was =
       let home : home_of new.seating ≡ domains_home them = ap home_of made ∙ was.same_home in
       record {
         same_home = home;
@@ -34,13 +36,19 @@ module _ {T H P : Type 0} {g h : _} where
         same_smr = ap (λ (s : Seating H P). s.smr) made ∙ was.same_smr;
         own = subst (λ (s : Seating H P). s.domain < domain_count them) (sym made) was.own;
         own_misses = ap (λ (s : Seating H P). misses_at them s.domain) made ∙ was.own_misses ∙ ap (λ (s : FailShare). Some (share_table s)) (sym misses);
+        ports = has;
         top_home = subst (λ (b : Bucket T g). AreHome (home_of new.seating) (tickets_of b)) (sym top) (subst (λ (x : _). AreHome x (tickets_of bucket)) (sym home) here);
       }
 
+  -- the same, where the ports are as they were
+  pub refilled_seat : (them : ZoneDomains T H P g h) (old new : SeatCache T H P g h) (bucket : Bucket T g) → new.seating ≡ old.seating → new.misses ≡ old.misses → new.ports ≡ old.ports → new.top ≡ bucket → AreHome (domains_home them) (tickets_of bucket)
+      → IsSeatOf them old → IsSeatOf them new
+  refilled_seat them old new bucket made misses ports top here was = put_seat them old new bucket made misses (ap (λ (v : Vec _ _). origins_of v.items) ports ∙ was.ports) top here was
+
   -- a new one, which is made for a domain of the zone with a share of that domain's book of misses
   pub new_seat : (them : ZoneDomains T H P g h) (seat : SeatCache T H P g h) (seating : Seating H P) (size domain : ℕ) (fails : TableId) (misses : FailShare) → home_of seating ≡ domains_home them → clock_of seating ≡ domains_clock them → seating.smr ≡ domains_smr them
-      → seating.domain ≡ domain → domain < domain_count them → misses_at them domain ≡ Some (share_table misses) → IsNewSeat size seating fails misses seat → IsSeatOf them seat
-  new_seat them seat seating size domain fails misses home clock smr own within book new =
+      → seating.domain ≡ domain → domain < domain_count them → misses_at them domain ≡ Some (share_table misses) → HasPorts them seat → IsNewSeat size seating fails misses seat → IsSeatOf them seat
+  new_seat them seat seating size domain fails misses home clock smr own within book has new =
       let none : items_of seat.top ≡ [] = ap (λ (s : Stack _). s.items) new.top in
       record {
         same_home = ap home_of new.seated ∙ home;
@@ -48,12 +56,17 @@ module _ {T H P : Type 0} {g h : _} where
         same_smr = ap (λ (s : Seating H P). s.smr) new.seated ∙ smr;
         own = subst (λ (n : ℕ). n < domain_count them) (sym (ap (λ (s : Seating H P). s.domain) new.seated ∙ own)) within;
         own_misses = ap (λ (n : ℕ). misses_at them n) (ap (λ (s : Seating H P). s.domain) new.seated ∙ own) ∙ book ∙ ap (λ (s : FailShare). Some (share_table s)) (sym new.misses_kept);
+        ports = has;
         top_home = subst (λ (l : List (Cached T g)). AreHome (seat_home seat) (map cached_ticket l)) (sym none) (All-nil (IsHome (seat_home seat)));
       }
 
   -- one whose allocation bucket is the same
-  pub still_seat : (them : ZoneDomains T H P g h) (old new : SeatCache T H P g h) → new.seating ≡ old.seating → new.misses ≡ old.misses → new.top ≡ old.top → IsSeatOf them old → IsSeatOf them new
-  still_seat them old new made misses top was = refilled_seat them old new old.top made misses top (subst (λ (x : _). AreHome x (tickets_of old.top)) was.same_home was.top_home) was
+  pub still_seat : (them : ZoneDomains T H P g h) (old new : SeatCache T H P g h) → new.seating ≡ old.seating → new.misses ≡ old.misses → new.ports ≡ old.ports → new.top ≡ old.top → IsSeatOf them old → IsSeatOf them new
+  still_seat them old new made misses ports top was = refilled_seat them old new old.top made misses ports top (subst (λ (x : _). AreHome x (tickets_of old.top)) was.same_home was.top_home) was
+
+  -- the same, where its ports pushed
+  pub flushed_seat : (them : ZoneDomains T H P g h) (old new : SeatCache T H P g h) → new.seating ≡ old.seating → new.misses ≡ old.misses → HasPorts them new → new.top ≡ old.top → IsSeatOf them old → IsSeatOf them new
+  flushed_seat them old new made misses has top was = put_seat them old new old.top made misses has top (subst (λ (x : _). AreHome x (tickets_of old.top)) was.same_home was.top_home) was
 
 -- a refill takes no spare
 pub spares_left : (old new : List ℕ) (shelf room : ℕ) → (length old + shelf < 2 → new ≡ old ++ room ∷ []) → (2 ≤ length old + shelf → new ≡ old) → length old ≤ length new

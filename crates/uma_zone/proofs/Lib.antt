@@ -7,15 +7,18 @@ mod Locked
 mod Made
 mod NewSeats
 mod OneFetch
+mod Opened
 mod Prealloc
 mod Rights
 mod Seats
 mod Serves
+mod Settled
 mod Shelves
 pub mod DomainSeats
 pub mod DomainShelves
 pub mod Found
 pub mod Listings
+pub mod Ported
 pub mod Looks
 pub mod Puts
 pub mod Shared

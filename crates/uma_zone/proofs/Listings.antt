@@ -1,18 +1,11 @@
 -- What a flush did to the lists of a zone's domains.
-use Rattle.std.proofs.Common.{◌≡◌, ◌≤◌, ℕ, List, [], ◌∷◌, ◌++◌, length, Option, Some, None, IfSome, IfNone, refl, sym, ap, ◌∙◌, subst, arith}
-use Rattle.std.proofs.lemmas.List.Elements.{All-nil, All-cons}
+use Rattle.std.proofs.Common.{◌≡◌, ◌≤◌, ℕ, List, [], ◌∷◌, ◌++◌, length, Option, Some, None, IfSome, IfNone, Result, Ok, Err, OnOk, refl, sym, ap, ◌∙◌, subst, arith}
+use Rattle.std.proofs.lemmas.List.{append-nil}
 use Rattle.smr_clock.specs.declared.view.View.{View}
-use Rattle.uma_bucket.specs.declared.bucket.Bucket.{Bucket}
-use Rattle.uma_bucket.specs.declared.loose.Loose.{Loose}
-use Rattle.uma_bucket.specs.declared.sealed.Sealed.{Sealed}
 use Rattle.uma_bucket.specs.declared.shelved.Shelved.{Shelved}
-use Rattle.uma_bucket.specs.declared.shelved.Shelved.TheVariants.{Plain as Plain', Loose as Loose', Sealed as Sealed'}
-use Rattle.uma_domain.specs.declared.domain.Domain.{Domain}
-use Rattle.uma_domain.specs.UnderLock.{PutsPlain, PutsLoose, PutsSealed}
 use Rattle.uma_zone.specs.declared.domains.ZoneDomains.{ZoneDomains}
-use Rattle.uma_zone.specs.Domains.{domain_at}
 use Rattle.uma_zone.specs.Flushed.{TakesTried, in_order}
-use Rattle.uma_zone.specs.OwnDomain.{IsListed, PutsFirst, TryEach, Flushes, IsFlushed}
+use Rattle.uma_zone.specs.OwnDomain.{IsSent, SentEach, PutsFirst, TryEach, Flushes, IsFlushed}
 
 -- a list that isn't longer than none is empty
 none_long : {X : Type 0} (xs : List X) → length xs ≤ 0 → xs ≡ []
@@ -25,20 +18,42 @@ not_none [] x none = absurd (cc)
 not_none (y ∷ ys) x none = absurd (cc)
 
 module _ {T H P : Type 0} {g h : _} where
-  -- one bucket or none went to its list
-  pub put_or_none : (them : ZoneDomains T H P g h) (newest : Option (Shelved T H P g h)) (is : List (Shelved T H P g h)) → IfSome newest (IsListed them) → is ≡ [] → PutsFirst them (in_order None newest) is
-  put_or_none them None is listed none = record { put = []; split = sym none; listed = All-nil (IsListed them) }
-  put_or_none them (Some n) is listed none = record { put = n ∷ []; split = ap (λ (l : List (Shelved T H P g h)). n ∷ l) (sym none); listed = All-cons (IsListed them) n [] listed (All-nil (IsListed them)) }
+  -- one bucket or none went to its domain
+  pub put_or_none : (them : ZoneDomains T H P g h) (newest : Option (Shelved T H P g h)) (is : List (Shelved T H P g h)) (sent sent' : List (List (Shelved T H P g h))) → SentEach them sent (in_order None newest) sent' → is ≡ [] → PutsFirst them (in_order None newest) is sent sent'
+  put_or_none them newest is sent sent' each none = record {
+    put = in_order None newest;
+    split = sym (append-nil (in_order None newest)) ∙ ap (λ (l : List (Shelved T H P g h)). in_order None newest ++ l) (sym none);
+    each = each;
+  }
 
-  -- none went to its list
-  pub put_none : (them : ZoneDomains T H P g h) (was is : List (Shelved T H P g h)) → was ≡ is → PutsFirst them was is
-  put_none them was is same = record { put = []; split = same; listed = All-nil (IsListed them) }
+  -- this one went to its domain
+  pub sent_one : (them : ZoneDomains T H P g h) (sent sent' : List (List (Shelved T H P g h))) (some : Option (Shelved T H P g h)) (one : Shelved T H P g h) {E : Type 0} (result : Result (Unit {0}) E) → some ≡ Some one → OnOk result (IsSent them sent one sent')
+      → OnOk result (SentEach them sent (in_order None some) sent')
+  sent_one them sent sent' some one (Err e) is went = tt
+  sent_one them sent sent' some one (Ok done) is went = subst (λ (o : Option (Shelved T H P g h)). SentEach them sent (in_order None o) sent') (sym is) (sent', went, refl)
 
-  -- the oldest went to its list, and then the newest, or it stays
-  pub put_both : (them : ZoneDomains T H P g h) (oldest newest : Option (Shelved T H P g h)) (is : List (Shelved T H P g h)) → IfSome oldest (IsListed them) → PutsFirst them (in_order None newest) is → PutsFirst them (in_order oldest newest) is
-  put_both them None newest is listed rest = rest
-  put_both them (Some o) None is listed rest = record { put = o ∷ rest.put; split = ap (λ (l : List (Shelved T H P g h)). o ∷ l) rest.split; listed = All-cons (IsListed them) o rest.put listed rest.listed }
-  put_both them (Some o) (Some n) is listed rest = record { put = o ∷ rest.put; split = ap (λ (l : List (Shelved T H P g h)). o ∷ l) rest.split; listed = All-cons (IsListed them) o rest.put listed rest.listed }
+  -- the same of ports that had pushed as much
+  pub puts_from : (them : ZoneDomains T H P g h) (was is : List (Shelved T H P g h)) (sent mid sent' : List (List (Shelved T H P g h))) → mid ≡ sent → PutsFirst them was is mid sent' → PutsFirst them was is sent sent'
+  puts_from them was is sent mid sent' same puts = subst (λ (s : List (List (Shelved T H P g h))). PutsFirst them was is s sent') same puts
+
+  -- none went to its domain
+  pub put_none : (them : ZoneDomains T H P g h) (was is : List (Shelved T H P g h)) (sent sent' : List (List (Shelved T H P g h))) → was ≡ is → sent' ≡ sent → PutsFirst them was is sent sent'
+  put_none them was is sent sent' same still = record { put = []; split = same; each = still }
+
+  -- the oldest went to its domain, and then the newest, or it stays
+  pub put_both : (them : ZoneDomains T H P g h) (oldest newest : Option (Shelved T H P g h)) (is : List (Shelved T H P g h)) (sent mid sent' : List (List (Shelved T H P g h))) → SentEach them sent (in_order None oldest) mid → PutsFirst them (in_order None newest) is mid sent'
+      → PutsFirst them (in_order oldest newest) is sent sent'
+  put_both them None newest is sent mid sent' first rest = subst (λ (s : List (List (Shelved T H P g h))). PutsFirst them (in_order None newest) is s sent') first rest
+  put_both them (Some o) None is sent mid sent' first rest = record {
+    put = o ∷ rest.put;
+    split = ap (λ (l : List (Shelved T H P g h)). o ∷ l) rest.split;
+    each = (first.0, first.1, subst (λ (s : List (List (Shelved T H P g h))). SentEach them s rest.put sent') first.2 rest.each);
+  }
+  put_both them (Some o) (Some n) is sent mid sent' first rest = record {
+    put = o ∷ rest.put;
+    split = ap (λ (l : List (Shelved T H P g h)). o ∷ l) rest.split;
+    each = (first.0, first.1, subst (λ (s : List (List (Shelved T H P g h))). SentEach them s rest.put sent') first.2 rest.each);
+  }
 
   -- two tries of a shelf of at most two are the tries of all
   pub tries_both : (copied : P → P) (v mid_v v' : View P) (was mid is : List (Shelved T H P g h)) (oldest newest : Option (Shelved T H P g h)) → length was ≤ 2
@@ -56,22 +71,27 @@ module _ {T H P : Type 0} {g h : _} where
       let all : was ≡ first.oldest ∷ second.oldest ∷ [] = first.taken ∙ ap (λ (l : List (Shelved T H P g h)). first.oldest ∷ l) (second.taken ∙ ap (λ (l : List (Shelved T H P g h)). second.oldest ∷ l) none_left) in
       subst (λ (l : List (Shelved T H P g h)). TryEach copied v l (o ∷ n ∷ []) v') (sym all) (o, n ∷ [], mid_v, refl, first.tries, (n, [], v', refl, second.tries, (refl, refl)))
 
-  -- it went to the list of the domain that it names
-  pub listed_plain : (them : ZoneDomains T H P g h) (shelved : Shelved T H P g h) (number : ℕ) (bucket : Bucket T g) (domain : Domain T H P g h) → shelved ≡ Plain' number bucket → domain_at them number ≡ Some domain → PutsPlain domain bucket → IsListed them shelved
-  listed_plain them shelved number bucket domain is named put = subst (IsListed them) (sym is) record { domain = domain; named = named; put = put }
+  -- the same flush of a seat that is as that left it
+  pub flushes_still : (them : ZoneDomains T H P g h) (copied : P → P) (was is is' : List (Shelved T H P g h)) (sent sent' sent'' : List (List (Shelved T H P g h))) (v left : View P) → is' ≡ is → sent'' ≡ sent' → Flushes them copied was is sent sent' v left
+      → Flushes them copied was is' sent sent'' v left
+  flushes_still them copied was is is' sent sent' sent'' v left same pushed flushes = record {
+    tried = flushes.tried;
+    tries = flushes.tries;
+    puts = record {
+      put = flushes.puts.put;
+      split = flushes.puts.split ∙ ap (λ (l : List (Shelved T H P g h)). flushes.puts.put ++ l) (sym same);
+      each = subst (λ (s : List (List (Shelved T H P g h))). SentEach them sent flushes.puts.put s) (sym pushed) flushes.puts.each;
+    };
+  }
 
-  pub listed_loose : (them : ZoneDomains T H P g h) (shelved : Shelved T H P g h) (number : ℕ) (bucket : Loose T g) (domain : Domain T H P g h) → shelved ≡ Loose' number bucket → domain_at them number ≡ Some domain → PutsLoose domain bucket → IsListed them shelved
-  listed_loose them shelved number bucket domain is named put = subst (IsListed them) (sym is) record { domain = domain; named = named; put = put }
-
-  pub listed_sealed : (them : ZoneDomains T H P g h) (shelved : Shelved T H P g h) (number : ℕ) (bucket : Sealed T H P g h) (domain : Domain T H P g h) → shelved ≡ Sealed' number bucket → domain_at them number ≡ Some domain → PutsSealed domain bucket → IsListed them shelved
-  listed_sealed them shelved number bucket domain is named put = subst (IsListed them) (sym is) record { domain = domain; named = named; put = put }
-
-  -- the seat was flushed, and its shelf is as that left it
-  pub still_flushed : (them : ZoneDomains T H P g h) (number : ℕ) (copied : P → P) (was is is' : List (Shelved T H P g h)) (v left : View P) → is' ≡ is → Flushes them number copied was is v left → IsFlushed them number copied was is' v
-  still_flushed them number copied was is is' v left same flushes = record { left = left; flushes = subst (λ (l : List (Shelved T H P g h)). Flushes them number copied was l v left) (sym same) flushes }
+  -- the seat was flushed, and is as that left it
+  pub still_flushed : (them : ZoneDomains T H P g h) (copied : P → P) (was is is' : List (Shelved T H P g h)) (sent sent' sent'' : List (List (Shelved T H P g h))) (v : View P) → is' ≡ is → sent'' ≡ sent' → IsFlushed them copied was is sent sent' v
+      → IsFlushed them copied was is' sent sent'' v
+  still_flushed them copied was is is' sent sent' sent'' v same pushed flushed = record { left = flushed.left; flushes = flushes_still them copied was is is' sent sent' sent'' v flushed.left same pushed flushed.flushes }
 
   -- the same of a seat that is as it was before, and as it is after
-  pub flushed_between : (them : ZoneDomains T H P g h) (number number' : ℕ) (copied : P → P) (was was' is is' : List (Shelved T H P g h)) (v : View P) → number ≡ number' → was ≡ was' → is' ≡ is → IsFlushed them number copied was is v → IsFlushed them number' copied was' is' v
-  flushed_between them number number' copied was was' is is' v here before same flushed =
-      let of_shelf : Flushes them number copied was' is v flushed.left = subst (λ (l : List (Shelved T H P g h)). Flushes them number copied l is v flushed.left) before flushed.flushes in
-      still_flushed them number' copied was' is is' v flushed.left same (subst (λ (n : ℕ). Flushes them n copied was' is v flushed.left) here of_shelf)
+  pub flushed_between : (them : ZoneDomains T H P g h) (copied : P → P) (was was' is is' : List (Shelved T H P g h)) (sent start sent' sent'' : List (List (Shelved T H P g h))) (v : View P) → was ≡ was' → is' ≡ is → sent ≡ start → sent'' ≡ sent'
+      → IsFlushed them copied was is sent sent' v → IsFlushed them copied was' is' start sent'' v
+  flushed_between them copied was was' is is' sent start sent' sent'' v before same begun pushed flushed =
+      let of_shelf : IsFlushed them copied was' is sent sent' v = subst (λ (l : List (Shelved T H P g h)). IsFlushed them copied l is sent sent' v) before flushed in
+      still_flushed them copied was' is is' start sent' sent'' v same pushed (subst (λ (s : List (List (Shelved T H P g h))). IsFlushed them copied was' is s sent' v) begun of_shelf)

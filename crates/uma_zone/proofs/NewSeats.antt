@@ -1,14 +1,18 @@
 -- What a zone's new seat is.
-use Rattle.std.proofs.Common.{◌≡◌, ℕ, zero, suc, Bool, true, false, cond, List, [], ◌∷◌, ◌++◌, refl, ap, ◌∙◌}
+use Rattle.std.proofs.Common.{◌≡◌, ℕ, zero, suc, Bool, true, false, cond, List, [], ◌∷◌, ◌++◌, refl, sym, ap, ◌∙◌, subst}
 use Rattle.std.specs.List.{All}
 use Rattle.std.proofs.lemmas.List.Elements.{All-head, All-tail}
 use Rattle.deed_book.specs.Deed.{TableId}
 use Rattle.deed_book.specs.declared.fail_share.FailShare.{FailShare}
 use Rattle.deed_book.specs.FailShare.{causes_in}
+use Rattle.inbox.specs.declared.port.Port.{Port}
+use Rattle.uma_bucket.specs.declared.inbox_key.InboxKey.{InboxKey}
+use Rattle.uma_bucket.specs.declared.shelved.Shelved.{Shelved}
 use Rattle.uma_seat.specs.declared.seat.SeatCache.{SeatCache}
 use Rattle.uma_seat.specs.declared.seating.Seating.{Seating}
-use Rattle.uma_seat.specs.Seat.{seat_smr, seat_domain, top_of, plain_of, free_bucket, IsNewSeat}
+use Rattle.uma_seat.specs.Seat.{seat_smr, seat_domain, top_of, plain_of, free_bucket, ports_of, IsNewSeat}
 use Rattle.uma_seat.specs.Stack.{Stack, stack_at, empty_stack}
+use Rattle.uma_zone.specs.Ports.{pushed_by}
 use Rattle.uma_zone.specs.Seat.{IsFresh}
 
 -- no bucket of a new row has an item
@@ -22,8 +26,8 @@ none_ahead true xs none = refl
 none_ahead false xs none = none
 
 -- a new seat has counted nothing and has no item
-pub fresh_seat : {T H P : Type 0} {g h : _} (seat : SeatCache T H P g h) (seating : Seating H P) (size domain : ℕ) (fails : TableId) (misses : FailShare) → seating.domain ≡ domain → causes_in misses ≡ [] → IsNewSeat size seating fails misses seat → IsFresh size domain seat
-fresh_seat seat seating size domain fails misses own none new = record {
+pub fresh_seat : {T H P : Type 0} {g h : _} (seat : SeatCache T H P g h) (seating : Seating H P) (size domain : ℕ) (fails : TableId) (misses : FailShare) (ports : List (Port (Shelved T H P g h) (InboxKey H P))) → seating.domain ≡ domain → causes_in misses ≡ [] → All (λ pushed. pushed ≡ []) (pushed_by ports) → ports_of seat ≡ ports → IsNewSeat size seating fails misses seat → IsFresh size domain seat
+fresh_seat seat seating size domain fails misses ports own none pushed has new = record {
   own = ap (λ (s : Seating _ _). s.domain) new.seated ∙ own;
   top = new.top;
   plain = new.plain;
@@ -31,6 +35,7 @@ fresh_seat seat seating size domain fails misses own none new = record {
   usable = ap (λ (l : List _). l ++ (top_of seat).items) (none_ahead (seat_smr seat) (free_bucket seat).items (none_at (plain_of seat) size (seat_domain seat) new.plain)) ∙ ap (λ (s : Stack _). s.items) new.top;
   spares = new.spares;
   shelf = new.shelf;
+  sent = subst (λ (l : List (Port _ _)). All (λ pushed. pushed ≡ []) (pushed_by l)) (sym has) pushed;
   ledger = new.ledger;
   fetches = new.fetches;
   misses = ap causes_in new.misses_kept ∙ none;

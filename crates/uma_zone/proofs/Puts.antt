@@ -16,7 +16,7 @@ use Rattle.uma_bucket.specs.Loose.{loose_items, loose_tickets}
 use Rattle.uma_bucket.specs.Sealed.{sealed_bucket, sealed_note}
 use Rattle.uma_domain.specs.Identity.{Identity}
 use Rattle.uma_domain.specs.Listed.{IsPlainOf, IsLooseOf, IsSealedOf}
-use Rattle.uma_seat.specs.Shelf.{count_of, shelved_domain, shelved_tickets, IsShelvedAt, IsShelvedOf}
+use Rattle.uma_bucket.specs.Shelved.{count_of, shelved_domain, shelved_tickets, IsShelvedAt, IsShelvedOf}
 use Rattle.uma_zone.specs.Flushed.{TriesOnce, CanBePut}
 
 module _ {T H P : Type 0} {g h : _} where

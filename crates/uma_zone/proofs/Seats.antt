@@ -6,7 +6,7 @@ use Rattle.uma_keg.specs.declared.keg.Keg.{Keg}
 use Rattle.uma_keg.specs.declared.fetch_ask.FetchAsk.{FetchAsk}
 use Rattle.uma_keg.specs.Keg.{places_in, table_in}
 use Rattle.uma_seat.specs.declared.seat.SeatCache.{SeatCache}
-use Rattle.uma_seat.specs.Seat.{seat_domain, seat_fails, top_tickets, IsSameSeat, KeepsTop, KeepsMisses}
+use Rattle.uma_seat.specs.Seat.{seat_domain, seat_fails, top_tickets, IsSameSeat, KeepsTop, KeepsMisses, KeepsPorts}
 use Rattle.locked_keg.specs.declared.key.KegKey.{KegKey}
 use Rattle.locked_keg.specs.Rule.{HasDomainsBelow}
 use Rattle.locked_keg.specs.Seating.{FetchesHome}
@@ -17,23 +17,23 @@ use Rattle.uma_zone.specs.Zone.{zone_key, zone_index, zone_home, IsSeatOf}
 
 module _ {T K H P : Type 0} {g k h : _} where
   -- one whose allocation bucket, share of misses and fail book are the same
-  pub still_of : (zone : Zone T K H P g k h) (old new : SeatCache T H P g h) → IsSameSeat old new → KeepsTop old new → KeepsMisses old new → seat_fails new ≡ seat_fails old → IsSeatOf zone old → IsSeatOf zone new
-  still_of zone old new same top misses fails was = record {
-    of_domains = still_seat zone.domains old new same.0 misses top was.of_domains;
+  pub still_of : (zone : Zone T K H P g k h) (old new : SeatCache T H P g h) → IsSameSeat old new → KeepsTop old new → KeepsMisses old new → KeepsPorts old new → seat_fails new ≡ seat_fails old → IsSeatOf zone old → IsSeatOf zone new
+  still_of zone old new same top misses ports fails was = record {
+    of_domains = still_seat zone.domains old new same.0 misses ports top was.of_domains;
     fails = fails ∙ was.fails;
   }
 
   -- one whose allocation bucket is another, with items at home in the zone; its share of misses and its fail book are the same
-  pub refilled_of : (zone : Zone T K H P g k h) (old new : SeatCache T H P g h) → IsSameSeat old new → KeepsMisses old new → seat_fails new ≡ seat_fails old → AreHome (zone_home zone) (top_tickets new) → IsSeatOf zone old → IsSeatOf zone new
-  refilled_of zone old new same misses fails home was = record {
-    of_domains = refilled_seat zone.domains old new new.top same.0 misses (refl {_}) home was.of_domains;
+  pub refilled_of : (zone : Zone T K H P g k h) (old new : SeatCache T H P g h) → IsSameSeat old new → KeepsMisses old new → KeepsPorts old new → seat_fails new ≡ seat_fails old → AreHome (zone_home zone) (top_tickets new) → IsSeatOf zone old → IsSeatOf zone new
+  refilled_of zone old new same misses ports fails home was = record {
+    of_domains = refilled_seat zone.domains old new new.top same.0 misses ports (refl {_}) home was.of_domains;
     fails = fails ∙ was.fails;
   }
 
   -- one whose allocation bucket was lent, and came back as it was
   pub lent_of : (zone : Zone T K H P g k h) (old : SeatCache T H P g h) (top : Bucket T g) → top ≡ old.top → IsSeatOf zone old → IsSeatOf zone (record old { top = top })
   lent_of zone old top same was = record {
-    of_domains = still_seat zone.domains old (record old { top = top }) (refl {_}) (refl {_}) same was.of_domains;
+    of_domains = still_seat zone.domains old (record old { top = top }) (refl {_}) (refl {_}) (refl {_}) same was.of_domains;
     fails = was.fails;
   }
 

@@ -1,6 +1,6 @@
 -- A zone may be shared among threads, and a seat of it sent to one, where its items may be sent, and its hooks and its host may be sent and shared.
 use Rattle.std.proofs.Common.{rules}
-use Rattle.std.proofs.Crossing.{Arc-sync, Vec-sync, crosses}
+use Rattle.std.proofs.Crossing.{Arc-sync, Vec-send, Vec-sync, crosses}
 use denote.RattleType.{RattleType}
 use denote.Param.Send.{IsSend, IsSync, array_send, recorded_send, recorded_sync, struct_send, struct_sync, sendable}
 use denote.Struct.Declared.{shape}
@@ -31,7 +31,10 @@ use Rattle.uma_keg.specs.contracts.fetch_refused.FetchRefused as FetchRefused
 use Rattle.std.specs.contracts.result.Result as Result
 use Rattle.listed.specs.contracts.log.Log as Log
 use denote.Builtin.{u32}
-use Rattle.uma_domain.proofs.Shared.{domains_sync}
+use Rattle.inbox.proofs.Shared.{port_send}
+use Rattle.uma_bucket.specs.contracts.inbox_key.InboxKey as InboxKey
+use Rattle.uma_bucket.specs.contracts.shelved.Shelved as Shelved
+use Rattle.uma_domain.proofs.Shared.{shelved_send, domains_sync}
 use Rattle.uma_zone.specs.contracts.domains.ZoneDomains as ZoneDomains
 use Rattle.uma_zone.proofs.right.KeptRight.TheSendSync as right
 use Rattle.uma_zone.specs.contracts.zone.Zone as Zone
@@ -69,7 +72,7 @@ module _ (T H P : RattleType) (g : body.Ghosts T.Denot) (h : host.Ghosts H.Denot
   -- a seat, as a field of a struct
   pub seat_field_send : IsSend (SeatCache.the_field T H P g h).row
   seat_field_send = struct_send (shape (SeatCache.the_type T H P g h))
-      (search (crosses, sendable) depth 20, (search sendable, (search (bucket.the_field_send), (search (plain.the_field_send), (search (freed.the_field_send), (search (rack.the_field_send), (counts.the_field_send, (share.the_field_send, tt))))))))
+      (search (crosses, sendable) depth 20, (search sendable, (search (bucket.the_field_send), (search (plain.the_field_send), (search (freed.the_field_send), (search (rack.the_field_send), (counts.the_field_send, (share.the_field_send, (Vec-send _ (port_send (Shelved.the_row T H P g h) (InboxKey.the_row H P h) (shelved_send T H P g h t s y)), tt)))))))))
 
   -- a seat
   pub seat_send : IsSend (SeatCache.the_row T H P g h)

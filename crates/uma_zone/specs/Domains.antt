@@ -10,6 +10,7 @@ use Rattle.uma_domain.specs.declared.domain.Domain.{Domain}
 use Rattle.uma_seat.specs.declared.seat.SeatCache.{SeatCache}
 use Rattle.uma_seat.specs.Seat.{seat_home, seat_clock, seat_smr, seat_domain, top_tickets, misses_of}
 use Rattle.uma_zone.specs.declared.domains.ZoneDomains.{ZoneDomains}
+use Rattle.uma_zone.specs.Ports.{HasPorts}
 pub use Rattle.uma_zone.specs.OneDomain.{domain_misses, IsDomainOf}
 
 module _ {T H P : Type 0} {g h : _} where
@@ -37,11 +38,12 @@ module _ {T H P : Type 0} {g h : _} where
   abbrev pub misses_at : ZoneDomains T H P g h → ℕ → Option TableId
   misses_at them domain = slice_get (map domain_misses them.domains.items) domain
 
-  -- The seat is one of this zone: its items are at home where the zone's are, its clock and kind are the zone's, its own domain is one of the zone's, and its misses are a share of that domain's book.
+  -- The seat is one of this zone: its items are at home where the zone's are, its clock and kind are the zone's, its own domain is one of the zone's, its misses are a share of that domain's book, and its port for each domain is one of that domain's inbox.
   pub record IsSeatOf (them : ZoneDomains T H P g h) (seat : SeatCache T H P g h) : Type 0 where
     pub same_home : seat_home seat ≡ domains_home them
     pub same_clock : seat_clock seat ≡ domains_clock them
     pub same_smr : seat_smr seat ≡ domains_smr them
     pub own : seat_domain seat < domain_count them
     pub own_misses : misses_at them (seat_domain seat) ≡ Some (share_table (misses_of seat))
+    pub ports : HasPorts them seat
     pub top_home : AreHome (seat_home seat) (top_tickets seat)

@@ -8,7 +8,7 @@ use Rattle.uma_bucket.specs.Home.{Home}
 use Rattle.uma_bucket.specs.declared.shelved.Shelved.{Shelved}
 use Rattle.uma_bucket.specs.declared.shelved.Shelved.TheVariants.{Loose}
 use Rattle.uma_seat.specs.Freeing.{IsTried}
-use Rattle.uma_seat.specs.Shelf.{count_of, shelved_domain, shelved_tickets, IsShelvedAt, IsShelvedOf}
+use Rattle.uma_bucket.specs.Shelved.{count_of, shelved_domain, shelved_tickets, IsShelvedAt, IsShelvedOf}
 
 module _ {T H P : Type 0} {g h : _} where
   -- To which domain a bucket goes, and its items in their order. It is the same for a loose bucket once that is sealed.

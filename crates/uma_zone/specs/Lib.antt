@@ -7,6 +7,7 @@ pub mod Looked
 pub mod KegStates
 pub mod Making
 pub mod OneDomain
+pub mod Ports
 pub mod OwnDomain
 pub mod Prealloc
 pub mod Right

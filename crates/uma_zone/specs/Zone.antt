@@ -11,6 +11,7 @@ use Rattle.uma_seat.specs.declared.seat.SeatCache.{SeatCache}
 use Rattle.uma_seat.specs.Seat.{seat_fails}
 use Rattle.locked_keg.specs.declared.key.KegKey.{KegKey}
 use Rattle.uma_zone.specs.Domains.{domains_home, domains_clock, domains_smr, domain_count, domain_at, IsSeatOf as IsSeatOfDomains}
+use Rattle.uma_zone.specs.declared.domains.ZoneDomains.{ZoneDomains}
 use Rattle.uma_zone.specs.declared.zone.Zone.{Zone}
 use Rattle.uma_zone.specs.Right.{right_no}
 
@@ -18,6 +19,10 @@ module _ {T K H P : Type 0} {g k h : _} where
   -- the key of its keg's lock, by which the keg's numbers are seen: two zones of one keg have one key
   abbrev pub zone_key : Zone T K H P g k h → KegKey
   zone_key zone = lock_key (arc_value zone.keg)
+
+  -- its memory domains
+  abbrev pub lists_of : Zone T K H P g k h → ZoneDomains T H P g h
+  lists_of zone = zone.domains
 
   -- its number in its keg, 0 for the primary zone
   abbrev pub zone_index : Zone T K H P g k h → ℕ

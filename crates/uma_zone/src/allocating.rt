@@ -1,4 +1,4 @@
-ghost use Rattle.std.specs.Prelude.{◌≡◌, ◌≢◌, ◌≤◌, ◌<◌, ◌++◌, ◌∷◌, ℕ, [], length, IfOk, IfErr, OnOk};
+ghost use Rattle.std.specs.Prelude.{◌≡◌, ◌≢◌, ◌≤◌, ◌<◌, ◌++◌, ◌∷◌, ℕ, [], length, IfOk, IfErr, OnOk, Err};
 ghost use Rattle.smr_clock.specs.Belongs.{IsOf, clock_id, view, holder};
 ghost use Rattle.zone_stats.specs.LedgerSteps.{HasRoom, CountsAlloc};
 
@@ -11,22 +11,23 @@ use uma_life::{Body, Cached, Hooks, Live};
 use uma_seat::SeatCache;
 use zone_stats::Refusal;
 
-impl<T: Body, K: Hooks<T>, H: Host> Zone<T, K, H> {
+impl<T: Body + Drop, K: Hooks<T>, H: Host> Zone<T, K, H> {
     ghost use Rattle.uma_life.specs.Live.{live_ticket};
     ghost use Rattle.uma_life.specs.Cached.{cached_ticket};
     ghost use Rattle.uma_bucket.specs.Home.{IsHome};
-    ghost use Rattle.uma_seat.specs.Seat.{seat_domain, top_of, usable_of, spares_of, shelf_of, ledger_of, fetches_of, plain_of, plain_ready, IsSameSeat, KeepsPlain, KeepsFreed, KeepsRack, KeepsMisses};
+    ghost use Rattle.uma_seat.specs.Seat.{seat_domain, top_of, usable_of, spares_of, shelf_of, ledger_of, fetches_of, plain_of, plain_ready, IsSameSeat, KeepsPlain, KeepsFreed, KeepsRack, KeepsMisses, KeepsPorts};
     ghost use Rattle.uma_zone.specs.Flushed.{HasLastOf};
-    ghost use Rattle.uma_zone.specs.OwnDomain.{IsFlushed};
+    ghost use Rattle.uma_zone.specs.OwnDomain.{IsFlushed, IsSettled};
+    ghost use Rattle.uma_zone.specs.Ports.{sent_of};
     ghost use Rattle.uma_zone.specs.Zone.{zone_home, zone_clock, IsSeatOf};
     ghost use Rattle.uma_zone.specs.Told.{TakesInNote};
     ghost use Rattle.uma_zone.specs.Alloc.{Serves, Refuses, Takes, IsFilled, IsBuilt, PutsBack, RefusesToTake};
 
     /// An item that passed `ctor` with the argument in this call.
     ///
-    /// It is the one that was put last on the seat. Where none is usable there, the seat is flushed and looks once at the
-    /// lists of its own domain; where these have none, one fetch takes up to a bucket's worth from the keg. Waits until it
-    /// has the locks of these.
+    /// It is the one that was put last on the seat. Where none is usable there, the seat is flushed, its own domain's inbox
+    /// is settled, and the seat looks once at the lists of that domain; where these have none, one fetch takes up to a
+    /// bucket's worth from the keg. Waits until it has the locks of these.
     ///
     /// # Errors
     ///
@@ -56,8 +57,10 @@ impl<T: Body, K: Hooks<T>, H: Host> Zone<T, K, H> {
         ensures refused { IfErr result (Refuses self.now ask seat.old seat.new) }
         ensures spare { length (spares_of seat.old) ≤ length (spares_of seat.new) }
         ensures shelf { HasLastOf (shelf_of seat.old) (shelf_of seat.new) }
-        ensures flushed { usable_of seat.old ≡ [] → IsFlushed self.now.domains (seat_domain seat.old) H.copied (shelf_of seat.old) (shelf_of seat.new) (view pass.old) }
+        ensures flushed { usable_of seat.old ≡ [] → IsFlushed self.now.domains H.copied (shelf_of seat.old) (shelf_of seat.new) (sent_of seat.old) (sent_of seat.new) (view pass.old) }
+        ensures settled { usable_of seat.old ≡ [] → (result ≡ Err AllocRefused.Memory → ⊥) → IsSettled self.now.domains (seat_domain seat.old) H.copied }
         ensures unflushed { usable_of seat.old ≢ [] → KeepsRack seat.old seat.new }
+        ensures unpushed { usable_of seat.old ≢ [] → KeepsPorts seat.old seat.new }
         ensures unseen { usable_of seat.old ≢ [] → view pass.new ≡ view pass.old }
         ensures plain { plain_of seat.new ≡ plain_ready seat.old }
         ensures freed { KeepsFreed seat.old seat.new }
@@ -93,8 +96,10 @@ impl<T: Body, K: Hooks<T>, H: Host> Zone<T, K, H> {
         ensures refused { IfErr result (RefusesToTake self.now reserve seat.old seat.new) }
         ensures spare { length (spares_of seat.old) ≤ length (spares_of seat.new) }
         ensures shelf { HasLastOf (shelf_of seat.old) (shelf_of seat.new) }
-        ensures flushed { usable_of seat.old ≡ [] → IsFlushed self.now.domains (seat_domain seat.old) H.copied (shelf_of seat.old) (shelf_of seat.new) (view pass.old) }
+        ensures flushed { usable_of seat.old ≡ [] → IsFlushed self.now.domains H.copied (shelf_of seat.old) (shelf_of seat.new) (sent_of seat.old) (sent_of seat.new) (view pass.old) }
+        ensures settled { usable_of seat.old ≡ [] → (result ≡ Err AllocRefused.Memory → ⊥) → IsSettled self.now.domains (seat_domain seat.old) H.copied }
         ensures unflushed { usable_of seat.old ≢ [] → KeepsRack seat.old seat.new }
+        ensures unpushed { usable_of seat.old ≢ [] → KeepsPorts seat.old seat.new }
         ensures unseen { usable_of seat.old ≢ [] → view pass.new ≡ view pass.old }
         ensures plain { plain_of seat.new ≡ plain_ready seat.old }
         ensures freed { KeepsFreed seat.old seat.new }
@@ -110,7 +115,7 @@ impl<T: Body, K: Hooks<T>, H: Host> Zone<T, K, H> {
         }
     }
 
-    // Flushes a seat without a usable item, and gets it some: from the lists of its domain, or else from the keg.
+    // Flushes a seat without a usable item, settles its domain, and gets it some: from the lists of its domain, or else from the keg.
     fn fill<R: Wait>(
         &self,
         rt: &R,
@@ -134,19 +139,29 @@ impl<T: Body, K: Hooks<T>, H: Host> Zone<T, K, H> {
         ensures refused { IfErr result (RefusesToTake self.now reserve seat.old seat.new) }
         ensures spare { length (spares_of seat.old) ≤ length (spares_of seat.new) }
         ensures shelf { HasLastOf (shelf_of seat.old) (shelf_of seat.new) }
-        ensures flushed { IsFlushed self.now.domains (seat_domain seat.old) H.copied (shelf_of seat.old) (shelf_of seat.new) (view pass.old) }
+        ensures flushed { IsFlushed self.now.domains H.copied (shelf_of seat.old) (shelf_of seat.new) (sent_of seat.old) (sent_of seat.new) (view pass.old) }
+        ensures settled { (result ≡ Err AllocRefused.Memory → ⊥) → IsSettled self.now.domains (seat_domain seat.old) H.copied }
         ensures plain { KeepsPlain seat.old seat.new }
         ensures freed { KeepsFreed seat.old seat.new }
         ensures same { IsSameSeat seat.old seat.new }
     {
-        if self.domains.flush(rt, clock, pass, seat).is_err() {
+        let Ok(()) = self.domains.flush_to_look(rt, clock, pass, seat) else {
             return Err(AllocRefused::Memory);
-        }
+        };
         if self.domains.look(rt, clock, pass, &self.hooks, seat) {
             return Ok(());
         }
         self.fetch(rt, alloc, seat, reserve)
     }
+}
+
+impl<T: Body, K: Hooks<T>, H: Host> Zone<T, K, H> {
+    ghost use Rattle.uma_life.specs.Live.{live_ticket};
+    ghost use Rattle.uma_life.specs.Cached.{cached_ticket};
+    ghost use Rattle.uma_bucket.specs.Home.{IsHome};
+    ghost use Rattle.uma_seat.specs.Seat.{top_of, usable_of, ledger_of, fetches_of, IsSameSeat, KeepsPlain, KeepsFreed, KeepsRack, KeepsMisses, KeepsPorts};
+    ghost use Rattle.uma_zone.specs.Zone.{zone_home, IsSeatOf};
+    ghost use Rattle.uma_zone.specs.Alloc.{IsBuilt, PutsBack};
 
     // Runs `ctor` on an item that was taken, and counts the request.
     fn build(
@@ -168,6 +183,7 @@ impl<T: Body, K: Hooks<T>, H: Host> Zone<T, K, H> {
         ensures kept_room { (top_of seat.new).room ≡ (top_of seat.old).room }
         ensures fetches { fetches_of seat.new ≡ fetches_of seat.old }
         ensures misses { KeepsMisses seat.old seat.new }
+        ensures ports { KeepsPorts seat.old seat.new }
         ensures plain { KeepsPlain seat.old seat.new }
         ensures freed { KeepsFreed seat.old seat.new }
         ensures rack { KeepsRack seat.old seat.new }

@@ -1,9 +1,10 @@
-ghost use Rattle.std.specs.Prelude.{◌≡◌, ◌≤◌, ◌<◌, ◌+◌, ◌∷◌, [], length, map, true, false, None, Some, IfSome, IfNone, IfErr, OnOk, OnErr};
+ghost use Rattle.std.specs.Prelude.{◌≡◌, ◌≤◌, ◌<◌, ◌+◌, ◌∷◌, ◌++◌, [], length, map, None, Some, IfSome, IfNone, IfErr, OnOk, OnErr};
 ghost use Rattle.smr_clock.specs.Belongs.{IsOf, clock_id, view, holder};
-ghost use Rattle.uma_seat.specs.Seat.{seat_home, seat_clock, seat_domain, spares_of, shelf_of, IsSameSeat, KeepsTop, KeepsPlain, KeepsFreed, KeepsCounts, KeepsMisses};
-ghost use Rattle.uma_zone.specs.Domains.{domains_home, domains_clock, domains_smr, domain_count, IsSeatOf};
+ghost use Rattle.uma_seat.specs.Seat.{seat_home, seat_clock, spares_of, shelf_of, IsSameSeat, KeepsTop, KeepsPlain, KeepsFreed, KeepsRack, KeepsCounts, KeepsMisses, KeepsPorts};
+ghost use Rattle.uma_zone.specs.Domains.{domains_home, domains_clock, IsSeatOf};
 ghost use Rattle.uma_zone.specs.Flushed.{bound_of, HasLastOf, TakesTried, in_order, AreLastOf, CanBePut};
-ghost use Rattle.uma_zone.specs.OwnDomain.{IsListed, PutsFirst, TriesListed, Flushes};
+ghost use Rattle.uma_zone.specs.OwnDomain.{IsSent, SentEach, PutsFirst, Flushes};
+ghost use Rattle.uma_zone.specs.Ports.{HasPorts, sent_of};
 
 use crate::domains::ZoneDomains;
 use deed_book::Memory;
@@ -14,12 +15,13 @@ use uma_bucket::Shelved;
 use uma_life::Body;
 use uma_seat::{SeatCache, try_to_seal};
 
-impl<T: Body, H: Host> ZoneDomains<T, H> {
-    /// Takes the buckets of the seat's shelf to the lists of their domains, oldest first.
+impl<T: Body + Drop, H: Host> ZoneDomains<T, H> {
+    /// Takes the buckets of the seat's shelf to their domains, oldest first.
     ///
-    /// Before that each loose bucket on the shelf tries once to be sealed, and in an SMR zone so does each that the seat's
-    /// own domain lists. Where a list has no memory for a bucket, or would hold 2^32 items or more, that bucket and those
-    /// behind it stay on the shelf, and at least one is there then. Waits until it has the lock of each of these domains.
+    /// Before that each loose bucket of the shelf tries once to be sealed. A bucket goes to the inbox of its domain, without
+    /// that domain's lock; where the inbox hands it back it goes to the list. Where the list has no memory for it either, or
+    /// would hold 2^32 items or more, that bucket and those behind it stay on the shelf, and at least one is there then.
+    /// A domain's lock is taken only for a bucket that an inbox hands back; a push may wait for another push.
     pub(crate) fn flush<R: Wait>(
         &self,
         rt: &R,
@@ -45,11 +47,10 @@ impl<T: Body, H: Host> ZoneDomains<T, H> {
         ensures freed { KeepsFreed seat.old seat.new }
         ensures counts { KeepsCounts seat.old seat.new }
         ensures misses { KeepsMisses seat.old seat.new }
-        ensures flushes { Flushes self.now (seat_domain seat.old) H.copied (shelf_of seat.old) (shelf_of seat.new) (view pass.old) (view pass.new) }
+        ensures flushes { Flushes self.now H.copied (shelf_of seat.old) (shelf_of seat.new) (sent_of seat.old) (sent_of seat.new) (view pass.old) (view pass.new) }
     {
         let oldest = take_tried(clock, pass, seat);
         let newest = take_tried(clock, pass, seat);
-        self.try_listed(rt, clock, pass, seat.domain());
         self.put_in_order(rt, seat, oldest, newest)
     }
 
@@ -80,31 +81,13 @@ impl<T: Body, H: Host> ZoneDomains<T, H> {
         ensures freed { KeepsFreed seat.old seat.new }
         ensures counts { KeepsCounts seat.old seat.new }
         ensures misses { KeepsMisses seat.old seat.new }
-        ensures flushes { Flushes self.now (seat_domain seat.old) H.copied (shelf_of seat.old) (shelf_of seat.new) (view pass.old) (view pass.new) }
+        ensures flushes { Flushes self.now H.copied (shelf_of seat.old) (shelf_of seat.new) (sent_of seat.old) (sent_of seat.new) (view pass.old) (view pass.new) }
     {
         self.flush(rt, clock, pass, seat)?;
         add_spares(alloc, seat)
     }
 
-    // In an SMR zone each loose bucket that the domain lists tries once to be sealed.
-    fn try_listed<R: Wait>(&self, rt: &R, clock: &Clock<H>, pass: &mut Pass<H>, domain: u8)
-        requires clock { clock_id clock.now ≡ domains_clock self.now }
-        requires pass { IsOf clock.now pass.old }
-        requires domain { domain < domain_count self.now }
-        ensures pass { IsOf clock.now pass.new }
-        ensures phase { (holder pass.new).phase ≡ (holder pass.old).phase }
-        ensures seen { (holder pass.old).seen ≤ (holder pass.new).seen }
-        ensures host { (view pass.new).host ≡ (view pass.old).host }
-        ensures own { domains_smr self.now ≡ true → TriesListed self.now domain H.copied (view pass.old) (view pass.new) }
-        ensures no_own { domains_smr self.now ≡ false → view pass.new ≡ view pass.old }
-    {
-        if !self.smr {
-            return;
-        }
-        self.get(domain).seal_loose(rt, clock, pass);
-    }
-
-    // Puts the buckets that were on the seat's shelf into the lists of their domains. What isn't put is on the shelf again.
+    // Takes the buckets that were on the seat's shelf to their domains. What can't go is on the shelf again.
     fn put_in_order<R: Wait>(
         &self,
         rt: &R,
@@ -114,6 +97,7 @@ impl<T: Body, H: Host> ZoneDomains<T, H> {
     ) -> Result<(), Memory>
         requires home { seat_home seat.old ≡ domains_home self.now }
         requires clock { seat_clock seat.old ≡ domains_clock self.now }
+        requires ports { HasPorts self.now seat.old }
         requires shelf { shelf_of seat.old ≡ [] }
         requires places { length (spares_of seat.old) + length (in_order oldest newest) ≤ 2 }
         requires oldest { IfSome oldest (CanBePut (domains_home self.now) (domains_clock self.now)) }
@@ -121,6 +105,7 @@ impl<T: Body, H: Host> ZoneDomains<T, H> {
         ensures flushed { OnOk result (shelf_of seat.new ≡ []) }
         ensures stay { OnErr result (AreLastOf (in_order oldest newest) (shelf_of seat.new)) }
         ensures some_stay { OnErr result (0 < length (shelf_of seat.new)) }
+        ensures ports { HasPorts self.now seat.new }
         ensures spares { spares_of seat.new ≡ spares_of seat.old }
         ensures same { IsSameSeat seat.old seat.new }
         ensures top { KeepsTop seat.old seat.new }
@@ -128,9 +113,9 @@ impl<T: Body, H: Host> ZoneDomains<T, H> {
         ensures freed { KeepsFreed seat.old seat.new }
         ensures counts { KeepsCounts seat.old seat.new }
         ensures misses { KeepsMisses seat.old seat.new }
-        ensures puts { PutsFirst self.now (in_order oldest newest) (shelf_of seat.new) }
+        ensures puts { PutsFirst self.now (in_order oldest newest) (shelf_of seat.new) (sent_of seat.old) (sent_of seat.new) }
     {
-        match self.put_if_some(rt, oldest) {
+        match self.put_if_some(rt, seat, oldest) {
             Ok(()) => self.put_newest(rt, seat, newest),
             Err(oldest) => {
                 put_back(seat, newest);
@@ -140,7 +125,7 @@ impl<T: Body, H: Host> ZoneDomains<T, H> {
         }
     }
 
-    // Puts the last bucket that was on the seat's shelf into the list of its domain.
+    // Takes the last bucket that was on the seat's shelf to its domain.
     fn put_newest<R: Wait>(
         &self,
         rt: &R,
@@ -149,12 +134,14 @@ impl<T: Body, H: Host> ZoneDomains<T, H> {
     ) -> Result<(), Memory>
         requires home { seat_home seat.old ≡ domains_home self.now }
         requires clock { seat_clock seat.old ≡ domains_clock self.now }
+        requires ports { HasPorts self.now seat.old }
         requires shelf { shelf_of seat.old ≡ [] }
         requires places { length (spares_of seat.old) + length (in_order None newest) ≤ 2 }
         requires newest { IfSome newest (CanBePut (domains_home self.now) (domains_clock self.now)) }
         ensures flushed { OnOk result (shelf_of seat.new ≡ []) }
         ensures stay { OnErr result (shelf_of seat.new ≡ in_order None newest) }
         ensures some_stay { OnErr result (0 < length (shelf_of seat.new)) }
+        ensures ports { HasPorts self.now seat.new }
         ensures spares { spares_of seat.new ≡ spares_of seat.old }
         ensures same { IsSameSeat seat.old seat.new }
         ensures top { KeepsTop seat.old seat.new }
@@ -162,9 +149,9 @@ impl<T: Body, H: Host> ZoneDomains<T, H> {
         ensures freed { KeepsFreed seat.old seat.new }
         ensures counts { KeepsCounts seat.old seat.new }
         ensures misses { KeepsMisses seat.old seat.new }
-        ensures puts { PutsFirst self.now (in_order None newest) (shelf_of seat.new) }
+        ensures puts { PutsFirst self.now (in_order None newest) (shelf_of seat.new) (sent_of seat.old) (sent_of seat.new) }
     {
-        match self.put_if_some(rt, newest) {
+        match self.put_if_some(rt, seat, newest) {
             Ok(()) => Ok(()),
             Err(newest) => {
                 seat.put_shelf(newest);
@@ -176,34 +163,71 @@ impl<T: Body, H: Host> ZoneDomains<T, H> {
     fn put_if_some<R: Wait>(
         &self,
         rt: &R,
+        seat: &mut SeatCache<T, H>,
         shelved: Option<Shelved<T, H>>,
     ) -> Result<(), Shelved<T, H>>
-        requires { IfSome shelved (CanBePut (domains_home self.now) (domains_clock self.now)) }
+        requires home { seat_home seat.old ≡ domains_home self.now }
+        requires ports { HasPorts self.now seat.old }
+        requires can { IfSome shelved (CanBePut (domains_home self.now) (domains_clock self.now)) }
         ensures back { IfErr result (λ back. shelved ≡ Some back) }
-        ensures listed { OnOk result (IfSome shelved (IsListed self.now)) }
+        ensures ports { HasPorts self.now seat.new }
+        ensures sent { OnOk result (SentEach self.now (sent_of seat.old) (in_order None shelved) (sent_of seat.new)) }
+        ensures still { OnErr result (sent_of seat.new ≡ sent_of seat.old) }
+        ensures same { IsSameSeat seat.old seat.new }
+        ensures top { KeepsTop seat.old seat.new }
+        ensures plain { KeepsPlain seat.old seat.new }
+        ensures freed { KeepsFreed seat.old seat.new }
+        ensures rack { KeepsRack seat.old seat.new }
+        ensures counts { KeepsCounts seat.old seat.new }
+        ensures misses { KeepsMisses seat.old seat.new }
     {
         match shelved {
-            Some(shelved) => self.put(rt, shelved),
+            Some(shelved) => self.put(rt, seat, shelved),
             None => Ok(()),
         }
     }
 
-    // Puts a bucket into the list of its domain.
-    fn put<R: Wait>(&self, rt: &R, shelved: Shelved<T, H>) -> Result<(), Shelved<T, H>>
-        requires { CanBePut (domains_home self.now) (domains_clock self.now) shelved }
+    // Takes a bucket to its domain, by the seat's port.
+    fn put<R: Wait>(
+        &self,
+        rt: &R,
+        seat: &mut SeatCache<T, H>,
+        shelved: Shelved<T, H>,
+    ) -> Result<(), Shelved<T, H>>
+        requires home { seat_home seat.old ≡ domains_home self.now }
+        requires ports { HasPorts self.now seat.old }
+        requires can { CanBePut (domains_home self.now) (domains_clock self.now) shelved }
         ensures back { IfErr result (λ back. back ≡ shelved) }
-        ensures listed { OnOk result (IsListed self.now shelved) }
+        ensures ports { HasPorts self.now seat.new }
+        ensures sent { OnOk result (IsSent self.now (sent_of seat.old) shelved (sent_of seat.new)) }
+        ensures still { OnErr result (sent_of seat.new ≡ sent_of seat.old) }
+        ensures same { IsSameSeat seat.old seat.new }
+        ensures top { KeepsTop seat.old seat.new }
+        ensures plain { KeepsPlain seat.old seat.new }
+        ensures freed { KeepsFreed seat.old seat.new }
+        ensures rack { KeepsRack seat.old seat.new }
+        ensures counts { KeepsCounts seat.old seat.new }
+        ensures misses { KeepsMisses seat.old seat.new }
     {
         match shelved {
-            Shelved::Plain { domain, bucket } => match self.get(domain).put_plain(rt, bucket) {
+            Shelved::Plain { domain, bucket } => match self
+                .get(domain)
+                .put_plain(rt, seat.port(domain), bucket)
+            {
                 Ok(()) => Ok(()),
                 Err(bucket) => Err(Shelved::Plain { domain, bucket }),
             },
-            Shelved::Loose { domain, bucket } => match self.get(domain).put_loose(rt, bucket) {
+            Shelved::Loose { domain, bucket } => match self
+                .get(domain)
+                .put_loose(rt, seat.port(domain), bucket)
+            {
                 Ok(()) => Ok(()),
                 Err(bucket) => Err(Shelved::Loose { domain, bucket }),
             },
-            Shelved::Sealed { domain, bucket } => match self.get(domain).put_sealed(rt, bucket) {
+            Shelved::Sealed { domain, bucket } => match self
+                .get(domain)
+                .put_sealed(rt, seat.port(domain), bucket)
+            {
                 Ok(()) => Ok(()),
                 Err(bucket) => Err(Shelved::Sealed { domain, bucket }),
             },
@@ -236,6 +260,7 @@ fn take_tried<T: Body, H: Host>(
     ensures freed { KeepsFreed seat.old seat.new }
     ensures counts { KeepsCounts seat.old seat.new }
     ensures misses { KeepsMisses seat.old seat.new }
+    ensures ports { KeepsPorts seat.old seat.new }
 {
     match seat.take_shelf()? {
         Shelved::Loose { domain, bucket } => Some(try_to_seal(clock, pass, domain, bucket)),
@@ -256,6 +281,7 @@ fn put_back<T: Body, H: Host>(seat: &mut SeatCache<T, H>, shelved: Option<Shelve
     ensures freed { KeepsFreed seat.old seat.new }
     ensures counts { KeepsCounts seat.old seat.new }
     ensures misses { KeepsMisses seat.old seat.new }
+    ensures ports { KeepsPorts seat.old seat.new }
 {
     match shelved {
         Some(shelved) => seat.put_shelf(shelved),
@@ -275,6 +301,7 @@ fn add_spares<T: Body, H: Host>(alloc: Global, seat: &mut SeatCache<T, H>) -> Re
     ensures freed { KeepsFreed seat.old seat.new }
     ensures counts { KeepsCounts seat.old seat.new }
     ensures misses { KeepsMisses seat.old seat.new }
+    ensures ports { KeepsPorts seat.old seat.new }
 {
     for _ in seat.spare()..2 {
         seat.add_spare(alloc)?;

@@ -6,8 +6,9 @@
 //! asked has it counted.
 //!
 //! After FreeBSD's uma(9), each memory domain of a zone keeps full buckets for whoever runs empty. A seat keeps up to two
-//! full buckets on its shelf, since a free waits for nobody. A `ZoneDomains::flush` takes them to the lists of their
-//! domains, and a `ZoneDomains::look` takes one from the list of the seat's own domain.
+//! full buckets on its shelf, since a free waits for nobody. A `ZoneDomains::flush` takes them by the seat's ports to the
+//! inboxes of their domains, without a lock; a `ZoneDomains::settle` takes an inbox into the domain's lists, and a
+//! `ZoneDomains::look` one bucket from those of the seat's own domain.
 //!
 //! # Choices
 //!
@@ -31,6 +32,10 @@
 //!   and one fetch of it by the request's own right to the reserve. Likewise for `prealloc` and `set_max`. All that it
 //!   fetched is on the seat (`FetchesSome`).
 //! - At whose lists a call was is said by the domain's number and lists of it under the lock (`specs/OwnDomain`).
+//! - The kit's queue holds what may be dropped, so what pushes or settles has the bound `T: Drop`, and no type keeps its body
+//!   from dropping a bucket. Where each bucket of a shelf went is a clause (`flushes`): to what the seat's port pushed, which the
+//!   port's view lists, to its domain's list, or back on the shelf.
+//! - Of which inbox a seat's ports are stands beside the domains (`HasPorts`), since whoever is lent one could leave another.
 //! - `primary` makes the keg first, and still tests bucket and domains where memory was wanting for it, so that a number
 //!   out of its range is always named.
 #![tactic(auto)]
@@ -49,10 +54,12 @@ mod locking;
 mod looking;
 mod making;
 mod moving;
+mod porting;
 mod preallocating;
 mod reading;
 mod right;
 mod seating;
+mod settling;
 mod summing;
 mod zone;
 mod zone_refused;

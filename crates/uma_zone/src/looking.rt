@@ -3,7 +3,7 @@ ghost use Rattle.smr_clock.specs.Belongs.{IsOf, clock_id, view, holder};
 ghost use Rattle.uma_bucket.specs.Ripe.{ripe_bucket, IsRipeAt};
 ghost use Rattle.uma_domain.specs.Listed.{IsPlainOf, IsLooseOf};
 ghost use Rattle.uma_domain.specs.Lists.{IsRaised};
-ghost use Rattle.uma_seat.specs.Seat.{seat_domain, top_bucket, top_of, usable_of, spares_of, shelf_of, misses_of, IsSameSeat, KeepsTop, KeepsPlain, KeepsFreed, KeepsRack, KeepsCounts, KeepsMisses};
+ghost use Rattle.uma_seat.specs.Seat.{seat_domain, top_bucket, top_of, usable_of, spares_of, shelf_of, misses_of, IsSameSeat, KeepsTop, KeepsPlain, KeepsFreed, KeepsRack, KeepsCounts, KeepsMisses, KeepsPorts};
 ghost use Rattle.uma_zone.specs.Domains.{domains_home, domains_clock, domains_smr, IsSeatOf};
 ghost use Rattle.uma_zone.specs.Looked.{IsOfRipe};
 ghost use Rattle.uma_zone.specs.OwnDomain.{ArePlainOf, AreRipeOf, AreFoundIn, FindsNothing, TakesPlainAt, TakesRipeAt};
@@ -50,6 +50,7 @@ impl<T: Body, H: Host> ZoneDomains<T, H> {
         ensures plain { KeepsPlain seat.old seat.new }
         ensures freed { KeepsFreed seat.old seat.new }
         ensures counts { KeepsCounts seat.old seat.new }
+        ensures ports { KeepsPorts seat.old seat.new }
         ensures own { result ≡ true → AreFoundIn self.now (seat_domain seat.old) (K.leaves_dtor hooks.now) (top_of seat.new).items }
         ensures looked { result ≡ false → FindsNothing self.now (seat_domain seat.old) }
     {
@@ -77,6 +78,7 @@ impl<T: Body, H: Host> ZoneDomains<T, H> {
         ensures plain { KeepsPlain seat.old seat.new }
         ensures freed { KeepsFreed seat.old seat.new }
         ensures counts { KeepsCounts seat.old seat.new }
+        ensures ports { KeepsPorts seat.old seat.new }
         ensures own { result ≡ true → ArePlainOf self.now (seat_domain seat.old) (top_of seat.new).items }
         ensures looked { result ≡ false → FindsNothing self.now (seat_domain seat.old) }
     {
@@ -120,6 +122,7 @@ impl<T: Body, H: Host> ZoneDomains<T, H> {
         ensures plain { KeepsPlain seat.old seat.new }
         ensures freed { KeepsFreed seat.old seat.new }
         ensures counts { KeepsCounts seat.old seat.new }
+        ensures ports { KeepsPorts seat.old seat.new }
         ensures own { result ≡ true → AreRipeOf self.now (seat_domain seat.old) (K.leaves_dtor hooks.now) (top_of seat.new).items }
         ensures looked { result ≡ false → FindsNothing self.now (seat_domain seat.old) }
     {
@@ -148,6 +151,7 @@ impl<T: Body, H: Host> ZoneDomains<T, H> {
         ensures freed { KeepsFreed seat.old seat.new }
         ensures rack { KeepsRack seat.old seat.new }
         ensures counts { KeepsCounts seat.old seat.new }
+        ensures ports { KeepsPorts seat.old seat.new }
         ensures own { IfSome result (TakesPlainAt self.now (seat_domain seat.old)) }
         ensures looked { IfNone result (FindsNothing self.now (seat_domain seat.old)) }
     {
@@ -176,6 +180,7 @@ impl<T: Body, H: Host> ZoneDomains<T, H> {
         ensures freed { KeepsFreed seat.old seat.new }
         ensures rack { KeepsRack seat.old seat.new }
         ensures counts { KeepsCounts seat.old seat.new }
+        ensures ports { KeepsPorts seat.old seat.new }
         ensures own { IfSome result (TakesRipeAt self.now (seat_domain seat.old)) }
         ensures looked { IfNone result (FindsNothing self.now (seat_domain seat.old)) }
     {

@@ -1,4 +1,4 @@
-ghost use Rattle.std.specs.Prelude.{◌≡◌, ◌≤◌, [], length, OnOk, OnErr};
+ghost use Rattle.std.specs.Prelude.{◌≡◌, ◌≤◌, ◌<◌, ℕ, [], length, OnOk, OnErr};
 ghost use Rattle.smr_clock.specs.Belongs.{IsOf, clock_id, view, holder};
 
 use crate::zone::Zone;
@@ -9,15 +9,17 @@ use std::sync::Wait;
 use uma_life::{Body, Hooks};
 use uma_seat::SeatCache;
 
-impl<T: Body, K: Hooks<T>, H: Host> Zone<T, K, H> {
-    ghost use Rattle.uma_seat.specs.Seat.{seat_domain, spares_of, shelf_of, IsSameSeat, KeepsTop, KeepsPlain, KeepsFreed, KeepsCounts, KeepsMisses};
+impl<T: Body + Drop, K: Hooks<T>, H: Host> Zone<T, K, H> {
+    ghost use Rattle.uma_seat.specs.Seat.{spares_of, shelf_of, IsSameSeat, KeepsTop, KeepsPlain, KeepsFreed, KeepsCounts, KeepsMisses};
     ghost use Rattle.uma_zone.specs.Flushed.{HasLastOf};
-    ghost use Rattle.uma_zone.specs.OwnDomain.{Flushes};
-    ghost use Rattle.uma_zone.specs.Zone.{zone_clock, IsSeatOf};
+    ghost use Rattle.uma_zone.specs.OwnDomain.{Flushes, SettlesFirst};
+    ghost use Rattle.uma_zone.specs.Ports.{sent_of};
+    ghost use Rattle.uma_zone.specs.Zone.{zone_clock, zone_domains, IsSeatOf};
 
-    /// Takes the buckets of the seat's shelf to the lists of their domains, oldest first. Before that each loose bucket on
-    /// the shelf tries once to be sealed, and so does each that the seat's own domain lists. After `Memory` each bucket of
-    /// the shelf is in a list, or on the shelf still. Waits until it has the locks of these domains.
+    /// Takes the buckets of the seat's shelf to the inboxes of their domains, oldest first, or to the lists where an inbox
+    /// hands one back. Before that each loose bucket of the shelf tries once to be sealed. After `Memory` each bucket of the
+    /// shelf is in an inbox or a list, or on the shelf still. A domain's lock is taken only for a bucket that an inbox
+    /// hands back; a push may wait for another push.
     pub fn flush<R: Wait>(
         &self,
         rt: &R,
@@ -42,9 +44,30 @@ impl<T: Body, K: Hooks<T>, H: Host> Zone<T, K, H> {
         ensures freed { KeepsFreed seat.old seat.new }
         ensures counts { KeepsCounts seat.old seat.new }
         ensures misses { KeepsMisses seat.old seat.new }
-        ensures flushes { Flushes self.now.domains (seat_domain seat.old) H.copied (shelf_of seat.old) (shelf_of seat.new) (view pass.old) (view pass.new) }
+        ensures flushes { Flushes self.now.domains H.copied (shelf_of seat.old) (shelf_of seat.new) (sent_of seat.old) (sent_of seat.new) (view pass.old) (view pass.new) }
     {
         self.domains.flush(rt, clock, pass, seat)
+    }
+
+    /// Settles the inbox of each domain into its lists, one after another. In an SMR zone each loose bucket that these have
+    /// then tries once to be sealed. After `Memory` what was listed stays listed, and the rest is in the inboxes. Waits until
+    /// it has the locks of the domains.
+    pub fn settle<R: Wait>(
+        &self,
+        rt: &R,
+        clock: &Clock<H>,
+        pass: &mut Pass<H>,
+    ) -> Result<(), Memory>
+        requires clock { clock_id clock.now ≡ zone_clock self.now }
+        requires pass { IsOf clock.now pass.old }
+        ensures pass { IsOf clock.now pass.new }
+        ensures phase { (holder pass.new).phase ≡ (holder pass.old).phase }
+        ensures seen { (holder pass.old).seen ≤ (holder pass.new).seen }
+        ensures host { (view pass.new).host ≡ (view pass.old).host }
+        ensures settled { OnOk result (SettlesFirst self.now.domains H.copied (view pass.old) (zone_domains self.now) (view pass.new)) }
+        ensures some { OnErr result ((count : ℕ) × (count < zone_domains self.now) × SettlesFirst self.now.domains H.copied (view pass.old) count (view pass.new)) }
+    {
+        self.domains.settle_each(rt, clock, pass)
     }
 
     /// Flushes the seat, and then makes spare buckets until there are two, so that the next frees have one. Waits as
@@ -75,7 +98,7 @@ impl<T: Body, K: Hooks<T>, H: Host> Zone<T, K, H> {
         ensures freed { KeepsFreed seat.old seat.new }
         ensures counts { KeepsCounts seat.old seat.new }
         ensures misses { KeepsMisses seat.old seat.new }
-        ensures flushes { Flushes self.now.domains (seat_domain seat.old) H.copied (shelf_of seat.old) (shelf_of seat.new) (view pass.old) (view pass.new) }
+        ensures flushes { Flushes self.now.domains H.copied (shelf_of seat.old) (shelf_of seat.new) (sent_of seat.old) (sent_of seat.new) (view pass.old) (view pass.new) }
     {
         self.domains.make_room(rt, alloc, clock, pass, seat)
     }

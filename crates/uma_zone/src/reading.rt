@@ -8,6 +8,7 @@ ghost use Rattle.locked_keg.specs.LockedKeg.{keg_in};
 ghost use Rattle.uma_zone.specs.OneDomain.{IsDomainOf};
 
 use crate::zone::Zone;
+use deed_book::Memory;
 use locked_keg::LockedKeg;
 use smr_clock::Host;
 use std::alloc::Global;
@@ -17,8 +18,23 @@ use uma_domain::Domain;
 use uma_keg::{Census, KegCounts};
 use uma_life::{Body, Hooks, Lives};
 
+impl<T: Body + Drop, K: Hooks<T>, H: Host> Zone<T, K, H> {
+    ghost use Rattle.uma_zone.specs.Zone.{zone_index};
+
+    /// How often the items that the domains have in lists and inboxes passed each hook, and how many of them are freed. In
+    /// this zone the ctors exceed the dtors by those that are freed, and in every other zone they are equal, modulo 2^64.
+    /// Waits until it has each domain's lock, and settles the inboxes into the lists; `Memory` where memory is wanting for
+    /// that.
+    pub fn sums<R: Wait>(&self, rt: &R) -> Result<Sums, Memory>
+        ensures few { IfOk result (AreOfAtMost (2 ^ 34)) }
+        ensures balance { IfOk result (Balance (zone_index self.now)) }
+    {
+        self.domains.sums(rt)
+    }
+}
+
 impl<T: Body, K: Hooks<T>, H: Host> Zone<T, K, H> {
-    ghost use Rattle.uma_zone.specs.Zone.{zone_home, zone_index, zone_clock, zone_smr, zone_domains, zone_domain, zone_hooks, zone_size, zone_cap, zone_reserve, zone_rights};
+    ghost use Rattle.uma_zone.specs.Zone.{zone_home, zone_clock, zone_smr, zone_domains, zone_domain, zone_hooks, zone_size, zone_cap, zone_reserve, zone_rights};
     ghost use Rattle.uma_zone.specs.KegStates.{CountsKeg};
 
     /// How many memory domains there are, 1 to 4.
@@ -60,16 +76,6 @@ impl<T: Body, K: Hooks<T>, H: Host> Zone<T, K, H> {
     {
         let guard = self.lock(rt);
         guard.value.counts()
-    }
-
-    /// How often the items that the domains list passed each hook, and how many of them are freed. In this zone the ctors
-    /// exceed the dtors by those that are freed, and in every other zone they are equal, modulo 2^64. Waits until it has
-    /// each domain's lock.
-    pub fn sums<R: Wait>(&self, rt: &R) -> Sums
-        ensures few { AreOfAtMost (2 ^ 34) result }
-        ensures balance { Balance (zone_index self.now) result }
-    {
-        self.domains.sums(rt)
     }
 
     /// The census of the keg, in one critical section, and the live items that it was lent, in the same order; they may be

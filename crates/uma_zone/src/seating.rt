@@ -14,8 +14,8 @@ impl<T: Body + Drop, K: Hooks<T>, H: Host> Zone<T, K, H> {
     ghost use Rattle.uma_zone.specs.Zone.{zone_home, zone_clock, zone_smr, zone_domains, zone_bucket, zone_fails, IsSeatOf};
     ghost use Rattle.uma_zone.specs.Seat.{IsFresh};
 
-    /// A new seat of this zone in a memory domain. It is for one worker at a time. Waits until it has the locks of the keg
-    /// and of that domain.
+    /// A new seat of this zone in a memory domain, with a port of each domain's inbox. It is for one worker at a time. Waits
+    /// until it has the locks of the keg and of the domains.
     ///
     /// `Memory` where memory is wanting. It would come too where the zone weren't in its keg, which never happens: no clause
     /// carries out of the lock which zones there are.
@@ -31,7 +31,8 @@ impl<T: Body + Drop, K: Hooks<T>, H: Host> Zone<T, K, H> {
     {
         let (seating, share) = self.open(rt, domain)?;
         let misses = self.domains.open_misses(rt, domain);
-        match SeatCache::new(alloc, self.bucket, seating, share, misses) {
+        let ports = self.domains.open_ports(rt, alloc)?;
+        match SeatCache::new(alloc, self.bucket, seating, share, misses, ports) {
             Ok(seat) => Ok(seat),
             Err(_) => Err(Memory),
         }

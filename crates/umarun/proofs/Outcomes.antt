@@ -21,7 +21,7 @@ use Rattle.umarun.specs.Causes.{parse_fault, schedule_fault}
 use Rattle.umarun.specs.declared.fault.Fault.{Fault}
 use Rattle.umarun.specs.declared.fault.Fault.TheVariants as faults
 use Rattle.umarun.specs.declared.ended.Ended.{Ended}
-use Rattle.umarun.specs.Replaying.{LeavesHall, Replays, AreInput, AreRefused, RefusesTrace, most_bytes}
+use Rattle.umarun.specs.Replaying.{HasHeadline, KeepsHeadline, LeavesHall, Replays, AreInput, AreRefused, RefusesTrace, most_bytes}
 use Rattle.umarun.specs.Stepping.{Plays, ArePlayed, RefusesText, RefusesStep}
 use Rattle.zone_stats.specs.declared.report.Report.{Report}
 
@@ -50,6 +50,14 @@ replays (Some left) read given trace report ended all same within text stands ha
     let P : List ℕ → Type 0 = λ bytes. Replays report ended bytes in
     let Q : List ℕ → Type 0 = λ bytes. IsTraceText bytes trace in
     subst P all (record { within = within; trace = trace; text = subst Q same text; stands = stands; hall = hall })
+
+pub headlines : (left : Option (List ℕ)) (read given : List ℕ) (trace : Trace) (report : Report) (ended : Ended) → IfSome left (λ all. read ≡ all) → given ≡ read
+    → IsTraceText given trace → HasHeadline trace report ended → IfSome left (KeepsHeadline report ended)
+headlines None read given trace report ended all same text headline = tt
+headlines (Some left) read given trace report ended all same text headline =
+    let P : List ℕ → Type 0 = λ bytes. KeepsHeadline report ended bytes in
+    let Q : List ℕ → Type 0 = λ bytes. IsTraceText bytes trace in
+    subst P all (record { trace = trace; text = subst Q same text; headline = headline })
 
 bad_by : (why : ParseRefused) (fault : Fault) (refused : TraceRefused) (bytes : List ℕ) → ((r : TraceRefused) → ◌≡◌ {A = Result Trace ParseRefused} (Err why) (Err (parsing.Trace r)) → IsBad r bytes)
     → fault ≡ parse_fault why → fault ≡ faults.Trace refused → IsBad refused bytes

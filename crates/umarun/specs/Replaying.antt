@@ -9,6 +9,7 @@ use Rattle.umarun.specs.Caches.{plan_for}
 use Rattle.trace_play.specs.contracts.plain_names.PlainNamesNameCalls.TheImpl.{ghosts as plain_names}
 use Rattle.umarun.specs.contracts.cache_names.CacheNamesNameCalls.TheImpl.{ghosts as cache_names}
 use Rattle.uma_replay.specs.Hall.{HallStands}
+use Rattle.uma_replay.specs.Headline.{Headline}
 use Rattle.uma_replay.specs.Report.{StandsFor}
 use Rattle.umarun.specs.declared.ended.Ended.{Ended}
 use Rattle.umarun.specs.declared.ended.Ended.TheVariants.{Plain, Named}
@@ -30,6 +31,17 @@ pub record Replays (report : Report) (ended : Ended) (bytes : List ℕ) : Type 0
   pub text : IsTraceText bytes trace
   pub stands : StandsFor trace report
   pub hall : LeavesHall trace report ended
+
+-- the headline holds of the report and of what the trace's lines left
+abbrev pub HasHeadline : Trace → Report → Ended → Type 0
+HasHeadline trace report (Plain hall) = Headline plain_names trace report hall
+HasHeadline trace report (Named hall) = Headline cache_names trace report hall
+
+-- the same, of the trace that the bytes are the text of
+pub record KeepsHeadline (report : Report) (ended : Ended) (bytes : List ℕ) : Type 0 where
+  pub trace : Trace
+  pub text : IsTraceText bytes trace
+  pub headline : HasHeadline trace report ended
 
 -- the bytes are the text of a trace, at most so many
 abbrev pub AreInput : List ℕ → Type 0

@@ -162,7 +162,10 @@ impl NameCalls for CacheNames {
         }
     }
 
-    fn sums<R: Wait>(&self, cache: &TraceCache, rt: &R) -> Sums {
-        cache.cache.sums(rt)
+    fn sums<R: Wait>(&self, cache: &TraceCache, rt: &R) -> Result<Sums, Memory> {
+        match cache.cache.sums(rt) {
+            Ok(sums) => Ok(sums),
+            Err(_) => Err(Memory),
+        }
     }
 }

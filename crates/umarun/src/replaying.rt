@@ -9,7 +9,7 @@ ghost use Rattle.smr_core.specs.declared.step_refused.StepRefused.{StepRefused a
 ghost use Rattle.uma_io.specs.Faults.{Rose};
 ghost use Rattle.uma_io.specs.Source.{Exhausts, HasMoreThan};
 ghost use Rattle.uma_replay.specs.Report.{StandsFor};
-ghost use Rattle.umarun.specs.Replaying.{LeavesHall, Replays, AreInput, AreRefused, RefusesTrace, most_bytes};
+ghost use Rattle.umarun.specs.Replaying.{HasHeadline, KeepsHeadline, LeavesHall, Replays, AreInput, AreRefused, RefusesTrace, most_bytes};
 ghost use Rattle.umarun.specs.declared.ended.Ended.{Ended as EndedValue};
 ghost use Rattle.zone_stats.specs.ReportText.{report_text};
 ghost use Rattle.zone_stats.specs.declared.report.Report.{Report as ReportValue};
@@ -45,6 +45,7 @@ pub fn replay<R: Threads + Wait + Sync, S: Source, G: Gate + Sync>(
     gate: &G,
 ) -> Result<(Replayed, Vec<u8>), Fault>
     ensures replays { IfOk result (λ done. IfSome (S.bytes_left source.old) (Replays done.0.report done.0.ended)) }
+    ensures headline { IfOk result (λ done. IfSome (S.bytes_left source.old) (KeepsHeadline done.0.report done.0.ended)) }
     ensures free { G.is_free gate.now → IfOk result (λ done. done.0.report.gave_up ≡ 0) }
     ensures text { IfOk result (λ done. done.1.items ≡ report_text done.0.report) }
     ensures end { OnOk result (Exhausts (S.bytes_left source.old) (S.bytes_left source.new)) }
@@ -87,6 +88,7 @@ pub(crate) fn play<R: Threads + Wait + Sync, G: Gate + Sync>(
     requires few { length (lines_of trace.now.rounds) ≤ most_bytes }
     ensures stands { IfOk result (λ played. StandsFor trace.now played.report) }
     ensures hall { IfOk result (λ played. LeavesHall trace.now played.report played.ended) }
+    ensures headline { IfOk result (λ played. HasHeadline trace.now played.report played.ended) }
     ensures free { G.is_free gate.now → IfOk result (λ played. played.report.gave_up ≡ 0) }
 {
     match &trace.head.names {

@@ -1,5 +1,6 @@
 ghost use Rattle.std.specs.Prelude.{◌≡◌, ◌≢◌, ◌↔◌, ◌⊎◌, ℕ, true, false, map, string_bytes, Some, None, IsSome, IsNone, IfSome, IfNone, IsSomeAnd};
 ghost use Rattle.command_line.specs.Commands.{command_of};
+ghost use Rattle.trace_gen.specs.Header.{made_trace as trace_of};
 ghost use Rattle.smr_core.specs.declared.step_refused.StepRefused.{StepRefused as Turned};
 ghost use Rattle.text_lines.specs.declared.refused.TraceRefused.{TraceRefused as Refused};
 ghost use Rattle.uma_io.specs.Faults.{Rose};
@@ -8,7 +9,7 @@ ghost use Rattle.uma_io.specs.Source.{Exhausts, HasMoreThan};
 ghost use Rattle.umarun.specs.Bulk.{ReplaysMade};
 ghost use Rattle.umarun.specs.Ending.{makes_report, reads_input, status_at};
 ghost use Rattle.umarun.specs.Making.{made_text};
-ghost use Rattle.umarun.specs.Replaying.{Replays, AreInput, AreRefused, RefusesTrace, most_bytes};
+ghost use Rattle.umarun.specs.Replaying.{HasHeadline, KeepsHeadline, Replays, AreInput, AreRefused, RefusesTrace, most_bytes};
 ghost use Rattle.umarun.specs.Stepping.{ArePlayed, WritesOutput, WritesPart, RefusesText, RefusesStep};
 ghost use Rattle.umarun.specs.Summary.{summary_text};
 ghost use Rattle.zone_stats.specs.ReportText.{report_text};
@@ -65,6 +66,13 @@ pub fn run<R: Threads + Wait + Sync, S: Source, K: Sink, G: Gate + Sync>(
 
     // Nothing is written before a refusal.
     ensures unwritten { IsSome result.fault → result.fault ≢ Some Fault.Write → sink.new ≡ sink.old }
+
+    // The headline: `Headline` of uma_replay has its sentence, and a field for each clause of it. Of `replay` it is said for the
+    // trace that the bytes read are the text of, and of `bulk` for the trace that the numbers give.
+    ensures headline { command_of (map string_bytes words.now) ≡ Some Command.Replay → IfSome result.report (λ report.
+        IfSome result.hall (λ ended. IfSome (S.bytes_left source.old) (KeepsHeadline report ended))) }
+    ensures bulk_headline { (seed workers ops : ℕ) → command_of (map string_bytes words.now) ≡ Some (Command.Bulk seed workers ops)
+        → IfSome result.report (λ report. IfSome result.hall (HasHeadline (trace_of seed workers ops) report)) }
 
     // `replay`: a report stands for the trace that the bytes read are the text of, and for the zones, clock, names, workers and
     // censuses of its hall; its text is written, and nothing else. Under a free gate no operation gave up waiting, nor does one

@@ -1,4 +1,5 @@
 mod lists;
+mod new_ports;
 mod plain_seat;
 mod sealing;
 mod sequences;

@@ -1,10 +1,11 @@
 //! The tests of what a line says by what the earlier lines said.
 ghost use Rattle.std.specs.Prelude.{◌≡◌, ◌+◌, ◌*◌, false, slice_index_or};
-ghost use Rattle.trace_text.specs.Grammar.{needs_clock, needs_names, takes_name, lacks_zone, fills_keg, passes_most, finds_filled, finds_empty, finds_open, finds_closed, clash};
-ghost use Rattle.trace_text.specs.TraceShown.{slot_at, open_at};
+ghost use Rattle.trace_text.specs.Grammar.{needs_clock, needs_names, takes_name, lacks_zone, fills_keg, passes_most, finds_filled, finds_empty, finds_open, finds_closed, finds_away, finds_there, first_failed, worker_tests, clash};
+ghost use Rattle.trace_text.specs.TraceShown.{slot_at, is_marked};
 
 use crate::trace_reading::said::{Said, ZoneWork};
-use crate::trace_reading::slots::{open_at, slot_at};
+use crate::trace_reading::slots::{is_marked, slot_at};
+use crate::trace_reading::tables::Tables;
 use crate::trace_reading::zones::Zones;
 use crate::{Op, TraceKind, ZoneKind};
 
@@ -22,7 +23,7 @@ impl Said {
             Said::Zone { zone } => zone.kind == ZoneKind::Smr,
             Said::Second { second } => second.kind == ZoneKind::Smr,
             Said::Names { .. } => true,
-            Said::Work { op, .. } => matches!(op, Op::Enter | Op::Exit),
+            Said::Work { op, .. } => { matches!(op, Op::Enter | Op::Exit | Op::Away | Op::Back) }
             _ => false,
         }
     }
@@ -104,33 +105,54 @@ impl Said {
     }
 
     fn finds_open(&self, sections: &[bool]) -> bool
-        ensures { result ≡ finds_open (open_at sections.now) self.now }
+        ensures { result ≡ finds_open (is_marked sections.now) self.now }
     {
         match self {
-            Said::Work { worker, op } => matches!(op, Op::Enter) && open_at(sections, *worker),
+            Said::Work { worker, op } => {
+                matches!(op, Op::Enter | Op::Away) && is_marked(sections, *worker)
+            }
             _ => false,
         }
     }
 
     fn finds_closed(&self, sections: &[bool]) -> bool
-        ensures { result ≡ finds_closed (open_at sections.now) self.now }
+        ensures { result ≡ finds_closed (is_marked sections.now) self.now }
     {
         match self {
-            Said::Work { worker, op } => matches!(op, Op::Exit) && !open_at(sections, *worker),
+            Said::Work { worker, op } => matches!(op, Op::Exit) && !is_marked(sections, *worker),
             _ => false,
         }
     }
 
-    /// What is wrong with a line that says this, where there are these zones, slots and sections.
+    fn finds_away(&self, away: &[bool]) -> bool
+        ensures { result ≡ finds_away (is_marked away.now) self.now }
+    {
+        match self {
+            Said::Work { worker, op } => !matches!(op, Op::Back) && is_marked(away, *worker),
+            Said::InZone { worker, .. } => is_marked(away, *worker),
+            _ => false,
+        }
+    }
+
+    fn finds_there(&self, away: &[bool]) -> bool
+        ensures { result ≡ finds_there (is_marked away.now) self.now }
+    {
+        match self {
+            Said::Work { worker, op } => matches!(op, Op::Back) && !is_marked(away, *worker),
+            _ => false,
+        }
+    }
+
+    /// What is wrong with a line that says this, where there are these zones, slots and sections, and workers that are
+    /// away.
     pub fn clash(
         &self,
         has_clock: bool,
         has_names: bool,
         zones: &Zones,
-        slots: &[bool],
-        sections: &[bool],
+        tables: &Tables,
     ) -> Option<TraceKind>
-        ensures { result ≡ clash has_clock has_names zones.now (slot_at slots.now) (open_at sections.now) self.now }
+        ensures { result ≡ clash has_clock has_names zones.now (slot_at tables.now.slots.items) (is_marked tables.now.sections.items) (is_marked tables.now.away.items) self.now }
     {
         if self.needs_clock() && !has_clock {
             return Some(TraceKind::NoClock);
@@ -147,6 +169,17 @@ impl Said {
         if self.passes_most(zones) {
             return Some(TraceKind::Zones);
         }
+        self.worker_clash(tables)
+    }
+
+    /// What is wrong with what a line says of a worker, where there are these slots and sections, and workers that are
+    /// away.
+    fn worker_clash(&self, tables: &Tables) -> Option<TraceKind>
+        ensures { result ≡ first_failed (worker_tests (slot_at tables.now.slots.items) (is_marked tables.now.sections.items) (is_marked tables.now.away.items) self.now) }
+    {
+        let slots = tables.slots.as_slice();
+        let sections = tables.sections.as_slice();
+        let away = tables.away.as_slice();
         if self.finds_filled(slots) {
             return Some(TraceKind::SlotBusy);
         }
@@ -158,6 +191,12 @@ impl Said {
         }
         if self.finds_closed(sections) {
             return Some(TraceKind::SectionClosed);
+        }
+        if self.finds_away(away) {
+            return Some(TraceKind::Absent);
+        }
+        if self.finds_there(away) {
+            return Some(TraceKind::Present);
         }
         None
     }

@@ -172,8 +172,7 @@ impl TraceReader {
             self.clock.is_some(),
             self.names.is_some(),
             &self.zones,
-            self.tables.slots.as_slice(),
-            self.tables.sections.as_slice(),
+            &self.tables,
         )
     }
 

@@ -1,7 +1,7 @@
-//! Which slots of the workers are filled, and which workers are in a section.
+//! Which slots of the workers are filled, which workers are in a section, and which are away.
 ghost use Rattle.std.specs.Prelude.{◌≡◌, ◌≤◌, ◌<◌, ◌+◌, ◌*◌, ◌&&◌, ◌==◌, ℕ, length, if◌then◌else◌};
 ghost use Rattle.trace_text.specs.Limits.{last_slot, slots};
-ghost use Rattle.trace_text.specs.TraceShown.{slot_at, open_at};
+ghost use Rattle.trace_text.specs.TraceShown.{slot_at, is_marked};
 
 use crate::limits::SLOTS;
 
@@ -26,21 +26,21 @@ pub fn set_slot(table: &mut [bool], worker: u32, slot: u32, filled: bool)
     table[worker as usize * SLOTS + slot as usize] = filled;
 }
 
-/// Whether a worker is in a section.
-pub fn open_at(table: &[bool], worker: u32) -> bool
-    ensures { result ≡ open_at table.now worker }
+/// Whether a table of workers marks this one.
+pub fn is_marked(table: &[bool], worker: u32) -> bool
+    ensures { result ≡ is_marked table.now worker }
 {
     match table.get(worker as usize) {
-        Some(&open) => open,
+        Some(&marked) => marked,
         None => false,
     }
 }
 
-/// Has a worker in a section or in none, and leaves the others.
-pub fn set_open(table: &mut [bool], worker: u32, is_open: bool)
+/// Has a table mark a worker or not, and leaves the others.
+pub fn set_mark(table: &mut [bool], worker: u32, marked: bool)
     requires { worker < length table.old }
-    ensures each { (v : ℕ) → open_at table.new v ≡ (if worker == v then is_open else open_at table.old v) }
+    ensures each { (v : ℕ) → is_marked table.new v ≡ (if worker == v then marked else is_marked table.old v) }
     ensures length { length table.new ≡ length table.old }
 {
-    table[worker as usize] = is_open;
+    table[worker as usize] = marked;
 }

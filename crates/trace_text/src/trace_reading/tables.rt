@@ -1,11 +1,11 @@
-//! The running state of slots and sections.
+//! The running state of slots, sections and workers that are away.
 ghost use Rattle.std.specs.Prelude.{◌≡◌, ◌<◌, All, IfOk, length, false};
 ghost use Rattle.trace_text.specs.declared.trace_reading.entry.Entry.TheVariants.{Does, Moves};
 ghost use Rattle.trace_text.specs.TraceTables.{AreEmpty, AreWhole, EntryFits, Marks, OpSlotFits, most_workers};
 
 use crate::limits::SLOTS;
 use crate::trace_reading::entry::Entry;
-use crate::trace_reading::slots::{set_open, set_slot, slot_at};
+use crate::trace_reading::slots::{set_mark, set_slot, slot_at};
 use crate::{Between, Op};
 use std::alloc::{AllocError, Global};
 
@@ -15,12 +15,13 @@ const WORKERS: usize = 16;
 /// How many slots they have together.
 const ALL_SLOTS: usize = WORKERS * SLOTS;
 
-/// Which slots are filled, and which workers are in a section.
+/// Which slots are filled, which workers are in a section, and which are away.
 #[derive(Drop)]
 pub struct Tables {
     /// One worker's behind the other's.
     pub slots: Vec<bool>,
     pub sections: Vec<bool>,
+    pub away: Vec<bool>,
 }
 
 /// So many times false.
@@ -32,7 +33,7 @@ fn all_false(alloc: Global, count: usize) -> Result<Vec<bool>, AllocError>
 }
 
 impl Tables {
-    /// All slots empty, and no section open.
+    /// All slots empty, no section open, and no worker away.
     pub fn new(alloc: Global) -> Result<Tables, AllocError>
         ensures whole { IfOk result AreWhole }
         ensures empty { IfOk result AreEmpty }
@@ -40,6 +41,7 @@ impl Tables {
         Ok(Tables {
             slots: all_false(alloc, ALL_SLOTS)?,
             sections: all_false(alloc, WORKERS)?,
+            away: all_false(alloc, WORKERS)?,
         })
     }
 
@@ -67,8 +69,10 @@ impl Tables {
         match op {
             Op::Alloc { slot, .. } => set_slot(self.slots.as_mut_slice(), worker, slot, true),
             Op::Free { slot } => set_slot(self.slots.as_mut_slice(), worker, slot, false),
-            Op::Enter => set_open(self.sections.as_mut_slice(), worker, true),
-            Op::Exit => set_open(self.sections.as_mut_slice(), worker, false),
+            Op::Enter => set_mark(self.sections.as_mut_slice(), worker, true),
+            Op::Exit => set_mark(self.sections.as_mut_slice(), worker, false),
+            Op::Away => set_mark(self.away.as_mut_slice(), worker, true),
+            Op::Back => set_mark(self.away.as_mut_slice(), worker, false),
             _ => {}
         }
     }

@@ -38,6 +38,8 @@ pub enum WorkWord {
     Bind,
     Unbind,
     Look,
+    Away,
+    Back,
 }
 
 #[derive(Clone, Copy)]
@@ -62,6 +64,8 @@ impl Word {
             b"bind" => Some(Word::Work(WorkWord::Bind)),
             b"unbind" => Some(Word::Work(WorkWord::Unbind)),
             b"look" => Some(Word::Work(WorkWord::Look)),
+            b"away" => Some(Word::Work(WorkWord::Away)),
+            b"back" => Some(Word::Work(WorkWord::Back)),
             b"trim" => Some(Word::Zone(ZoneWord::Trim)),
             b"drain" => Some(Word::Zone(ZoneWord::Drain)),
             b"drainseat" => Some(Word::Zone(ZoneWord::DrainSeat)),
@@ -82,12 +86,14 @@ impl Word {
         }
     }
 
-    /// Whether the version has this word: version 1 has none that changes a limit.
+    /// Whether the version has this word: version 1 has none that changes a limit, and only version 3 has those of
+    /// workers that leave and come back.
     pub fn is_known(self, version: Version) -> bool
         ensures { result ≡ is_known version self }
     {
         match self {
             Word::SetMax => version.changes_limits(),
+            Word::Work(WorkWord::Away | WorkWord::Back) => version.lets_leave(),
             _ => true,
         }
     }

@@ -50,6 +50,20 @@ pub fn work_said(workers: u32, word: WorkWord, rest: &[u8]) -> Result<Said, Trac
             let op = Op::Look { key };
             Ok(Said::Work { worker, op })
         }
+        WorkWord::Away => {
+            let worker = only_worker(workers, rest)?;
+            Ok(Said::Work {
+                worker,
+                op: Op::Away,
+            })
+        }
+        WorkWord::Back => {
+            let worker = only_worker(workers, rest)?;
+            Ok(Said::Work {
+                worker,
+                op: Op::Back,
+            })
+        }
     }
 }
 

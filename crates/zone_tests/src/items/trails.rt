@@ -1,8 +1,9 @@
 use super::doors::{Door, Doors};
 use deed_book::Book;
+use std::mem::replace;
 use std::sync::atomic::Ordering;
 use std::test::Fail;
-use uma_item::{Item, Lender, NO_STAYS, TrailHooks};
+use uma_item::{Item, NO_STAYS, TrailHooks};
 use uma_life::{Body, BodyPhase, Stored, ZoneTally};
 
 #[test]
@@ -89,7 +90,7 @@ fn a_refused_ctor_counts_nothing_and_leaves_the_data(rt: HostRuntime) -> Result<
 }
 
 #[test]
-fn data_that_was_lent_comes_back_to_the_same_item(rt: HostRuntime) -> Result<(), Fail> {
+fn data_is_changed_in_the_same_item(rt: HostRuntime) -> Result<(), Fail> {
     let hooks = TrailHooks::new(Doors::new());
     let mut book = Book::new(rt.alloc(), 4)?;
     let stored = Stored::<Item<Door>>::bring(&rt, rt.alloc(), &hooks, 3, 2)?;
@@ -99,9 +100,8 @@ fn data_that_was_lent_comes_back_to_the_same_item(rt: HostRuntime) -> Result<(),
     let Ok(live) = cached.build(&hooks, 7) else {
         panic!(rt; "ctor refused")
     };
-    let (mut door, lender) = Lender::lend(live);
-    door.guest = 8;
-    let live = lender.give_back(door);
+    let (live, before) = Item::change(live, |door| replace(&mut door.guest, 8));
+    assert!(rt; before == 7);
     assert!(rt; live.body().data().guest == 8 && live.no() == 3 && live.domain() == 2);
     assert!(rt; live.body().phase() == (BodyPhase::Built { zone: 0 }));
     Ok(())

@@ -4,6 +4,7 @@ ghost use Rattle.uma_bucket.specs.Home.{IsHome};
 ghost use Rattle.uma_life.specs.Cached.{cached_table, cached_zone, cached_domain};
 ghost use Rattle.uma_seat.specs.Seat.{seat_home, seat_smr};
 
+use super::new_ports::new_ports;
 use crate::body::{Plain, idle_hooks};
 use deed_book::{Book, FailBook};
 use smr_clock::{Bare, Clock};
@@ -66,7 +67,8 @@ impl PlainSeat {
             smr: false,
         };
         let (share, misses) = (fails.new_share(), fails.new_share());
-        let seat = SeatCache::new(alloc, 4, seating, share, misses)?;
+        let ports = new_ports(alloc, clock, &book, domains)?;
+        let seat = SeatCache::new(alloc, 4, seating, share, misses, ports)?;
         Ok(PlainSeat {
             seat,
             book,

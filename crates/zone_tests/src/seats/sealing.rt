@@ -3,6 +3,7 @@ ghost use Rattle.deed_book.specs.Book.{book_table};
 ghost use Rattle.smr_clock.specs.Belongs.{IsOf, clock_id};
 ghost use Rattle.uma_seat.specs.Seat.{seat_home, seat_smr, seat_clock};
 
+use super::new_ports::new_ports;
 use super::plain_seat::cached;
 use crate::body::{Plain, idle_hooks};
 use crate::clock::two_seats;
@@ -31,7 +32,8 @@ fn smr_seat(alloc: Global, clock: &Clock<Bare>, book: &Book) -> Result<SeatCache
         smr: true,
     };
     let (share, misses) = (fails.new_share(), fails.new_share());
-    Ok(SeatCache::new(alloc, 4, seating, share, misses)?)
+    let ports = new_ports(alloc, clock, book, 1)?;
+    Ok(SeatCache::new(alloc, 4, seating, share, misses, ports)?)
 }
 
 /// Frees an item to the seat.

@@ -2,6 +2,7 @@ ghost use Rattle.std.specs.Prelude.{◌≡◌, IfOk};
 ghost use Rattle.deed_book.specs.FailBook.{fail_book_table};
 ghost use Rattle.uma_seat.specs.Seat.{seat_fails};
 
+use super::new_ports::new_ports;
 use crate::body::Plain;
 use crate::clock::two_seats;
 use deed_book::{Book, FailBook};
@@ -30,7 +31,8 @@ fn seat_of(
         smr: false,
     };
     let (share, misses) = (fails.new_share(), fails.new_share());
-    Ok(SeatCache::new(alloc, 4, seating, share, misses)?)
+    let ports = new_ports(alloc, clock, &book, 1)?;
+    Ok(SeatCache::new(alloc, 4, seating, share, misses, ports)?)
 }
 
 #[test]

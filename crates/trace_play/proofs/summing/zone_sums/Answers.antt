@@ -5,7 +5,7 @@ use Rattle.trace_play.proofs.Summed.{none_so_far, one_more_seat, all_seats, room
 use Rattle.trace_play.proofs.summing.zone_sums.Goals as goal
 
 pub loop-worker-init : goal.loop-worker-init
-loop-worker-init g c = none_so_far c.args.zone.now c.args.place c.args.workers.now c.sums-sums.result c.sums-sums.ensures.few c.sums-sums.ensures.balance
+loop-worker-init g c = none_so_far c.args.zone.now c.args.place c.args.workers.now c.in-Ok.sums c.in-Ok.ensures.few c.in-Ok.ensures.balance
 
 pub seat_sums-requires : goal.seat_sums-requires
 seat_sums-requires g c =

@@ -17,7 +17,7 @@ pub loop-place-preserved : goal.loop-place-preserved
 loop-place-preserved g c =
     let zone = c.index-zones-place.result in
     let at = slice_get_read c.args.zones.now _ c.loop-place.place zone refl c.loop-place-test.true c.index-zones-place.is in
-    sums_more c.args.zones.now c.args.workers.now c.loop-place.place c.loop-place.all.items c.push.new.self.items zone c.zone_sums.result c.loop-place.invariant at c.zone_sums.ensures c.in_ok-push.ensures.items
+    sums_more c.args.zones.now c.args.workers.now c.loop-place.place c.loop-place.all.items c.push.new.self.items zone c.in_ok-sums.sums c.loop-place.invariant at c.in_ok-sums.ensures c.in_ok-push.ensures.items
 
 pub returns : goal.returns
 returns g c = sums_all c.args.zones.now c.args.workers.now c.loop-place.place c.loop-place.all.items (le_antisymm c.loop-place.auto.place-end c.loop-place-test.false) c.loop-place.invariant

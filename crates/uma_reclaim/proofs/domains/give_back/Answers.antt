@@ -4,7 +4,7 @@ use Rattle.std.proofs.lemmas.List.{length-append}
 use Rattle.smr_clock.specs.Belongs.{view}
 use Rattle.uma_domain.specs.declared.taken.TakenBucket.{TakenBucket}
 use Rattle.uma_domain.specs.Taken.{taken_in}
-use Rattle.uma_reclaim.specs.Given.{IsFromZone, items_in, counted}
+use Rattle.uma_reclaim.specs.Given.{IsFromZone, GivesBucket, items_in, counted}
 use Rattle.uma_reclaim.specs.Reclaimed.{taken_by, IsTakenAt, TakesInTurn}
 use Rattle.uma_reclaim.specs.Told.{notes_in}
 use Rattle.uma_reclaim.proofs.Rows.{counted_sum, sum_more, all_more}
@@ -16,6 +16,7 @@ pub loop-domain-preserved : goal.loop-domain-preserved
 loop-domain-preserved g c =
     let before = c.loop-domain.invariant in
     let Of = All (IsFromZone c.args.zone.now) in
+    let Gives = All (GivesBucket c.args.zone.now) in
     let merged = g.H.Host.merged in
     let start = (view c.args.pass.now).host in
     let was = (view c.loop-domain.pass).host in
@@ -29,6 +30,7 @@ loop-domain-preserved g c =
       each = (let e = ap length all in omega (arith, e, length-append takes (take ∷ []), before.each));
       of_zone = subst (λ (l : List (Snapshot _)). All Of (map taken_by l)) (sym all) (all_more taken_by Of takes take before.of_zone (subst Of (sym same) c.in_ok-taken.ensures.of_zone));
       own = subst (λ (l : List (Snapshot _)). TakesInTurn c.args.zone.now c.args.extent 0 (map taken_by l)) (sym all) (turn_more c.args.zone.now c.args.extent taken_by takes take c.loop-domain.domain before.each before.own (subst (IsTakenAt c.args.zone.now c.args.extent c.loop-domain.domain) (sym same) c.in_ok-taken.ensures.own));
+      gave = subst (λ (l : List (Snapshot _)). All Gives (map taken_by l)) (sym all) (all_more taken_by Gives takes take before.gave (subst Gives (sym same) gave.given));
       given =
           counted_sum (sum_by items_in (map taken_by takes)) (items_in (taken_by take)) c.loop-domain.items c.give_taken-given.result c.saturating_add-items.result before.given (gave.count ∙ ap (λ (l : List (TakenBucket _ _ _ _ _)). counted (items_in l)) (sym same)) c.saturating_add-items.ensures
           ∙ ap counted (sym items);

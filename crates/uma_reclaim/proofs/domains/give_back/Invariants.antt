@@ -1,6 +1,6 @@
 use Rattle.std.proofs.Common.{◌≡◌, ◌≤◌, All, length, map, sum_by, fold, flat_map}
 use Rattle.smr_clock.specs.Belongs.{IsOf, view, holder}
-use Rattle.uma_reclaim.specs.Given.{IsFromZone, items_in, counted}
+use Rattle.uma_reclaim.specs.Given.{IsFromZone, AreGiven, items_in, counted}
 use Rattle.uma_reclaim.specs.Reclaimed.{taken_by, TakesInTurn}
 use Rattle.uma_reclaim.specs.Told.{notes_in}
 use Rattle.uma_reclaim.proofs.domains.give_back.Given as goal
@@ -10,6 +10,7 @@ invariant-loop-domain g l = record {
   each : length l.takes ≡ l.domain;
   of_zone : All (All (IsFromZone l.zone)) (map taken_by l.takes);
   own : TakesInTurn l.zone l.extent 0 (map taken_by l.takes);
+  gave : AreGiven l.zone (map taken_by l.takes);
   given : l.items ≡ counted (sum_by items_in (map taken_by l.takes));
   pass : IsOf l.clock l.pass;
   phase : (holder l.pass).phase ≡ (holder l.fn.pass).phase;

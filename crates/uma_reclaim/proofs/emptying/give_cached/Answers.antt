@@ -1,7 +1,23 @@
-use Rattle.std.proofs.Common.{◌∙◌, arith}
+use Rattle.std.proofs.Common.{[], ◌∷◌, ◌++◌, length-append, refl, ◌∙◌, arith}
+use Rattle.std.proofs.lemmas.List.Elements.{All-nil, All-push}
+use Rattle.uma_zone.specs.KegStates.{GivesItem}
 use Rattle.uma_reclaim.specs.Cached.{cached_in}
 use Rattle.uma_reclaim.proofs.Rows.{counted_more}
 use Rattle.uma_reclaim.proofs.emptying.give_cached.Goals as goal
+
+pub loop-item-init : goal.loop-item-init
+loop-item-init g c = record {
+  seat = c.requires;
+  fewer = omega arith;
+  given = omega arith;
+  gave = record { items = []; as_many = omega arith; given = All-nil (GivesItem c.args.zone.now) };
+  same = (refl, refl);
+  freed = refl;
+  rack = refl;
+  counts = refl;
+  misses = refl;
+  ports = refl;
+}
 
 pub loop-item-preserved : goal.loop-item-preserved
 loop-item-preserved g c =
@@ -13,12 +29,23 @@ loop-item-preserved g c =
       seat = took.seat;
       fewer = omega (arith, one, before.fewer);
       given = counted_more (cached_in c.args.seat.now) (cached_in c.loop-item.seat) 1 (cached_in now) c.loop-item.count c.saturating_add-count.result before.fewer before.given (omega (arith, one)) c.saturating_add-count.ensures;
+      gave = record {
+        items = before.gave.items ++ c.in-Some.item ∷ [];
+        as_many = let long = length-append before.gave.items (c.in-Some.item ∷ []) in omega (arith, one, long, before.fewer, before.gave.as_many);
+        given = All-push (GivesItem c.args.zone.now) before.gave.items c.in-Some.item before.gave.given c.give_one.ensures.given;
+      };
       same = (took.same.0 ∙ before.same.0, took.same.1 ∙ before.same.1);
       freed = took.freed ∙ before.freed;
       rack = took.rack ∙ before.rack;
       counts = took.counts ∙ before.counts;
       misses = took.misses ∙ before.misses;
+      ports = took.ports ∙ before.ports;
     }
 
 pub returns-clause-count : goal.returns-clause-count
 returns-clause-count g c = omega (arith, c.in_default.ensures.none, c.loop-item.invariant.given)
+
+pub returns-clause-given : goal.returns-clause-given
+returns-clause-given g c =
+    let gave = c.loop-item.invariant.gave in
+    record { items = gave.items; as_many = omega (arith, c.in_default.ensures.none, gave.as_many); given = gave.given }

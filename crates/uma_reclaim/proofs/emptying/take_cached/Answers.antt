@@ -8,7 +8,7 @@ use Rattle.uma_reclaim.proofs.emptying.take_cached.Goals as goal
 pub returns-in-Some-clause-seat : goal.returns-in-Some-clause-seat
 returns-in-Some-clause-seat g c =
     let took = c.try_alloc.ensures in
-    taken_of c.args.zone.now c.args.seat.now c.try_alloc.new.self took.same (took.home c.requires.of_domains.top_home).0 took.counts took.misses c.requires
+    taken_of c.args.zone.now c.args.seat.now c.try_alloc.new.self took.same (took.home c.requires.of_domains.top_home).0 took.counts took.misses took.ports c.requires
 
 pub returns-in-Some-clause-home : goal.returns-in-Some-clause-home
 returns-in-Some-clause-home g c =
@@ -21,13 +21,13 @@ pub returns-in-None-clause-seat : goal.returns-in-None-clause-seat
 returns-in-None-clause-seat g c =
     let took = c.try_alloc.ensures in
     let cross = c.take_cross.ensures in
-    let mid = taken_of c.args.zone.now c.args.seat.now c.try_alloc.new.self took.same (took.home c.requires.of_domains.top_home).0 took.counts took.misses c.requires in
-    still_of c.args.zone.now c.try_alloc.new.self c.take_cross.new.self cross.same cross.top cross.counts cross.misses mid
+    let mid = taken_of c.args.zone.now c.args.seat.now c.try_alloc.new.self took.same (took.home c.requires.of_domains.top_home).0 took.counts took.misses took.ports c.requires in
+    still_of c.args.zone.now c.try_alloc.new.self c.take_cross.new.self cross.same cross.top cross.counts cross.misses cross.ports mid
 
 pub returns-in-None-clause-home : goal.returns-in-None-clause-home
 returns-in-None-clause-home g c =
     let took = c.try_alloc.ensures in
-    let mid = taken_of c.args.zone.now c.args.seat.now c.try_alloc.new.self took.same (took.home c.requires.of_domains.top_home).0 took.counts took.misses c.requires in
+    let mid = taken_of c.args.zone.now c.args.seat.now c.try_alloc.new.self took.same (took.home c.requires.of_domains.top_home).0 took.counts took.misses took.ports c.requires in
     IfSome_then c.take_cross.result c.take_cross.ensures.home (λ item here. subst (λ (x : Home). IsHome x (cached_ticket item)) mid.of_domains.same_home here)
 
 pub returns-in-None-clause-one : goal.returns-in-None-clause-one

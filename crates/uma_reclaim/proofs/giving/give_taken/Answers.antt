@@ -1,9 +1,9 @@
-use Rattle.std.proofs.Common.{◌≡◌, ◌+◌, All, ap, ◌∙◌, subst, arith}
-use Rattle.std.proofs.lemmas.List.Elements.{All-head, All-rest}
+use Rattle.std.proofs.Common.{◌≡◌, ◌+◌, All, ap, sym, ◌∙◌, subst, arith}
+use Rattle.std.proofs.lemmas.List.Elements.{All-nil, All-cons, All-head, All-rest}
 use Rattle.std.proofs.lemmas.List.Sums.{sum_by-cons}
 use Rattle.smr_clock.specs.Belongs.{view}
 use Rattle.uma_domain.specs.Taken.{taken_in}
-use Rattle.uma_reclaim.specs.Given.{IsFromZone, bucket_len, items_in}
+use Rattle.uma_reclaim.specs.Given.{IsFromZone, GivesBucket, bucket_len, items_in}
 use Rattle.uma_reclaim.specs.Told.{notes_of}
 use Rattle.uma_reclaim.proofs.Rows.{counted_more}
 use Rattle.uma_reclaim.proofs.Told.{told_next, told_all}
@@ -25,6 +25,7 @@ loop-bucket-preserved g c =
       fewer = omega (arith, step, before.fewer);
       given = counted_more (items_in (taken_in c.args.taken)) (items_in (taken_in c.loop-bucket.taken)) (bucket_len c.in-Some.bucket) (items_in left) c.loop-bucket.count c.saturating_add-count.result before.fewer before.given step
           (omega (arith, c.saturating_add-count.ensures, c.from.ensures, gave.count));
+      gave = λ rest. before.gave (subst (λ l. All (GivesBucket c.args.zone.now) l) (sym c.in-Some.ensures.first) (All-cons (GivesBucket c.args.zone.now) c.in-Some.bucket left gave.given rest));
       pass = gave.pass;
       phase = gave.phase ∙ before.phase;
       seen = omega (arith, gave.seen, before.seen);
@@ -40,3 +41,8 @@ returns-clause-count g c =
 pub returns-clause-told : goal.returns-clause-told
 returns-clause-told g c =
     told_all g.H.Host.merged notes_of (view c.args.pass.now).host (view c.loop-bucket.pass).host (taken_in c.args.taken) (taken_in c.loop-bucket.taken) c.loop-bucket.invariant.told c.in_default.ensures.none.0
+
+pub returns-clause-given : goal.returns-clause-given
+returns-clause-given g c =
+    let Gives = GivesBucket c.args.zone.now in
+    c.loop-bucket.invariant.gave (subst (λ l. All Gives l) (sym c.in_default.ensures.none.0) (All-nil Gives))

@@ -1,7 +1,7 @@
 use Rattle.std.proofs.Common.{◌≡◌, ◌≤◌, ◌-◌, All, length, fold}
 use Rattle.smr_clock.specs.Belongs.{IsOf, view, holder}
 use Rattle.uma_domain.specs.Taken.{taken_in}
-use Rattle.uma_reclaim.specs.Given.{IsFromZone, items_in, counted}
+use Rattle.uma_reclaim.specs.Given.{IsFromZone, GivesBucket, items_in, counted}
 use Rattle.uma_reclaim.specs.Told.{notes_in}
 use Rattle.uma_reclaim.proofs.giving.give_taken.Given as goal
 
@@ -10,6 +10,7 @@ invariant-loop-bucket g l = record {
   of_zone : All (IsFromZone l.zone) (taken_in l.taken);
   fewer : items_in (taken_in l.taken) ≤ items_in (taken_in l.initial.taken);
   given : l.count ≡ counted (items_in (taken_in l.initial.taken) - items_in (taken_in l.taken));
+  gave : All (GivesBucket l.zone) (taken_in l.taken) → All (GivesBucket l.zone) (taken_in l.initial.taken);
   pass : IsOf l.clock l.pass;
   phase : (holder l.pass).phase ≡ (holder l.fn.pass).phase;
   seen : (holder l.fn.pass).seen ≤ (holder l.pass).seen;

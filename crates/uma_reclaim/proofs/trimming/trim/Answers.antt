@@ -8,15 +8,15 @@ use Rattle.uma_reclaim.proofs.Shelves.{none_stays, at_err}
 use Rattle.uma_reclaim.proofs.Told.{took_in, took_none}
 use Rattle.uma_reclaim.proofs.trimming.trim.Goals as goal
 
-pub returns-in_err-flush-clause-host : goal.returns-in_err-flush-clause-host
-returns-in_err-flush-clause-host g c = took_none g.H.Host.merged (view c.args.pass.now).host (view c.flush.new.pass).host c.flush.ensures.host
+pub returns-in_err-flush_and_settle-clause-host : goal.returns-in_err-flush_and_settle-clause-host
+returns-in_err-flush_and_settle-clause-host g c = took_none g.H.Host.merged (view c.args.pass.now).host (view c.flush_and_settle.new.pass).host c.flush_and_settle.ensures.host
 
 pub returns-clause-host : goal.returns-clause-host
-returns-clause-host g c = took_in g.H.Host.merged (view c.args.pass.now).host (view c.flush.new.pass).host (view c.give_back.new.pass).host c.flush.ensures.host c.give_back.ensures.host
+returns-clause-host g c = took_in g.H.Host.merged (view c.args.pass.now).host (view c.flush_and_settle.new.pass).host (view c.give_back.new.pass).host c.flush_and_settle.ensures.host c.give_back.ensures.host
 
 pub returns-clause-told : goal.returns-clause-told
 returns-clause-told g c =
-    subst (λ part. IfOk c.give_back.result (λ (done : Reclaimed _ _ _ _ _). (view c.give_back.new.pass).host ≡ fold g.H.Host.merged part (flat_map notes_in (takes_of done)))) c.flush.ensures.host c.give_back.ensures.told
+    subst (λ part. IfOk c.give_back.result (λ (done : Reclaimed _ _ _ _ _). (view c.give_back.new.pass).host ≡ fold g.H.Host.merged part (flat_map notes_in (takes_of done)))) c.flush_and_settle.ensures.host c.give_back.ensures.told
 
 pub returns-clause-stay : goal.returns-clause-stay
-returns-clause-stay g c = at_err c.give_back.result (none_stays (shelf_of c.args.seat.now) (shelf_of c.flush.new.seat) c.in_ok-flush.ensures.flushed)
+returns-clause-stay g c = at_err c.give_back.result (none_stays (shelf_of c.args.seat.now) (shelf_of c.flush_and_settle.new.seat) c.in_ok-flush_and_settle.ensures.flushed)

@@ -1,12 +1,16 @@
 use Rattle.std.proofs.Common.{◌≡◌, ◌∙◌, List, sum, sym, ap, subst}
 use Rattle.std.proofs.lemmas.Result.{IfOk-weaker}
+use Rattle.trace_worker.specs.Attendance.{worker_in}
 use Rattle.trace_worker.specs.Items.{CountedZone}
 use Rattle.trace_play.specs.Rounds.{IsBegun, Suits}
+use Rattle.trace_play.proofs.AfterRound.{in_crew}
+use Rattle.trace_worker.specs.Together.{crew}
 use Rattle.uma_replay.specs.Hall.{HallStands}
 use Rattle.uma_replay.specs.Playing.{AreEnded, gave_ups_of}
 use Rattle.uma_replay.specs.Report.{StandsFor}
 use Rattle.uma_replay.proofs.Beginning.{begun_of, done_of, few_workers, named_of, none_gave_up, served_domains, suits_of}
-use Rattle.uma_replay.proofs.HallOf.{stands_of_hall}
+use Rattle.uma_replay.proofs.ComingBack.{back_stay}
+use Rattle.uma_replay.proofs.HallOf.{done_stay, stands_of_hall}
 use Rattle.uma_replay.proofs.Playing.{ended_of}
 use Rattle.uma_replay.proofs.replaying.replay_from.Goals as goal
 
@@ -31,6 +35,9 @@ play_all-requires-clause-begun g c κs within =
     let P : List (CountedZone _ _ _) → Type 0 = λ zones. IsBegun g.N.NameCalls c.args.cache zones s.clock first in
     subst P (sym c.as_slice-zone_list.ensures.value) (begun_of g.N.NameCalls c.args.cache c.args.trace.now s first c.requires.set_up c.in_ok-first.ensures)
 
+pub dismiss-requires-clause-here : goal.dismiss-requires-clause-here
+dismiss-requires-clause-here g c κs within = λ n r at. (c.in_ok-runnings.ensures.ended.stand.fits n (worker_in r) (in_crew n c.in_ok-runnings.runnings.items r at)).pass
+
 pub close-requires-clause-done : goal.close-requires-clause-done
 close-requires-clause-done g c κs within =
     let t = c.args.trace.now in
@@ -39,7 +46,8 @@ close-requires-clause-done g c κs within =
     let all = c.in_ok-runnings.runnings.items in
     let P : List (CountedZone _ _ _) → Type 0 = λ zones. AreEnded g.N.NameCalls c.args.cache t zones s.clock first all in
     let ended = subst P c.as_slice-zone_list.ensures.value c.in_ok-runnings.ensures.ended in
-    done_of g.N.NameCalls c.args.cache t s first all c.in_ok-workers.workers.items c.requires.set_up c.in_ok-first.ensures ended.count ended.stand ended.adds_up c.in_ok-workers.ensures.workers
+    done_stay t s.zones.items s.clock (crew all) c.in_ok-workers.workers.items (back_stay s.clock (crew all) c.in_ok-workers.workers.items c.in_ok-workers.ensures.workers)
+    (done_of g.N.NameCalls c.args.cache t s first all c.requires.set_up c.in_ok-first.ensures ended.count ended.stand ended.adds_up)
 
 pub close-requires-clause-named : goal.close-requires-clause-named
 close-requires-clause-named g c κs within =
@@ -56,7 +64,7 @@ pub close-requires-clause-ended : goal.close-requires-clause-ended
 close-requires-clause-ended g c κs within =
     let ended = c.in_ok-runnings.ensures.ended in
     ended_of c.args.trace.now c.args.setting.clock c.in_ok-runnings.runnings.items c.in_ok-workers.workers.items c.in_ok-workers.namings.items c.in_ok-workers.gave_ups.items
-    (λ n w at. (ended.stand.fits n w at).pass) ended.asked c.in_ok-workers.ensures.workers c.in_ok-workers.ensures.namings c.in_ok-workers.ensures.gave_ups
+    ended.asked c.in_ok-workers.ensures.workers c.in_ok-workers.ensures.namings c.in_ok-workers.ensures.gave_ups
 
 pub returns-clause-stands : goal.returns-clause-stands
 returns-clause-stands g c =

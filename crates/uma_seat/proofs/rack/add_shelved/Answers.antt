@@ -1,6 +1,6 @@
 use Rattle.std.proofs.Common.{◌+◌, sym, subst}
 use Rattle.uma_bucket.specs.Sums.{AreOfAtMost}
-use Rattle.uma_seat.specs.Shelf.{count_of, IsShelvedAt}
+use Rattle.uma_bucket.specs.Shelved.{count_of, IsShelvedAt}
 use Rattle.uma_seat.proofs.rack.add_shelved.Goals as goal
 
 pub returns-in-Plain-clause-few : goal.returns-in-Plain-clause-few

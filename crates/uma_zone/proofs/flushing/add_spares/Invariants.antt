@@ -1,5 +1,5 @@
 use Rattle.std.proofs.Common.{◌≡◌, ◌≤◌, [], length}
-use Rattle.uma_seat.specs.Seat.{spares_of, shelf_of, IsSameSeat, KeepsTop, KeepsPlain, KeepsFreed, KeepsCounts, KeepsMisses}
+use Rattle.uma_seat.specs.Seat.{spares_of, shelf_of, IsSameSeat, KeepsTop, KeepsPlain, KeepsFreed, KeepsCounts, KeepsMisses, KeepsPorts}
 use Rattle.uma_zone.proofs.flushing.add_spares.Given as goal
 
 abbrev pub invariant-loop : goal.invariant-loop
@@ -13,4 +13,5 @@ invariant-loop g l = record {
   freed : KeepsFreed l.fn.seat l.seat;
   counts : KeepsCounts l.fn.seat l.seat;
   misses : KeepsMisses l.fn.seat l.seat;
+  ports : KeepsPorts l.fn.seat l.seat;
 }

@@ -38,4 +38,5 @@ returns-in_default g c = record {
   freed = c.take_shelf.ensures.freed;
   counts = c.take_shelf.ensures.counts;
   misses = c.take_shelf.ensures.misses;
+  ports = c.take_shelf.ensures.ports;
 }

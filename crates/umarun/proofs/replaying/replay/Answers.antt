@@ -2,7 +2,7 @@ use Rattle.std.proofs.Common.{◌≡◌, ◌≤◌, length, sym, ◌∙◌, arit
 use Rattle.std.proofs.lemmas.Result.{err_from_is_err_and}
 use Rattle.umarun.specs.declared.fault.Fault.TheVariants as faults
 use Rattle.umarun.specs.Replaying.{most_bytes}
-use Rattle.umarun.proofs.Outcomes.{refuses, replays}
+use Rattle.umarun.proofs.Outcomes.{headlines, refuses, replays}
 use Rattle.umarun.proofs.replaying.replay.Goals as goal
 
 pub returns-in_err-trace-clause-refused : goal.returns-in_err-trace-clause-refused
@@ -18,6 +18,11 @@ returns-clause-replays g c =
     let within : length c.in_ok-bytes.bytes.items ≤ most_bytes = let len = c.in_ok-bytes.bytes.ok in let le = c.in_ok-bytes.ensures.within in omega arith in
     replays (g.S.Source.bytes_left c.args.source.now) c.in_ok-bytes.bytes.items c.deref.result.now c.in_ok-trace.trace c.in_ok-played.played.report c.in_ok-played.played.ended
     c.in_ok-bytes.ensures.all c.deref.ensures.value within c.in_ok-trace.ensures.read c.in_ok-played.ensures.stands c.in_ok-played.ensures.hall
+
+pub returns-clause-headline : goal.returns-clause-headline
+returns-clause-headline g c =
+    headlines (g.S.Source.bytes_left c.args.source.now) c.in_ok-bytes.bytes.items c.deref.result.now c.in_ok-trace.trace c.in_ok-played.played.report c.in_ok-played.played.ended
+    c.in_ok-bytes.ensures.all c.deref.ensures.value c.in_ok-trace.ensures.read c.in_ok-played.ensures.headline
 
 -- want of memory for the report's text is passed on as that
 pub returns-in_err-text-clause-too_long : goal.returns-in_err-text-clause-too_long

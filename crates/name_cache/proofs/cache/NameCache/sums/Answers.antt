@@ -12,8 +12,8 @@ use Rattle.name_cache.proofs.cache.NameCache.sums.Goals as goal
 pub loop-row-init : goal.loop-row-init
 loop-row-init g c =
     record {
-      few = c.sums-sums.ensures.few;
-      linked = (0, omega arith, linked_none c.sums-sums.result (subst (λ (zone : ℕ). Balance zone c.sums-sums.result) c.args.self.now.primary c.sums-sums.ensures.balance));
+      few = c.in_ok-sums.ensures.few;
+      linked = (0, omega arith, linked_none c.in_ok-sums.sums (subst (λ (zone : ℕ). Balance zone c.in_ok-sums.sums) c.args.self.now.primary c.in_ok-sums.ensures.balance));
     }
 
 pub add_row-requires-clause-primary : goal.add_row-requires-clause-primary

@@ -1,17 +1,22 @@
-use Rattle.trace_worker.proofs.AtPlace.{fits_kept}
-use Rattle.trace_worker.proofs.DoneLines.{looks_holds}
-use Rattle.trace_worker.specs.NameLines.{doing}
+use Rattle.std.proofs.Common.{◌≡◌, ◌≢◌, rules}
+use Rattle.trace_text.specs.declared.op.Op.TheVariants as ops
+use Rattle.trace_worker.specs.declared.attendance.Attendance.TheVariants.{There}
+use Rattle.trace_worker.specs.Attendance.{worker_at, worker_in}
+use Rattle.trace_worker.proofs.Attending.{keeps_fits}
+use Rattle.trace_worker.proofs.DoneLines.{acts_there}
 use Rattle.trace_worker.proofs.running.Running.perform.Goals as goal
 
-pub returns-in_ok-bind-in-Bind-clause-fits : goal.returns-in_ok-bind-in-Bind-clause-fits
-returns-in_ok-bind-in-Bind-clause-fits g c =
-    fits_kept c.args.zones.now c.args.clock.now c.args.self.now.worker c.bind.new.self.worker c.requires.fits c.bind.ensures.pass c.in_ok-bind-in-Bind.ensures.binds.holds
+pub returns-in-Away-clause-fits : goal.returns-in-Away-clause-fits
+returns-in-Away-clause-fits g c =
+    keeps_fits c.args.zones.now c.args.clock.now (worker_in c.args.self.now) (worker_at c.leave.new.self) c.requires.fits c.leave.ensures.pass c.leave.ensures.keeps
 
-pub returns-in_ok-unbind-in-Unbind-clause-fits : goal.returns-in_ok-unbind-in-Unbind-clause-fits
-returns-in_ok-unbind-in-Unbind-clause-fits g c =
-    fits_kept c.args.zones.now c.args.clock.now c.args.self.now.worker c.unbind.new.self.worker c.requires.fits c.unbind.ensures.pass c.in_ok-unbind-in-Unbind.ensures.unbinds.holds
+pub returns-in-Back-clause-fits : goal.returns-in-Back-clause-fits
+returns-in-Back-clause-fits g c =
+    keeps_fits c.args.zones.now c.args.clock.now (worker_in c.args.self.now) (worker_at c.come.new.self) c.requires.fits c.come.ensures.pass c.come.ensures.keeps
 
-pub returns-in-Look-clause-fits : goal.returns-in-Look-clause-fits
-returns-in-Look-clause-fits g c =
-    fits_kept c.args.zones.now c.args.clock.now c.args.self.now.worker c.look.new.self.worker c.requires.fits c.look.ensures.pass
-    (looks_holds g.N.NameCalls c.args.cache.now c.args.zones.now c.in-Look.key (doing c.args.self.now) (doing c.look.new.self) c.look.ensures.looks)
+pub returns-in_ok-act-in_default-clause-does : goal.returns-in_ok-act-in_default-clause-does
+returns-in_ok-act-in_default-clause-does g c =
+    let here : c.args.op ≢ ops.Away = search rules in
+    let stays : c.args.op ≢ ops.Back = search rules in
+    let is : c.args.self.now.attendance ≡ There c.in-There.worker = search rules in
+    acts_there g.N.NameCalls c.args.cache.now c.args.zones.now c.args.self.now c.args.op c.in-There.worker c.act.new.worker c.act.new.self here stays is c.requires.there c.in_ok-act-in_default.ensures.acts

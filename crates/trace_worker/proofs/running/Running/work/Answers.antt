@@ -1,6 +1,6 @@
 use Rattle.std.proofs.Common.{◌∙◌, refl}
 use Rattle.trace_worker.specs.declared.running.Running.{Running}
-use Rattle.trace_worker.proofs.Midway.{Midway-new, Midway-can-waiting, Midway-waits, Midway-step, Midway-asks}
+use Rattle.trace_worker.proofs.Midway.{Midway-new, Midway-can-waiting, Midway-there, Midway-waits, Midway-step, Midway-asks}
 use Rattle.trace_worker.proofs.Numbers.{few_as, some_as}
 use Rattle.trace_worker.proofs.running.Running.work.Goals as goal
 
@@ -29,27 +29,32 @@ perform-requires-clause-of_clock g c κs within = c.requires.ready.names_of_cloc
 pub perform-requires-clause-can : goal.perform-requires-clause-can
 perform-requires-clause-can g c κs within =
     Midway-can-waiting g.N.NameCalls c.args.cache.now c.args.trace.now c.args.zones.now c.args.clock.now c.args.round c.args.number c.loop-place.place c.own_list-ops.result.now _ c.args.self.now c.loop-place.self c.await_gate.new.self
-    c.requires.ready c.own_list-ops.ensures c.loop-place-test.true c.loop-place.invariant.midway c.await_gate.ensures.worker
+    c.requires.ready c.own_list-ops.ensures c.loop-place-test.true c.loop-place.invariant.midway c.await_gate.ensures.attendance
+
+pub perform-requires-clause-there : goal.perform-requires-clause-there
+perform-requires-clause-there g c κs within =
+    Midway-there g.N.NameCalls c.args.cache.now c.args.trace.now c.args.zones.now c.args.clock.now c.args.round c.args.number c.loop-place.place c.own_list-ops.result.now _ c.args.self.now c.loop-place.self c.await_gate.new.self
+    c.requires.ready c.own_list-ops.ensures c.loop-place-test.true c.loop-place.invariant.midway c.await_gate.ensures.attendance
 
 pub perform-requires-clause-fits : goal.perform-requires-clause-fits
 perform-requires-clause-fits g c κs within =
     (Midway-waits g.N.NameCalls c.args.cache.now c.args.trace.now c.args.zones.now c.args.clock.now c.args.round c.args.number c.loop-place.place c.own_list-ops.result.now c.args.self.now c.loop-place.self c.await_gate.new.self
-    c.requires.ready c.own_list-ops.ensures c.loop-place-test.true c.loop-place.invariant.midway c.await_gate.ensures.worker c.await_gate.ensures.naming).fits
+    c.requires.ready c.own_list-ops.ensures c.loop-place-test.true c.loop-place.invariant.midway c.await_gate.ensures.attendance c.await_gate.ensures.naming).fits
 
 pub perform-requires-clause-seat : goal.perform-requires-clause-seat
 perform-requires-clause-seat g c κs within =
     (Midway-waits g.N.NameCalls c.args.cache.now c.args.trace.now c.args.zones.now c.args.clock.now c.args.round c.args.number c.loop-place.place c.own_list-ops.result.now c.args.self.now c.loop-place.self c.await_gate.new.self
-    c.requires.ready c.own_list-ops.ensures c.loop-place-test.true c.loop-place.invariant.midway c.await_gate.ensures.worker c.await_gate.ensures.naming).seat
+    c.requires.ready c.own_list-ops.ensures c.loop-place-test.true c.loop-place.invariant.midway c.await_gate.ensures.attendance c.await_gate.ensures.naming).seat
 
 pub perform-requires-clause-rooms : goal.perform-requires-clause-rooms
 perform-requires-clause-rooms g c κs within =
     (Midway-waits g.N.NameCalls c.args.cache.now c.args.trace.now c.args.zones.now c.args.clock.now c.args.round c.args.number c.loop-place.place c.own_list-ops.result.now c.args.self.now c.loop-place.self c.await_gate.new.self
-    c.requires.ready c.own_list-ops.ensures c.loop-place-test.true c.loop-place.invariant.midway c.await_gate.ensures.worker c.await_gate.ensures.naming).rooms
+    c.requires.ready c.own_list-ops.ensures c.loop-place-test.true c.loop-place.invariant.midway c.await_gate.ensures.attendance c.await_gate.ensures.naming).rooms
 
 pub perform-requires-clause-name_rooms : goal.perform-requires-clause-name_rooms
 perform-requires-clause-name_rooms g c κs within =
     (Midway-waits g.N.NameCalls c.args.cache.now c.args.trace.now c.args.zones.now c.args.clock.now c.args.round c.args.number c.loop-place.place c.own_list-ops.result.now c.args.self.now c.loop-place.self c.await_gate.new.self
-    c.requires.ready c.own_list-ops.ensures c.loop-place-test.true c.loop-place.invariant.midway c.await_gate.ensures.worker c.await_gate.ensures.naming).name_rooms
+    c.requires.ready c.own_list-ops.ensures c.loop-place-test.true c.loop-place.invariant.midway c.await_gate.ensures.attendance c.await_gate.ensures.naming).name_rooms
 
 pub loop-place-preserved : goal.loop-place-preserved
 loop-place-preserved g c =
@@ -57,7 +62,7 @@ loop-place-preserved g c =
     let next : Running _ _ _ _ _ _ = c.perform.new.self in
     record {
       midway = Midway-step g.N.NameCalls c.args.cache.now c.args.trace.now c.args.zones.now c.args.clock.now c.args.round c.args.number c.loop-place.place c.own_list-ops.result.now _ c.args.self.now c.loop-place.self waited next
-          c.requires.ready c.own_list-ops.ensures c.loop-place-test.true c.loop-place.invariant.midway c.await_gate.ensures.worker c.await_gate.ensures.naming c.in_ok-perform.ensures.does c.in_ok-perform.ensures.fits c.in_ok-perform.ensures.seat
+          c.requires.ready c.own_list-ops.ensures c.loop-place-test.true c.loop-place.invariant.midway c.await_gate.ensures.attendance c.await_gate.ensures.naming c.in_ok-perform.ensures.does c.in_ok-perform.ensures.fits c.in_ok-perform.ensures.seat
           (some_as c.perform.ensures.gate.asked c.await_gate.ensures.asked_some) (few_as c.perform.ensures.gate.asked c.await_gate.ensures.asked_few) (few_as c.perform.ensures.gate.gave_up c.await_gate.ensures.gave_up);
       free = λ is. c.perform.ensures.gate.gave_up ∙ (c.await_gate.ensures.free is ∙ c.loop-place.invariant.free is);
     }

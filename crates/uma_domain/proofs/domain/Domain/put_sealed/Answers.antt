@@ -1,7 +1,7 @@
-use Rattle.std.proofs.Common.{ap, ◌∙◌}
-use Rattle.uma_domain.specs.Lists.{lists_identity}
-use Rattle.uma_domain.proofs.UnderLock.{puts_sealed}
+use Rattle.uma_bucket.specs.Inboxes.{port_origin}
+use Rattle.uma_domain.specs.Domain.{domain_identity}
+use Rattle.uma_domain.proofs.Came.{sealed_fits}
 use Rattle.uma_domain.proofs.domain.Domain.put_sealed.Goals as goal
 
-pub returns-clause-put : goal.returns-clause-put
-returns-clause-put g c = puts_sealed c.args.self.now c.deref_mut.result.now c.put_sealed.new.self (ap lists_identity c.deref_mut.ensures.value ∙ c.lock-guard.ensures.kept) c.args.bucket c.put_sealed.result c.put_sealed.ensures.newest
+pub push-requires-clause-fits : goal.push-requires-clause-fits
+push-requires-clause-fits g c = sealed_fits (port_origin c.args.port.now) (domain_identity c.args.self.now) c.args.bucket c.requires.port c.requires.bucket

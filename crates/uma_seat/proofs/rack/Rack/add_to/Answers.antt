@@ -1,5 +1,5 @@
 use Rattle.std.proofs.Common.{◌<◌, ◌+◌, ◌*◌, length, arith}
-use Rattle.uma_seat.specs.Shelf.{count_of, IsShelvedAt}
+use Rattle.uma_bucket.specs.Shelved.{count_of, IsShelvedAt}
 use Rattle.uma_seat.specs.ShelfSums.{times_shelved, deferred_shelved}
 use Rattle.uma_seat.proofs.SumSteps.{widen, one_more_added, room_so_far, shelved_few}
 use Rattle.uma_seat.proofs.rack.Rack.add_to.Goals as goal

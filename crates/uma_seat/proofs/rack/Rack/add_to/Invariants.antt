@@ -1,4 +1,4 @@
-use Rattle.uma_seat.specs.Shelf.{IsShelvedAt}
+use Rattle.uma_bucket.specs.Shelved.{IsShelvedAt}
 use Rattle.uma_seat.specs.ShelfSums.{times_shelved, deferred_shelved}
 use Rattle.uma_seat.proofs.SumSteps.{SoFar}
 use Rattle.uma_seat.proofs.rack.Rack.add_to.Given as goal

@@ -1,7 +1,7 @@
 use Rattle.std.proofs.Common.{sym, subst}
 use Rattle.std.specs.List.{All}
 use Rattle.uma_seat.specs.Seating.{home_of, clock_of}
-use Rattle.uma_seat.specs.Shelf.{IsShelvedAt, IsShelvedOf}
+use Rattle.uma_bucket.specs.Shelved.{IsShelvedAt, IsShelvedOf}
 use Rattle.uma_seat.proofs.seat.SeatCache.add_spare.Goals as goal
 
 pub invariant_of-self-clause-shelf_home : goal.invariant_of-self-clause-shelf_home

@@ -2,7 +2,7 @@ use Rattle.std.proofs.Common.{sym, subst, refl, ◌∙◌}
 use Rattle.std.specs.List.{All}
 use Rattle.std.proofs.lemmas.List.Elements.{All-nil}
 use Rattle.uma_seat.specs.Seating.{home_of, clock_of}
-use Rattle.uma_seat.specs.Shelf.{IsShelvedAt, IsShelvedOf}
+use Rattle.uma_bucket.specs.Shelved.{IsShelvedAt, IsShelvedOf}
 use Rattle.std.proofs.lemmas.List.{length-map}
 use Rattle.uma_seat.specs.Stack.{stack_of, loose_stack}
 use Rattle.uma_seat.proofs.RowSteps.{same_stack}

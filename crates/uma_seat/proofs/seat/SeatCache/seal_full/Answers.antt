@@ -1,9 +1,12 @@
-use Rattle.std.proofs.Common.{◌<◌, sym, subst, ◌∙◌}
+use Rattle.std.proofs.Common.{◌≡◌, ◌≤◌, ◌+◌, ◌<◌, length, length-append, ap, sym, subst, ◌∙◌, arith}
+use Rattle.std.proofs.lemmas.List.{length-map}
 use Rattle.smr_clock.specs.Belongs.{view}
+use Rattle.uma_bucket.specs.Bucket.{size_of}
 use Rattle.uma_bucket.specs.Home.{AreHome}
 use Rattle.uma_bucket.specs.Freed.{freed_item}
+use Rattle.uma_seat.specs.Rack.{spares_in, shelf_in}
 use Rattle.uma_seat.specs.Seating.{home_of, clock_of}
-use Rattle.uma_seat.specs.Shelf.{IsShelvedAt, IsShelvedOf}
+use Rattle.uma_bucket.specs.Shelved.{IsShelvedAt, IsShelvedOf}
 use Rattle.uma_seat.proofs.OntoShelf.{All-shelved, freed_shelved}
 use Rattle.uma_seat.proofs.seat.SeatCache.seal_full.Goals as goal
 
@@ -27,3 +30,12 @@ pub returns-clause-full : goal.returns-clause-full
 returns-clause-full g c =
     freed_shelved g.H.Host.copied (view c.args.pass.now) _ c.args.self.now _ c.args.domain _ (freed_item c.args.item) c.push_last-loose.result c.try_to_seal-newest.result _ _ _ _ c.requires.own c.reuse.ensures.size
     c.push_last-loose.ensures.full c.try_to_seal-newest.ensures.tried c.take_spare-spare.ensures.shelf c.put_newest.ensures.shelf c.take_spare-spare.ensures.spares c.put_newest.ensures.spares c.push_last-loose.ensures.stacks
+
+pub put_newest-requires-clause-place : goal.put_newest-requires-clause-place
+put_newest-requires-clause-place g c =
+    let old = c.args.self.now.rack in
+    let new = c.take_spare-spare.new.self in
+    let one : length (spares_in old) ≡ length (spares_in new) + 1 = ap length c.take_spare-spare.ensures.spares ∙ length-append (spares_in new) _ in
+    let same : length (shelf_in new) ≡ length (shelf_in old) = ap length c.take_spare-spare.ensures.shelf in
+    let few : length (spares_in old) + length (shelf_in old) ≤ 2 = omega (arith, old.few, old.spares.ok.0, old.shelf.ok.0, length-map old.spares.items size_of) in
+    omega (arith, one, same, few)

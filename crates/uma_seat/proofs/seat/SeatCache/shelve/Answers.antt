@@ -1,7 +1,7 @@
 use Rattle.std.proofs.Common.{◌≡◌, ◌<◌, sym, subst}
 use Rattle.std.proofs.lemmas.List.Elements.{All-nil}
 use Rattle.uma_seat.specs.Seating.{home_of, clock_of}
-use Rattle.uma_seat.specs.Shelf.{IsShelvedAt, IsShelvedOf}
+use Rattle.uma_bucket.specs.Shelved.{IsShelvedAt, IsShelvedOf}
 use Rattle.uma_seat.proofs.OntoShelf.{All-shelved, plain_shelved}
 use Rattle.uma_seat.proofs.seat.SeatCache.shelve.Goals as goal
 

@@ -1,5 +1,5 @@
 use Rattle.uma_seat.specs.Seating.{home_of, clock_of}
-use Rattle.uma_seat.specs.Shelf.{IsShelvedAt, IsShelvedOf}
+use Rattle.uma_bucket.specs.Shelved.{IsShelvedAt, IsShelvedOf}
 use Rattle.uma_seat.proofs.OntoShelf.{All-taken}
 use Rattle.uma_seat.proofs.seat.SeatCache.take_shelf.Goals as goal
 

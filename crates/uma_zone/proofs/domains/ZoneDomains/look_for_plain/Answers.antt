@@ -13,7 +13,7 @@ refill-requires g c =
 
 pub returns-in-Some-clause-seat : goal.returns-in-Some-clause-seat
 returns-in-Some-clause-seat g c =
-    refilled_seat c.args.self.now c.take_plain.new.seat c.refill.new.self c.in-Some.bucket c.refill.ensures.same.0 c.refill.ensures.misses c.refill.ensures.top c.in-Some.ensures.of_zone.at_home c.take_plain.ensures.seat
+    refilled_seat c.args.self.now c.take_plain.new.seat c.refill.new.self c.in-Some.bucket c.refill.ensures.same.0 c.refill.ensures.misses c.refill.ensures.ports c.refill.ensures.top c.in-Some.ensures.of_zone.at_home c.take_plain.ensures.seat
 
 pub returns-in-Some-clause-spares : goal.returns-in-Some-clause-spares
 returns-in-Some-clause-spares g c =

@@ -17,7 +17,7 @@ use Rattle.uma_zone.proofs.domains.ZoneDomains.look_for_ripe.Goals as goal
 
 pub returns-in-Some-clause-seat : goal.returns-in-Some-clause-seat
 returns-in-Some-clause-seat g c =
-    refilled_seat c.args.self.now c.take_ripe.new.seat c.refill.new.self c.into_cached-bucket.result.0 c.refill.ensures.same.0 c.refill.ensures.misses c.refill.ensures.top
+    refilled_seat c.args.self.now c.take_ripe.new.seat c.refill.new.self c.into_cached-bucket.result.0 c.refill.ensures.same.0 c.refill.ensures.misses c.refill.ensures.ports c.refill.ensures.top
     (c.into_cached-bucket.ensures.home (domains_home c.args.self.now) c.in-Some.ensures.filled.at_home) c.take_ripe.ensures.seat
 
 pub returns-in-Some-clause-found : goal.returns-in-Some-clause-found

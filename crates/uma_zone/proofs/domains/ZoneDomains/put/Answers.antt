@@ -1,27 +1,69 @@
+use Rattle.std.proofs.Common.{refl, sym, ap, ◌∙◌}
+use Rattle.uma_bucket.specs.Shelved.{shelved_domain}
 use Rattle.uma_domain.specs.Domain.{domain_identity}
+use Rattle.uma_seat.specs.Seat.{ports_of}
 use Rattle.uma_zone.specs.Domains.{domains_home, domains_clock}
-use Rattle.uma_zone.proofs.Listings.{listed_plain, listed_loose, listed_sealed}
+use Rattle.uma_zone.proofs.Ported.{port_of_domain, still_ported, still_pushed, sent_plain, sent_loose, sent_sealed, has_port}
 use Rattle.uma_zone.proofs.Puts.{plain_listed, loose_listed, sealed_listed}
 use Rattle.uma_zone.proofs.domains.ZoneDomains.put.Goals as goal
 
-pub put_plain-requires : goal.put_plain-requires
-put_plain-requires g c =
-    plain_listed (domains_home c.args.self.now) (domain_identity c.get.result.now).home (domains_clock c.args.self.now) c.args.shelved c.in-Plain.domain c.in-Plain.bucket c.in-Plain.is c.get.ensures.of_zone.same_home c.requires
+pub port-requires : goal.port-requires
+port-requires g c = has_port (domains_home c.args.self.now) (domains_clock c.args.self.now) c.args.seat.now c.args.shelved c.in-Plain.domain c.requires.home c.requires.can (ap shelved_domain c.in-Plain.is)
 
-pub put_loose-requires : goal.put_loose-requires
-put_loose-requires g c =
-    loose_listed (domains_home c.args.self.now) (domain_identity c.get-in-Loose.result.now).home (domains_clock c.args.self.now) c.args.shelved c.in-Loose.domain c.in-Loose.bucket c.in-Loose.is c.get-in-Loose.ensures.of_zone.same_home c.requires
+pub put_plain-requires-clause-port : goal.put_plain-requires-clause-port
+put_plain-requires-clause-port g c = port_of_domain c.args.self.now (ports_of c.args.seat.now) c.in-Plain.domain c.port.result.now c.get.result.now c.port.ensures.port c.get.ensures.named c.requires.ports
 
-pub put_sealed-requires : goal.put_sealed-requires
-put_sealed-requires g c =
+pub put_plain-requires-clause-bucket : goal.put_plain-requires-clause-bucket
+put_plain-requires-clause-bucket g c =
+    plain_listed (domains_home c.args.self.now) (domain_identity c.get.result.now).home (domains_clock c.args.self.now) c.args.shelved c.in-Plain.domain c.in-Plain.bucket c.in-Plain.is c.get.ensures.of_zone.same_home c.requires.can
+
+pub returns-in-Ok-clause-ports : goal.returns-in-Ok-clause-ports
+returns-in-Ok-clause-ports g c = still_ported c.args.self.now (ports_of c.args.seat.now) c.in-Plain.domain c.port.result.now c.put_plain.new.port c.port.ensures.port c.put_plain.ensures.port c.requires.ports
+
+pub returns-in-Ok-clause-sent : goal.returns-in-Ok-clause-sent
+returns-in-Ok-clause-sent g c = sent_plain c.args.self.now (ports_of c.args.seat.now) c.args.shelved c.in-Plain.domain c.in-Plain.bucket c.get.result.now c.port.result.now c.put_plain.new.port c.in-Plain.is c.get.ensures.named c.port.ensures.port c.in-Ok.ensures.put
+
+pub returns-in-Err-clause-ports : goal.returns-in-Err-clause-ports
+returns-in-Err-clause-ports g c = still_ported c.args.self.now (ports_of c.args.seat.now) c.in-Plain.domain c.port.result.now c.put_plain.new.port c.port.ensures.port c.put_plain.ensures.port c.requires.ports
+
+pub returns-in-Err-clause-still : goal.returns-in-Err-clause-still
+returns-in-Err-clause-still g c = still_pushed (ports_of c.args.seat.now) c.in-Plain.domain c.port.result.now c.put_plain.new.port c.port.ensures.port c.in-Err.ensures.still
+
+pub put_loose-requires-clause-port : goal.put_loose-requires-clause-port
+put_loose-requires-clause-port g c = port_of_domain c.args.self.now (ports_of c.args.seat.now) c.in-Loose.domain c.port-in-Loose.result.now c.get-in-Loose.result.now c.port-in-Loose.ensures.port c.get-in-Loose.ensures.named c.requires.ports
+
+pub put_loose-requires-clause-bucket : goal.put_loose-requires-clause-bucket
+put_loose-requires-clause-bucket g c =
+    loose_listed (domains_home c.args.self.now) (domain_identity c.get-in-Loose.result.now).home (domains_clock c.args.self.now) c.args.shelved c.in-Loose.domain c.in-Loose.bucket c.in-Loose.is c.get-in-Loose.ensures.of_zone.same_home c.requires.can
+
+pub returns-in-Ok-put_loose-clause-ports : goal.returns-in-Ok-put_loose-clause-ports
+returns-in-Ok-put_loose-clause-ports g c = still_ported c.args.self.now (ports_of c.args.seat.now) c.in-Loose.domain c.port-in-Loose.result.now c.put_loose.new.port c.port-in-Loose.ensures.port c.put_loose.ensures.port c.requires.ports
+
+pub returns-in-Ok-put_loose-clause-sent : goal.returns-in-Ok-put_loose-clause-sent
+returns-in-Ok-put_loose-clause-sent g c = sent_loose c.args.self.now (ports_of c.args.seat.now) c.args.shelved c.in-Loose.domain c.in-Loose.bucket c.get-in-Loose.result.now c.port-in-Loose.result.now c.put_loose.new.port c.in-Loose.is c.get-in-Loose.ensures.named c.port-in-Loose.ensures.port c.in-Ok-put_loose.ensures.put
+
+pub returns-in-Err-put_loose-clause-ports : goal.returns-in-Err-put_loose-clause-ports
+returns-in-Err-put_loose-clause-ports g c = still_ported c.args.self.now (ports_of c.args.seat.now) c.in-Loose.domain c.port-in-Loose.result.now c.put_loose.new.port c.port-in-Loose.ensures.port c.put_loose.ensures.port c.requires.ports
+
+pub returns-in-Err-put_loose-clause-still : goal.returns-in-Err-put_loose-clause-still
+returns-in-Err-put_loose-clause-still g c = still_pushed (ports_of c.args.seat.now) c.in-Loose.domain c.port-in-Loose.result.now c.put_loose.new.port c.port-in-Loose.ensures.port c.in-Err-put_loose.ensures.still
+
+pub put_sealed-requires-clause-port : goal.put_sealed-requires-clause-port
+put_sealed-requires-clause-port g c = port_of_domain c.args.self.now (ports_of c.args.seat.now) c.in-Sealed.domain c.port-in-Sealed.result.now c.get-in-Sealed.result.now c.port-in-Sealed.ensures.port c.get-in-Sealed.ensures.named c.requires.ports
+
+pub put_sealed-requires-clause-bucket : goal.put_sealed-requires-clause-bucket
+put_sealed-requires-clause-bucket g c =
     sealed_listed (domains_home c.args.self.now) (domain_identity c.get-in-Sealed.result.now) (domains_clock c.args.self.now) c.args.shelved c.in-Sealed.domain c.in-Sealed.bucket c.in-Sealed.is c.get-in-Sealed.ensures.of_zone.same_home
-    c.get-in-Sealed.ensures.of_zone.same_clock c.requires
+    c.get-in-Sealed.ensures.of_zone.same_clock c.requires.can
 
-pub returns-in-Ok-clause-listed : goal.returns-in-Ok-clause-listed
-returns-in-Ok-clause-listed g c = listed_plain c.args.self.now c.args.shelved c.in-Plain.domain c.in-Plain.bucket c.get.result.now c.in-Plain.is c.get.ensures.named c.in-Ok.ensures.put
+pub returns-in-Ok-put_sealed-clause-ports : goal.returns-in-Ok-put_sealed-clause-ports
+returns-in-Ok-put_sealed-clause-ports g c = still_ported c.args.self.now (ports_of c.args.seat.now) c.in-Sealed.domain c.port-in-Sealed.result.now c.put_sealed.new.port c.port-in-Sealed.ensures.port c.put_sealed.ensures.port c.requires.ports
 
-pub returns-in-Ok-put_loose-clause-listed : goal.returns-in-Ok-put_loose-clause-listed
-returns-in-Ok-put_loose-clause-listed g c = listed_loose c.args.self.now c.args.shelved c.in-Loose.domain c.in-Loose.bucket c.get-in-Loose.result.now c.in-Loose.is c.get-in-Loose.ensures.named c.in-Ok-put_loose.ensures.put
+pub returns-in-Ok-put_sealed-clause-sent : goal.returns-in-Ok-put_sealed-clause-sent
+returns-in-Ok-put_sealed-clause-sent g c = sent_sealed c.args.self.now (ports_of c.args.seat.now) c.args.shelved c.in-Sealed.domain c.in-Sealed.bucket c.get-in-Sealed.result.now c.port-in-Sealed.result.now c.put_sealed.new.port c.in-Sealed.is c.get-in-Sealed.ensures.named c.port-in-Sealed.ensures.port c.in-Ok-put_sealed.ensures.put
 
-pub returns-in-Ok-put_sealed-clause-listed : goal.returns-in-Ok-put_sealed-clause-listed
-returns-in-Ok-put_sealed-clause-listed g c = listed_sealed c.args.self.now c.args.shelved c.in-Sealed.domain c.in-Sealed.bucket c.get-in-Sealed.result.now c.in-Sealed.is c.get-in-Sealed.ensures.named c.in-Ok-put_sealed.ensures.put
+pub returns-in-Err-put_sealed-clause-ports : goal.returns-in-Err-put_sealed-clause-ports
+returns-in-Err-put_sealed-clause-ports g c = still_ported c.args.self.now (ports_of c.args.seat.now) c.in-Sealed.domain c.port-in-Sealed.result.now c.put_sealed.new.port c.port-in-Sealed.ensures.port c.put_sealed.ensures.port c.requires.ports
+
+pub returns-in-Err-put_sealed-clause-still : goal.returns-in-Err-put_sealed-clause-still
+returns-in-Err-put_sealed-clause-still g c = still_pushed (ports_of c.args.seat.now) c.in-Sealed.domain c.port-in-Sealed.result.now c.put_sealed.new.port c.port-in-Sealed.ensures.port c.in-Err-put_sealed.ensures.still

@@ -18,7 +18,7 @@ add_sums-requires-clause-room g c =
     fewer c.loop-domain.sums (at * 2 ^ 32) (2 ^ 62) (omega (arith, same, c.loop-domain-test.true, c.args.self.now.few)) c.loop-domain.invariant.few
 
 pub add_sums-requires-clause-few : goal.add_sums-requires-clause-few
-add_sums-requires-clause-few g c = fewer c.sums.result (2 ^ 32) (2 ^ 62) (omega arith) c.sums.ensures.few
+add_sums-requires-clause-few g c = fewer c.in_ok-more.more (2 ^ 32) (2 ^ 62) (omega arith) c.in_ok-more.ensures.few
 
 pub loop-domain-preserved : goal.loop-domain-preserved
 loop-domain-preserved g c =
@@ -31,8 +31,8 @@ loop-domain-preserved g c =
     let there : c.domain-item.result ≡ get_or them.domains.items at c.domain-item.result = subst (λ (l : _). c.domain-item.result ≡ get_or l at c.domain-item.result) same c.domain-item.is in
     let of : P c.domain-item.result = subst P (sym there) (All-get_or P them.domains.items at c.domain-item.result within them.of_zone) in
     record {
-      few = fewer c.add_sums.new.self (at * 2 ^ 32 + 2 ^ 32) ((at + 1) * 2 ^ 32) (omega arith) (c.add_sums.ensures.few (at * 2 ^ 32) (2 ^ 32) c.loop-domain.invariant.few c.sums.ensures.few);
-      balance = c.add_sums.ensures.balance (domains_home them).zone c.loop-domain.invariant.balance (subst (λ (x : Home). Balance x.zone c.sums.result) of.same_home c.sums.ensures.balance);
+      few = fewer c.add_sums.new.self (at * 2 ^ 32 + 2 ^ 32) ((at + 1) * 2 ^ 32) (omega arith) (c.add_sums.ensures.few (at * 2 ^ 32) (2 ^ 32) c.loop-domain.invariant.few c.in_ok-more.ensures.few);
+      balance = c.add_sums.ensures.balance (domains_home them).zone c.loop-domain.invariant.balance (subst (λ (x : Home). Balance x.zone c.in_ok-more.more) of.same_home c.in_ok-more.ensures.balance);
     }
 
 pub returns-clause-few : goal.returns-clause-few

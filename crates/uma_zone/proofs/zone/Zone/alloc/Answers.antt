@@ -1,8 +1,13 @@
-use Rattle.std.proofs.Common.{ap, refl}
+use Rattle.std.proofs.Common.{Err, ap, refl, ◌∙◌}
+use Rattle.std.proofs.lemmas.Result.{err_from_is_err_and}
+use Rattle.std.specs.declared.vec.Vec.{Vec}
 use Rattle.uma_seat.specs.Rack.{shelf_in}
 use Rattle.uma_seat.specs.Seat.{shelf_of}
+use Rattle.uma_zone.specs.declared.alloc_ask.AllocRefused.{AllocRefused}
+use Rattle.uma_zone.specs.Ports.{pushed_by, sent_of}
 use Rattle.uma_zone.proofs.Listings.{flushed_between}
 use Rattle.uma_zone.proofs.Serves.{served_by, refused_by}
+use Rattle.uma_zone.proofs.Settled.{as_err, not_err}
 use Rattle.uma_zone.proofs.zone.Zone.alloc.Goals as goal
 
 pub returns-clause-served : goal.returns-clause-served
@@ -18,4 +23,13 @@ returns-clause-refused g c =
     refused_by c.args.self.now c.args.ask c.args.seat.now c.take.new.seat c.build.new.seat c.in_ok-item.item c.build.result taken.takes taken.ledger build.fetches build.misses build.kept_room build.same build.refused
 
 pub returns-clause-flushed : goal.returns-clause-flushed
-returns-clause-flushed g c none = flushed_between _ _ _ g.H.Host.copied _ _ (shelf_of c.take.new.seat) _ _ refl refl (ap shelf_in c.build.ensures.rack) (c.take.ensures.flushed none)
+returns-clause-flushed g c none =
+    flushed_between _ g.H.Host.copied _ _ (shelf_of c.take.new.seat) _ _ _ (sent_of c.take.new.seat) _ _ refl (ap shelf_in c.build.ensures.rack) refl (ap (λ (v : Vec _ _). pushed_by v.items) c.build.ensures.ports) (c.take.ensures.flushed none)
+
+pub returns-in_err-item-clause-settled : goal.returns-in_err-item-clause-settled
+returns-in_err-item-clause-settled g c none other =
+    let told = err_from_is_err_and c.from_residual.result c.from_residual.ensures.1 in
+    c.in_err-item.ensures.settled none (λ same. other (told.1 ∙ ap (λ (e : AllocRefused). Err e) told.2 ∙ as_err _ _ same))
+
+pub returns-clause-settled : goal.returns-clause-settled
+returns-clause-settled g c none _ = c.in_ok-item.ensures.settled none (not_err _ _)

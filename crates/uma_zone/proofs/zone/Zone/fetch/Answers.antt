@@ -32,7 +32,7 @@ returns-in-Ok-clause-seat g c =
     let seat = c.args.seat.now in
     let done = c.fetch.ensures in
     let locked = c.lock-guard.ensures in
-    refilled_of zone seat c.fetch.new.seat done.rest.same done.rest.misses done.fails
+    refilled_of zone seat c.fetch.new.seat done.rest.same done.rest.misses done.rest.ports done.fails
     (done.home (zone_home zone) (fetches_home zone seat (keg_in c.lock-guard.result.value) _ locked.numbers locked.domains (refl {_}) c.domain.ensures c.requires.seat)) c.requires.seat
 
 pub returns-in-Ok-clause-fetched : goal.returns-in-Ok-clause-fetched
@@ -50,7 +50,7 @@ returns-in-Err-Refused-clause-seat g c =
     let seat = c.args.seat.now in
     let done = c.fetch.ensures in
     let locked = c.lock-guard.ensures in
-    refilled_of zone seat c.fetch.new.seat done.rest.same done.rest.misses done.fails
+    refilled_of zone seat c.fetch.new.seat done.rest.same done.rest.misses done.rest.ports done.fails
     (done.home (zone_home zone) (fetches_home zone seat (keg_in c.lock-guard.result.value) _ locked.numbers locked.domains (refl {_}) c.domain.ensures c.requires.seat)) c.requires.seat
 
 pub returns-clause-seat : goal.returns-clause-seat
@@ -59,7 +59,7 @@ returns-clause-seat g c =
     let seat = c.args.seat.now in
     let done = c.fetch.ensures in
     let locked = c.lock-guard.ensures in
-    refilled_of zone seat c.fetch.new.seat done.rest.same done.rest.misses done.fails
+    refilled_of zone seat c.fetch.new.seat done.rest.same done.rest.misses done.rest.ports done.fails
     (done.home (zone_home zone) (fetches_home zone seat (keg_in c.lock-guard.result.value) _ locked.numbers locked.domains (refl {_}) c.domain.ensures c.requires.seat)) c.requires.seat
 
 pub returns-in-Err-Refused-clause-refused : goal.returns-in-Err-Refused-clause-refused

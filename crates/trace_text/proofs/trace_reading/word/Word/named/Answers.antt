@@ -72,3 +72,13 @@ pub returns-in-setmax : goal.returns-in-setmax
 returns-in-setmax c =
     let is : c.args.field.now ≡ codes "setmax" = text_from_reads c.args.field.now (codes "setmax") (omega (arith, c.in-setmax.len_at_least, c.in-setmax.len_below)) (search rules) in
     rw is refl
+
+pub returns-in-away : goal.returns-in-away
+returns-in-away c =
+    let is : c.args.field.now ≡ codes "away" = text_from_reads c.args.field.now (codes "away") (omega (arith, c.in-away.len_at_least, c.in-away.len_below)) (search rules) in
+    rw is refl
+
+pub returns-in-back : goal.returns-in-back
+returns-in-back c =
+    let is : c.args.field.now ≡ codes "back" = text_from_reads c.args.field.now (codes "back") (omega (arith, c.in-back.len_at_least, c.in-back.len_below)) (search rules) in
+    rw is refl

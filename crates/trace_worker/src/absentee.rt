@@ -1,0 +1,75 @@
+ghost use Rattle.std.specs.Prelude.{◌≡◌, true};
+ghost use Rattle.smr_clock.specs.Belongs.{IsOf};
+ghost use Rattle.smr_core.specs.declared.phase.Phase.{Phase};
+ghost use Rattle.trace_worker.specs.declared.attendance.Attendance.TheVariants.{Away as gone};
+ghost use Rattle.trace_worker.specs.Attendance.{worker_at};
+ghost use Rattle.trace_worker.specs.Performs.{KeepsAll};
+ghost use Rattle.trace_worker.specs.Worker.{phase_of};
+
+use crate::items::CountedSeat;
+use crate::slots::Slots;
+use crate::worker::Worker;
+use smr_clock::{Clock, Host, Vacancy};
+
+/// A worker that is away: its vacancy in place of its pass, and all else that it has.
+#[derive(Drop)]
+pub struct Absentee<H: Host> {
+    pub vacancy: Vacancy<H>,
+    pub seats: Vec<CountedSeat<H>>,
+    pub slots: Slots,
+    /// Enters that came in time.
+    pub entered: u64,
+    /// Enters that came too late.
+    pub late: u64,
+}
+
+impl<H: Host> Worker<H> {
+    /// An `away` line: the pass leaves. Nothing is counted.
+    pub fn leave(self, clock: &Clock<H>) -> Absentee<H>
+        requires pass { IsOf clock.now self.pass }
+        requires outside { phase_of self ≡ Phase.Outside }
+        ensures pass { IsOf clock.now (worker_at (gone result)).pass }
+        ensures keeps { KeepsAll self (worker_at (gone result)) }
+    {
+        let Worker {
+            pass,
+            seats,
+            slots,
+            entered,
+            late,
+        } = self;
+        let vacancy = clock.leave(pass);
+        Absentee {
+            vacancy,
+            seats,
+            slots,
+            entered,
+            late,
+        }
+    }
+}
+
+impl<H: Host> Absentee<H> {
+    /// A `back` line: the vacancy comes as the worker's pass. Nothing is counted.
+    pub fn come(self, clock: &Clock<H>) -> Worker<H>
+        requires pass { IsOf clock.now (worker_at (gone self)).pass }
+        ensures pass { IsOf clock.now result.pass }
+        ensures keeps { KeepsAll (worker_at (gone self)) result }
+    {
+        let Absentee {
+            vacancy,
+            seats,
+            slots,
+            entered,
+            late,
+        } = self;
+        let pass = clock.come(vacancy);
+        Worker {
+            pass,
+            seats,
+            slots,
+            entered,
+            late,
+        }
+    }
+}

@@ -1,0 +1,102 @@
+-- What a local knows of its directory after a bind, an unbind or a look.
+use Rattle.std.proofs.Common.{◌≡◌, ℕ, ◌==◌, ◌∷◌, Option, Some, None, inl, inr, refl, sym, subst, arith, eqb-true}
+use Rattle.std.proofs.lemmas.Option.{cond_some}
+use Rattle.std.specs.Option.{option_map}
+use Rattle.std.specs.Prelude.{Result, Ok, Err, IfOk, IfErr, IfSome, IfNone}
+use Rattle.smr_clock.specs.declared.refused.Overtaken.{Overtaken}
+use Rattle.smr_clock.specs.declared.view.View.{View}
+use Rattle.smr_clock.specs.Sections.{Misses}
+use Rattle.name_rows.specs.declared.part.Part.{Part}
+use Rattle.name_rows.specs.declared.records.Bound.{Bound}
+use Rattle.name_rows.specs.Reading.{bound_to}
+use Rattle.name_rows.specs.Records.{In}
+use Rattle.name_cache.specs.declared.receipt.Receipt.{Receipt}
+use Rattle.name_cache.specs.Bind.{Binds}
+use Rattle.name_cache.specs.Known.{IsAbove, StillKnows, known_in}
+use Rattle.name_cache.specs.Look.{Looks}
+use Rattle.name_cache.specs.Types.{ZoneOfEntries, EntrySeat}
+use Rattle.name_cache.specs.Unbind.{Unbinds}
+use Rattle.uma.specs.Directory.{WasBound}
+
+pub bound_by_bind : (zone : ZoneOfEntries) (rows key value said : ℕ) (v : View Part) (old : EntrySeat) (receipt : Receipt) (v' : View Part) (new : EntrySeat) → value ≡ said → Binds zone rows key value v old receipt v' new
+    → WasBound key said (known_in v')
+bound_by_bind zone rows key value said v old receipt v' new is b =
+    record { at = b.knows.at; knows = b.knows.knows; bound = _; content = b.knows.binds; named = refl; valued = is }
+
+pub bound_by_unbind : (rows key value : ℕ) (v : View Part) (old : EntrySeat) (receipt : Receipt) (v' : View Part) (new : EntrySeat) → Unbinds rows key value v old receipt v' new → WasBound key value (known_in v')
+bound_by_unbind rows key value v old receipt v' new u =
+    record { at = u.before; knows = u.met.knows; bound = u.bound; content = u.content; named = u.key_bound; valued = u.value_bound }
+
+-- content that binds this value to the key
+record Bounds (key value : ℕ) (content : Option Bound) : Type 0 where
+  bound : Bound
+  is : content ≡ Some bound
+  name : bound.key ≡ key
+  connected : bound.value ≡ value
+
+bounds : (key value : ℕ) (content : Option Bound) → Some value ≡ bound_to key content → Bounds key value content
+bounds key value None is = absurd (grind arith)
+bounds key value (Some b) is =
+    let both = cond_some (b.key == key) b.value value (sym is) in
+    record { bound = b; is = refl; name = eqb-true b.key key both.0; connected = both.1 }
+
+pub bound_by_look : (key value : ℕ) (v v' : View Part) → Looks key v (Some value) v' → WasBound key value (known_in v')
+bound_by_look key value v v' l =
+    let b = bounds key value l.finds.last.content l.finds.result in
+    let last : In l.finds.last (l.finds.last ∷ known_in l.inside) = inl refl in
+    let there : In l.finds.last (known_in l.looked) = subst (λ (w : View Part). In l.finds.last (known_in w)) (sym l.finds.after) last in
+    record {
+      at = l.finds.last;
+      knows = subst (λ (w : View Part). In l.finds.last (known_in w)) (sym l.left) there;
+      bound = b.bound;
+      content = b.is;
+      named = b.name;
+      valued = b.connected;
+    }
+
+pub still_by_look : (key : ℕ) (found : Option ℕ) (v v' : View Part) → Looks key v found v' → StillKnows v v'
+still_by_look key found v v' l r i =
+    let there : In r (known_in l.inside) = subst (λ (w : View Part). In r (known_in w)) (sym l.enters.third.after) i in
+    let more : In r (known_in l.looked) = subst (λ (w : View Part). In r (known_in w)) (sym l.finds.after) (inr there) in
+    subst (λ (w : View Part). In r (known_in w)) (sym l.left) more
+
+pub still_by_miss : (v v' : View Part) (late : Overtaken) → Misses v late v' → StillKnows v v'
+still_by_miss v v' late m r i = subst (λ (w : View Part). In r (known_in w)) (sym m.third.after) i
+
+pub found_by_look : (key : ℕ) (v v' : View Part) (r : Result (Option ℕ) Overtaken) → IfOk r (λ found. Looks key v found v') → IfOk r (λ found. IfSome found (λ value. WasBound key value (known_in v')))
+found_by_look key v v' (Ok (Some value)) l = bound_by_look key value v v' l
+found_by_look key v v' (Ok None) l = tt
+found_by_look key v v' (Err late) l = tt
+
+pub still_by_looking : (key : ℕ) (v v' : View Part) (r : Result (Option ℕ) Overtaken) → IfOk r (λ found. Looks key v found v') → IfErr r (λ late. Misses v late v') → StillKnows v v'
+still_by_looking key v v' (Ok found) l m = still_by_look key found v v' l
+still_by_looking key v v' (Err late) l m = still_by_miss v v' late m
+
+value_bound : (rows key : ℕ) (v v' : View Part) (old new : EntrySeat) (found : Option (ℕ × Receipt)) → IfSome found (λ pair. Unbinds rows key pair.0 v old pair.1 v' new)
+    → IfSome (option_map (λ pair. pair.0) found) (λ value. WasBound key value (known_in v'))
+value_bound rows key v v' old new (Some pair) u = bound_by_unbind rows key pair.0 v old pair.1 v' new u
+value_bound rows key v v' old new None u = tt
+
+pub unbound : (rows key : ℕ) (v v' : View Part) (old new : EntrySeat) (found : Option (ℕ × Receipt)) (r : Option ℕ) → r ≡ option_map (λ pair. pair.0) found
+    → IfSome found (λ pair. Unbinds rows key pair.0 v old pair.1 v' new) → IfSome r (λ value. WasBound key value (known_in v'))
+unbound rows key v v' old new found r is u = subst (λ (o : Option ℕ). IfSome o (λ value. WasBound key value (known_in v'))) (sym is) (value_bound rows key v v' old new found u)
+
+-- a name that was taken out, by its receipt
+abbrev TakenOut : (rows key value : ℕ) (v : View Part) (old : EntrySeat) (v' : View Part) (new : EntrySeat) → Type 0
+TakenOut rows key value v old v' new = (receipt : Receipt) × Unbinds rows key value v old receipt v' new × IsAbove receipt.row receipt.version v
+
+by_receipt : (rows key : ℕ) (v v' : View Part) (old new : EntrySeat) (found : Option (ℕ × Receipt)) → IfSome found (λ pair. Unbinds rows key pair.0 v old pair.1 v' new)
+    → IfSome found (λ pair. IsAbove pair.1.row pair.1.version v) → IfSome (option_map (λ pair. pair.0) found) (λ value. TakenOut rows key value v old v' new)
+by_receipt rows key v v' old new (Some pair) u above = (pair.1, u, above)
+by_receipt rows key v v' old new None u above = tt
+
+pub taken_out : (rows key : ℕ) (v v' : View Part) (old new : EntrySeat) (found : Option (ℕ × Receipt)) (r : Option ℕ) → r ≡ option_map (λ pair. pair.0) found
+    → IfSome found (λ pair. Unbinds rows key pair.0 v old pair.1 v' new) → IfSome found (λ pair. IsAbove pair.1.row pair.1.version v) → IfSome r (λ value. TakenOut rows key value v old v' new)
+taken_out rows key v v' old new found r is u above = subst (λ (o : Option ℕ). IfSome o (λ value. TakenOut rows key value v old v' new)) (sym is) (by_receipt rows key v v' old new found u above)
+
+none_there : (P : Type 0) (found : Option (ℕ × Receipt)) → IfNone found P → IfNone (option_map (λ pair. pair.0) found) P
+none_there P (Some pair) none = tt
+none_there P None none = none
+
+pub none_taken : (P : Type 0) (found : Option (ℕ × Receipt)) (r : Option ℕ) → r ≡ option_map (λ pair. pair.0) found → IfNone found P → IfNone r P
+none_taken P found r is none = subst (λ (o : Option ℕ). IfNone o P) (sym is) (none_there P found none)

@@ -1,0 +1,86 @@
+-- A pool may be shared among threads, and a local of it sent to one, where its items may be sent, and its hooks may be sent and shared. So too a directory and a local of it.
+use Rattle.std.proofs.Crossing.{crosses}
+use Rattle.std.specs.contracts.snapshot.Snapshot as Snapshot
+use denote.RattleType.{RattleType}
+use denote.Builtin.{unit}
+use denote.Ref.{NamedLft}
+use denote.Param.Send.{IsSend, IsSync, shr_send, sendable}
+use denote.Param.SendFields.{declared_send, declared_sync}
+use Rattle.keyed_lock.specs.contracts.lock.KeyedLock as KeyedLock
+use Rattle.keyed_lock.proofs.lock.KeyedLock.TheSendSync as lock
+use Rattle.smr_clock.specs.contracts.bare.Bare as Bare
+use Rattle.smr_clock.specs.contracts.bare.BareHost.TheImpl as bare_host
+use Rattle.smr_clock.proofs.bare.Bare.TheSendSync as bare
+use Rattle.smr_clock.specs.contracts.clock.Clock as Clock
+use Rattle.smr_clock.proofs.clock.Clock.TheSendSync as clock
+use Rattle.smr_clock.specs.contracts.pass.Pass as Pass
+use Rattle.smr_clock.specs.declared.host.Host as host
+use Rattle.smr_clock.proofs.pass.Pass.TheSendSync as pass
+use Rattle.uma_life.specs.declared.body.Body as body
+use Rattle.uma_life.specs.declared.hooks.Hooks as hooks
+use Rattle.uma_zone.proofs.Shared.{zone_sync, seat_send}
+use Rattle.name_cache.proofs.Shared.{cache_sync, entry_seat_send}
+use Rattle.name_rows.specs.contracts.names.Names as Names
+use Rattle.name_rows.specs.contracts.names.NamesHost.TheImpl as names_host
+use Rattle.name_rows.specs.contracts.part.Part as Part
+use Rattle.uma.specs.contracts.directory.Directory as Directory
+use Rattle.uma.specs.contracts.directory_local.DirectoryLocal as DirectoryLocal
+use Rattle.uma.specs.contracts.local.Local as Local
+use Rattle.uma.specs.contracts.passes.PassKey as PassKey
+use Rattle.uma.specs.contracts.passes.PassRule as PassRule
+use Rattle.uma.specs.contracts.passes.PassRuleLockRuleReadyPassesPassKey.TheImpl as rule
+use Rattle.uma.specs.contracts.passes.ReadyPasses as ReadyPasses
+use Rattle.uma.proofs.name_plan.NamePlan.TheSendSync as name_plan
+use Rattle.uma.proofs.plan.Plan.TheSendSync as plan
+use Rattle.uma.specs.contracts.pool.Pool as Pool
+
+-- a snapshot owns nothing
+snapshot_send : (Y : RattleType) → IsSend (Snapshot.the_row Y)
+snapshot_send Y = record { owned = λ d vs. ((λ vss. (tt, ((λ uss. (tt, tt)), tt))), tt); leaving = λ k f vs. tt }
+
+abbrev BareClock : RattleType
+BareClock = Clock.the_row Bare.the_row unit bare_host.ghosts
+
+clock_sync : IsSync BareClock
+clock_sync = search (clock.the_sync, sendable) depth 20
+
+pass_send : IsSend (Pass.the_row Bare.the_row unit bare_host.ghosts)
+pass_send = search (pass.the_send, sendable) depth 20
+
+module _ (H P : RattleType) (h : host.Ghosts H.Denot P.Denot) (p : IsSend (Pass.the_row H P h)) where
+  abbrev Ready : RattleType
+  Ready = ReadyPasses.the_row H P h
+
+  ready_send : IsSend Ready
+  ready_send = declared_send (ReadyPasses.the_type H P h) (search (p, crosses, sendable) depth 20, (snapshot_send (Clock.the_row H P h), tt))
+
+  abbrev Lock : RattleType
+  Lock = KeyedLock.the_row Ready (PassKey.the_row H P h) PassRule.the_row (rule.ghosts H P h rule.no_dict)
+
+  lock_sync : IsSync Lock
+  lock_sync = search (lock.the_sync, ready_send, sendable)
+
+module _ (T K : RattleType) (g : body.Ghosts T.Denot) (k : hooks.Ghosts K.Denot T.Denot) (t : IsSend T) (ks : IsSend K) (ky : IsSync K) where
+  -- a pool, behind a reference
+  pub pool_sync : IsSync (Pool.the_row T K g k)
+  pool_sync = declared_sync (Pool.the_type T K g k)
+      (zone_sync T K Bare.the_row unit g k bare_host.ghosts t ks ky bare.the_send bare.the_sync, (clock_sync, (search (plan.the_sync, sendable), (lock_sync Bare.the_row unit bare_host.ghosts pass_send, tt))))
+
+  -- a local
+  pub local_send : (a : NamedLft) → IsSend (Local.the_row a T K g k)
+  local_send a = declared_send (Local.the_type a T K g k)
+      (shr_send a.mir a.lft _ pool_sync, (pass_send, (seat_send T Bare.the_row unit g bare_host.ghosts t bare.the_send bare.the_sync, tt)))
+
+names_pass_send : IsSend (Pass.the_row Names.the_row Part.the_row names_host.ghosts)
+names_pass_send = search (pass.the_send, sendable) depth 20
+
+names_clock_sync : IsSync (Clock.the_row Names.the_row Part.the_row names_host.ghosts)
+names_clock_sync = search (clock.the_sync, sendable) depth 20
+
+-- a directory, behind a reference
+pub directory_sync : IsSync Directory.the_row
+directory_sync = declared_sync Directory.the_type (cache_sync, (names_clock_sync, (search (name_plan.the_sync, sendable), (lock_sync Names.the_row Part.the_row names_host.ghosts names_pass_send, tt))))
+
+-- a local of a directory
+pub directory_local_send : (a : NamedLft) → IsSend (DirectoryLocal.the_row a)
+directory_local_send a = declared_send (DirectoryLocal.the_type a) (shr_send a.mir a.lft _ directory_sync, (names_pass_send, (entry_seat_send, tt)))

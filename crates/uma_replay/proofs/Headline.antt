@@ -1,0 +1,336 @@
+-- The headline, from the hall and its report.
+use Rattle.std.proofs.Common.{◌≡◌, ◌⊎◌, ℕ, zero, suc, ◌+◌, ◌<◌, Bool, true, List, [], ◌∷◌, ◌++◌, Option, None, Some, cond, length, get_or, map, inl, inr, refl, sym, ap, ◌∙◌, subst, arith}
+use Rattle.std.proofs.lemmas.Bool.{false≢true}
+use Rattle.std.proofs.lemmas.List.Elements.{All-head, All-tail, All-weaker, Contains-append_cases, Contains-append_left, Contains-append_right}
+use Rattle.std.proofs.lemmas.List.Sums.{sum_by-cons}
+use Rattle.std.proofs.lemmas.Option.{none-some, same_Some, slice_get_within, get_or_from_slice_get}
+use Rattle.std.specs.Prelude.{All, Contains, IfOk, IfSome, Result, Ok, Err, count_by, is_some, slice_get}
+use Rattle.std.specs.List.{flat_map}
+use Rattle.std.specs.Option.{option_map_or}
+use Rattle.smr_clock.specs.declared.host.Host.{Ghosts}
+use Rattle.trace_text.specs.declared.head.NamesHead.{NamesHead}
+use Rattle.trace_text.specs.declared.head.ZoneHead.{ZoneHead}
+use Rattle.trace_text.specs.declared.trace.Trace.{Trace}
+use Rattle.trace_text.specs.Lines.{lines_of}
+use Rattle.uma_life.specs.declared.ticket.Ticket.{Ticket}
+use Rattle.uma_life.specs.Cached.{cached_ticket}
+use Rattle.uma_seat.specs.Seat.{usable_of, ledger_of, KeepsCounts}
+use Rattle.uma_seat.specs.Counts.{ledger_in}
+use Rattle.uma_zone.specs.declared.alloc_ask.AllocAsk.{AllocAsk}
+use Rattle.uma_zone.specs.declared.alloc_ask.AllocRefused.TheVariants.{Refused}
+use Rattle.uma_zone.specs.Alloc.{Refuses, RefusesCtor, TurnsAway}
+use Rattle.uma_zone.specs.SafeReuse.{usable_tickets}
+use Rattle.uma_zone.specs.Zone.{zone_smr}
+use Rattle.zone_stats.specs.declared.ledger.SeatLedger.{SeatLedger}
+use Rattle.zone_stats.specs.declared.refusal.Refusal.{Refusal}
+use Rattle.zone_stats.specs.declared.refusal.Refusal.TheVariants.{AtLimit, Reserved, Full, Init, Ctor}
+use Rattle.zone_stats.specs.declared.report.Report.{Report}
+use Rattle.zone_stats.specs.declared.report.ZoneLine.{ZoneLine}
+use Rattle.zone_stats.specs.LedgerSteps.{IsNew}
+use Rattle.trace_worker.specs.declared.name_calls.NameCalls.{Ghosts as NameGhosts}
+use Rattle.trace_worker.specs.declared.naming.NameCounts.{NameCounts}
+use Rattle.trace_worker.specs.declared.naming.Naming.{Naming}
+use Rattle.trace_worker.specs.declared.worker.Worker.{Worker}
+use Rattle.trace_worker.specs.Attendance.{worker_in}
+use Rattle.trace_worker.specs.Items.{CachedItem, CountedSeat, CountedZone, LiveItem}
+use Rattle.trace_worker.specs.NameLines.{doing}
+use Rattle.trace_worker.specs.Requests.{GivesBack, Requests}
+use Rattle.uma_replay.specs.declared.hall.Hall.{Hall}
+use Rattle.uma_replay.specs.declared.hall.Played.{Played}
+use Rattle.uma_replay.specs.Counting.{report_zones, worker_ops}
+use Rattle.uma_replay.specs.Hall.{HallStands}
+use Rattle.uma_replay.specs.Headline.{SeatCall, Request, Return, Flush, Empty, Nothing, SeatLine, NameLine, AreLines, AreNameLines, IsCall, HasDone, Follow, Comes, gone, brought_by, got_none, is_refused, PassesHooks, AreOnTrail, HasCause, AreTotals, FindsBound, RefusesEntry, Headline}
+use Rattle.uma_replay.specs.Limits.{last_limit}
+use Rattle.uma_replay.specs.Names.{AreNameLedgers, IsWhole}
+use Rattle.uma_replay.specs.Report.{IsLineOf, StandsFor, ledgers_at}
+use Rattle.uma_replay.specs.Reporting.{AreLedgersOf}
+use Rattle.uma_replay.proofs.NameStory as name_story
+use Rattle.uma_replay.proofs.PlainStands.{some_at}
+use Rattle.uma_replay.proofs.SeatLines.{IsGood, story_of_rounds}
+
+-- ---- on numbers and lists
+
+below_by : (n a b c : ℕ) → n < a → a ≡ c → b ≡ c → n < b
+below_by n a b c below e1 e2 = omega arith
+
+below_as : (z a b : ℕ) → z < a → b ≡ a → z < b
+below_as z a b below same = omega arith
+
+same_count : (a b : ℕ) → b ≡ a → b ≡ a + 0
+same_count a b e = omega arith
+
+both_same : (a b c : ℕ) → b ≡ a → c ≡ b → c ≡ a + 0
+both_same a b c e1 e2 = omega arith
+
+add_up : (a b c m n : ℕ) → b ≡ a + m → c ≡ b + n → c ≡ a + (m + n)
+add_up a b c m n e1 e2 = omega arith
+
+from_none : (a b n : ℕ) → a ≡ 0 → b ≡ a + n → b ≡ n
+from_none a b n e1 e2 = omega arith
+
+get_front : {A : Type 0} (xs ys : List A) (z : ℕ) (x : A) → slice_get xs z ≡ Some x → slice_get (xs ++ ys) z ≡ Some x
+get_front [] ys z x at = absurd (none-some x at)
+get_front (w ∷ xs) ys zero x at = at
+get_front (w ∷ xs) ys (suc z) x at = get_front xs ys z x at
+
+at_length : {A : Type 0} (xs : List A) (y : A) → slice_get (xs ++ y ∷ []) (length xs) ≡ Some y
+at_length [] y = refl
+at_length (x ∷ xs) y = at_length xs y
+
+get_last : {A : Type 0} (xs : List A) (y : A) (z : ℕ) → z ≡ length xs → slice_get (xs ++ y ∷ []) z ≡ Some y
+get_last xs y z is = ap (slice_get (xs ++ y ∷ [])) is ∙ at_length xs y
+
+abbrev unit : Bool → ℕ
+unit b = cond b 1 0
+
+abbrev Has : List Ticket → List Ticket → Ticket → Type 0
+Has usable others item = Contains usable item ⊎ Contains others item
+
+module _ {H Part : Type 0} {h : Ghosts H Part} where
+  -- ---- safe reuse
+
+  -- what is usable after a line or left in it was usable before or came
+  from_line : (zone : CountedZone H Part h) (z : ℕ) (line : SeatLine H Part h) (item : Ticket) → zone_smr zone ≡ true → IsGood zone z line → Contains (usable_tickets line.new ++ gone line) item → Has (usable_tickets line.old) line.brought item
+  from_line zone z line item smr good has =
+      let both : Contains (usable_tickets line.old ++ line.brought) item = subst (λ (l : List Ticket). Contains l item) (good.waits smr).1 has in
+      Contains-append_cases (usable_tickets line.old) line.brought item both
+
+  first_line : (line : SeatLine H Part h) (lines : List (SeatLine H Part h)) (from : CountedSeat H Part h) (item : Ticket) → line.old ≡ from → Has (usable_tickets line.old) line.brought item
+      → Has (usable_tickets from) (flat_map brought_by (line ∷ lines)) item
+  first_line line lines from item same (inl was) = inl (subst (λ (s : CountedSeat H Part h). Contains (usable_tickets s) item) same was)
+  first_line line lines from item same (inr came) = inr (Contains-append_left line.brought (flat_map brought_by lines) item came)
+
+  -- with the line before
+  after_line : (zone : CountedZone H Part h) (z : ℕ) (line : SeatLine H Part h) (lines : List (SeatLine H Part h)) (from : CountedSeat H Part h) (item : Ticket) → zone_smr zone ≡ true → IsGood zone z line → line.old ≡ from
+      → Has (usable_tickets line.new) (flat_map brought_by lines) item → Has (usable_tickets from) (flat_map brought_by (line ∷ lines)) item
+  after_line zone z line lines from item smr good same (inl between) =
+      first_line line lines from item same (from_line zone z line item smr good (Contains-append_left (usable_tickets line.new) (gone line) item between))
+  after_line zone z line lines from item smr good same (inr came) = inr (Contains-append_right line.brought (flat_map brought_by lines) item came)
+
+  flows : (zone : CountedZone H Part h) (z : ℕ) (lines : List (SeatLine H Part h)) (from to : CountedSeat H Part h) (item : Ticket) → zone_smr zone ≡ true → All (IsGood zone z) lines → Follow from lines to
+      → Has (usable_tickets to) (flat_map gone lines) item → Has (usable_tickets from) (flat_map brought_by lines) item
+  flows zone z [] from to item smr good follow (inl there) = inl (subst (λ (s : CountedSeat H Part h). Contains (usable_tickets s) item) follow there)
+  flows zone z [] from to item smr good follow (inr left) = inr left
+  flows zone z (line ∷ lines) from to item smr good follow (inl there) =
+      after_line zone z line lines from item smr (All-head (IsGood zone z) line lines good) follow.0
+      (flows zone z lines line.new to item smr (All-tail (IsGood zone z) line lines good) follow.1 (inl there))
+  flows zone z (line ∷ lines) from to item smr good follow (inr left) = elim (Contains-append_cases (gone line) (flat_map gone lines) item left) [
+    | inl here ↦ first_line line lines from item follow.0
+        (from_line zone z line item smr (All-head (IsGood zone z) line lines good) (Contains-append_right (usable_tickets line.new) (gone line) item here))
+    | inr more ↦ after_line zone z line lines from item smr (All-head (IsGood zone z) line lines good) follow.0
+        (flows zone z lines line.new to item smr (All-tail (IsGood zone z) line lines good) follow.1 (inr more))
+  ]
+
+  among : (zone : CountedZone H Part h) (z : ℕ) (lines : List (SeatLine H Part h)) (from to : CountedSeat H Part h) → zone_smr zone ≡ true → All (IsGood zone z) lines → Follow from lines to → usable_of from ≡ []
+      → (item : Ticket) → Contains (flat_map gone lines) item → Contains (flat_map brought_by lines) item
+  among zone z lines from to smr good follow empty item left = elim (flows zone z lines from to item smr good follow (inr left)) [
+    | inl was ↦
+        let none = subst (λ (l : List CachedItem). Contains (map cached_ticket l) item) empty was in
+        let below : none.0 < 0 = none.1 in
+        absurd (omega arith)
+    | inr came ↦ came
+  ]
+
+  -- ---- hooks
+
+  passes : (zone : CountedZone H Part h) (old : CountedSeat H Part h) (call : SeatCall) (new : CountedSeat H Part h) → HasDone zone old call new → PassesHooks zone call
+  passes zone old (Request ask None) new did = tt
+  passes zone old (Request ask (Some item)) new did = let b = did.ends.0.built in (did.ends.0.item, b.ticket, b.passed)
+  passes zone old (Return item) new did = λ plain. let f = did.released.plain plain in (f.item, f.ticket, f.passed)
+  passes zone old Flush new did = tt
+  passes zone old Empty new did = tt
+  passes zone old Nothing new did = tt
+
+  on_trail : (w : Worker H Part h) → AreOnTrail w
+  on_trail w = record {
+    live = λ slot it at. it.item.at;
+    usable = λ z seat at k d below. (get_or (usable_of seat) k d).at;
+  }
+
+  -- ---- refusals
+
+  cause_of : (zone : CountedZone H Part h) (ask : AllocAsk) (old new : CountedSeat H Part h) (refusal : Refusal) → Refuses zone ask old new (Refused refusal)
+      → ((code : ℕ) × RefusesCtor zone ask code old new) ⊎ ((refusal : Refusal) × TurnsAway zone ask.reserve refusal old new)
+  cause_of zone ask old new (AtLimit out limit) why = inr (AtLimit out limit, why)
+  cause_of zone ask old new (Reserved free reserve) why = inr (Reserved free reserve, why)
+  cause_of zone ask old new (Full slabs made) why = inr (Full slabs made, why)
+  cause_of zone ask old new (Init code) why = inr (Init code, why)
+  cause_of zone ask old new (Ctor code) why = inl (code, why)
+
+  has_cause : (zone : CountedZone H Part h) (z : ℕ) (line : SeatLine H Part h) → IsGood zone z line → HasCause zone line
+  has_cause zone z line good ask is =
+      let r : Requests zone ask line.old None line.new = subst (λ (c : SeatCall). HasDone zone line.old c line.new) is good.done in
+      cause_of zone ask line.old line.new r.ends.0 r.ends.1
+
+  abbrev fails_of : CountedSeat H Part h → ℕ
+  fails_of seat = (ledger_of seat).fails
+
+  counts_fails : (old new : CountedSeat H Part h) → KeepsCounts old new → fails_of new ≡ fails_of old
+  counts_fails old new same = ap (λ c. (ledger_in c).fails) same
+
+  refusal_fails : (zone : CountedZone H Part h) (ask : AllocAsk) (old new : CountedSeat H Part h) (refusal : Refusal) → Refuses zone ask old new (Refused refusal) → fails_of new ≡ fails_of old + 1
+  refusal_fails zone ask old new (AtLimit out limit) why = why.counted.fails
+  refusal_fails zone ask old new (Reserved free reserve) why = why.counted.fails
+  refusal_fails zone ask old new (Full slabs made) why = why.counted.fails
+  refusal_fails zone ask old new (Init code) why = why.counted.fails
+  refusal_fails zone ask old new (Ctor code) why = why.counted.fails
+
+  return_fails : (zone : CountedZone H Part h) (old : CountedSeat H Part h) (item : LiveItem) (new : CountedSeat H Part h) → GivesBack zone old item new → fails_of new ≡ fails_of old + 0
+  return_fails zone old item new g = both_same (fails_of old) (fails_of g.ready) (fails_of new) (counts_fails old g.ready g.made.counts) g.released.counted.fails
+
+  line_fails : (zone : CountedZone H Part h) (old : CountedSeat H Part h) (call : SeatCall) (new : CountedSeat H Part h) → HasDone zone old call new → fails_of new ≡ fails_of old + unit (got_none call)
+  line_fails zone old (Request ask None) new did = refusal_fails zone ask old new did.ends.0 did.ends.1
+  line_fails zone old (Request ask (Some item)) new did = same_count (fails_of old) (fails_of new) did.ends.0.counted.fails
+  line_fails zone old (Return item) new did = return_fails zone old item new did
+  line_fails zone old Flush new did = same_count (fails_of old) (fails_of new) (counts_fails old new did.keeps.counts)
+  line_fails zone old Empty new did = same_count (fails_of old) (fails_of new) (counts_fails old new did.keeps.counts)
+  line_fails zone old Nothing new did = same_count (fails_of old) (fails_of new) (ap fails_of did)
+
+  all_fails : (zone : CountedZone H Part h) (z : ℕ) (lines : List (SeatLine H Part h)) (from to : CountedSeat H Part h) → All (IsGood zone z) lines → Follow from lines to → fails_of to ≡ fails_of from + count_by is_refused lines
+  all_fails zone z [] from to good follow = same_count (fails_of from) (fails_of to) (ap fails_of follow)
+  all_fails zone z (line ∷ lines) from to good follow =
+      let one = line_fails zone line.old line.call line.new (All-head (IsGood zone z) line lines good).done in
+      let rest = all_fails zone z lines line.new to (All-tail (IsGood zone z) line lines good) follow.1 in
+      let first : fails_of line.new ≡ fails_of from + unit (is_refused line) = one ∙ ap (λ (s : CountedSeat H Part h). fails_of s + unit (is_refused line)) follow.0 in
+      add_up (fails_of from) (fails_of line.new) (fails_of to) (unit (is_refused line)) (count_by is_refused lines) first rest
+      ∙ ap (λ (m : ℕ). fails_of from + m) (sym (sum_by-cons (λ (line : SeatLine H Part h). unit (is_refused line)) line lines))
+
+-- ---- totals
+
+totals_of : (limit : ℕ) (head : ZoneHead) (ledgers : List SeatLedger) (line : ZoneLine) → IsLineOf limit head ledgers line → AreTotals ledgers line
+totals_of limit head ledgers line is = record {
+  used = ap (λ (l : ZoneLine). l.used) is.3;
+  req = ap (λ (l : ZoneLine). l.req) is.3;
+  fail = ap (λ (l : ZoneLine). l.fail) is.3;
+  xdomain = ap (λ (l : ZoneLine). l.xdomain) is.3;
+}
+
+some_of : {A : Type 0} (o : Option A) → is_some o ≡ true → (a : A) × (o ≡ Some a)
+some_of None is = absurd (false≢true is)
+some_of (Some a) is = (a, refl)
+
+-- the fails of a ledger that is there
+if_fails : (o : Option SeatLedger) (n : ℕ) → option_map_or (λ (l : SeatLedger). l.fails) o 0 ≡ n → IfSome o (λ ledger. ledger.fails ≡ n)
+if_fails None n is = tt
+if_fails (Some ledger) n is = is
+
+none_failed : (o : Option SeatLedger) → IfSome o IsNew → option_map_or (λ (l : SeatLedger). l.fails) o 0 ≡ 0
+none_failed None new = refl
+none_failed (Some ledger) new = new.fails
+
+module _ {N H C S Part : Type 0} {h : Ghosts H Part} (names : NameGhosts N H C S Part) (t : Trace) (report : Report) (hall : Hall N H C S Part h) (stands : StandsFor t report) (has : HallStands names t report hall) where
+  -- ---- the lines of a seat
+
+  abbrev Lines : ℕ → ℕ → CountedZone H Part h → CountedSeat H Part h → Type 0
+  Lines n z zone seat = (lines : List (SeatLine H Part h)) × AreLines zone z (worker_ops t n) lines seat × All (IsGood zone z) lines
+
+  lines_at : (n z : ℕ) (w : Worker H Part h) (zone : CountedZone H Part h) (seat : CountedSeat H Part h) → slice_get hall.workers n ≡ Some w → slice_get hall.zones z ≡ Some zone → slice_get w.seats.items z ≡ Some seat → Lines n z zone seat
+  lines_at n z w zone seat at at_zone at_seat =
+      let naming = some_at hall.namings n (below_by n (length hall.workers) (length hall.namings) t.head.workers (slice_get_within hall.workers n w at) has.done.worker_count has.named.naming_count) in
+      let p = has.named.played n w naming.0 at naming.1 in
+      let first = some_at (worker_in p.begin).seats.items z (below_as z (length hall.zones) (length (worker_in p.begin).seats.items) (slice_get_within hall.zones z zone at_zone) p.is_new.fits.seats.count) in
+      let unused = p.is_new.seats z first.0 first.1 in
+      let s = story_of_rounds names hall.names hall.zones z zone at_zone t.rounds n (doing p.begin) p.end first.0 first.1 p.plays in
+      let same : s.to ≡ seat = same_Some s.to seat (sym s.at ∙ (ap (λ x. slice_get x.items z) (sym p.stays.seats) ∙ at_seat)) in (
+        s.lines,
+        record {
+          all = s.all;
+          calls = All-weaker (IsGood zone z) (λ (line : SeatLine H Part h). IsCall z line.op line.call) (λ line g. g.call) s.lines s.good;
+          done = All-weaker (IsGood zone z) (λ (line : SeatLine H Part h). HasDone zone line.old line.call line.new) (λ line g. g.done) s.lines s.good;
+          first = first.0;
+          empty = unused.usable;
+          fresh = unused.ledger;
+          follow = subst (λ (x : CountedSeat H Part h). Follow first.0 s.lines x) same s.follow;
+        },
+        s.good,
+      )
+
+  -- ---- totals
+
+  front_of : (o : Option NamesHead) → IsWhole names hall.names o hall.namings has.first report → (z : ℕ) (own : List SeatLedger) → slice_get has.first.ledgers z ≡ Some own → ledgers_at report z ≡ own
+  front_of None whole z own at = ap (λ (r : Report). ledgers_at r z) whole ∙ get_or_from_slice_get has.first.ledgers z own [] at
+  front_of (Some line) whole z own at =
+      ap (λ (r : Report). ledgers_at r z) whole.whole ∙ get_or_from_slice_get (has.first.ledgers ++ whole.part.ledgers ∷ []) z own [] (get_front has.first.ledgers (whole.part.ledgers ∷ []) z own at)
+
+  totals_at : (z : ℕ) (line : ZoneLine) → z < length t.head.zones → slice_get report.lines z ≡ Some line → (ledgers : List SeatLedger) × AreLedgersOf z hall.workers ledgers × AreTotals ledgers line
+  totals_at z line below at =
+      let own = some_at has.first.ledgers z (below_as z (length t.head.zones) (length has.first.ledgers) below has.made_of.ledgers.count) in
+      let head = some_at t.head.zones z below in
+      let is_head : slice_get (report_zones t.head) z ≡ Some head.0 = get_front t.head.zones _ z head.0 head.1 in
+      let limit = last_limit (lines_of t.rounds) z head.0 in
+      let P : Option ZoneHead → Type 0 = λ o. IfSome o (λ head. IfSome (slice_get report.lines z) (IsLineOf (last_limit (lines_of t.rounds) z head) head (ledgers_at report z))) in
+      let Q : Option ZoneLine → Type 0 = λ o. IfSome o (IsLineOf limit head.0 (ledgers_at report z)) in
+      let R : List SeatLedger → Type 0 = λ ledgers. AreTotals ledgers line in
+      let is = subst Q at (subst P is_head (stands.lines z)) in
+      (own.0, has.made_of.ledgers.each z own.0 own.1, subst R (front_of t.head.names has.whole z own.0 own.1) (totals_of limit head.0 (ledgers_at report z) line is))
+
+  name_totals_by : (o : Option NamesHead) → IsWhole names hall.names o hall.namings has.first report → (n : NamesHead) → o ≡ Some n → (line : ZoneLine) → slice_get report.lines (length t.head.zones) ≡ Some line
+      → (ledgers : List SeatLedger) × AreNameLedgers names hall.namings ledgers × AreTotals ledgers line
+  name_totals_by None whole n is line at = absurd (none-some n is)
+  name_totals_by (Some m) whole n is line at =
+      let part = whole.part in
+      let last : slice_get (has.first.lines ++ part.line ∷ []) (length t.head.zones) ≡ Some part.line = get_last has.first.lines part.line (length t.head.zones) (sym has.made_of.lines.count) in
+      let same : part.line ≡ line = same_Some part.line line (sym last ∙ (ap (λ (r : Report). slice_get r.lines (length t.head.zones)) (sym whole.whole) ∙ at)) in
+      let R : ZoneLine → Type 0 = λ l. AreTotals part.ledgers l in
+      let own : AreTotals part.ledgers part.line = record {
+        used = ap (λ (l : ZoneLine). l.used) whole.is_part.of_zone;
+        req = ap (λ (l : ZoneLine). l.req) whole.is_part.of_zone;
+        fail = ap (λ (l : ZoneLine). l.fail) whole.is_part.of_zone;
+        xdomain = ap (λ (l : ZoneLine). l.xdomain) whole.is_part.of_zone;
+      } in
+      (part.ledgers, whole.is_part.of_seats, subst R same own)
+
+  -- ---- names
+
+  names_at : (n : ℕ) (naming : Naming N H C S Part) → slice_get hall.namings n ≡ Some naming → (lines : List (NameLine Part)) × AreNameLines names hall.names (worker_ops t n) lines naming
+  names_at n naming at =
+      let w = some_at hall.workers n (below_by n (length hall.namings) (length hall.workers) t.head.workers (slice_get_within hall.namings n naming at) has.named.naming_count has.done.worker_count) in
+      let p = has.named.played n w.0 naming w.1 at in
+      let s = name_story.story_of_rounds names hall.names hall.zones t.rounds n (doing p.begin) p.end p.plays in
+      let hits = from_none _ _ _ (ap (λ (c : NameCounts). c.hits) p.is_first.counts) s.hits in
+      let fails = from_none _ _ _ (none_failed (names.counted p.begin.naming.seat) p.is_first.fresh) s.fails in
+      let Fine : NameLine Part → Type 0 = name_story.IsFine names hall.names in (
+        s.lines,
+        record {
+          all = s.all;
+          looked = All-weaker Fine (λ (line : NameLine Part). IfSome line.found (FindsBound names hall.names line)) (λ line fine. fine.looked) s.lines s.fine;
+          hits = ap (λ (g : Naming N H C S Part). g.counts.hits) p.naming_stays ∙ hits;
+          bound = All-weaker Fine (λ (line : NameLine Part). IfSome line.refused (RefusesEntry names hall.names line)) (λ line fine. fine.bound) s.lines s.fine;
+          fails = if_fails (names.counted naming.seat) (count_by name_story.has_refused s.lines) (ap (λ (g : Naming N H C S Part). option_map_or (λ (l : SeatLedger). l.fails) (names.counted g.seat) 0) p.naming_stays ∙ fails);
+        },
+      )
+
+  pub headline_of : Headline names t report hall
+  headline_of = record {
+    safe = λ n z w zone seat at at_zone at_seat.
+        let l = lines_at n z w zone seat at at_zone at_seat in (
+          l.0,
+          l.1,
+          λ smr. record {
+            come = All-weaker (IsGood zone z) (Comes zone) (λ line g. (g.waits smr).0) l.0 l.2;
+            among = among zone z l.0 l.1.first seat smr l.2 l.1.follow l.1.empty;
+          },
+        );
+    hooks = λ n z w zone seat at at_zone at_seat.
+        let l = lines_at n z w zone seat at at_zone at_seat in
+        (l.0, l.1, All-weaker (IsGood zone z) (λ (line : SeatLine H Part h). PassesHooks zone line.call) (λ line g. passes zone line.old line.call line.new g.done) l.0 l.2);
+    trails = λ n w at. on_trail w;
+    refusals = λ n z w zone seat at at_zone at_seat.
+        let l = lines_at n z w zone seat at at_zone at_seat in (
+          l.0,
+          l.1,
+          record {
+            causes = All-weaker (IsGood zone z) (HasCause zone) (λ line g. has_cause zone z line g) l.0 l.2;
+            fails = from_none _ _ _ l.1.fresh.fails (all_fails zone z l.0 l.1.first seat l.2 l.1.follow);
+          },
+        );
+    totals = totals_at;
+    name_totals = λ line named at. let n = some_of t.head.names named in name_totals_by t.head.names has.whole n.0 n.1 line at;
+    lookups = names_at;
+  }
+
+module _ {N H C S Part E : Type 0} {h : Ghosts H Part} (names : NameGhosts N H C S Part) (t : Trace) where
+  -- of what a replay answers
+  pub headline_if : (r : Result (Played N H C S Part h) E) → IfOk r (λ played. StandsFor t played.report) → IfOk r (λ played. HallStands names t played.report played.hall) → IfOk r (λ played. Headline names t played.report played.hall)
+  headline_if (Ok played) stands has = headline_of names t played.report played.hall stands has
+  headline_if (Err e) stands has = tt

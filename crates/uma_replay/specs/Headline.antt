@@ -1,0 +1,239 @@
+-- The headline, of what a replay leaves behind (own):
+--
+-- Over every interleaving of the atomic steps, no item freed by an SMR free is destroyed or handed out while a section entered before that free is open; each item passes init, ctor and dtor in pairs, and fini, in order; a request is refused only at the limit its own step found, by a hook, or for memory; the printed totals are the sums of the seats' ledgers.
+--
+-- `Headline`, at the end, has its clauses, one after another. They speak of what each worker's lines did to its seat of each zone, whatever the other workers' threads did meanwhile.
+use Rattle.std.specs.Prelude.{◌≡◌, ◌≢◌, ◌⊎◌, ◌<◌, ◌%◌, ℕ, All, Bool, true, false, List, [], ◌∷◌, Option, Some, None, Contains, IfSome, count_by, is_some, length, map, slice_get}
+use Rattle.std.specs.List.{flat_map}
+use Rattle.smr_clock.specs.declared.host.Host.{Ghosts}
+use Rattle.smr_clock.specs.declared.view.View.{View}
+use Rattle.trace_text.specs.declared.op.Op.{Op}
+use Rattle.trace_text.specs.declared.op.Op.TheVariants.{Alloc, Free, Trim, Drain, DrainSeat, Bind, Look}
+use Rattle.trace_text.specs.declared.trace.Trace.{Trace}
+use Rattle.uma_life.specs.declared.ticket.Ticket.{Ticket}
+use Rattle.uma_life.specs.Cached.{cached_body, cached_ticket, cached_zone}
+use Rattle.uma_life.specs.Hook.{Ctor, Dtor, after, base_phase}
+use Rattle.uma_life.specs.declared.body_phase.BodyPhase.TheVariants.{Built}
+use Rattle.uma_life.specs.Live.{live_body, live_ticket, live_zone}
+use Rattle.uma_life.specs.Trail.{IsAt}
+use Rattle.uma_seat.specs.Seat.{usable_of, ledger_of}
+use Rattle.uma_zone.specs.declared.alloc_ask.AllocAsk.{AllocAsk}
+use Rattle.uma_zone.specs.Alloc.{AreReused, IsOneFetch, RefusesCtor, TurnsAway}
+use Rattle.uma_zone.specs.SafeReuse.{usable_tickets}
+use Rattle.uma_zone.specs.Zone.{zone_index, zone_smr}
+use Rattle.zone_stats.specs.declared.ledger.SeatLedger.{SeatLedger}
+use Rattle.zone_stats.specs.declared.refusal.Refusal.{Refusal}
+use Rattle.zone_stats.specs.declared.report.Report.{Report}
+use Rattle.zone_stats.specs.declared.report.ZoneLine.{ZoneLine}
+use Rattle.zone_stats.specs.LedgerSteps.{IsNew}
+use Rattle.zone_stats.specs.Line.{total_allocs, total_cross, total_fails, used_items}
+use Rattle.trace_worker.specs.declared.held.Held.{Held}
+use Rattle.trace_worker.specs.declared.name_calls.NameCalls.{Ghosts as NameGhosts}
+use Rattle.trace_worker.specs.declared.naming.Naming.{Naming}
+use Rattle.trace_worker.specs.declared.worker.Worker.{Worker}
+use Rattle.trace_worker.specs.Items.{CachedItem, CountedSeat, CountedZone, LiveItem, counted_life}
+use Rattle.trace_worker.specs.Knowing.{IsNewest}
+use Rattle.trace_worker.specs.NameLedger.{NamesRefuse}
+use Rattle.trace_worker.specs.Performs.{ask_of}
+use Rattle.trace_worker.specs.Reclaims.{IsDrained, IsFlushed}
+use Rattle.trace_worker.specs.Requests.{GivesBack, Requests}
+use Rattle.trace_worker.specs.Slots.{slot_at}
+use Rattle.uma_replay.specs.declared.hall.Hall.{Hall}
+use Rattle.uma_replay.specs.Counting.{worker_ops}
+use Rattle.uma_replay.specs.Names.{AreNameLedgers}
+use Rattle.uma_replay.specs.Reporting.{AreLedgersOf}
+
+-- ---- the lines of a worker at its seat of a zone
+
+-- A request, which got this item or none; the free of this item; what a `trim` or `drain` line does to the seat, or a `drainseat` line; or nothing.
+pub data SeatCall : Type 0 where
+  Request : AllocAsk → Option LiveItem → SeatCall
+  Return : LiveItem → SeatCall
+  Flush : SeatCall
+  Empty : SeatCall
+  Nothing : SeatCall
+
+-- a request that got no item
+abbrev pub got_none : SeatCall → Bool
+got_none (Request ask None) = true
+got_none call = false
+
+-- what a line of the zone at place `zone` is at the seat of the zone at place `z`
+abbrev pub IsThere : ℕ → ℕ → (SeatCall → Type 0) → SeatCall → Type 0
+IsThere z zone Is call = ((zone ≡ z) × Is call) ⊎ ((zone ≢ z) × (call ≡ Nothing))
+
+-- What an operation is at the seat of the zone at place `z`. A `free` line is of the zone whose item its slot holds.
+abbrev pub IsCall : ℕ → Op → SeatCall → Type 0
+IsCall z (Alloc zone slot arg reserve) call = IsThere z zone (λ c. (got : Option LiveItem) × (c ≡ Request (ask_of arg reserve) got)) call
+IsCall z (Free slot) call = ((item : LiveItem) × (call ≡ Return item)) ⊎ (call ≡ Nothing)
+IsCall z (Trim zone) call = IsThere z zone (λ c. c ≡ Flush) call
+IsCall z (Drain zone) call = IsThere z zone (λ c. c ≡ Flush) call
+IsCall z (DrainSeat zone) call = IsThere z zone (λ c. c ≡ Empty) call
+IsCall z op call = call ≡ Nothing
+
+-- one line: the operation, what it is there, the seat before and after it, and the items, by their tickets, that it brought to the seat
+pub record SeatLine (H P : Type 0) (h : Ghosts H P) : Type 0 where
+  pub op : Op
+  pub call : SeatCall
+  pub old : CountedSeat H P h
+  pub brought : List Ticket
+  pub new : CountedSeat H P h
+
+-- USED, REQ, FAIL and XDOMAIN of a zone's line are the sums of these ledgers
+pub record AreTotals (ledgers : List SeatLedger) (line : ZoneLine) : Type 0 where
+  pub used : line.used ≡ used_items ledgers
+  pub req : line.req ≡ total_allocs ledgers
+  pub fail : line.fail ≡ total_fails ledgers
+  pub xdomain : line.xdomain ≡ total_cross ledgers
+
+module _ {H P : Type 0} {h : Ghosts H P} where
+  -- the call did what its contract says
+  abbrev pub HasDone : CountedZone H P h → CountedSeat H P h → SeatCall → CountedSeat H P h → Type 0
+  HasDone zone old (Request ask got) new = Requests zone ask old got new
+  HasDone zone old (Return item) new = GivesBack zone old item new
+  HasDone zone old Flush new = IsFlushed old new
+  HasDone zone old Empty new = IsDrained old new
+  HasDone zone old Nothing new = new ≡ old
+
+  -- one line after another, from a seat to a seat
+  abbrev pub Follow : CountedSeat H P h → List (SeatLine H P h) → CountedSeat H P h → Type 0
+  Follow from [] to = to ≡ from
+  Follow from (line ∷ lines) to = (line.old ≡ from) × Follow line.new lines to
+
+  -- These are all lines of the worker, one after another, at its seat of the zone at place `z`: from an empty one, which counted nothing, to this one.
+  pub record AreLines (zone : CountedZone H P h) (z : ℕ) (ops : List Op) (lines : List (SeatLine H P h)) (seat : CountedSeat H P h) : Type 0 where
+    pub all : map (λ (line : SeatLine H P h). line.op) lines ≡ ops
+    pub calls : All (λ (line : SeatLine H P h). IsCall z line.op line.call) lines
+    pub done : All (λ (line : SeatLine H P h). HasDone zone line.old line.call line.new) lines
+    pub first : CountedSeat H P h
+    pub empty : usable_of first ≡ []
+    pub fresh : IsNew (ledger_of first)
+    pub follow : Follow first lines seat
+
+  -- ---- safe reuse
+
+  -- the items that a line handed out, or gave from the seat to the keg
+  abbrev pub gone_by : SeatCall → CountedSeat H P h → List Ticket
+  gone_by (Request ask (Some item)) old = live_ticket item ∷ []
+  gone_by Empty old = usable_tickets old
+  gone_by call old = []
+
+  abbrev pub gone : SeatLine H P h → List Ticket
+  gone line = gone_by line.call line.old
+
+  abbrev pub brought_by : SeatLine H P h → List Ticket
+  brought_by line = line.brought
+
+  -- They are those of a bucket that waited until a poll said yes: a note of the zone's clock knows that its goal is expired, and from then on no section that was entered before that goal is open.
+  pub record ComeRipe (zone : CountedZone H P h) (brought : List Ticket) : Type 0 where
+    pub items : List CachedItem
+    pub are : brought ≡ map cached_ticket items
+    pub reused : AreReused zone items
+
+  -- they are those of the line's one fetch from the keg
+  pub record ComeFromKeg (zone : CountedZone H P h) (brought : List Ticket) (new : CountedSeat H P h) : Type 0 where
+    pub items : List CachedItem
+    pub are : brought ≡ map cached_ticket items
+    pub right : Bool
+    pub one : IsOneFetch zone right items new
+
+  -- what a line brings is nothing, or comes in one of these ways; an SMR free brings nothing
+  abbrev pub Comes : CountedZone H P h → SeatLine H P h → Type 0
+  Comes zone line = (line.brought ≡ []) ⊎ ComeRipe zone line.brought ⊎ ComeFromKeg zone line.brought line.new
+
+  -- What the lines hand out or give to the keg is among what they brought. (Into the keg goes an item that is cached, and a freed one becomes that only where its bucket is ripe: so say the types of buckets, also of those that reclaim takes from the zone's lists.)
+  pub record WaitForReaders (zone : CountedZone H P h) (lines : List (SeatLine H P h)) : Type 0 where
+    pub come : All (Comes zone) lines
+    pub among : (item : Ticket) → Contains (flat_map gone lines) item → Contains (flat_map brought_by lines) item
+
+  -- ---- hooks
+
+  -- What a request got passed the zone's `ctor` in it, and in a plain zone what was freed passed `dtor` in that line. In an SMR zone it stays built until its bucket is ripe, and passes `dtor` then (`AreReused`).
+  abbrev pub PassesHooks : CountedZone H P h → SeatCall → Type 0
+  PassesHooks zone (Request ask (Some item)) =
+      (was : CachedItem) × (live_ticket item ≡ cached_ticket was) × (counted_life (live_body item) ≡ after (Ctor (zone_index zone)) (counted_life (cached_body was)))
+  PassesHooks zone (Return item) =
+      zone_smr zone ≡ false → (is : CachedItem) × (cached_ticket is ≡ live_ticket item) × (counted_life (cached_body is) ≡ after (Dtor (live_zone item)) (counted_life (live_body item)))
+  PassesHooks zone call = Unit {0}
+
+  -- the live items in slots and the usable ones in seats passed their hooks as often, and in the order, that the trail of an item says
+  pub record AreOnTrail (w : Worker H P h) : Type 0 where
+    pub live : (slot : ℕ) (it : Held) → slot_at w.slots slot ≡ Some it → IsAt (Built (live_zone it.item)) (counted_life (live_body it.item))
+    pub usable : (z : ℕ) (seat : CountedSeat H P h) → slice_get w.seats.items z ≡ Some seat → All (λ (item : CachedItem). IsAt (base_phase (cached_zone item)) (counted_life (cached_body item))) (usable_of seat)
+
+  -- ---- refusals
+
+  abbrev pub is_refused : SeatLine H P h → Bool
+  is_refused line = got_none line.call
+
+  -- A request that got no item was refused by `ctor`, with its code for this argument, or by its one fetch, at the limit, the reserve, the capacity or the code that this fetch found.
+  abbrev pub HasCause : CountedZone H P h → SeatLine H P h → Type 0
+  HasCause zone line = (ask : AllocAsk) → line.call ≡ Request ask None
+      → ((code : ℕ) × RefusesCtor zone ask code line.old line.new) ⊎ ((refusal : Refusal) × TurnsAway zone ask.reserve refusal line.old line.new)
+
+  -- and the ledger's fails are just these
+  pub record AreForCause (zone : CountedZone H P h) (lines : List (SeatLine H P h)) (seat : CountedSeat H P h) : Type 0 where
+    pub causes : All (HasCause zone) lines
+    pub fails : (ledger_of seat).fails ≡ count_by is_refused lines
+
+  -- ---- totals
+
+  -- the line is the sum of the ledgers of the workers' seats of the zone at place `z`
+  abbrev pub IsSumOf : List (Worker H P h) → ℕ → ZoneLine → Type 0
+  IsSumOf workers z line = (ledgers : List SeatLedger) × AreLedgersOf z workers ledgers × AreTotals ledgers line
+
+-- ---- names
+
+-- One line of a worker, as its lines of names go: the operation, what its pass saw before and after it, the value that a look found, and what refused a bind its entry.
+pub record NameLine (P : Type 0) : Type 0 where
+  pub op : Op
+  pub old : View P
+  pub new : View P
+  pub found : Option ℕ
+  pub refused : Option Refusal
+
+module _ {N H C S P : Type 0} (names : NameGhosts N H C S P) (cache : C) where
+  -- A look that found this value: a record of the key's row, which the pass knows after the line, binds the key to it, and no record of the row that it knew before is newer.
+  pub record FindsBound (line : NameLine P) (value : ℕ) : Type 0 where
+    pub key : ℕ
+    pub looks : line.op ≡ Look key
+    pub version : ℕ
+    pub knows : names.knows line.new (key % (names.sizes_of cache).rows) version (Some (key, value))
+    pub newest : IsNewest names.knows (key % (names.sizes_of cache).rows) version line.old
+
+  -- a bind that got no entry: its zone refused one, at the limit or the capacity that it names, or by its hooks' code
+  pub record RefusesEntry (line : NameLine P) (refusal : Refusal) : Type 0 where
+    pub key : ℕ
+    pub value : ℕ
+    pub binds : line.op ≡ Bind key value
+    pub fits : NamesRefuse (names.sizes_of cache).slabs refusal
+
+  -- These are all lines of the worker. Its hits are the looks that found a value, and the fails of its seat of the names the binds that got no entry.
+  pub record AreNameLines (ops : List Op) (lines : List (NameLine P)) (naming : Naming N H C S P) : Type 0 where
+    pub all : map (λ (line : NameLine P). line.op) lines ≡ ops
+    pub looked : All (λ (line : NameLine P). IfSome line.found (FindsBound line)) lines
+    pub hits : naming.counts.hits ≡ count_by (λ (line : NameLine P). is_some line.found) lines
+    pub bound : All (λ (line : NameLine P). IfSome line.refused (RefusesEntry line)) lines
+    pub fails : IfSome (names.counted naming.seat) (λ ledger. ledger.fails ≡ count_by (λ (line : NameLine P). is_some line.refused) lines)
+
+-- ---- the headline
+
+module _ {N H C S P : Type 0} {h : Ghosts H P} (names : NameGhosts N H C S P) where
+  -- for each worker's seat of each zone there are the lines that made it, of which this is so
+  abbrev pub OfEachSeat : Trace → Hall N H C S P h → (CountedZone H P h → List (SeatLine H P h) → CountedSeat H P h → Type 0) → Type 0
+  OfEachSeat t hall Says = (n z : ℕ) (w : Worker H P h) (zone : CountedZone H P h) (seat : CountedSeat H P h) → slice_get hall.workers n ≡ Some w → slice_get hall.zones z ≡ Some zone → slice_get w.seats.items z ≡ Some seat
+      → (lines : List (SeatLine H P h)) × AreLines zone z (worker_ops t n) lines seat × Says zone lines seat
+
+  pub record Headline (t : Trace) (report : Report) (hall : Hall N H C S P h) : Type 0 where
+    -- "no item freed by an SMR free is destroyed or handed out while a section entered before that free is open"
+    pub safe : OfEachSeat t hall (λ zone lines seat. zone_smr zone ≡ true → WaitForReaders zone lines)
+    -- "each item passes init, ctor and dtor in pairs, and fini, in order"
+    pub hooks : OfEachSeat t hall (λ zone lines seat. All (λ (line : SeatLine H P h). PassesHooks zone line.call) lines)
+    pub trails : (n : ℕ) (w : Worker H P h) → slice_get hall.workers n ≡ Some w → AreOnTrail w
+    -- "a request is refused only at the limit its own step found, by a hook, or for memory": for want of memory the replay ends without a report
+    pub refusals : OfEachSeat t hall AreForCause
+    -- "the printed totals are the sums of the seats' ledgers": of the zones of the zone lines, and of the zone of the names
+    pub totals : (z : ℕ) (line : ZoneLine) → z < length t.head.zones → slice_get report.lines z ≡ Some line → IsSumOf hall.workers z line
+    pub name_totals : (line : ZoneLine) → is_some t.head.names ≡ true → slice_get report.lines (length t.head.zones) ≡ Some line → (ledgers : List SeatLedger) × AreNameLedgers names hall.namings ledgers × AreTotals ledgers line
+    -- of names: each look that found a value found one that was bound to its key, by a record no older than each that was known before, and a bind is refused an entry only for cause
+    pub lookups : (n : ℕ) (naming : Naming N H C S P) → slice_get hall.namings n ≡ Some naming → (lines : List (NameLine P)) × AreNameLines names hall.names (worker_ops t n) lines naming

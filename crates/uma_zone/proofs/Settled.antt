@@ -1,0 +1,32 @@
+-- Domains that are settled one after another.
+use Rattle.std.proofs.Common.{◌≡◌, ◌<◌, ◌+◌, ℕ, zero, suc, Result, Ok, Err, OnOk, refl, ap, subst, arith}
+use Rattle.smr_clock.specs.declared.view.View.{View}
+use Rattle.uma_zone.specs.declared.domains.ZoneDomains.{ZoneDomains}
+use Rattle.uma_zone.specs.OwnDomain.{Settles, IsSettled, SettlesFirst}
+
+-- the same Err of another value's type
+pub as_err : {A B E : Type 0} (e m : E) → Path (Result A E) (Err e) (Err m) → Path (Result B E) (Err e) (Err m)
+as_err e m same = let one : e ≡ m = cc in ap Err one
+
+pub not_err : {A E : Type 0} (a : A) (m : E) → Path (Result A E) (Ok a) (Err m) → ⊥
+not_err a m same = absurd (cc)
+
+module _ {T H P : Type 0} {g h : _} where
+  pub settled_none : (them : ZoneDomains T H P g h) (copied : P → P) (v : View P) → SettlesFirst them copied v 0 v
+  unfolding SettlesFirst
+  settled_none them copied v = refl
+
+  pub settled_more : (them : ZoneDomains T H P g h) (copied : P → P) (v mid v' : View P) (number : ℕ) → SettlesFirst them copied v number mid → Settles them number copied mid v' → SettlesFirst them copied v (number + 1) v'
+  unfolding SettlesFirst
+  settled_more them copied v mid v' number before one =
+      let e : suc number ≡ number + 1 = omega arith in
+      let more : SettlesFirst them copied v (suc number) v' = (mid, before, one) in
+      subst (λ (n : ℕ). SettlesFirst them copied v n v') e more
+
+  -- the domain that a seat is of
+  pub settled_own : {E : Type 0} (them : ZoneDomains T H P g h) (copied : P → P) (number own : ℕ) (v v' : View P) (result : Result (Unit {0}) E) → number ≡ own → OnOk result (Settles them number copied v v') → OnOk result (IsSettled them own copied)
+  settled_own them copied number own v v' (Err e) same done = tt
+  settled_own them copied number own v v' (Ok x) same done = record { before = v; after = v'; settles = subst (λ (n : ℕ). Settles them n copied v v') same done }
+
+  pub settled_of : (them : ZoneDomains T H P g h) (copied : P → P) (number own : ℕ) → number ≡ own → IsSettled them number copied → IsSettled them own copied
+  settled_of them copied number own same settled = subst (λ (n : ℕ). IsSettled them n copied) same settled
