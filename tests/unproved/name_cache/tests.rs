@@ -2,6 +2,7 @@ use super::*;
 
 mod entries_racing;
 mod racing;
+mod recovering;
 mod refusing;
 mod setting;
 mod telling;

@@ -3,7 +3,7 @@ ghost use Rattle.smr_clock.specs.Belongs.{IsOf, clock_id};
 ghost use Rattle.uma_zone.specs.Zone.{zone_domains};
 ghost use Rattle.trace_worker.specs.Worker.{AreOfClock};
 
-use crate::{CountHooks, CountedZone, NameCounts, Running, Slots, Worker, move_slot};
+use crate::{Attendance, CountHooks, CountedZone, NameCounts, Naming, Running, Slots, Worker, move_slot};
 use no_keys::NoKeys;
 use smr_clock::{Bare, Clock, Pass};
 use std::alloc::Global;
@@ -76,6 +76,14 @@ fn after_alloc<R: Wait>(
     Ok(Running::new(worker, SeatLedger::new()))
 }
 
+/// The slots of a worker, which is there or away.
+fn slots_of(running: &mut Running<NoKeys>) -> &mut Slots {
+    match &mut running.attendance {
+        Attendance::There(worker) => &mut worker.slots,
+        Attendance::Away(absentee) => &mut absentee.slots,
+    }
+}
+
 #[test]
 fn an_item_is_given_and_a_refused_request_is_none(rt: HostRuntime) -> Result<(), Fail> {
     let alloc = rt.alloc();
@@ -93,19 +101,19 @@ fn an_item_is_given_and_a_refused_request_is_none(rt: HostRuntime) -> Result<(),
     };
     let first = after_alloc(&rt, alloc, zones.as_slice(), &clock, first_pass, served)?;
     let second = after_alloc(&rt, alloc, zones.as_slice(), &clock, second_pass, refused)?;
-    assert!(rt; first.worker.slots.len() == 4 && second.worker.slots.len() == 0);
     let mut workers = Vec::new(alloc);
     workers.push(first)?;
     workers.push(second)?;
+    assert!(rt; slots_of(&mut workers[0]).len() == 4 && slots_of(&mut workers[1]).len() == 0);
     move_slot(alloc, workers.as_mut_slice(), 0, 3, 1, 5)?;
-    assert!(rt; workers[1].worker.slots.len() == 6);
-    assert!(rt; workers[0].worker.slots.take(3).is_none());
-    let Some(item) = workers[1].worker.slots.take(5) else {
+    assert!(rt; slots_of(&mut workers[1]).len() == 6);
+    assert!(rt; slots_of(&mut workers[0]).take(3).is_none());
+    let Some(item) = slots_of(&mut workers[1]).take(5) else {
         return Err(Fail::new("no item"));
     };
-    assert!(rt; workers[1].worker.slots.take(5).is_none());
-    workers[1].worker.slots.put(alloc, 5, item)?;
-    assert!(rt; workers[1].worker.slots.take(5).is_some());
+    assert!(rt; slots_of(&mut workers[1]).take(5).is_none());
+    slots_of(&mut workers[1]).put(alloc, 5, item)?;
+    assert!(rt; slots_of(&mut workers[1]).take(5).is_some());
     Ok(())
 }
 
@@ -156,16 +164,16 @@ fn counts_of_bind<R: Wait>(
     requires clock { clock_id clock.now ≡ clock_id cache.now }
     requires pass { IsOf clock.now pass }
 {
-    let worker = Worker {
+    let mut worker = Worker {
         pass,
         seats: Vec::new(alloc),
         slots: Slots::with_room(alloc, 0)?,
         entered: 0,
         late: 0,
     };
-    let mut running: Running<NoKeys> = Running::new(worker, SeatLedger::new());
-    running.bind(rt, alloc, &NoKeys, cache, clock, 7, 1)?;
-    Ok(running.naming.counts)
+    let mut naming: Naming<NoKeys> = Naming::new(SeatLedger::new());
+    naming.bind(&mut worker, rt, alloc, &NoKeys, cache, clock, 7, 1)?;
+    Ok(naming.counts)
 }
 
 #[test]

@@ -1,5 +1,6 @@
 mod body;
 mod buckets;
+mod inboxes;
 mod intervals;
 mod sealing;
 mod sharing;

@@ -1,6 +1,7 @@
 mod body;
 mod crossing;
 mod held;
+mod recovering;
 mod rows;
 mod sections;
 mod setting;

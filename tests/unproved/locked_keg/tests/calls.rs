@@ -15,6 +15,7 @@ use std::alloc::Global;
 use std::snapshot::Snapshot;
 use std::sync::Wait;
 use std::test::Fail;
+use uma_bucket::{Inbox, InboxKey, Port};
 use uma_item::{Item, TrailHooks};
 use uma_keg::{FetchAsk, FetchRefused, Keg};
 use uma_seat::{SeatCache, Seating};
@@ -73,7 +74,34 @@ pub(super) fn new_seat(
         domains: 2,
         smr: false,
     };
-    Ok(SeatCache::new(alloc, 4, seating, share, misses.new_share())?)
+    let key = InboxKey {
+        clock: Snapshot::of(&clock),
+        book: locked.keg.book(),
+        zone,
+        domains: 2,
+    };
+    let ports = two_ports(alloc, &key)?;
+    Ok(SeatCache::new(
+        alloc,
+        4,
+        seating,
+        share,
+        misses.new_share(),
+        ports,
+    )?)
+}
+
+// Two ports of an inbox, which no test pushes by.
+fn two_ports(
+    alloc: Global,
+    key: &InboxKey<Bare>,
+) -> Result<Vec<Port<Item<u32>, Bare>>, Fail> {
+    let (inbox, mut taker) = Inbox::<Item<u32>, Bare>::new(alloc, key)?;
+    let mut ports = Vec::new(alloc);
+    for _ in 0..2 {
+        ports.push(inbox.port(&mut taker))?;
+    }
+    Ok(ports)
 }
 
 /// Fetches four items for a zone, where it exists and the seat's ledger has room.

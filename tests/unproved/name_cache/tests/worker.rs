@@ -9,6 +9,7 @@ use super::setting::take_pass;
 use crate::parts::EntryParts;
 use crate::{BindRefused, NameCache, Receipt};
 use crate::RaisedEntry;
+use deed_book::Memory;
 use name_rows::Names;
 use smr_clock::{Clock, Pass};
 use smr_core::Phase;
@@ -122,12 +123,22 @@ impl Worker<'_> {
         alloc: Global,
         key: u64,
     ) -> Result<Option<(u64, Receipt)>, Fail> {
+        Ok(self.try_unbind(rt, alloc, key)??)
+    }
+
+    /// Takes a key out, or tells that memory is wanting.
+    pub fn try_unbind<R: Wait>(
+        &mut self,
+        rt: &R,
+        alloc: Global,
+        key: u64,
+    ) -> Result<Result<Option<(u64, Receipt)>, Memory>, Fail> {
         if !self.seat.ledger().room() {
             return Err(Fail::new("the ledger is full"));
         }
         Ok(
             self.cache
-                .unbind(rt, alloc, self.clock, &mut self.pass, &mut self.seat, key)?,
+                .unbind(rt, alloc, self.clock, &mut self.pass, &mut self.seat, key),
         )
     }
 

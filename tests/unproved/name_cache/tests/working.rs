@@ -70,7 +70,7 @@ fn linked_entries_count_in_the_sums(rt: HostRuntime) -> Result<(), Fail> {
     let (cache, clock, passes) = new_cache(alloc, 8, 2, 0)?;
     let mut one = new_worker(&rt, alloc, &cache, &clock, passes)?;
     assert!(rt; one.bind_all(&rt, alloc, 6)?);
-    let sums = cache.sums(&rt);
+    let sums = cache.sums(&rt)?;
     assert!(rt;
         sums.deferred == 0 && sums.tally.zones[0].ctors == 6 && sums.tally.zones[0].dtors == 0
     );

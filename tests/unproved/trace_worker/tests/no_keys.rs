@@ -129,7 +129,7 @@ impl NameCalls for NoKeys {
         Err(Memory)
     }
 
-    fn sums<R: Wait>(&self, _cache: &Clock<Bare>, _rt: &R) -> Sums {
-        Sums::none()
+    fn sums<R: Wait>(&self, _cache: &Clock<Bare>, _rt: &R) -> Result<Sums, Memory> {
+        Ok(Sums::none())
     }
 }

@@ -116,7 +116,7 @@ fn sealed<R: Wait>(
     Ok(sealed)
 }
 
-/// Puts a plain bucket of one item.
+/// Puts a plain bucket of one item, and settles.
 pub(super) fn put<R: Wait>(
     rt: &R,
     alloc: Global,
@@ -129,13 +129,15 @@ pub(super) fn put<R: Wait>(
     ensures { book_table book.new ≡ book_table book.old }
 {
     let bucket = plain(rt, alloc, book, no)?;
-    match domain.put_plain(rt, bucket) {
-        Ok(()) => Ok(()),
-        Err(_) => Err(Fail::new("no memory")),
+    let mut port = domain.port(rt);
+    if domain.put_plain(rt, &mut port, bucket).is_err() {
+        return Err(Fail::new("no memory"));
     }
+    domain.settle(rt)?;
+    Ok(())
 }
 
-/// Puts a loose bucket of one item.
+/// Puts a loose bucket of one item, and settles.
 pub(super) fn put_loose<R: Wait>(
     rt: &R,
     alloc: Global,
@@ -148,13 +150,15 @@ pub(super) fn put_loose<R: Wait>(
     ensures { book_table book.new ≡ book_table book.old }
 {
     let bucket = loose(rt, alloc, book, no)?;
-    match domain.put_loose(rt, bucket) {
-        Ok(()) => Ok(()),
-        Err(_) => Err(Fail::new("no memory")),
+    let mut port = domain.port(rt);
+    if domain.put_loose(rt, &mut port, bucket).is_err() {
+        return Err(Fail::new("no memory"));
     }
+    domain.settle(rt)?;
+    Ok(())
 }
 
-/// Puts a sealed bucket of one item.
+/// Puts a sealed bucket of one item, and settles.
 pub(super) fn put_sealed<R: Wait>(
     rt: &R,
     alloc: Global,
@@ -172,8 +176,10 @@ pub(super) fn put_sealed<R: Wait>(
     ensures table { book_table book.new ≡ book_table book.old }
 {
     let bucket = sealed(rt, alloc, book, no, clock, pass)?;
-    match domain.put_sealed(rt, bucket) {
-        Ok(()) => Ok(()),
-        Err(_) => Err(Fail::new("no memory")),
+    let mut port = domain.port(rt);
+    if domain.put_sealed(rt, &mut port, bucket).is_err() {
+        return Err(Fail::new("no memory"));
     }
+    domain.settle(rt)?;
+    Ok(())
 }

@@ -1,8 +1,9 @@
 ghost use Rattle.std.specs.Prelude.{◌≡◌, false, All, [], IfOk};
 ghost use Rattle.deed_book.specs.Book.{book_table};
 ghost use Rattle.deed_book.specs.FailShare.{share_table};
+ghost use Rattle.uma_bucket.specs.Inboxes.{port_origin};
 ghost use Rattle.uma_domain.specs.Domain.{domain_identity};
-ghost use Rattle.uma_domain.specs.Identity.{home_of};
+ghost use Rattle.uma_domain.specs.Identity.{home_of, origin_of};
 ghost use Rattle.uma_domain.specs.Listed.{IsPlainOf};
 
 use super::body::Plain;
@@ -16,7 +17,7 @@ use std::snapshot::Snapshot;
 use std::sync::Wait;
 use std::test::Fail;
 use std::thread::{Threads, join};
-use uma_bucket::Bucket;
+use uma_bucket::{Bucket, Port};
 use uma_life::Body;
 
 /// How many buckets the two threads have together, each of one item.
@@ -40,25 +41,27 @@ fn buckets<R: Wait>(
     Ok(buckets)
 }
 
-/// Puts a bucket, and then takes the newest and puts it back. Answers whether each call went well.
+/// Puts a bucket and settles, and then takes the newest and puts it back. Answers whether each call went well.
 fn put_and_cycle<T: Body + Drop, H: Host, R: Wait>(
     rt: &R,
     domain: &Domain<T, H>,
     share: &mut FailShare,
+    port: &mut Port<T, H>,
     bucket: Bucket<T>,
 ) -> bool
     requires plain { (domain_identity domain.now).smr ≡ false }
     requires share { share_table share.old ≡ (domain_identity domain.now).misses }
+    requires port { port_origin port.old ≡ origin_of (domain_identity domain.now) }
     requires here { IsPlainOf (domain_identity domain.now).home bucket }
-    ensures { share_table share.new ≡ share_table share.old }
+    ensures { (share_table share.new ≡ share_table share.old) × (port_origin port.new ≡ port_origin port.old) }
 {
-    if domain.put_plain(rt, bucket).is_err() {
+    if domain.put_plain(rt, port, bucket).is_err() || domain.settle(rt).is_err() {
         return false;
     }
     let Some(taken) = domain.take_plain(rt, share) else {
         return false;
     };
-    domain.put_plain(rt, taken).is_ok()
+    domain.put_plain(rt, port, taken).is_ok()
 }
 
 /// The same with each bucket.
@@ -72,11 +75,12 @@ fn put_each<T: Body + Drop, H: Host, R: Wait>(
     requires share { share_table share ≡ (domain_identity domain.now).misses }
     requires here { All (IsPlainOf (domain_identity domain.now).home) buckets.items }
 {
+    let mut port = domain.port(rt);
     for _ in 0..buckets.len() {
         let Some(bucket) = buckets.pop() else {
             return false;
         };
-        if !put_and_cycle(rt, domain, &mut share, bucket) {
+        if !put_and_cycle(rt, domain, &mut share, &mut port, bucket) {
             return false;
         }
     }
@@ -138,6 +142,7 @@ fn two_threads_lose_no_bucket(rt: HostRuntime) -> Result<(), Fail> {
     let ones = buckets(&rt, rt.alloc(), &mut book, 0..BUCKETS / 2)?;
     let others = buckets(&rt, rt.alloc(), &mut book, BUCKETS / 2..BUCKETS)?;
     assert!(rt; two_put_each(&rt, &domain, shares, ones, others));
+    domain.settle(&rt)?;
     assert_eq!(rt; domain.count(&rt), u64::from(BUCKETS));
     let taken = domain.take_all(&rt, rt.alloc(), &clock)?;
     let counts = counts(rt.alloc(), taken)?;

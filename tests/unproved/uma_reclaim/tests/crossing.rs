@@ -18,9 +18,9 @@ fn a_drained_seat_has_no_cross_item(rt: HostRuntime) -> Result<(), Fail> {
     one.release_many(&rt, rt.alloc(), 3)?;
     assert_eq!(rt; one.seat.ledger().cross, 3);
     assert_eq!(rt; one.drain(&rt, rt.alloc())?, (0, 0));
-    assert_eq!(rt; one.found(&rt), (0, 4));
+    assert_eq!(rt; one.found(&rt)?, (0, 4));
     assert_eq!(rt; one.drain_seat(&rt, rt.alloc())?, (4, 1));
-    assert!(rt; one.found(&rt) == (0, 0) && keg(&rt, &zone) == (0, 0));
+    assert!(rt; one.found(&rt)? == (0, 0) && keg(&rt, &zone) == (0, 0));
     assert_eq!(rt; one.seat.ledger().cross, 3);
     Ok(())
 }

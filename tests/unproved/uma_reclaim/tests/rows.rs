@@ -67,7 +67,7 @@ fn a_drained_seat_takes_its_items_through_zone_fini(rt: HostRuntime) -> Result<(
     assert_eq!(rt; at_first.request_many(&rt, rt.alloc(), 1)?, 0);
     at_first.release(&rt, rt.alloc())?;
     assert_eq!(rt; at_first.drain_seat(&rt, rt.alloc())?, (4, 0));
-    assert!(rt; keg(&rt, &base) == (1, 4) && at_first.found(&rt) == (0, 0));
+    assert!(rt; keg(&rt, &base) == (1, 4) && at_first.found(&rt)? == (0, 0));
     let pass = take_pass(&clock, &mut passes)?;
     let mut at_other = new_worker(&rt, rt.alloc(), &other, &clock, pass)?;
     assert_eq!(rt; at_other.request_many(&rt, rt.alloc(), 1)?, 0);

@@ -222,16 +222,14 @@ impl Worker<'_> {
     }
 
     /// How many items the domains list, and how many the seat has, each of which passed `keg_init` once.
-    pub fn found<R: Wait>(&self, rt: &R) -> (u128, u128) {
-        (
-            self.zone.sums(rt).tally.keg_inits,
-            self.seat.sums().tally.keg_inits,
-        )
+    pub fn found<R: Wait>(&self, rt: &R) -> Result<(u128, u128), Memory> {
+        let listed = self.zone.sums(rt)?.tally.keg_inits;
+        Ok((listed, self.seat.sums().tally.keg_inits))
     }
 
     /// How many freed items the domains list, and how many the seat has, that haven't passed `dtor` yet.
-    pub fn deferred<R: Wait>(&self, rt: &R) -> (u64, u64) {
-        (self.zone.sums(rt).deferred, self.seat.sums().deferred)
+    pub fn deferred<R: Wait>(&self, rt: &R) -> Result<(u64, u64), Memory> {
+        Ok((self.zone.sums(rt)?.deferred, self.seat.sums().deferred))
     }
 
     /// Enters a section.

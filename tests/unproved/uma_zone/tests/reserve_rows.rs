@@ -108,6 +108,9 @@ fn making_room_takes_the_shelf_to_the_domain(rt: HostRuntime) -> Result<(), Fail
     assert_eq!(rt; one.seat.spare(), 0);
     one.make_room(&rt, rt.alloc())?;
     assert_eq!(rt; one.seat.spare(), 2);
+    // They are in the domain's inbox, until somebody settles it.
+    assert_eq!(rt; zone.domain(0).count(&rt), 0);
+    one.settle(&rt)?;
     assert_eq!(rt; zone.domain(0).count(&rt), 8);
     let Worker { mut seat, .. } = one;
     assert!(rt; seat.take_shelf().is_none());

@@ -87,7 +87,8 @@ impl SeatedZone {
         let domains = ZoneDomains::new(alloc, &clock, &book, 0, domains, smr)?;
         let misses = domains.open_misses(rt, own);
         let seating = domains.seating(&book, own);
-        let seat = SeatCache::new(alloc, 4, seating, fails.new_share(), misses)?;
+        let ports = domains.open_ports(rt, alloc)?;
+        let seat = SeatCache::new(alloc, 4, seating, fails.new_share(), misses, ports)?;
         Ok(SeatedZone {
             domains,
             seat,
@@ -141,9 +142,26 @@ impl SeatedZone {
         Ok(())
     }
 
+    /// Flushes the seat, and settles each domain.
     pub fn flush<R: Wait>(&mut self, rt: &R) -> Result<(), Memory> {
+        self.push(rt)?;
+        self.settle(rt)
+    }
+
+    /// Flushes the seat alone.
+    pub fn push<R: Wait>(&mut self, rt: &R) -> Result<(), Memory> {
         self.domains
             .flush(rt, &self.clock, &mut self.pass, &mut self.seat)
+    }
+
+    pub fn settle<R: Wait>(&mut self, rt: &R) -> Result<(), Memory> {
+        self.domains.settle_each(rt, &self.clock, &mut self.pass)
+    }
+
+    /// Settles the seat's own domain.
+    pub fn settle_own<R: Wait>(&mut self, rt: &R) -> Result<(), Memory> {
+        let own = self.seat.domain();
+        self.domains.settle(rt, &self.clock, &mut self.pass, own)
     }
 
     pub fn make_room<R: Wait>(&mut self, rt: &R, alloc: Global) -> Result<(), Memory> {
@@ -215,7 +233,7 @@ impl SeatedZone {
         }
     }
 
-    pub fn sums<R: Wait>(&self, rt: &R) -> Sums {
+    pub fn sums<R: Wait>(&self, rt: &R) -> Result<Sums, Memory> {
         self.domains.sums(rt)
     }
 

@@ -7,12 +7,12 @@ fn a_look_finds_nothing_while_a_section_is_open(rt: HostRuntime) -> Result<(), F
     zone.enter()?;
     zone.free_four(&rt, rt.alloc(), 0)?;
     zone.flush(&rt)?;
-    assert_eq!(rt; zone.sums(&rt).deferred, 4);
+    assert_eq!(rt; zone.sums(&rt)?.deferred, 4);
     assert!(rt; !zone.look(&rt)?);
     assert_eq!(rt; zone.alloc(), None);
     zone.exit()?;
     assert!(rt; zone.look(&rt)?);
-    assert_eq!(rt; zone.sums(&rt).deferred, 0);
+    assert_eq!(rt; zone.sums(&rt)?.deferred, 0);
     assert_eq!(rt;
         [zone.alloc(), zone.alloc(), zone.alloc(), zone.alloc()],
         [Some(3), Some(2), Some(1), Some(0)]
@@ -36,7 +36,7 @@ fn a_flush_puts_each_sealed_bucket_into_the_list_of_its_own_domain(
     // All that is freed is deferred, and all of it is of other domains than the seat's.
     let ledger = zone.ledger();
     assert_eq!(rt;
-        (ledger.frees, ledger.cross, zone.sums(&rt).deferred),
+        (ledger.frees, ledger.cross, zone.sums(&rt)?.deferred),
         (8, 8, 8)
     );
     Ok(())
@@ -61,7 +61,7 @@ fn a_flush_puts_each_loose_bucket_into_the_list_of_its_own_domain(
     );
     let ledger = zone.ledger();
     assert_eq!(rt;
-        (ledger.frees, ledger.cross, zone.sums(&rt).deferred),
+        (ledger.frees, ledger.cross, zone.sums(&rt)?.deferred),
         (16, 8, 16)
     );
     Ok(())
@@ -77,6 +77,7 @@ fn a_later_flush_seals_what_stayed_loose(rt: HostRuntime) -> Result<(), Fail> {
     // The window is used up, so this bucket stays loose, on the shelf and in the list.
     zone.free_four(&rt, rt.alloc(), 8)?;
     zone.make_room(&rt, rt.alloc())?;
+    zone.settle(&rt)?;
     assert_eq!(rt; (zone.spare(), zone.count(&rt, 0)), (2, 12));
     zone.exit()?;
     assert!(rt; zone.look(&rt)?);
@@ -92,7 +93,7 @@ fn a_later_flush_seals_what_stayed_loose(rt: HostRuntime) -> Result<(), Fail> {
 }
 
 #[test]
-fn make_room_seals_what_stayed_loose_where_two_spares_are_there(
+fn make_room_leaves_what_is_listed_loose_and_a_settle_seals_it(
     rt: HostRuntime,
 ) -> Result<(), Fail> {
     let mut zone = SeatedZone::new(&rt, rt.alloc(), 1, true)?;
@@ -101,11 +102,14 @@ fn make_room_seals_what_stayed_loose_where_two_spares_are_there(
     zone.make_room(&rt, rt.alloc())?;
     zone.free_four(&rt, rt.alloc(), 8)?;
     zone.make_room(&rt, rt.alloc())?;
+    zone.settle(&rt)?;
     assert_eq!(rt; (zone.spare(), zone.hands()), (2, (1, 5)));
     // The poll of the look brings the read hand up.
     assert!(rt; zone.look(&rt)?);
     assert_eq!(rt; (zone.spare(), zone.hands()), (2, (5, 5)));
     zone.make_room(&rt, rt.alloc())?;
+    assert_eq!(rt; (zone.spare(), zone.hands()), (2, (5, 5)));
+    zone.settle(&rt)?;
     assert_eq!(rt; (zone.spare(), zone.hands()), (2, (5, 7)));
     Ok(())
 }

@@ -23,7 +23,7 @@ fn no_item_is_lost_where_an_alloc_meets_no_memory(rt: HostRuntime) -> Result<(),
     let usable = one.give_usable(&rt);
     let held = one.held.len() as u64;
     let deferred = zone
-        .sums(&rt)
+        .sums(&rt)?
         .deferred
         .wrapping_add(one.seat.sums().deferred);
     assert_eq!(rt; deferred, 4);

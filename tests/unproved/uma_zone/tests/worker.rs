@@ -11,6 +11,7 @@ use super::hooks::Stamped;
 use super::setting::{TestZone, take_pass};
 use super::stopped::Stopped;
 use crate::{AllocAsk, AllocRefused};
+use deed_book::Memory;
 use smr_clock::{Bare, Clock, Pass};
 use smr_core::Phase;
 use std::alloc::Global;
@@ -177,6 +178,11 @@ impl Worker<'_> {
             Ok(()) => Ok(()),
             Err(_) => Err(Stopped::Memory),
         }
+    }
+
+    /// Settles each domain of the zone.
+    pub fn settle<R: Wait>(&mut self, rt: &R) -> Result<(), Memory> {
+        self.zone.settle(rt, self.clock, &mut self.pass)
     }
 
     // Sees to it that the seat has a spare bucket.
