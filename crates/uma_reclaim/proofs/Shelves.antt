@@ -19,3 +19,8 @@ at_err (Err e) x = x
 pub then_ok : {A E F G : Type 0} (result : Result A E) → (F → G) → OnOk result F → OnOk result G
 then_ok (Ok a) then x = then x
 then_ok (Err e) then x = tt
+
+-- what follows from what holds at an Err
+pub then_err : {A E F G : Type 0} (result : Result A E) → (F → G) → OnErr result F → OnErr result G
+then_err (Ok a) then x = tt
+then_err (Err e) then x = then x

@@ -1,5 +1,5 @@
 -- Takes from one domain after another.
-use Rattle.std.proofs.Common.{◌≡◌, ◌+◌, ℕ, suc, Some, List, [], ◌∷◌, ◌++◌, length, map, Result, Ok, Err, IfOk, refl, sym, subst, arith}
+use Rattle.std.proofs.Common.{◌≡◌, ◌+◌, ℕ, suc, Some, List, [], ◌∷◌, ◌++◌, length, map, Result, Ok, Err, IfOk, OnErr, fold, flat_map, refl, sym, ap, ◌∙◌, subst, arith}
 use Rattle.std.proofs.lemmas.List.{map-append, length-map}
 use Rattle.uma_domain.specs.declared.domain.Domain.{Domain}
 use Rattle.uma_domain.specs.declared.taken.Taken.{Taken}
@@ -7,10 +7,11 @@ use Rattle.uma_domain.specs.declared.taken.TakenBucket.{TakenBucket}
 use Rattle.uma_domain.specs.Taken.{taken_in}
 use Rattle.uma_zone.specs.declared.zone.Zone.{Zone}
 use Rattle.uma_zone.specs.Zone.{zone_domain}
-use Rattle.uma_domain.specs.UnderLock.{TakesUnused, TakesEach}
+use Rattle.uma_domain.specs.UnderLock.{TakesUnused, TakesEach, KeepsLists}
 use Rattle.uma_reclaim.specs.declared.extent.Extent.{Extent}
 use Rattle.uma_reclaim.specs.declared.extent.Extent.TheVariants.{Unused, All as All'}
-use Rattle.uma_reclaim.specs.Reclaimed.{Takes, IsTakenAt, TakesInTurn}
+use Rattle.uma_reclaim.specs.Reclaimed.{Takes, IsTakenAt, TakesInTurn, KeepsListsAt, StopsTaking}
+use Rattle.uma_reclaim.specs.Told.{notes_in}
 
 module _ {T K H P : Type 0} {g k h : _} (zone : Zone T K H P g k h) (extent : Extent) where
   -- one take from the domain of a number
@@ -32,3 +33,19 @@ module _ {T K H P : Type 0} {g k h : _} (zone : Zone T K H P g k h) (extent : Ex
   turn_more seen takes take number many turn here =
       let at : number ≡ 0 + length (map seen takes) = omega (arith, many, length-map takes seen) in
       subst (TakesInTurn zone extent 0) (sym (map-append seen takes (take ∷ []))) (in_turn_more 0 (map seen takes) (seen take) turn (subst (λ (n : ℕ). IsTakenAt zone extent n (seen take)) at here))
+
+  -- where memory was wanting for the take from the domain of a number
+  pub keeps_at : {E : Type 0} (number : ℕ) (domain : Domain T H P g h) (result : Result (Taken T H P g h) E) → zone_domain zone number ≡ Some domain → OnErr result (KeepsLists domain) → OnErr result (KeepsListsAt zone number)
+  keeps_at number domain (Ok taken) named kept = tt
+  keeps_at number domain (Err e) named kept = record { domain = domain; named = named; keeps = kept }
+
+  -- what was done before it changed no note
+  pub stops_from : (merged : P → P → P) (p q p' : P) → q ≡ p → StopsTaking zone extent merged q p' → StopsTaking zone extent merged p p'
+  stops_from merged p q p' same stops = record {
+    takes = stops.takes;
+    few = stops.few;
+    own = stops.own;
+    given = stops.given;
+    told = stops.told ∙ ap (λ (x : P). fold merged x (flat_map notes_in stops.takes)) same;
+    keeps = stops.keeps;
+  }

@@ -1,11 +1,12 @@
-ghost use Rattle.std.specs.Prelude.{◌≡◌, ◌≤◌, ◌<◌, length, sum_by, fold, flat_map, IfOk};
+ghost use Rattle.std.specs.Prelude.{◌≡◌, ◌<◌, sum_by, fold, flat_map, IfOk, OnErr};
 ghost use Rattle.std.specs.List.{All};
-ghost use Rattle.smr_clock.specs.Belongs.{IsOf, clock_id, view, holder};
+ghost use Rattle.smr_clock.specs.Belongs.{IsOf, clock_id, view};
 ghost use Rattle.uma_domain.specs.Taken.{taken_in};
+ghost use Rattle.uma_zone.specs.Frames.{GoesOn};
 ghost use Rattle.uma_zone.specs.Zone.{zone_clock, zone_domains};
 ghost use Rattle.uma_reclaim.specs.Given.{IsFromZone, AreGiven, items_in, counted};
 ghost use Rattle.uma_reclaim.specs.Told.{notes_in, TakesInNotes};
-ghost use Rattle.uma_reclaim.specs.Reclaimed.{takes_of, ComesFrom, IsTakenAt, TakesInTurn};
+ghost use Rattle.uma_reclaim.specs.Reclaimed.{takes_of, ComesFrom, IsTakenAt, TakesInTurn, KeepsListsAt, StopsTaking};
 
 use crate::extent::Extent;
 use crate::giving::give_taken;
@@ -33,9 +34,7 @@ pub(crate) fn give_back<T: Body, K: Hooks<T>, H: Host, R: Wait>(
 ) -> Result<Reclaimed<T, H>, Memory>
     requires clock { clock_id clock.now ≡ zone_clock zone.now }
     requires pass { IsOf clock.now pass.old }
-    ensures pass { IsOf clock.now pass.new }
-    ensures phase { (holder pass.new).phase ≡ (holder pass.old).phase }
-    ensures seen { (holder pass.old).seen ≤ (holder pass.new).seen }
+    ensures pass { GoesOn clock.now pass.old pass.new }
     ensures host { TakesInNotes H.merged (view pass.old).host (view pass.new).host }
     ensures told { IfOk result (λ done. (view pass.new).host ≡ fold H.merged (view pass.old).host (flat_map notes_in (takes_of done))) }
     ensures from { IfOk result (λ done. ComesFrom zone.now (takes_of done)) }
@@ -43,6 +42,7 @@ pub(crate) fn give_back<T: Body, K: Hooks<T>, H: Host, R: Wait>(
     ensures items { IfOk result (λ done. done.items ≡ counted (sum_by items_in (takes_of done))) }
     ensures given { IfOk result (λ done. AreGiven zone.now (takes_of done)) }
     ensures slabs { IfOk result (λ done. done.slabs ≡ 0) }
+    ensures stopped { OnErr result (StopsTaking zone.now extent H.merged (view pass.old).host (view pass.new).host) }
 {
     let mut items = 0u64;
     let mut takes = Log::new();
@@ -72,6 +72,7 @@ fn take_from<T: Body, K: Hooks<T>, H: Host, R: Wait>(
     requires domain { domain < zone_domains zone.now }
     ensures of_zone { IfOk result (λ taken. All (IsFromZone zone.now) (taken_in taken)) }
     ensures own { IfOk result (λ taken. IsTakenAt zone.now extent domain (taken_in taken)) }
+    ensures keeps { OnErr result (KeepsListsAt zone.now domain) }
 {
     match extent {
         Extent::Unused => zone.domain(domain).take_trim(rt, alloc, clock),

@@ -1,7 +1,8 @@
 ghost use Rattle.std.specs.Prelude.{◌≡◌, ◌+◌, [], IfSome, IfNone};
 ghost use Rattle.uma_life.specs.Cached.{cached_ticket};
 ghost use Rattle.uma_bucket.specs.Home.{IsHome};
-ghost use Rattle.uma_seat.specs.Seat.{usable_of, HasNoCross, IsSameSeat, KeepsFreed, KeepsRack, KeepsCounts, KeepsMisses, KeepsPorts};
+ghost use Rattle.uma_seat.specs.Seat.{usable_of, HasNoCross};
+ghost use Rattle.uma_zone.specs.Frames.{KeepsButUsable};
 ghost use Rattle.uma_zone.specs.Zone.{zone_home, IsSeatOf};
 ghost use Rattle.uma_reclaim.specs.Given.{GivesEach, counted};
 ghost use Rattle.uma_reclaim.specs.Cached.{cached_in};
@@ -25,12 +26,7 @@ pub(crate) fn give_cached<T: Body, K: Hooks<T>, H: Host, R: Wait>(
     ensures given { GivesEach zone.now (cached_in seat.old) }
     ensures no_usable { usable_of seat.new ≡ [] }
     ensures no_cross { HasNoCross seat.new }
-    ensures same { IsSameSeat seat.old seat.new }
-    ensures freed { KeepsFreed seat.old seat.new }
-    ensures rack { KeepsRack seat.old seat.new }
-    ensures counts { KeepsCounts seat.old seat.new }
-    ensures misses { KeepsMisses seat.old seat.new }
-    ensures ports { KeepsPorts seat.old seat.new }
+    ensures kept { KeepsButUsable seat.old seat.new }
 {
     let mut count = 0u64;
     while let Some(item) = take_cached(zone, seat) {
@@ -52,12 +48,7 @@ fn take_cached<T: Body, K: Hooks<T>, H: Host>(
     ensures none { IfNone result (cached_in seat.old ≡ 0) }
     ensures no_usable { IfNone result (usable_of seat.new ≡ []) }
     ensures no_cross { IfNone result (HasNoCross seat.new) }
-    ensures same { IsSameSeat seat.old seat.new }
-    ensures freed { KeepsFreed seat.old seat.new }
-    ensures rack { KeepsRack seat.old seat.new }
-    ensures counts { KeepsCounts seat.old seat.new }
-    ensures misses { KeepsMisses seat.old seat.new }
-    ensures ports { KeepsPorts seat.old seat.new }
+    ensures kept { KeepsButUsable seat.old seat.new }
 {
     match seat.try_alloc() {
         Some(item) => Some(item),

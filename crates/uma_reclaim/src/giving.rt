@@ -1,7 +1,8 @@
-ghost use Rattle.std.specs.Prelude.{◌≡◌, ◌≤◌, fold};
+ghost use Rattle.std.specs.Prelude.{◌≡◌, fold};
 ghost use Rattle.std.specs.List.{All};
-ghost use Rattle.smr_clock.specs.Belongs.{IsOf, clock_id, view, holder};
+ghost use Rattle.smr_clock.specs.Belongs.{IsOf, clock_id, view};
 ghost use Rattle.uma_domain.specs.Taken.{taken_in};
+ghost use Rattle.uma_zone.specs.Frames.{GoesOn};
 ghost use Rattle.uma_zone.specs.Zone.{zone_clock};
 ghost use Rattle.uma_reclaim.specs.Given.{IsFromZone, GivesBucket, bucket_len, items_in, counted};
 ghost use Rattle.uma_reclaim.specs.Told.{notes_of, notes_in};
@@ -24,9 +25,7 @@ pub(crate) fn give_taken<T: Body, K: Hooks<T>, H: Host, R: Wait>(
     requires clock { clock_id clock.now ≡ zone_clock zone.now }
     requires pass { IsOf clock.now pass.old }
     requires of_zone { All (IsFromZone zone.now) (taken_in taken) }
-    ensures pass { IsOf clock.now pass.new }
-    ensures phase { (holder pass.new).phase ≡ (holder pass.old).phase }
-    ensures seen { (holder pass.old).seen ≤ (holder pass.new).seen }
+    ensures pass { GoesOn clock.now pass.old pass.new }
     ensures told { (view pass.new).host ≡ fold H.merged (view pass.old).host (notes_in (taken_in taken)) }
     ensures count { result ≡ counted (items_in (taken_in taken)) }
     ensures given { All (GivesBucket zone.now) (taken_in taken) }
@@ -52,9 +51,7 @@ fn give_bucket<T: Body, K: Hooks<T>, H: Host, R: Wait>(
     requires clock { clock_id clock.now ≡ zone_clock zone.now }
     requires pass { IsOf clock.now pass.old }
     requires of_zone { IsFromZone zone.now bucket }
-    ensures pass { IsOf clock.now pass.new }
-    ensures phase { (holder pass.new).phase ≡ (holder pass.old).phase }
-    ensures seen { (holder pass.old).seen ≤ (holder pass.new).seen }
+    ensures pass { GoesOn clock.now pass.old pass.new }
     ensures told { (view pass.new).host ≡ fold H.merged (view pass.old).host (notes_of bucket) }
     ensures count { result ≡ bucket_len bucket }
     ensures given { GivesBucket zone.now bucket }

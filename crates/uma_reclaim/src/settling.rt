@@ -1,11 +1,12 @@
-ghost use Rattle.std.specs.Prelude.{◌≡◌, ◌≤◌, [], OnOk, OnErr};
-ghost use Rattle.smr_clock.specs.Belongs.{IsOf, clock_id, view, holder};
-ghost use Rattle.uma_seat.specs.Seat.{spares_of, shelf_of, IsSameSeat, KeepsTop, KeepsPlain, KeepsFreed, KeepsCounts, KeepsMisses};
+ghost use Rattle.std.specs.Prelude.{◌≡◌, [], OnOk, OnErr};
+ghost use Rattle.smr_clock.specs.Belongs.{IsOf, clock_id, view};
+ghost use Rattle.uma_seat.specs.Seat.{spares_of, shelf_of};
 ghost use Rattle.uma_zone.specs.Flushed.{HasLastOf};
+ghost use Rattle.uma_zone.specs.Frames.{KeepsPass, KeepsItems};
 ghost use Rattle.uma_zone.specs.OwnDomain.{IsFlushed};
 ghost use Rattle.uma_zone.specs.Ports.{sent_of};
 ghost use Rattle.uma_zone.specs.Zone.{zone_clock, lists_of, IsSeatOf};
-ghost use Rattle.uma_reclaim.specs.Reclaimed.{AreSettled};
+ghost use Rattle.uma_reclaim.specs.Reclaimed.{AreSettled, StopsBefore};
 
 use deed_book::Memory;
 use smr_clock::{Clock, Host, Pass};
@@ -26,21 +27,14 @@ pub(crate) fn flush_and_settle<T: Body + Drop, K: Hooks<T>, H: Host, R: Wait>(
     requires clock { clock_id clock.now ≡ zone_clock zone.now }
     requires pass { IsOf clock.now pass.old }
     ensures seat { IsSeatOf zone.now seat.new }
-    ensures pass { IsOf clock.now pass.new }
-    ensures phase { (holder pass.new).phase ≡ (holder pass.old).phase }
-    ensures seen { (holder pass.old).seen ≤ (holder pass.new).seen }
-    ensures host { (view pass.new).host ≡ (view pass.old).host }
+    ensures pass { KeepsPass clock.now pass.old pass.new }
     ensures flushes { IsFlushed (lists_of zone.now) H.copied (shelf_of seat.old) (shelf_of seat.new) (sent_of seat.old) (sent_of seat.new) (view pass.old) }
     ensures settled { OnOk result (AreSettled zone.now H.copied) }
     ensures flushed { OnOk result (shelf_of seat.new ≡ []) }
     ensures stay { OnErr result (HasLastOf (shelf_of seat.old) (shelf_of seat.new)) }
+    ensures stopped { OnErr result (StopsBefore zone.now H.copied (shelf_of seat.new)) }
     ensures spares { spares_of seat.new ≡ spares_of seat.old }
-    ensures same { IsSameSeat seat.old seat.new }
-    ensures top { KeepsTop seat.old seat.new }
-    ensures plain { KeepsPlain seat.old seat.new }
-    ensures freed { KeepsFreed seat.old seat.new }
-    ensures counts { KeepsCounts seat.old seat.new }
-    ensures misses { KeepsMisses seat.old seat.new }
+    ensures kept { KeepsItems seat.old seat.new }
 {
     zone.flush(rt, clock, pass, seat)?;
     zone.settle(rt, clock, pass)

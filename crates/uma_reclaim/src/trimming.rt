@@ -1,13 +1,14 @@
-ghost use Rattle.std.specs.Prelude.{◌≡◌, ◌≤◌, [], sum_by, fold, flat_map, IfOk, OnOk, OnErr};
-ghost use Rattle.smr_clock.specs.Belongs.{IsOf, clock_id, view, holder};
-ghost use Rattle.uma_seat.specs.Seat.{spares_of, shelf_of, IsSameSeat, KeepsTop, KeepsPlain, KeepsFreed, KeepsCounts, KeepsMisses};
+ghost use Rattle.std.specs.Prelude.{◌≡◌, [], sum_by, fold, flat_map, IfOk, OnOk, OnErr};
+ghost use Rattle.smr_clock.specs.Belongs.{IsOf, clock_id, view};
+ghost use Rattle.uma_seat.specs.Seat.{spares_of, shelf_of};
 ghost use Rattle.uma_zone.specs.Flushed.{HasLastOf};
+ghost use Rattle.uma_zone.specs.Frames.{GoesOn, KeepsItems};
 ghost use Rattle.uma_zone.specs.OwnDomain.{IsFlushed};
 ghost use Rattle.uma_zone.specs.Ports.{sent_of};
 ghost use Rattle.uma_zone.specs.Zone.{zone_clock, lists_of, IsSeatOf};
 ghost use Rattle.uma_reclaim.specs.Given.{AreGiven, items_in, counted};
 ghost use Rattle.uma_reclaim.specs.Told.{notes_in, TakesInNotes};
-ghost use Rattle.uma_reclaim.specs.Reclaimed.{takes_of, AreSettled, ComesFrom, TrimsEach};
+ghost use Rattle.uma_reclaim.specs.Reclaimed.{takes_of, AreSettled, ComesFrom, TrimsEach, TrimStops};
 
 use crate::domains::give_back;
 use crate::extent::Extent;
@@ -43,9 +44,7 @@ pub fn trim<T: Body + Drop, K: Hooks<T>, H: Host, R: Wait>(
     requires clock { clock_id clock.now ≡ zone_clock zone.now }
     requires pass { IsOf clock.now pass.old }
     ensures seat { IsSeatOf zone.now seat.new }
-    ensures pass { IsOf clock.now pass.new }
-    ensures phase { (holder pass.new).phase ≡ (holder pass.old).phase }
-    ensures seen { (holder pass.old).seen ≤ (holder pass.new).seen }
+    ensures pass { GoesOn clock.now pass.old pass.new }
     ensures host { TakesInNotes H.merged (view pass.old).host (view pass.new).host }
     ensures told { IfOk result (λ done. (view pass.new).host ≡ fold H.merged (view pass.old).host (flat_map notes_in (takes_of done))) }
     ensures from { IfOk result (λ done. ComesFrom zone.now (takes_of done)) }
@@ -57,13 +56,9 @@ pub fn trim<T: Body + Drop, K: Hooks<T>, H: Host, R: Wait>(
     ensures settled { OnOk result (AreSettled zone.now H.copied) }
     ensures flushed { OnOk result (shelf_of seat.new ≡ []) }
     ensures stay { OnErr result (HasLastOf (shelf_of seat.old) (shelf_of seat.new)) }
+    ensures stopped { OnErr result (TrimStops zone.now H.merged H.copied (shelf_of seat.new) (view pass.old).host (view pass.new).host) }
     ensures spares { spares_of seat.new ≡ spares_of seat.old }
-    ensures same { IsSameSeat seat.old seat.new }
-    ensures top { KeepsTop seat.old seat.new }
-    ensures plain { KeepsPlain seat.old seat.new }
-    ensures freed { KeepsFreed seat.old seat.new }
-    ensures counts { KeepsCounts seat.old seat.new }
-    ensures misses { KeepsMisses seat.old seat.new }
+    ensures kept { KeepsItems seat.old seat.new }
 {
     flush_and_settle(rt, zone, clock, pass, seat)?;
     give_back(rt, alloc, zone, clock, pass, Extent::Unused)

@@ -1,5 +1,6 @@
 mod Balances
 mod Censused
+mod Extremes
 mod Fetches
 mod Fills
 mod FreedWaits
@@ -10,10 +11,13 @@ mod OneFetch
 mod Opened
 mod Prealloc
 mod Rights
+mod Sealed
 mod Seats
 mod Serves
 mod Settled
 mod Shelves
+mod Tried
+mod Trimmed
 pub mod DomainSeats
 pub mod DomainShelves
 pub mod Found

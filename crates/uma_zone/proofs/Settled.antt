@@ -1,7 +1,10 @@
 -- Domains that are settled one after another.
-use Rattle.std.proofs.Common.{◌≡◌, ◌<◌, ◌+◌, ℕ, zero, suc, Result, Ok, Err, OnOk, refl, ap, subst, arith}
+use Rattle.std.proofs.Common.{◌≡◌, ◌<◌, ◌+◌, ℕ, zero, suc, Result, Ok, Err, OnOk, OnErr, IfErr, refl, ap, subst, arith}
 use Rattle.smr_clock.specs.declared.view.View.{View}
 use Rattle.uma_zone.specs.declared.domains.ZoneDomains.{ZoneDomains}
+use Rattle.zone_stats.specs.declared.refusal.Refusal.TheVariants.{Ctor}
+use Rattle.uma_zone.specs.declared.alloc_ask.AllocRefused.{AllocRefused}
+use Rattle.uma_zone.specs.declared.alloc_ask.AllocRefused.TheVariants.{Refused, Memory}
 use Rattle.uma_zone.specs.OwnDomain.{Settles, IsSettled, SettlesFirst}
 
 -- the same Err of another value's type
@@ -10,6 +13,19 @@ as_err e m same = let one : e ≡ m = cc in ap Err one
 
 pub not_err : {A E : Type 0} (a : A) (m : E) → Path (Result A E) (Ok a) (Err m) → ⊥
 not_err a m same = absurd (cc)
+
+-- what holds anyhow holds at an Err
+pub at_err : {A E F : Type 0} (result : Result A E) → F → OnErr result F
+at_err (Ok a) x = tt
+at_err (Err e) x = x
+
+-- a refusal by `ctor` isn't want of memory
+refused_not : (why : AllocRefused) (code : ℕ) → why ≡ Refused (Ctor code) → why ≡ Memory → ⊥
+refused_not why code is other = absurd (cc)
+
+pub not_memory : {A : Type 0} (F : AllocRefused → ℕ → Type 0) (result : Result A AllocRefused) → IfErr result (λ why. (code : ℕ) × (why ≡ Refused (Ctor code)) × F why code) → Path (Result A AllocRefused) result (Err Memory) → ⊥
+not_memory F (Ok a) why same = absurd (cc)
+not_memory F (Err e) why same = let is : e ≡ Memory = cc in refused_not e why.0 why.1 is
 
 module _ {T H P : Type 0} {g h : _} where
   pub settled_none : (them : ZoneDomains T H P g h) (copied : P → P) (v : View P) → SettlesFirst them copied v 0 v

@@ -2,6 +2,7 @@ pub mod Alloc
 pub mod Domains
 pub mod Fetch
 pub mod Flushed
+pub mod Frames
 pub mod Free
 pub mod Looked
 pub mod KegStates
@@ -12,7 +13,12 @@ pub mod OwnDomain
 pub mod Prealloc
 pub mod Right
 pub mod SafeReuse
+pub mod SealLaw
 pub mod Seat
 pub mod SetMax
+pub mod Stopped
 pub mod Told
+pub mod TriesLaw
+pub mod TrimLaw
+pub mod WorkingLaw
 pub mod Zone

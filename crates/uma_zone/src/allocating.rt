@@ -1,4 +1,4 @@
-ghost use Rattle.std.specs.Prelude.{◌≡◌, ◌≢◌, ◌≤◌, ◌<◌, ◌++◌, ◌∷◌, ℕ, [], length, IfOk, IfErr, OnOk, Err};
+ghost use Rattle.std.specs.Prelude.{◌≡◌, ◌≢◌, ◌≤◌, ◌<◌, ◌++◌, ◌∷◌, ℕ, [], length, IfOk, IfErr, OnOk, OnErr, Err};
 ghost use Rattle.smr_clock.specs.Belongs.{IsOf, clock_id, view, holder};
 ghost use Rattle.zone_stats.specs.LedgerSteps.{HasRoom, CountsAlloc};
 
@@ -17,6 +17,7 @@ impl<T: Body + Drop, K: Hooks<T>, H: Host> Zone<T, K, H> {
     ghost use Rattle.uma_bucket.specs.Home.{IsHome};
     ghost use Rattle.uma_seat.specs.Seat.{seat_domain, top_of, usable_of, spares_of, shelf_of, ledger_of, fetches_of, plain_of, plain_ready, IsSameSeat, KeepsPlain, KeepsFreed, KeepsRack, KeepsMisses, KeepsPorts};
     ghost use Rattle.uma_zone.specs.Flushed.{HasLastOf};
+    ghost use Rattle.uma_zone.specs.Frames.{GoesOn};
     ghost use Rattle.uma_zone.specs.OwnDomain.{IsFlushed, IsSettled};
     ghost use Rattle.uma_zone.specs.Ports.{sent_of};
     ghost use Rattle.uma_zone.specs.Zone.{zone_home, zone_clock, IsSeatOf};
@@ -33,7 +34,8 @@ impl<T: Body + Drop, K: Hooks<T>, H: Host> Zone<T, K, H> {
     ///
     /// What the one fetch found under the keg's lock: `AtLimit`, `Reserved`, `Full` or `Init`. Or `Ctor` where `ctor`
     /// refuses the item, which lies on top of the seat's usable items again. Each is counted, and kept by the seat's
-    /// ledger. `Memory` where memory is wanting, which is counted nowhere; no item is lost.
+    /// ledger. `Memory` where memory is wanting, which is counted nowhere; no item is lost. The pass has taken in no note
+    /// then, so that no bucket of freed items was opened.
     pub fn alloc<R: Wait>(
         &self,
         rt: &R,
@@ -62,6 +64,7 @@ impl<T: Body + Drop, K: Hooks<T>, H: Host> Zone<T, K, H> {
         ensures unflushed { usable_of seat.old ≢ [] → KeepsRack seat.old seat.new }
         ensures unpushed { usable_of seat.old ≢ [] → KeepsPorts seat.old seat.new }
         ensures unseen { usable_of seat.old ≢ [] → view pass.new ≡ view pass.old }
+        ensures unheard { result ≡ Err AllocRefused.Memory → (view pass.new).host ≡ (view pass.old).host }
         ensures plain { plain_of seat.new ≡ plain_ready seat.old }
         ensures freed { KeepsFreed seat.old seat.new }
         ensures same { IsSameSeat seat.old seat.new }
@@ -85,9 +88,7 @@ impl<T: Body + Drop, K: Hooks<T>, H: Host> Zone<T, K, H> {
         requires pass { IsOf clock.now pass.old }
         requires room { HasRoom (ledger_of seat.old) }
         ensures seat { IsSeatOf self.now seat.new }
-        ensures pass { IsOf clock.now pass.new }
-        ensures phase { (holder pass.new).phase ≡ (holder pass.old).phase }
-        ensures seen { (holder pass.old).seen ≤ (holder pass.new).seen }
+        ensures pass { GoesOn clock.now pass.old pass.new }
         ensures host { TakesInNote H.merged (view pass.old).host (view pass.new).host }
         ensures home { IfOk result (λ item. IsHome (zone_home self.now) (cached_ticket item)) }
         ensures takes { IfOk result (λ item. Takes self.now reserve seat.old item (usable_of seat.new) seat.new) }
@@ -101,6 +102,7 @@ impl<T: Body + Drop, K: Hooks<T>, H: Host> Zone<T, K, H> {
         ensures unflushed { usable_of seat.old ≢ [] → KeepsRack seat.old seat.new }
         ensures unpushed { usable_of seat.old ≢ [] → KeepsPorts seat.old seat.new }
         ensures unseen { usable_of seat.old ≢ [] → view pass.new ≡ view pass.old }
+        ensures unheard { OnErr result ((view pass.new).host ≡ (view pass.old).host) }
         ensures plain { plain_of seat.new ≡ plain_ready seat.old }
         ensures freed { KeepsFreed seat.old seat.new }
         ensures same { IsSameSeat seat.old seat.new }
@@ -131,9 +133,7 @@ impl<T: Body + Drop, K: Hooks<T>, H: Host> Zone<T, K, H> {
         requires room { HasRoom (ledger_of seat.old) }
         requires none { usable_of seat.old ≡ [] }
         ensures seat { IsSeatOf self.now seat.new }
-        ensures pass { IsOf clock.now pass.new }
-        ensures phase { (holder pass.new).phase ≡ (holder pass.old).phase }
-        ensures seen { (holder pass.old).seen ≤ (holder pass.new).seen }
+        ensures pass { GoesOn clock.now pass.old pass.new }
         ensures host { TakesInNote H.merged (view pass.old).host (view pass.new).host }
         ensures filled { OnOk result (IsFilled self.now reserve seat.old seat.new) }
         ensures refused { IfErr result (RefusesToTake self.now reserve seat.old seat.new) }
@@ -141,6 +141,7 @@ impl<T: Body + Drop, K: Hooks<T>, H: Host> Zone<T, K, H> {
         ensures shelf { HasLastOf (shelf_of seat.old) (shelf_of seat.new) }
         ensures flushed { IsFlushed self.now.domains H.copied (shelf_of seat.old) (shelf_of seat.new) (sent_of seat.old) (sent_of seat.new) (view pass.old) }
         ensures settled { (result ≡ Err AllocRefused.Memory → ⊥) → IsSettled self.now.domains (seat_domain seat.old) H.copied }
+        ensures unheard { OnErr result ((view pass.new).host ≡ (view pass.old).host) }
         ensures plain { KeepsPlain seat.old seat.new }
         ensures freed { KeepsFreed seat.old seat.new }
         ensures same { IsSameSeat seat.old seat.new }

@@ -1,8 +1,9 @@
 ghost use Rattle.std.specs.Prelude.{◌≡◌, ◌≤◌, ◌<◌, ◌+◌, ◌∷◌, ◌++◌, [], length, map, None, Some, IfSome, IfNone, IfErr, OnOk, OnErr};
-ghost use Rattle.smr_clock.specs.Belongs.{IsOf, clock_id, view, holder};
-ghost use Rattle.uma_seat.specs.Seat.{seat_home, seat_clock, spares_of, shelf_of, IsSameSeat, KeepsTop, KeepsPlain, KeepsFreed, KeepsRack, KeepsCounts, KeepsMisses, KeepsPorts};
+ghost use Rattle.smr_clock.specs.Belongs.{IsOf, clock_id, view};
+ghost use Rattle.uma_seat.specs.Seat.{seat_home, seat_clock, spares_of, shelf_of, KeepsRack, KeepsPorts};
 ghost use Rattle.uma_zone.specs.Domains.{domains_home, domains_clock, IsSeatOf};
 ghost use Rattle.uma_zone.specs.Flushed.{bound_of, HasLastOf, TakesTried, in_order, AreLastOf, CanBePut};
+ghost use Rattle.uma_zone.specs.Frames.{KeepsPass, KeepsItems};
 ghost use Rattle.uma_zone.specs.OwnDomain.{IsSent, SentEach, PutsFirst, Flushes};
 ghost use Rattle.uma_zone.specs.Ports.{HasPorts, sent_of};
 
@@ -32,21 +33,13 @@ impl<T: Body + Drop, H: Host> ZoneDomains<T, H> {
         requires clock { clock_id clock.now ≡ domains_clock self.now }
         requires pass { IsOf clock.now pass.old }
         requires seat { IsSeatOf self.now seat.old }
-        ensures pass { IsOf clock.now pass.new }
-        ensures phase { (holder pass.new).phase ≡ (holder pass.old).phase }
-        ensures seen { (holder pass.old).seen ≤ (holder pass.new).seen }
-        ensures host { (view pass.new).host ≡ (view pass.old).host }
+        ensures pass { KeepsPass clock.now pass.old pass.new }
         ensures seat { IsSeatOf self.now seat.new }
         ensures flushed { OnOk result (shelf_of seat.new ≡ []) }
         ensures stay { OnErr result (HasLastOf (shelf_of seat.old) (shelf_of seat.new)) }
         ensures some_stay { OnErr result (0 < length (shelf_of seat.new)) }
         ensures spares { spares_of seat.new ≡ spares_of seat.old }
-        ensures same { IsSameSeat seat.old seat.new }
-        ensures top { KeepsTop seat.old seat.new }
-        ensures plain { KeepsPlain seat.old seat.new }
-        ensures freed { KeepsFreed seat.old seat.new }
-        ensures counts { KeepsCounts seat.old seat.new }
-        ensures misses { KeepsMisses seat.old seat.new }
+        ensures kept { KeepsItems seat.old seat.new }
         ensures flushes { Flushes self.now H.copied (shelf_of seat.old) (shelf_of seat.new) (sent_of seat.old) (sent_of seat.new) (view pass.old) (view pass.new) }
     {
         let oldest = take_tried(clock, pass, seat);
@@ -66,21 +59,13 @@ impl<T: Body + Drop, H: Host> ZoneDomains<T, H> {
         requires clock { clock_id clock.now ≡ domains_clock self.now }
         requires pass { IsOf clock.now pass.old }
         requires seat { IsSeatOf self.now seat.old }
-        ensures pass { IsOf clock.now pass.new }
-        ensures phase { (holder pass.new).phase ≡ (holder pass.old).phase }
-        ensures seen { (holder pass.old).seen ≤ (holder pass.new).seen }
-        ensures host { (view pass.new).host ≡ (view pass.old).host }
+        ensures pass { KeepsPass clock.now pass.old pass.new }
         ensures seat { IsSeatOf self.now seat.new }
         ensures two { OnOk result (length (spares_of seat.new) ≡ 2) }
         ensures flushed { OnOk result (shelf_of seat.new ≡ []) }
         ensures spares { length (spares_of seat.old) ≤ length (spares_of seat.new) }
         ensures stay { OnErr result (HasLastOf (shelf_of seat.old) (shelf_of seat.new)) }
-        ensures same { IsSameSeat seat.old seat.new }
-        ensures top { KeepsTop seat.old seat.new }
-        ensures plain { KeepsPlain seat.old seat.new }
-        ensures freed { KeepsFreed seat.old seat.new }
-        ensures counts { KeepsCounts seat.old seat.new }
-        ensures misses { KeepsMisses seat.old seat.new }
+        ensures kept { KeepsItems seat.old seat.new }
         ensures flushes { Flushes self.now H.copied (shelf_of seat.old) (shelf_of seat.new) (sent_of seat.old) (sent_of seat.new) (view pass.old) (view pass.new) }
     {
         self.flush(rt, clock, pass, seat)?;
@@ -107,12 +92,7 @@ impl<T: Body + Drop, H: Host> ZoneDomains<T, H> {
         ensures some_stay { OnErr result (0 < length (shelf_of seat.new)) }
         ensures ports { HasPorts self.now seat.new }
         ensures spares { spares_of seat.new ≡ spares_of seat.old }
-        ensures same { IsSameSeat seat.old seat.new }
-        ensures top { KeepsTop seat.old seat.new }
-        ensures plain { KeepsPlain seat.old seat.new }
-        ensures freed { KeepsFreed seat.old seat.new }
-        ensures counts { KeepsCounts seat.old seat.new }
-        ensures misses { KeepsMisses seat.old seat.new }
+        ensures kept { KeepsItems seat.old seat.new }
         ensures puts { PutsFirst self.now (in_order oldest newest) (shelf_of seat.new) (sent_of seat.old) (sent_of seat.new) }
     {
         match self.put_if_some(rt, seat, oldest) {
@@ -143,12 +123,7 @@ impl<T: Body + Drop, H: Host> ZoneDomains<T, H> {
         ensures some_stay { OnErr result (0 < length (shelf_of seat.new)) }
         ensures ports { HasPorts self.now seat.new }
         ensures spares { spares_of seat.new ≡ spares_of seat.old }
-        ensures same { IsSameSeat seat.old seat.new }
-        ensures top { KeepsTop seat.old seat.new }
-        ensures plain { KeepsPlain seat.old seat.new }
-        ensures freed { KeepsFreed seat.old seat.new }
-        ensures counts { KeepsCounts seat.old seat.new }
-        ensures misses { KeepsMisses seat.old seat.new }
+        ensures kept { KeepsItems seat.old seat.new }
         ensures puts { PutsFirst self.now (in_order None newest) (shelf_of seat.new) (sent_of seat.old) (sent_of seat.new) }
     {
         match self.put_if_some(rt, seat, newest) {
@@ -173,13 +148,8 @@ impl<T: Body + Drop, H: Host> ZoneDomains<T, H> {
         ensures ports { HasPorts self.now seat.new }
         ensures sent { OnOk result (SentEach self.now (sent_of seat.old) (in_order None shelved) (sent_of seat.new)) }
         ensures still { OnErr result (sent_of seat.new ≡ sent_of seat.old) }
-        ensures same { IsSameSeat seat.old seat.new }
-        ensures top { KeepsTop seat.old seat.new }
-        ensures plain { KeepsPlain seat.old seat.new }
-        ensures freed { KeepsFreed seat.old seat.new }
+        ensures kept { KeepsItems seat.old seat.new }
         ensures rack { KeepsRack seat.old seat.new }
-        ensures counts { KeepsCounts seat.old seat.new }
-        ensures misses { KeepsMisses seat.old seat.new }
     {
         match shelved {
             Some(shelved) => self.put(rt, seat, shelved),
@@ -201,13 +171,8 @@ impl<T: Body + Drop, H: Host> ZoneDomains<T, H> {
         ensures ports { HasPorts self.now seat.new }
         ensures sent { OnOk result (IsSent self.now (sent_of seat.old) shelved (sent_of seat.new)) }
         ensures still { OnErr result (sent_of seat.new ≡ sent_of seat.old) }
-        ensures same { IsSameSeat seat.old seat.new }
-        ensures top { KeepsTop seat.old seat.new }
-        ensures plain { KeepsPlain seat.old seat.new }
-        ensures freed { KeepsFreed seat.old seat.new }
+        ensures kept { KeepsItems seat.old seat.new }
         ensures rack { KeepsRack seat.old seat.new }
-        ensures counts { KeepsCounts seat.old seat.new }
-        ensures misses { KeepsMisses seat.old seat.new }
     {
         match shelved {
             Shelved::Plain { domain, bucket } => match self
@@ -243,10 +208,7 @@ fn take_tried<T: Body, H: Host>(
 ) -> Option<Shelved<T, H>>
     requires clock { clock_id clock.now ≡ seat_clock seat.old }
     requires pass { IsOf clock.now pass.old }
-    ensures pass { IsOf clock.now pass.new }
-    ensures phase { (holder pass.new).phase ≡ (holder pass.old).phase }
-    ensures seen { (holder pass.old).seen ≤ (holder pass.new).seen }
-    ensures host { (view pass.new).host ≡ (view pass.old).host }
+    ensures pass { KeepsPass clock.now pass.old pass.new }
     ensures tried { IfSome result (λ tried. TakesTried H.copied (view pass.old) (shelf_of seat.old) tried (shelf_of seat.new) (view pass.new)) }
     ensures bound { IfSome result (λ tried. map bound_of (shelf_of seat.old) ≡ bound_of tried ∷ map bound_of (shelf_of seat.new)) }
     ensures can { IfSome result (CanBePut (seat_home seat.old) (seat_clock seat.old)) }
@@ -254,12 +216,7 @@ fn take_tried<T: Body, H: Host>(
     ensures unchanged { IfNone result (shelf_of seat.new ≡ []) }
     ensures unseen { IfNone result (view pass.new ≡ view pass.old) }
     ensures spares { spares_of seat.new ≡ spares_of seat.old }
-    ensures same { IsSameSeat seat.old seat.new }
-    ensures top { KeepsTop seat.old seat.new }
-    ensures plain { KeepsPlain seat.old seat.new }
-    ensures freed { KeepsFreed seat.old seat.new }
-    ensures counts { KeepsCounts seat.old seat.new }
-    ensures misses { KeepsMisses seat.old seat.new }
+    ensures kept { KeepsItems seat.old seat.new }
     ensures ports { KeepsPorts seat.old seat.new }
 {
     match seat.take_shelf()? {
@@ -275,12 +232,7 @@ fn put_back<T: Body, H: Host>(seat: &mut SeatCache<T, H>, shelved: Option<Shelve
     requires can { IfSome shelved (CanBePut (seat_home seat.old) (seat_clock seat.old)) }
     ensures shelf { shelf_of seat.new ≡ in_order None shelved }
     ensures spares { spares_of seat.new ≡ spares_of seat.old }
-    ensures same { IsSameSeat seat.old seat.new }
-    ensures top { KeepsTop seat.old seat.new }
-    ensures plain { KeepsPlain seat.old seat.new }
-    ensures freed { KeepsFreed seat.old seat.new }
-    ensures counts { KeepsCounts seat.old seat.new }
-    ensures misses { KeepsMisses seat.old seat.new }
+    ensures kept { KeepsItems seat.old seat.new }
     ensures ports { KeepsPorts seat.old seat.new }
 {
     match shelved {
@@ -295,12 +247,7 @@ fn add_spares<T: Body, H: Host>(alloc: Global, seat: &mut SeatCache<T, H>) -> Re
     ensures two { OnOk result (length (spares_of seat.new) ≡ 2) }
     ensures more { length (spares_of seat.old) ≤ length (spares_of seat.new) }
     ensures shelf { shelf_of seat.new ≡ [] }
-    ensures same { IsSameSeat seat.old seat.new }
-    ensures top { KeepsTop seat.old seat.new }
-    ensures plain { KeepsPlain seat.old seat.new }
-    ensures freed { KeepsFreed seat.old seat.new }
-    ensures counts { KeepsCounts seat.old seat.new }
-    ensures misses { KeepsMisses seat.old seat.new }
+    ensures kept { KeepsItems seat.old seat.new }
     ensures ports { KeepsPorts seat.old seat.new }
 {
     for _ in seat.spare()..2 {

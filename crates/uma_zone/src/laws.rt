@@ -3,6 +3,10 @@
 ghost use Rattle.uma_seat.specs.declared.seat.SeatCache.{SeatCache};
 ghost use Rattle.uma_zone.specs.declared.zone.Zone.{Zone};
 ghost use Rattle.uma_zone.specs.SafeReuse.{ServedBalances, RefusedBalances, KeptBalances, FreedWait};
+ghost use Rattle.uma_zone.specs.SealLaw.{GoalsAreLater};
+ghost use Rattle.uma_zone.specs.TriesLaw.{TriesLoseNone};
+ghost use Rattle.uma_zone.specs.TrimLaw.{TrimsKeepFloor, DrainsLoseNone};
+ghost use Rattle.uma_zone.specs.WorkingLaw.{TellsExtremes, IsFarthest};
 
 use smr_clock::Host;
 use uma_life::{Body, Hooks};
@@ -20,4 +24,32 @@ pub fn freed_items_wait<T: Body, K: Hooks<T>, H: Host>()
     ensures refused { (zone : Zone T K H H.Part T.Body K.Hooks H.Host) → RefusedBalances zone }
     ensures kept { (old : SeatCache T H H.Part T.Body H.Host) → (new : SeatCache T H H.Part T.Body H.Host) → KeptBalances old new }
     ensures sequence { FreedWait T H H.Part T.Body H.Host }
+{}
+
+/// What a trim leaves listed of a domain is at least its working set, where it takes any bucket, and it stops at the first
+/// bucket whose removal would leave fewer items. Neither a trim nor a drain loses an item: those taken and those left are
+/// all that were listed.
+pub fn trims_keep_the_working_set<T: Body, H: Host>()
+    ensures trims { TrimsKeepFloor T H H.Part T.Body H.Host }
+    ensures drains { DrainsLoseNone T H H.Part T.Body H.Host }
+{}
+
+/// The least and the greatest count of items that a domain listed since its last mark are the extremes of the counts after
+/// each put and take since then. So no two of those counts were further apart than the working set.
+pub fn the_working_set_is_how_far_the_count_moved()
+    ensures extremes { TellsExtremes }
+    ensures farthest { IsFarthest }
+{}
+
+/// Each loose bucket of a domain that is tried stays loose or is sealed, in its order, and none is lost. One that is sealed
+/// waits for a goal that was made in these tries, so after its items were freed.
+pub fn tries_lose_no_bucket<T: Body, H: Host>()
+    ensures { TriesLoseNone T H H.Part T.Body H.Host }
+{}
+
+/// A freed item waits for a goal that is made no earlier than in its own free. Over the frees of a seat, the bucket that one
+/// fills has only items that this free or an earlier one freed, and where it is sealed then, its goal is made in this free.
+/// A bucket that stays loose is sealed by a later try.
+pub fn goals_are_later_than_frees<T: Body, H: Host>()
+    ensures { GoalsAreLater T H H.Part T.Body H.Host }
 {}

@@ -26,8 +26,12 @@
 //!   found; the limit that a zone was made with is a number of its own (`zone_limit`).
 //! - Safe reuse over a zone's calls is stated by tickets (`specs/SafeReuse`): an equation of lists for each call, and a law
 //!   of every sequence of calls. It names the ripe bucket of which the items are, with its goal, and its note, which knows
-//!   the goal to be expired. That a poll of this very call said yes, and that the goal was made after the items were freed,
-//!   is `uma_domain`'s and `uma_bucket`'s: a domain's lock hides which sealed bucket became the ripe one.
+//!   the goal to be expired. That a poll of this very call said yes is `uma_domain`'s: a domain's lock hides which sealed
+//!   bucket became the ripe one. That a bucket's goal is made no earlier than the frees of its items is a law over the frees
+//!   of a seat (`specs/SealLaw`), and for a bucket that stays loose one of its later tries (`specs/TriesLaw`).
+//! - What a domain's lists come to over its calls is said by laws (`laws`): that a trim leaves the working set and stops
+//!   there, that neither a trim nor a drain loses an item, and that the working set is how far the count moved. The domain's
+//!   calls say the same step by step, in `uma_domain`.
 //! - A fetch comes out of the keg's lock with its whole contract (`IsOneFetch`, `IsOneRefusal`): a keg of the zone's book,
 //!   and one fetch of it by the request's own right to the reserve. Likewise for `prealloc` and `set_max`. All that it
 //!   fetched is on the seat (`FetchesSome`).

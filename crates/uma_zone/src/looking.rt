@@ -1,10 +1,11 @@
 ghost use Rattle.std.specs.Prelude.{◌≡◌, ◌≤◌, ◌<◌, [], length, true, false, IfSome, IfNone};
-ghost use Rattle.smr_clock.specs.Belongs.{IsOf, clock_id, view, holder};
+ghost use Rattle.smr_clock.specs.Belongs.{IsOf, clock_id, view};
 ghost use Rattle.uma_bucket.specs.Ripe.{ripe_bucket, IsRipeAt};
 ghost use Rattle.uma_domain.specs.Listed.{IsPlainOf, IsLooseOf};
 ghost use Rattle.uma_domain.specs.Lists.{IsRaised};
-ghost use Rattle.uma_seat.specs.Seat.{seat_domain, top_bucket, top_of, usable_of, spares_of, shelf_of, misses_of, IsSameSeat, KeepsTop, KeepsPlain, KeepsFreed, KeepsRack, KeepsCounts, KeepsMisses, KeepsPorts};
+ghost use Rattle.uma_seat.specs.Seat.{seat_domain, top_bucket, top_of, usable_of, spares_of, misses_of, KeepsTop, KeepsRack, KeepsMisses};
 ghost use Rattle.uma_zone.specs.Domains.{domains_home, domains_clock, domains_smr, IsSeatOf};
+ghost use Rattle.uma_zone.specs.Frames.{GoesOn, KeepsButTop, KeepsButMisses};
 ghost use Rattle.uma_zone.specs.Looked.{IsOfRipe};
 ghost use Rattle.uma_zone.specs.OwnDomain.{ArePlainOf, AreRipeOf, AreFoundIn, FindsNothing, TakesPlainAt, TakesRipeAt};
 
@@ -32,9 +33,7 @@ impl<T: Body, H: Host> ZoneDomains<T, H> {
         requires clock { clock_id clock.now ≡ domains_clock self.now }
         requires pass { IsOf clock.now pass.old }
         requires seat { IsSeatOf self.now seat.old }
-        ensures pass { IsOf clock.now pass.new }
-        ensures phase { (holder pass.new).phase ≡ (holder pass.old).phase }
-        ensures seen { (holder pass.old).seen ≤ (holder pass.new).seen }
+        ensures pass { GoesOn clock.now pass.old pass.new }
         ensures seat { IsSeatOf self.now seat.new }
         ensures found { result ≡ true → 0 < length (top_of seat.new).items }
         ensures ripe { domains_smr self.now ≡ true → result ≡ true → IsOfRipe self.now H.merged (K.leaves_dtor hooks.now) (view pass.old) (top_bucket seat.new) (view pass.new) }
@@ -45,12 +44,7 @@ impl<T: Body, H: Host> ZoneDomains<T, H> {
         ensures unseen { result ≡ false → view pass.new ≡ view pass.old }
         ensures unseen_plain { domains_smr self.now ≡ false → view pass.new ≡ view pass.old }
         ensures spares { length (spares_of seat.old) ≤ length (spares_of seat.new) }
-        ensures shelf { shelf_of seat.new ≡ shelf_of seat.old }
-        ensures same { IsSameSeat seat.old seat.new }
-        ensures plain { KeepsPlain seat.old seat.new }
-        ensures freed { KeepsFreed seat.old seat.new }
-        ensures counts { KeepsCounts seat.old seat.new }
-        ensures ports { KeepsPorts seat.old seat.new }
+        ensures kept { KeepsButTop seat.old seat.new }
         ensures own { result ≡ true → AreFoundIn self.now (seat_domain seat.old) (K.leaves_dtor hooks.now) (top_of seat.new).items }
         ensures looked { result ≡ false → FindsNothing self.now (seat_domain seat.old) }
     {
@@ -73,12 +67,7 @@ impl<T: Body, H: Host> ZoneDomains<T, H> {
         ensures no_top { result ≡ false → KeepsTop seat.old seat.new }
         ensures no_rack { result ≡ false → KeepsRack seat.old seat.new }
         ensures spares { length (spares_of seat.old) ≤ length (spares_of seat.new) }
-        ensures shelf { shelf_of seat.new ≡ shelf_of seat.old }
-        ensures same { IsSameSeat seat.old seat.new }
-        ensures plain { KeepsPlain seat.old seat.new }
-        ensures freed { KeepsFreed seat.old seat.new }
-        ensures counts { KeepsCounts seat.old seat.new }
-        ensures ports { KeepsPorts seat.old seat.new }
+        ensures kept { KeepsButTop seat.old seat.new }
         ensures own { result ≡ true → ArePlainOf self.now (seat_domain seat.old) (top_of seat.new).items }
         ensures looked { result ≡ false → FindsNothing self.now (seat_domain seat.old) }
     {
@@ -105,9 +94,7 @@ impl<T: Body, H: Host> ZoneDomains<T, H> {
         requires clock { clock_id clock.now ≡ domains_clock self.now }
         requires pass { IsOf clock.now pass.old }
         requires seat { IsSeatOf self.now seat.old }
-        ensures pass { IsOf clock.now pass.new }
-        ensures phase { (holder pass.new).phase ≡ (holder pass.old).phase }
-        ensures seen { (holder pass.old).seen ≤ (holder pass.new).seen }
+        ensures pass { GoesOn clock.now pass.old pass.new }
         ensures seat { IsSeatOf self.now seat.new }
         ensures found { result ≡ true → 0 < length (top_of seat.new).items }
         ensures ripe { result ≡ true → IsOfRipe self.now H.merged (K.leaves_dtor hooks.now) (view pass.old) (top_bucket seat.new) (view pass.new) }
@@ -117,12 +104,7 @@ impl<T: Body, H: Host> ZoneDomains<T, H> {
         ensures no_rack { result ≡ false → KeepsRack seat.old seat.new }
         ensures unseen { result ≡ false → view pass.new ≡ view pass.old }
         ensures spares { length (spares_of seat.old) ≤ length (spares_of seat.new) }
-        ensures shelf { shelf_of seat.new ≡ shelf_of seat.old }
-        ensures same { IsSameSeat seat.old seat.new }
-        ensures plain { KeepsPlain seat.old seat.new }
-        ensures freed { KeepsFreed seat.old seat.new }
-        ensures counts { KeepsCounts seat.old seat.new }
-        ensures ports { KeepsPorts seat.old seat.new }
+        ensures kept { KeepsButTop seat.old seat.new }
         ensures own { result ≡ true → AreRipeOf self.now (seat_domain seat.old) (K.leaves_dtor hooks.now) (top_of seat.new).items }
         ensures looked { result ≡ false → FindsNothing self.now (seat_domain seat.old) }
     {
@@ -145,13 +127,7 @@ impl<T: Body, H: Host> ZoneDomains<T, H> {
         ensures hit { IfSome result (λ _. KeepsMisses seat.old seat.new) }
         ensures missed { IfNone result (IsRaised (misses_of seat.old) (misses_of seat.new)) }
         ensures seat { IsSeatOf self.now seat.new }
-        ensures same { IsSameSeat seat.old seat.new }
-        ensures top { KeepsTop seat.old seat.new }
-        ensures plain { KeepsPlain seat.old seat.new }
-        ensures freed { KeepsFreed seat.old seat.new }
-        ensures rack { KeepsRack seat.old seat.new }
-        ensures counts { KeepsCounts seat.old seat.new }
-        ensures ports { KeepsPorts seat.old seat.new }
+        ensures kept { KeepsButMisses seat.old seat.new }
         ensures own { IfSome result (TakesPlainAt self.now (seat_domain seat.old)) }
         ensures looked { IfNone result (FindsNothing self.now (seat_domain seat.old)) }
     {
@@ -174,13 +150,7 @@ impl<T: Body, H: Host> ZoneDomains<T, H> {
         ensures hit { IfSome result (λ _. KeepsMisses seat.old seat.new) }
         ensures missed { IfNone result (IsRaised (misses_of seat.old) (misses_of seat.new)) }
         ensures seat { IsSeatOf self.now seat.new }
-        ensures same { IsSameSeat seat.old seat.new }
-        ensures top { KeepsTop seat.old seat.new }
-        ensures plain { KeepsPlain seat.old seat.new }
-        ensures freed { KeepsFreed seat.old seat.new }
-        ensures rack { KeepsRack seat.old seat.new }
-        ensures counts { KeepsCounts seat.old seat.new }
-        ensures ports { KeepsPorts seat.old seat.new }
+        ensures kept { KeepsButMisses seat.old seat.new }
         ensures own { IfSome result (TakesRipeAt self.now (seat_domain seat.old)) }
         ensures looked { IfNone result (FindsNothing self.now (seat_domain seat.old)) }
     {

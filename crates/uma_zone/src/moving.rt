@@ -1,5 +1,5 @@
 ghost use Rattle.std.specs.Prelude.{◌≡◌, ◌≤◌, ◌<◌, ℕ, [], length, OnOk, OnErr};
-ghost use Rattle.smr_clock.specs.Belongs.{IsOf, clock_id, view, holder};
+ghost use Rattle.smr_clock.specs.Belongs.{IsOf, clock_id, view};
 
 use crate::zone::Zone;
 use deed_book::Memory;
@@ -10,10 +10,12 @@ use uma_life::{Body, Hooks};
 use uma_seat::SeatCache;
 
 impl<T: Body + Drop, K: Hooks<T>, H: Host> Zone<T, K, H> {
-    ghost use Rattle.uma_seat.specs.Seat.{spares_of, shelf_of, IsSameSeat, KeepsTop, KeepsPlain, KeepsFreed, KeepsCounts, KeepsMisses};
+    ghost use Rattle.uma_seat.specs.Seat.{spares_of, shelf_of};
     ghost use Rattle.uma_zone.specs.Flushed.{HasLastOf};
+    ghost use Rattle.uma_zone.specs.Frames.{KeepsPass, KeepsItems};
     ghost use Rattle.uma_zone.specs.OwnDomain.{Flushes, SettlesFirst};
     ghost use Rattle.uma_zone.specs.Ports.{sent_of};
+    ghost use Rattle.uma_zone.specs.Stopped.{StopsSettling};
     ghost use Rattle.uma_zone.specs.Zone.{zone_clock, zone_domains, IsSeatOf};
 
     /// Takes the buckets of the seat's shelf to the inboxes of their domains, oldest first, or to the lists where an inbox
@@ -31,19 +33,12 @@ impl<T: Body + Drop, K: Hooks<T>, H: Host> Zone<T, K, H> {
         requires clock { clock_id clock.now ≡ zone_clock self.now }
         requires pass { IsOf clock.now pass.old }
         ensures seat { IsSeatOf self.now seat.new }
-        ensures pass { IsOf clock.now pass.new }
-        ensures phase { (holder pass.new).phase ≡ (holder pass.old).phase }
-        ensures seen { (holder pass.old).seen ≤ (holder pass.new).seen }
-        ensures host { (view pass.new).host ≡ (view pass.old).host }
+        ensures pass { KeepsPass clock.now pass.old pass.new }
         ensures flushed { OnOk result (shelf_of seat.new ≡ []) }
         ensures stay { OnErr result (HasLastOf (shelf_of seat.old) (shelf_of seat.new)) }
+        ensures some_stay { OnErr result (0 < length (shelf_of seat.new)) }
         ensures spares { spares_of seat.new ≡ spares_of seat.old }
-        ensures same { IsSameSeat seat.old seat.new }
-        ensures top { KeepsTop seat.old seat.new }
-        ensures plain { KeepsPlain seat.old seat.new }
-        ensures freed { KeepsFreed seat.old seat.new }
-        ensures counts { KeepsCounts seat.old seat.new }
-        ensures misses { KeepsMisses seat.old seat.new }
+        ensures kept { KeepsItems seat.old seat.new }
         ensures flushes { Flushes self.now.domains H.copied (shelf_of seat.old) (shelf_of seat.new) (sent_of seat.old) (sent_of seat.new) (view pass.old) (view pass.new) }
     {
         self.domains.flush(rt, clock, pass, seat)
@@ -60,12 +55,10 @@ impl<T: Body + Drop, K: Hooks<T>, H: Host> Zone<T, K, H> {
     ) -> Result<(), Memory>
         requires clock { clock_id clock.now ≡ zone_clock self.now }
         requires pass { IsOf clock.now pass.old }
-        ensures pass { IsOf clock.now pass.new }
-        ensures phase { (holder pass.new).phase ≡ (holder pass.old).phase }
-        ensures seen { (holder pass.old).seen ≤ (holder pass.new).seen }
-        ensures host { (view pass.new).host ≡ (view pass.old).host }
+        ensures pass { KeepsPass clock.now pass.old pass.new }
         ensures settled { OnOk result (SettlesFirst self.now.domains H.copied (view pass.old) (zone_domains self.now) (view pass.new)) }
         ensures some { OnErr result ((count : ℕ) × (count < zone_domains self.now) × SettlesFirst self.now.domains H.copied (view pass.old) count (view pass.new)) }
+        ensures stopped { OnErr result (StopsSettling self.now.domains H.copied (view pass.old) (view pass.new)) }
     {
         self.domains.settle_each(rt, clock, pass)
     }
@@ -84,20 +77,12 @@ impl<T: Body + Drop, K: Hooks<T>, H: Host> Zone<T, K, H> {
         requires clock { clock_id clock.now ≡ zone_clock self.now }
         requires pass { IsOf clock.now pass.old }
         ensures seat { IsSeatOf self.now seat.new }
-        ensures pass { IsOf clock.now pass.new }
-        ensures phase { (holder pass.new).phase ≡ (holder pass.old).phase }
-        ensures seen { (holder pass.old).seen ≤ (holder pass.new).seen }
-        ensures host { (view pass.new).host ≡ (view pass.old).host }
+        ensures pass { KeepsPass clock.now pass.old pass.new }
         ensures two { OnOk result (length (spares_of seat.new) ≡ 2) }
         ensures flushed { OnOk result (shelf_of seat.new ≡ []) }
         ensures stay { OnErr result (HasLastOf (shelf_of seat.old) (shelf_of seat.new)) }
         ensures spares { length (spares_of seat.old) ≤ length (spares_of seat.new) }
-        ensures same { IsSameSeat seat.old seat.new }
-        ensures top { KeepsTop seat.old seat.new }
-        ensures plain { KeepsPlain seat.old seat.new }
-        ensures freed { KeepsFreed seat.old seat.new }
-        ensures counts { KeepsCounts seat.old seat.new }
-        ensures misses { KeepsMisses seat.old seat.new }
+        ensures kept { KeepsItems seat.old seat.new }
         ensures flushes { Flushes self.now.domains H.copied (shelf_of seat.old) (shelf_of seat.new) (sent_of seat.old) (sent_of seat.new) (view pass.old) (view pass.new) }
     {
         self.domains.make_room(rt, alloc, clock, pass, seat)

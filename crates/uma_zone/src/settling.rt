@@ -1,10 +1,12 @@
 ghost use Rattle.std.specs.Prelude.{◌≡◌, ◌≤◌, ◌<◌, ℕ, [], length, true, false, OnOk, OnErr};
-ghost use Rattle.smr_clock.specs.Belongs.{IsOf, clock_id, view, holder};
-ghost use Rattle.uma_seat.specs.Seat.{seat_domain, spares_of, shelf_of, IsSameSeat, KeepsTop, KeepsPlain, KeepsFreed, KeepsCounts, KeepsMisses};
+ghost use Rattle.smr_clock.specs.Belongs.{IsOf, clock_id, view};
+ghost use Rattle.uma_seat.specs.Seat.{seat_domain, spares_of, shelf_of};
 ghost use Rattle.uma_zone.specs.Domains.{domains_clock, domains_smr, domain_count, IsSeatOf};
 ghost use Rattle.uma_zone.specs.Flushed.{HasLastOf};
+ghost use Rattle.uma_zone.specs.Frames.{KeepsPass, KeepsItems};
 ghost use Rattle.uma_zone.specs.OwnDomain.{TriesListed, IsFlushed, Settles, IsSettled, SettlesFirst};
 ghost use Rattle.uma_zone.specs.Ports.{sent_of};
+ghost use Rattle.uma_zone.specs.Stopped.{SettlesInPart, StopsSettling};
 
 use crate::domains::ZoneDomains;
 use deed_book::Memory;
@@ -26,20 +28,12 @@ impl<T: Body + Drop, H: Host> ZoneDomains<T, H> {
         requires clock { clock_id clock.now ≡ domains_clock self.now }
         requires pass { IsOf clock.now pass.old }
         requires seat { IsSeatOf self.now seat.old }
-        ensures pass { IsOf clock.now pass.new }
-        ensures phase { (holder pass.new).phase ≡ (holder pass.old).phase }
-        ensures seen { (holder pass.old).seen ≤ (holder pass.new).seen }
-        ensures host { (view pass.new).host ≡ (view pass.old).host }
+        ensures pass { KeepsPass clock.now pass.old pass.new }
         ensures seat { IsSeatOf self.now seat.new }
         ensures flushed { OnOk result (shelf_of seat.new ≡ []) }
         ensures stay { HasLastOf (shelf_of seat.old) (shelf_of seat.new) }
         ensures spares { spares_of seat.new ≡ spares_of seat.old }
-        ensures same { IsSameSeat seat.old seat.new }
-        ensures top { KeepsTop seat.old seat.new }
-        ensures plain { KeepsPlain seat.old seat.new }
-        ensures freed { KeepsFreed seat.old seat.new }
-        ensures counts { KeepsCounts seat.old seat.new }
-        ensures misses { KeepsMisses seat.old seat.new }
+        ensures kept { KeepsItems seat.old seat.new }
         ensures flushes { IsFlushed self.now H.copied (shelf_of seat.old) (shelf_of seat.new) (sent_of seat.old) (sent_of seat.new) (view pass.old) }
         ensures settled { OnOk result (IsSettled self.now (seat_domain seat.old) H.copied) }
     {
@@ -59,12 +53,10 @@ impl<T: Body + Drop, H: Host> ZoneDomains<T, H> {
         requires clock { clock_id clock.now ≡ domains_clock self.now }
         requires pass { IsOf clock.now pass.old }
         requires domain { domain < domain_count self.now }
-        ensures pass { IsOf clock.now pass.new }
-        ensures phase { (holder pass.new).phase ≡ (holder pass.old).phase }
-        ensures seen { (holder pass.old).seen ≤ (holder pass.new).seen }
-        ensures host { (view pass.new).host ≡ (view pass.old).host }
+        ensures pass { KeepsPass clock.now pass.old pass.new }
         ensures settled { OnOk result (Settles self.now domain H.copied (view pass.old) (view pass.new)) }
         ensures unseen { OnErr result (view pass.new ≡ view pass.old) }
+        ensures part { OnErr result (SettlesInPart self.now domain) }
     {
         self.get(domain).settle(rt)?;
         self.try_listed(rt, clock, pass, domain);
@@ -81,12 +73,10 @@ impl<T: Body + Drop, H: Host> ZoneDomains<T, H> {
     ) -> Result<(), Memory>
         requires clock { clock_id clock.now ≡ domains_clock self.now }
         requires pass { IsOf clock.now pass.old }
-        ensures pass { IsOf clock.now pass.new }
-        ensures phase { (holder pass.new).phase ≡ (holder pass.old).phase }
-        ensures seen { (holder pass.old).seen ≤ (holder pass.new).seen }
-        ensures host { (view pass.new).host ≡ (view pass.old).host }
+        ensures pass { KeepsPass clock.now pass.old pass.new }
         ensures settled { OnOk result (SettlesFirst self.now H.copied (view pass.old) (domain_count self.now) (view pass.new)) }
         ensures some { OnErr result ((count : ℕ) × (count < domain_count self.now) × SettlesFirst self.now H.copied (view pass.old) count (view pass.new)) }
+        ensures stopped { OnErr result (StopsSettling self.now H.copied (view pass.old) (view pass.new)) }
     {
         for domain in 0..self.count() {
             self.settle(rt, clock, pass, domain)?;
@@ -101,10 +91,7 @@ impl<T: Body, H: Host> ZoneDomains<T, H> {
         requires clock { clock_id clock.now ≡ domains_clock self.now }
         requires pass { IsOf clock.now pass.old }
         requires domain { domain < domain_count self.now }
-        ensures pass { IsOf clock.now pass.new }
-        ensures phase { (holder pass.new).phase ≡ (holder pass.old).phase }
-        ensures seen { (holder pass.old).seen ≤ (holder pass.new).seen }
-        ensures host { (view pass.new).host ≡ (view pass.old).host }
+        ensures pass { KeepsPass clock.now pass.old pass.new }
         ensures own { domains_smr self.now ≡ true → TriesListed self.now domain H.copied (view pass.old) (view pass.new) }
         ensures no_own { domains_smr self.now ≡ false → view pass.new ≡ view pass.old }
     {

@@ -1,13 +1,15 @@
-use Rattle.std.proofs.Common.{◌≡◌, List, [], ◌∷◌, ◌++◌, All, length, map, sum_by, fold, flat_map, sym, ap, ◌∙◌, subst, arith}
+use Rattle.std.proofs.Common.{◌≡◌, ◌<◌, ℕ, List, [], ◌∷◌, ◌++◌, All, length, map, sum_by, fold, flat_map, sym, ap, ◌∙◌, subst, rules, arith}
 use Rattle.std.specs.declared.snapshot.Snapshot.{Snapshot}
-use Rattle.std.proofs.lemmas.List.{length-append}
+use Rattle.std.proofs.lemmas.List.{length-append, length-map}
 use Rattle.smr_clock.specs.Belongs.{view}
 use Rattle.uma_domain.specs.declared.taken.TakenBucket.{TakenBucket}
 use Rattle.uma_domain.specs.Taken.{taken_in}
+use Rattle.uma_zone.specs.Zone.{zone_domains}
 use Rattle.uma_reclaim.specs.Given.{IsFromZone, GivesBucket, items_in, counted}
-use Rattle.uma_reclaim.specs.Reclaimed.{taken_by, IsTakenAt, TakesInTurn}
+use Rattle.uma_reclaim.specs.Reclaimed.{taken_by, IsTakenAt, TakesInTurn, KeepsListsAt, StopsTaking}
 use Rattle.uma_reclaim.specs.Told.{notes_in}
 use Rattle.uma_reclaim.proofs.Rows.{counted_sum, sum_more, all_more}
+use Rattle.uma_reclaim.proofs.Shelves.{at_err}
 use Rattle.uma_reclaim.proofs.Told.{told_more}
 use Rattle.uma_reclaim.proofs.Turns.{turn_more}
 use Rattle.uma_reclaim.proofs.domains.give_back.Goals as goal
@@ -34,10 +36,24 @@ loop-domain-preserved g c =
       given =
           counted_sum (sum_by items_in (map taken_by takes)) (items_in (taken_by take)) c.loop-domain.items c.give_taken-given.result c.saturating_add-items.result before.given (gave.count ∙ ap (λ (l : List (TakenBucket _ _ _ _ _)). counted (items_in l)) (sym same)) c.saturating_add-items.ensures
           ∙ ap counted (sym items);
-      pass = gave.pass;
-      phase = gave.phase ∙ before.phase;
-      seen = omega (arith, gave.seen, before.seen);
+      pass = record { own = gave.pass.own; phase = gave.pass.phase ∙ before.pass.phase; seen = omega (arith, gave.pass.seen, before.pass.seen) };
       told =
           told_more merged notes_in taken_by start was (view c.give_taken-given.new.pass).host takes take before.told (gave.told ∙ ap (λ (l : List (TakenBucket _ _ _ _ _)). fold merged was (notes_in l)) (sym same))
           ∙ ap (λ (l : List (Snapshot _)). fold merged start (flat_map notes_in (map taken_by l))) (sym all);
     }
+
+pub returns-in_err-taken-clause-stopped : goal.returns-in_err-taken-clause-stopped
+returns-in_err-taken-clause-stopped g c =
+    let before = c.loop-domain.invariant in
+    let takes = map taken_by c.loop-domain.takes in
+    let within : c.loop-domain.domain < zone_domains c.args.zone.now = search rules in
+    let many : length takes ≡ c.loop-domain.domain = length-map c.loop-domain.takes taken_by ∙ before.each in
+    let stops : StopsTaking c.args.zone.now c.args.extent g.H.Host.merged (view c.args.pass.now).host (view c.loop-domain.pass).host = record {
+      takes = takes;
+      few = omega (arith, many, within);
+      own = before.own;
+      given = before.gave;
+      told = before.told;
+      keeps = subst (λ (n : ℕ). KeepsListsAt c.args.zone.now n) (sym many) c.in_err-taken.ensures.keeps;
+    } in
+    at_err _ stops

@@ -11,12 +11,7 @@ loop-item-init g c = record {
   fewer = omega arith;
   given = omega arith;
   gave = record { items = []; as_many = omega arith; given = All-nil (GivesItem c.args.zone.now) };
-  same = (refl, refl);
-  freed = refl;
-  rack = refl;
-  counts = refl;
-  misses = refl;
-  ports = refl;
+  kept = record { same = (refl, refl); freed = refl; rack = refl; counts = refl; misses = refl; ports = refl };
 }
 
 pub loop-item-preserved : goal.loop-item-preserved
@@ -34,12 +29,14 @@ loop-item-preserved g c =
         as_many = let long = length-append before.gave.items (c.in-Some.item ∷ []) in omega (arith, one, long, before.fewer, before.gave.as_many);
         given = All-push (GivesItem c.args.zone.now) before.gave.items c.in-Some.item before.gave.given c.give_one.ensures.given;
       };
-      same = (took.same.0 ∙ before.same.0, took.same.1 ∙ before.same.1);
-      freed = took.freed ∙ before.freed;
-      rack = took.rack ∙ before.rack;
-      counts = took.counts ∙ before.counts;
-      misses = took.misses ∙ before.misses;
-      ports = took.ports ∙ before.ports;
+      kept = record {
+        same = (took.kept.same.0 ∙ before.kept.same.0, took.kept.same.1 ∙ before.kept.same.1);
+        freed = took.kept.freed ∙ before.kept.freed;
+        rack = took.kept.rack ∙ before.kept.rack;
+        counts = took.kept.counts ∙ before.kept.counts;
+        misses = took.kept.misses ∙ before.kept.misses;
+        ports = took.kept.ports ∙ before.kept.ports;
+      };
     }
 
 pub returns-clause-count : goal.returns-clause-count

@@ -1,5 +1,5 @@
 use Rattle.std.proofs.Common.{◌≡◌, ◌≤◌, ◌-◌}
-use Rattle.uma_seat.specs.Seat.{IsSameSeat, KeepsFreed, KeepsRack, KeepsCounts, KeepsMisses, KeepsPorts}
+use Rattle.uma_zone.specs.Frames.{KeepsButUsable}
 use Rattle.uma_zone.specs.Zone.{IsSeatOf}
 use Rattle.uma_reclaim.specs.Given.{GivesEach, counted}
 use Rattle.uma_reclaim.specs.Cached.{cached_in}
@@ -11,12 +11,7 @@ invariant-loop-item g l = record {
   fewer : cached_in l.seat ≤ cached_in l.fn.seat;
   given : l.count ≡ counted (cached_in l.fn.seat - cached_in l.seat);
   gave : GivesEach l.zone (cached_in l.fn.seat - cached_in l.seat);
-  same : IsSameSeat l.fn.seat l.seat;
-  freed : KeepsFreed l.fn.seat l.seat;
-  rack : KeepsRack l.fn.seat l.seat;
-  counts : KeepsCounts l.fn.seat l.seat;
-  misses : KeepsMisses l.fn.seat l.seat;
-  ports : KeepsPorts l.fn.seat l.seat;
+  kept : KeepsButUsable l.fn.seat l.seat;
 }
 
 abbrev pub decreases-loop-item : goal.decreases-loop-item

@@ -26,9 +26,7 @@ loop-bucket-preserved g c =
       given = counted_more (items_in (taken_in c.args.taken)) (items_in (taken_in c.loop-bucket.taken)) (bucket_len c.in-Some.bucket) (items_in left) c.loop-bucket.count c.saturating_add-count.result before.fewer before.given step
           (omega (arith, c.saturating_add-count.ensures, c.from.ensures, gave.count));
       gave = λ rest. before.gave (subst (λ l. All (GivesBucket c.args.zone.now) l) (sym c.in-Some.ensures.first) (All-cons (GivesBucket c.args.zone.now) c.in-Some.bucket left gave.given rest));
-      pass = gave.pass;
-      phase = gave.phase ∙ before.phase;
-      seen = omega (arith, gave.seen, before.seen);
+      pass = record { own = gave.pass.own; phase = gave.pass.phase ∙ before.pass.phase; seen = omega (arith, gave.pass.seen, before.pass.seen) };
       told = told_next g.H.Host.merged notes_of (view c.args.pass.now).host (view c.loop-bucket.pass).host (view c.give_bucket-given.new.pass).host (taken_in c.args.taken) (taken_in c.loop-bucket.taken) left c.in-Some.bucket before.told
           c.in-Some.ensures.first gave.told;
     }

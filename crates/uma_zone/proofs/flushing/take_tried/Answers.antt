@@ -21,10 +21,7 @@ returns-in-Loose-clause-can g c =
 
 pub returns-in_default : goal.returns-in_default
 returns-in_default g c = record {
-  pass = c.requires.pass;
-  phase = refl;
-  seen = omega arith;
-  host = refl;
+  pass = record { goes_on = record { own = c.requires.pass; phase = refl; seen = omega arith }; host = refl };
   tried = record { oldest = c.in_ok-whole.whole; taken = c.in_ok-whole.ensures.oldest; tries = not_loose g.H.Host.copied (view c.args.pass.now) c.in_ok-whole.whole c.in_default.not-Loose };
   bound = ap (map bound_of) c.in_ok-whole.ensures.oldest;
   can = record { filled = c.in_ok-whole.ensures.filled; at_home = c.in_ok-whole.ensures.home; of_clock = c.in_ok-whole.ensures.clock };
@@ -32,11 +29,13 @@ returns-in_default g c = record {
   unchanged = tt;
   unseen = tt;
   spares = c.take_shelf.ensures.spares;
-  same = c.take_shelf.ensures.same;
-  top = c.take_shelf.ensures.top;
-  plain = c.take_shelf.ensures.plain;
-  freed = c.take_shelf.ensures.freed;
-  counts = c.take_shelf.ensures.counts;
-  misses = c.take_shelf.ensures.misses;
+  kept = record {
+    same = c.take_shelf.ensures.same;
+    top = c.take_shelf.ensures.top;
+    plain = c.take_shelf.ensures.plain;
+    freed = c.take_shelf.ensures.freed;
+    counts = c.take_shelf.ensures.counts;
+    misses = c.take_shelf.ensures.misses;
+  };
   ports = c.take_shelf.ensures.ports;
 }

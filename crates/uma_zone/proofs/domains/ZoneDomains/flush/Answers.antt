@@ -18,7 +18,7 @@ returns-clause-seat g c =
     let first = c.take_tried-oldest.ensures in
     let second = c.take_tried-newest.ensures in
     let put = c.put_in_order.ensures in
-    flushed_seat c.args.self.now c.args.seat.now c.put_in_order.new.seat (put.same.0 ∙ second.same.0 ∙ first.same.0) (put.misses ∙ second.misses ∙ first.misses) put.ports (put.top ∙ second.top ∙ first.top) c.requires.seat
+    flushed_seat c.args.self.now c.args.seat.now c.put_in_order.new.seat (put.kept.same.0 ∙ second.kept.same.0 ∙ first.kept.same.0) (put.kept.misses ∙ second.kept.misses ∙ first.kept.misses) put.ports (put.kept.top ∙ second.kept.top ∙ first.kept.top) c.requires.seat
 
 pub returns-clause-stay : goal.returns-clause-stay
 returns-clause-stay g c =

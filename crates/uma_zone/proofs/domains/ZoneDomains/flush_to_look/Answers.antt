@@ -16,4 +16,4 @@ returns-clause-stay g c = none_left (shelf_of c.args.seat.now) (shelf_of c.flush
 
 pub returns-clause-settled : goal.returns-clause-settled
 returns-clause-settled g c =
-    settled_own c.args.self.now g.H.Host.copied c.domain.result (seat_domain c.args.seat.now) (view c.flush.new.pass) (view c.settle.new.pass) c.settle.result (c.domain.ensures ∙ ap (λ (s : _). s.domain) c.flush.ensures.same.0) c.settle.ensures.settled
+    settled_own c.args.self.now g.H.Host.copied c.domain.result (seat_domain c.args.seat.now) (view c.flush.new.pass) (view c.settle.new.pass) c.settle.result (c.domain.ensures ∙ ap (λ (s : _). s.domain) c.flush.ensures.kept.same.0) c.settle.ensures.settled

@@ -9,7 +9,7 @@ use Rattle.uma_zone.proofs.domains.ZoneDomains.look_for_plain.Goals as goal
 pub refill-requires : goal.refill-requires
 refill-requires g c =
     let seat = c.args.seat.now in
-    ap items_of c.take_plain.ensures.top ∙ none_behind (cond (seat_smr seat) [] (free_bucket seat).items) (items_of seat.top) c.requires.none
+    ap items_of c.take_plain.ensures.kept.top ∙ none_behind (cond (seat_smr seat) [] (free_bucket seat).items) (items_of seat.top) c.requires.none
 
 pub returns-in-Some-clause-seat : goal.returns-in-Some-clause-seat
 returns-in-Some-clause-seat g c =
@@ -18,7 +18,7 @@ returns-in-Some-clause-seat g c =
 pub returns-in-Some-clause-spares : goal.returns-in-Some-clause-spares
 returns-in-Some-clause-spares g c =
     let mid = c.take_plain.new.seat in
-    subst (λ (l : List ℕ). length l ≤ length (spares_of c.refill.new.self)) (ap spares_in c.take_plain.ensures.rack)
+    subst (λ (l : List ℕ). length l ≤ length (spares_of c.refill.new.self)) (ap spares_in c.take_plain.ensures.kept.rack)
     (spares_left (spares_of mid) (spares_of c.refill.new.self) (length (shelf_of mid)) (top_of mid).room c.refill.ensures.spare c.refill.ensures.no_place)
 
 pub returns-in-Some-clause-own : goal.returns-in-Some-clause-own

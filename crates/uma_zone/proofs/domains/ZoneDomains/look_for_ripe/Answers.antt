@@ -40,7 +40,7 @@ returns-in-Some-clause-ripe g c _ =
 pub returns-in-Some-clause-spares : goal.returns-in-Some-clause-spares
 returns-in-Some-clause-spares g c =
     let mid = c.take_ripe.new.seat in
-    subst (λ (l : List ℕ). length l ≤ length (spares_of c.refill.new.self)) (ap spares_in c.take_ripe.ensures.rack)
+    subst (λ (l : List ℕ). length l ≤ length (spares_of c.refill.new.self)) (ap spares_in c.take_ripe.ensures.kept.rack)
     (spares_left (spares_of mid) (spares_of c.refill.new.self) (length (shelf_of mid)) (top_of mid).room c.refill.ensures.spare c.refill.ensures.no_place)
 
 pub returns-in-Some-clause-own : goal.returns-in-Some-clause-own

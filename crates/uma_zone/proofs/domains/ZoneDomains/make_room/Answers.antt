@@ -10,7 +10,7 @@ use Rattle.uma_zone.proofs.Listings.{flushes_still}
 use Rattle.uma_zone.proofs.domains.ZoneDomains.make_room.Goals as goal
 
 pub returns-clause-seat : goal.returns-clause-seat
-returns-clause-seat g c = still_seat c.args.self.now c.flush.new.seat c.add_spares.new.seat c.add_spares.ensures.same.0 c.add_spares.ensures.misses c.add_spares.ensures.ports c.add_spares.ensures.top c.flush.ensures.seat
+returns-clause-seat g c = still_seat c.args.self.now c.flush.new.seat c.add_spares.new.seat c.add_spares.ensures.kept.same.0 c.add_spares.ensures.kept.misses c.add_spares.ensures.ports c.add_spares.ensures.kept.top c.flush.ensures.seat
 
 pub returns-clause-stay : goal.returns-clause-stay
 returns-clause-stay g c = none_there c.add_spares.result (shelf_of c.args.seat.now) (shelf_of c.add_spares.new.seat) c.add_spares.ensures.shelf

@@ -7,7 +7,7 @@ use Rattle.uma_zone.specs.declared.alloc_ask.AllocRefused.{AllocRefused}
 use Rattle.uma_zone.specs.Ports.{pushed_by, sent_of}
 use Rattle.uma_zone.proofs.Listings.{flushed_between}
 use Rattle.uma_zone.proofs.Serves.{served_by, refused_by}
-use Rattle.uma_zone.proofs.Settled.{as_err, not_err}
+use Rattle.uma_zone.proofs.Settled.{as_err, not_err, not_memory}
 use Rattle.uma_zone.proofs.zone.Zone.alloc.Goals as goal
 
 pub returns-clause-served : goal.returns-clause-served
@@ -33,3 +33,9 @@ returns-in_err-item-clause-settled g c none other =
 
 pub returns-clause-settled : goal.returns-clause-settled
 returns-clause-settled g c none _ = c.in_ok-item.ensures.settled none (not_err _ _)
+
+pub returns-in_err-item-clause-unheard : goal.returns-in_err-item-clause-unheard
+returns-in_err-item-clause-unheard g c _ = c.in_err-item.ensures.unheard
+
+pub returns-clause-unheard : goal.returns-clause-unheard
+returns-clause-unheard g c memory = absurd (not_memory _ c.build.result c.build.ensures.refused memory)
