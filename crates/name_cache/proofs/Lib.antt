@@ -14,3 +14,4 @@ pub mod Since
 pub mod Summing
 pub mod Taking
 pub mod Telling
+mod Wanting

@@ -5,7 +5,7 @@ use Rattle.zone_stats.specs.LedgerSteps.{CountsFree}
 use Rattle.uma_life.specs.Live.{live_domain}
 use Rattle.uma_seat.specs.Freeing.{ShelvesFreed}
 use Rattle.uma_seat.specs.Stack.{Stack, stack_at, with_item, is_filled_by_one}
-use Rattle.uma_seat.specs.Seat.{seat_domain, freed_of, ledger_of, fetches_of, KeepsTop, KeepsPlain, KeepsRack, KeepsMisses}
+use Rattle.uma_seat.specs.Seat.{seat_domain, freed_of, ledger_of, fetches_of, IsSameSeat, KeepsTop, KeepsPlain, KeepsRack, KeepsMisses}
 use Rattle.name_rows.specs.declared.part.Part.{Part}
 use Rattle.name_rows.specs.declared.records.Bound.{Bound}
 use Rattle.name_rows.specs.declared.entry_state.EntryState.TheVariants.{Stamped}
@@ -25,6 +25,7 @@ pub record Frees (v : View Part) (old : EntrySeat) (live : LiveEntry) (v' : View
   pub full : is_filled_by_one (deferred_beside old live) ≡ true → ShelvesFreed told v old (live_domain live) (with_item (deferred_beside old live) live) new v'
   pub free : CountsFree (ledger_of old) (ledger_of new) (not (live_domain live == seat_domain old))
   pub fetches : fetches_of new ≡ fetches_of old
+  pub same : IsSameSeat old new
   pub top : KeepsTop old new
   pub plain : KeepsPlain old new
   pub misses : KeepsMisses old new

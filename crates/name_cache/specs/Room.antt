@@ -2,7 +2,7 @@
 use Rattle.std.specs.Prelude.{◌≡◌, [], length, false}
 use Rattle.zone_stats.specs.LedgerSteps.{CountsAlloc}
 use Rattle.zone_stats.specs.declared.refusal.Refusal.{Refusal}
-use Rattle.uma_seat.specs.Seat.{shelf_of, spares_of, ledger_of, KeepsTop, KeepsPlain, KeepsFreed, KeepsCounts, KeepsMisses}
+use Rattle.uma_seat.specs.Seat.{shelf_of, spares_of, ledger_of, IsSameSeat, KeepsTop, KeepsPlain, KeepsFreed, KeepsCounts, KeepsMisses}
 use Rattle.uma_zone.specs.declared.alloc_ask.AllocAsk.{AllocAsk}
 use Rattle.uma_zone.specs.Alloc.{Serves, TurnsAway}
 use Rattle.name_cache.specs.Types.{ZoneOfEntries, EntrySeat, LiveEntry}
@@ -11,10 +11,11 @@ use Rattle.name_cache.specs.Types.{ZoneOfEntries, EntrySeat, LiveEntry}
 abbrev pub entry_ask : AllocAsk
 entry_ask = record { arg = 0; reserve = false }
 
--- The seat has room: its shelf is flushed, and it has two spares. Its usable and its deferred items, its ledger, its fetches and its misses are as they were.
+-- The seat has room: its shelf is flushed, and it has two spares. It is made for the same, and its usable and its deferred items, its ledger, its fetches and its misses are as they were.
 pub record MakesRoom (old new : EntrySeat) : Type 0 where
   pub shelf : shelf_of new ≡ []
   pub spares : length (spares_of new) ≡ 2
+  pub same : IsSameSeat old new
   pub top : KeepsTop old new
   pub plain : KeepsPlain old new
   pub freed : KeepsFreed old new

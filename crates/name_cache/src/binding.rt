@@ -1,4 +1,4 @@
-ghost use Rattle.std.specs.Prelude.{◌≡◌, ◌≤◌, ◌<◌, ◌%◌, length, IfOk, IfErr, OnOk, IfSome};
+ghost use Rattle.std.specs.Prelude.{◌≡◌, ◌≤◌, ◌<◌, ◌%◌, [], length, IfOk, IfErr, OnOk, IfSome, Err};
 ghost use Rattle.keyed_lock.specs.KeyedGuard.{guard_key};
 ghost use Rattle.smr_clock.specs.Belongs.{IsOf, clock_id, view, holder};
 ghost use Rattle.zone_stats.specs.LedgerSteps.{HasRoom, CountsAlloc};
@@ -6,6 +6,10 @@ ghost use Rattle.uma_life.specs.Live.{live_ticket};
 ghost use Rattle.uma_bucket.specs.Home.{IsHome};
 ghost use Rattle.uma_seat.specs.Seat.{ledger_of, spares_of, shelf_of, IsSameSeat, KeepsFreed};
 ghost use Rattle.uma_zone.specs.Flushed.{HasLastOf};
+ghost use Rattle.uma_zone.specs.OwnDomain.{IsFlushed};
+ghost use Rattle.uma_zone.specs.Ports.{sent_of};
+ghost use Rattle.uma_zone.specs.Zone.{lists_of};
+ghost use Rattle.name_rows.specs.Records.{told};
 ghost use Rattle.name_cache.specs.Bind.{HasRoomToBind, Binds, RefusesToBind};
 ghost use Rattle.name_cache.specs.Cache.{cache_zone, cache_clock, cache_home, row_count, first_version, IsCacheSeat};
 ghost use Rattle.name_cache.specs.Known.{IsAbove, StillKnows};
@@ -49,7 +53,8 @@ impl NameCache {
     ///
     /// In this order: `Memory` where memory is wanting; `Zone` where the zone turned the request for an entry away;
     /// `Unripe` where the read hand loaded is below the entry's stamp; `Worn` where the row's version is 2^44 - 2 or above.
-    /// After `Unripe` and `Worn` the row is as it was, and the entry is freed again.
+    /// After `Unripe` and `Worn` the row is as it was, and the entry is freed again. After `Memory` the pass knows nothing
+    /// more, and each bucket of the seat's shelf is in an inbox or a list, or on the shelf still.
     pub fn bind<R: Wait>(
         &self,
         rt: &R,
@@ -68,6 +73,8 @@ impl NameCache {
         ensures above { IfOk result (λ receipt. IsAbove receipt.row receipt.version (view pass.old)) }
         ensures since { IfOk result (λ receipt. first_version self.now (key % row_count self.now) < receipt.version) }
         ensures refused { IfErr result (RefusesToBind (cache_zone self.now) (row_count self.now) key (view pass.old) seat.old (view pass.new) seat.new) }
+        ensures flushed { result ≡ Err BindRefused.Memory → IsFlushed (lists_of (cache_zone self.now)) told (shelf_of seat.old) (shelf_of seat.new) (sent_of seat.old) (sent_of seat.new) (view pass.old) }
+        ensures unheard { result ≡ Err BindRefused.Memory → (view pass.new).host ≡ (view pass.old).host }
         ensures still { StillKnows (view pass.old) (view pass.new) }
         ensures pass { IsOf clock.now pass.new }
         ensures phase { (holder pass.new).phase ≡ (holder pass.old).phase }
@@ -111,6 +118,8 @@ impl NameCache {
         ensures items { IfOk result (HasItemOf (cache_clock self.now) (cache_home self.now)) }
         ensures counted { OnOk result (CountsAlloc (ledger_of seat.old) (ledger_of seat.new)) }
         ensures refused { IfErr result (HandsOutNone (cache_zone self.now) seat.old seat.new) }
+        ensures unsent { result ≡ Err BindRefused.Memory → shelf_of seat.old ≡ [] → sent_of seat.new ≡ sent_of seat.old }
+        ensures unheard { result ≡ Err BindRefused.Memory → (view pass.new).host ≡ (view pass.old).host }
         ensures still { StillKnows (view pass.old) (view pass.new) }
         ensures pass { IsOf clock.now pass.new }
         ensures phase { (holder pass.new).phase ≡ (holder pass.old).phase }
@@ -156,6 +165,8 @@ impl NameCache {
         ensures item { IfOk result (IsItemOf (cache_clock self.now) (cache_home self.now)) }
         ensures counted { OnOk result (CountsAlloc (ledger_of seat.old) (ledger_of seat.new)) }
         ensures refused { IfErr result (HandsOutNone (cache_zone self.now) seat.old seat.new) }
+        ensures unsent { result ≡ Err BindRefused.Memory → shelf_of seat.old ≡ [] → sent_of seat.new ≡ sent_of seat.old }
+        ensures unheard { result ≡ Err BindRefused.Memory → (view pass.new).host ≡ (view pass.old).host }
         ensures still { StillKnows (view pass.old) (view pass.new) }
         ensures pass { IsOf clock.now pass.new }
         ensures phase { (holder pass.new).phase ≡ (holder pass.old).phase }

@@ -22,7 +22,7 @@ pub struct NameCache {
     pub(crate) zone: EntryZone,
     pub(crate) rows: Vec<RowLock>,
     ghost primary: { zone_index zone ≡ 0 },
-    ghost smr: { zone_smr zone ≡ true },
+    pub ghost smr: { zone_smr zone ≡ true },
     ghost raised: { (zone_home zone).book.origin ≡ clock_numbers (zone_clock zone) },
     ghost names: { FitsNames (zone_clock zone).1 (zone_clock zone).0.words },
     ghost long: { length rows.items ≡ (zone_clock zone).1.plan.0 },

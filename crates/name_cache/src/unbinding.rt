@@ -1,9 +1,13 @@
 ghost use Rattle.std.specs.Prelude.{◌≡◌, ◌≤◌, ◌%◌, ◌<◌, OnErr, IfOk, IfSome, IfNone};
 ghost use Rattle.smr_clock.specs.Belongs.{IsOf, clock_id, view, holder};
 ghost use Rattle.zone_stats.specs.LedgerSteps.{HasRoom};
-ghost use Rattle.uma_seat.specs.Seat.{ledger_of, IsSameSeat};
+ghost use Rattle.uma_seat.specs.Seat.{ledger_of, shelf_of, IsSameSeat};
+ghost use Rattle.uma_zone.specs.OwnDomain.{IsFlushed};
+ghost use Rattle.uma_zone.specs.Ports.{sent_of};
+ghost use Rattle.uma_zone.specs.Zone.{lists_of};
+ghost use Rattle.name_rows.specs.Records.{told};
 ghost use Rattle.name_cache.specs.Bind.{WantsMemory};
-ghost use Rattle.name_cache.specs.Cache.{cache_clock, cache_home, row_count, first_version, IsCacheSeat};
+ghost use Rattle.name_cache.specs.Cache.{cache_zone, cache_clock, cache_home, row_count, first_version, IsCacheSeat};
 ghost use Rattle.name_cache.specs.Known.{IsAbove, StillKnows};
 ghost use Rattle.name_cache.specs.LockedRow.{IsItemOf};
 ghost use Rattle.name_cache.specs.Rebound.{HasTakenOut, HasFoundNone};
@@ -25,7 +29,8 @@ impl NameCache {
     /// where the row, under its lock, doesn't bind the key. The entry is stamped, and freed once no section may see it. Waits
     /// until it has the locks of the row and of the zone's domains.
     ///
-    /// `Memory` where memory is wanting for the seat's room, before the row is looked at.
+    /// `Memory` where memory is wanting for the seat's room, before the row is looked at: the pass knows nothing more then, and
+    /// each bucket of the seat's shelf is in an inbox or a list, or on the shelf still.
     pub fn unbind<R: Wait>(
         &self,
         rt: &R,
@@ -44,6 +49,8 @@ impl NameCache {
         ensures since { IfOk result (λ found. IfSome found (λ (value, receipt). first_version self.now (key % row_count self.now) < receipt.version)) }
         ensures none { IfOk result (λ found. IfNone found (FindsUnbound (row_count self.now) key (view pass.old) seat.old (view pass.new) seat.new)) }
         ensures memory { OnErr result (WantsMemory seat.old seat.new) }
+        ensures flushed { OnErr result (IsFlushed (lists_of (cache_zone self.now)) told (shelf_of seat.old) (shelf_of seat.new) (sent_of seat.old) (sent_of seat.new) (view pass.old)) }
+        ensures unheard { OnErr result ((view pass.new).host ≡ (view pass.old).host) }
         ensures still { StillKnows (view pass.old) (view pass.new) }
         ensures pass { IsOf clock.now pass.new }
         ensures phase { (holder pass.new).phase ≡ (holder pass.old).phase }

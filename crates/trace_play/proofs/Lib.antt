@@ -1,5 +1,6 @@
 pub mod Adding
 pub mod AfterRound
+pub mod Asks
 pub mod Beginners
 pub mod BetweenLines
 pub mod Bounds

@@ -1,3 +1,4 @@
+pub mod Asks
 pub mod Beginners
 pub mod Betweens
 pub mod Clock

@@ -24,7 +24,7 @@ impl NameCalls for PlainNames {
 
     type Seat = NoSeat;
 
-    ghost use Rattle.std.specs.Prelude.{◌≡◌, refl, false, None};
+    ghost use Rattle.std.specs.Prelude.{◌≡◌, refl, false, None, []};
     ghost use Rattle.smr_clock.specs.Belongs.{clock_id};
     ghost use Rattle.trace_play.specs.Plain.{no_sizes};
 
@@ -40,6 +40,15 @@ impl NameCalls for PlainNames {
 
     ghost counted = { λ seat. None };
 
+    ghost usable = { λ seat. [] };
+
+    // Nothing is ever fetched.
+    ghost Came = { λ cache items. ⊥ };
+
+    ghost IsFound = { λ cache refusal. ⊥ };
+
+    ghost IsCensus = { λ cache census. ⊥ };
+
     ghost passed = { λ seat hook. 0 };
 
     ghost deferred = { λ seat. 0 };
@@ -48,6 +57,9 @@ impl NameCalls for PlainNames {
 
     // Each row is as it began: it binds nothing.
     ghost knows = { λ v row version bound. (version ≡ 0) × (bound ≡ None) };
+
+    // No row is ever loaded.
+    ghost told = { λ v. [] };
 
     ghost counts_where_served = { λ seat. refl };
 

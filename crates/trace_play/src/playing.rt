@@ -1,4 +1,5 @@
 ghost use Rattle.std.specs.Prelude.{◌≡◌, ◌<◌, ◌+◌, ℕ, OnOk, length, reverse};
+ghost use Rattle.trace_play.specs.Asks.{AllAsk, AllAskRound};
 ghost use Rattle.trace_play.specs.Betweens.{DoRoundAt, DoRounds};
 ghost use Rattle.trace_play.specs.Parts.{betweens_of as betweens_at};
 ghost use Rattle.trace_play.specs.Plays.{AllPlay, AllPlayRound};
@@ -41,6 +42,7 @@ pub fn play<N: NameCalls + Sync, R: Threads + Wait + Sync, G: Gate + Sync, C: Re
     ensures count { length workers.new ≡ length workers.old }
     ensures asked { OnOk result (AllAsked (reverse (lines_of trace.now.rounds)) workers.new) }
     ensures free { G.is_free gate.now → OnOk result (GaveUpAsBefore workers.old workers.new) }
+    ensures asks { OnOk result (AllAsk G.Gate gate.now trace.now.rounds workers.old workers.new) }
 {
     for round in 0..trace.rounds.len() {
         play_round(
@@ -76,6 +78,7 @@ fn play_round<
     ensures plays { OnOk result (AllPlayRound N.NameCalls cache.now zones.now trace.now.rounds round workers.old workers.new) }
     ensures round { OnOk result (DoRoundAt N.NameCalls cache.now zones.now trace.now.rounds round workers.old workers.new) }
     ensures free { G.is_free gate.now → OnOk result (GaveUpAsBefore workers.old workers.new) }
+    ensures asks { OnOk result (AllAskRound G.Gate gate.now trace.now.rounds round workers.old workers.new) }
 {
     work_round(
         rt, alloc, trace, zones, clock, names, cache, gate, reclaim, round, workers,

@@ -1,5 +1,8 @@
 ghost use Rattle.std.specs.Prelude.{◌≡◌, ◌<◌, All, OnOk, length};
+ghost use Rattle.trace_play.specs.Asks.{EachAsks};
 ghost use Rattle.trace_play.specs.Rounds.{AllReady, AllWorked, EachGaveUpAsBefore, HasEnded};
+ghost use Rattle.trace_worker.specs.Asking.{AsksGate};
+ghost use Rattle.trace_worker.specs.OwnLines.{own_ops};
 ghost use Rattle.trace_worker.specs.Turn.{HasWorked, IsReady};
 
 use smr_clock::Clock;
@@ -32,6 +35,7 @@ pub(crate) fn work_round<
     requires ready { AllReady N.NameCalls cache.now trace.now zones.now clock.now round workers.old }
     ensures worked { AllWorked N.NameCalls cache.now trace.now zones.now clock.now round workers.old workers.new }
     ensures free { G.is_free gate.now → EachGaveUpAsBefore workers.old workers.new }
+    ensures asks { EachAsks G.Gate gate.now trace.now.rounds round workers.old workers.new }
 {
     let threads = workers.len();
     thread::for_each_mut(
@@ -42,6 +46,7 @@ pub(crate) fn work_round<
             requires { IsReady N.NameCalls cache.now trace.now zones.now clock.now round number running.old }
             ensures free { G.is_free gate.entry.now → running.new.gave_up ≡ running.old.gave_up }
             ensures worked { OnOk running.new.ended (HasWorked N.NameCalls cache.entry.now trace.entry.now zones.entry.now clock.entry.now round number running.old running.new) }
+            ensures asks { OnOk running.new.ended (AsksGate G.Gate gate.entry.now number (length (own_ops trace.entry.now.rounds round number)) running.old running.new) }
         {
             running.turn(
                 rt, alloc, trace, zones, clock, names, cache, gate, reclaim, round, number,

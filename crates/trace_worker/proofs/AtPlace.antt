@@ -4,10 +4,11 @@ use Rattle.std.proofs.lemmas.Option.{slice_get_read, slice_get_within, same_Some
 use Rattle.std.specs.Prelude.{All, slice_get, slice_set, option_map}
 use Rattle.smr_clock.specs.declared.clock.Clock.{Clock}
 use Rattle.smr_clock.specs.declared.host.Host.{Ghosts}
-use Rattle.smr_clock.specs.Belongs.{IsOf, clock_id}
+use Rattle.smr_clock.specs.declared.view.View.{View}
+use Rattle.smr_clock.specs.Belongs.{IsOf, clock_id, view}
 use Rattle.uma_bucket.specs.Home.{IsHome}
 use Rattle.uma_life.specs.Live.{live_ticket}
-use Rattle.uma_seat.specs.Seat.{ledger_of}
+use Rattle.uma_seat.specs.Seat.{ledger_of, seat_domain}
 use Rattle.uma_zone.specs.declared.alloc_ask.AllocAsk.{AllocAsk}
 use Rattle.uma_zone.specs.Zone.{zone_clock, zone_home, IsSeatOf}
 use Rattle.zone_stats.specs.LedgerSteps.{HasRoom}
@@ -15,8 +16,8 @@ use Rattle.trace_worker.specs.declared.held.Held.{Held}
 use Rattle.trace_worker.specs.declared.worker.Worker.{Worker}
 use Rattle.trace_worker.specs.Items.{CountedSeat, CountedZone, LiveItem}
 use Rattle.trace_worker.specs.Live.{holding}
-use Rattle.trace_worker.specs.Performs.{Allocs, EntersInTime, EntersLate, FreesSlot, KeepsHolds, KeepsSection, Reclaims}
-use Rattle.trace_worker.specs.Requests.{Ends, GivesBack, Requests}
+use Rattle.trace_worker.specs.Performs.{Allocs, BringsIn, EntersInTime, EntersLate, FreesSlot, KeepsHolds, KeepsSection, Reclaims}
+use Rattle.trace_worker.specs.Requests.{BringsItems, Ends, IsGivenBack, Reaches, Requests}
 use Rattle.trace_worker.specs.Slots.{slot_at, filled, emptied}
 use Rattle.trace_worker.specs.Worker.{AreOfClock, Fits, HasSeats, IsHeld}
 use Rattle.trace_worker.proofs.Belongs.{AreHeld, AreHeld-filled, AreHeld-emptied, HasSeats-set}
@@ -122,9 +123,9 @@ module _ {H Part : Type 0} {h : Ghosts H Part} where
 
   pub allocs_at : (zones : List (CountedZone H Part h)) (clock : Clock H Part) (old new : Worker H Part h) (place slot : ℕ) (zone : CountedZone H Part h) (before after : CountedSeat H Part h) (ask : AllocAsk) (got : Option LiveItem)
       → Fits zones clock old → place < length zones → zone ≡ get_or zones place zone → before ≡ get_or old.seats.items place before
-      → Requests zone ask before got after → new.seats.items ≡ slice_set old.seats.items place after → new.slots ≡ filled old.slots slot (option_map (holding place) got)
+      → Requests zone ask before got after → Reaches zone (view old.pass) before after (view new.pass) → new.seats.items ≡ slice_set old.seats.items place after → new.slots ≡ filled old.slots slot (option_map (holding place) got)
       → KeepsSection old new → Allocs zones old place slot ask new
-  allocs_at zones clock old new place slot zone before after ask got fits below is_zone is_seat requests seats slots section = record {
+  allocs_at zones clock old new place slot zone before after ask got fits below is_zone is_seat requests reaches seats slots section = record {
     of = zone;
     is_zone = entry_at zones place zone below is_zone;
     before = before;
@@ -132,6 +133,7 @@ module _ {H Part : Type 0} {h : Ghosts H Part} where
     after = after;
     got = got;
     requests = requests;
+    reaches = reaches;
     seats = seats;
     slots = slots;
     section = section;
@@ -139,7 +141,7 @@ module _ {H Part : Type 0} {h : Ghosts H Part} where
 
   pub frees_at : (zones : List (CountedZone H Part h)) (clock : Clock H Part) (old new : Worker H Part h) (slot : ℕ) (it : Held) (zone : CountedZone H Part h) (before after : CountedSeat H Part h)
       → Fits zones clock old → slot_at old.slots slot ≡ Some it → zone ≡ get_or zones it.zone zone → before ≡ get_or old.seats.items it.zone before
-      → GivesBack zone before it.item after → new.seats.items ≡ slice_set old.seats.items it.zone after → new.slots ≡ emptied old.slots slot
+      → IsGivenBack zone (view old.pass) before it.item after (view new.pass) → new.seats.items ≡ slice_set old.seats.items it.zone after → new.slots ≡ emptied old.slots slot
       → KeepsSection old new → FreesSlot zones old slot new
   frees_at zones clock old new slot it zone before after fits holds is_zone is_seat gives_back seats slots section =
       let below = held_below zones it (fits.slots slot it holds) in
@@ -152,16 +154,17 @@ module _ {H Part : Type 0} {h : Ghosts H Part} where
           before = before;
           at = entry_at old.seats.items it.zone before (below_as below fits.seats.count) is_seat;
           after = after;
-          gives_back = gives_back;
+          gives_back = gives_back.gives;
+          freed = gives_back.freed;
           seats = seats;
           slots = slots;
           section = section;
         },
       )
 
-  pub reclaims_at : (zones : List (CountedZone H Part h)) (clock : Clock H Part) (Leaves : CountedSeat H Part h → CountedSeat H Part h → Type 0) (old new : Worker H Part h) (place : ℕ) (zone : CountedZone H Part h) (before after : CountedSeat H Part h)
+  pub reclaims_at : (zones : List (CountedZone H Part h)) (clock : Clock H Part) (Leaves : CountedZone H Part h → View Part → CountedSeat H Part h → CountedSeat H Part h → Type 0) (old new : Worker H Part h) (place : ℕ) (zone : CountedZone H Part h) (before after : CountedSeat H Part h)
       → Fits zones clock old → place < length zones → zone ≡ get_or zones place zone → before ≡ get_or old.seats.items place before
-      → Leaves before after → new.seats.items ≡ slice_set old.seats.items place after → new.slots ≡ old.slots
+      → Leaves zone (view old.pass) before after → new.seats.items ≡ slice_set old.seats.items place after → new.slots ≡ old.slots
       → KeepsSection old new → Reclaims zones Leaves old place new
   reclaims_at zones clock Leaves old new place zone before after fits below is_zone is_seat leaves seats slots section = record {
     of = zone;
@@ -173,6 +176,17 @@ module _ {H Part : Type 0} {h : Ghosts H Part} where
     seats = seats;
     slots = slots;
     section = section;
+  }
+
+  pub brings_at : (zones : List (CountedZone H Part h)) (old : Worker H Part h) (place items : ℕ) (zone : CountedZone H Part h) (seat : CountedSeat H Part h) → HasSeats zones old.seats.items → place < length zones
+      → zone ≡ get_or zones place zone → seat ≡ get_or old.seats.items place seat → BringsItems zone items (seat_domain seat) → BringsIn zones old place items old
+  brings_at zones old place items zone seat has below is_zone is_seat brings = record {
+    of = zone;
+    is_zone = entry_at zones place zone below is_zone;
+    seat = seat;
+    at = entry_at old.seats.items place seat (below_as below has.count) is_seat;
+    brings = brings;
+    same = refl;
   }
 
   -- an empty slot is emptied

@@ -19,13 +19,12 @@ use Rattle.trace_worker.specs.declared.worker.Worker.{Worker}
 use Rattle.trace_worker.specs.Items.{CountedSeat, CountedZone, LiveItem}
 use Rattle.trace_worker.specs.Live.{holding, is_of, live_count}
 use Rattle.trace_worker.specs.Performs.{Allocs, Frees, KeepsHolds, Reclaims, CanPerform, Performs}
-use Rattle.trace_worker.specs.Reclaims.{KeepsSeat}
 use Rattle.trace_worker.specs.Requests.{Ends}
 use Rattle.trace_worker.specs.Slots.{slot_at, filled, with_held, emptied}
 use Rattle.trace_worker.specs.Turn.{Balances}
 use Rattle.trace_worker.proofs.Belongs.{some_within}
 use Rattle.trace_worker.proofs.Numbers.{balance_got, balance_still, balance_gave, balance_as, balance_chain, none_more, none_gone, below_as}
-use Rattle.trace_worker.proofs.ReclaimSteps.{flushed_keeps, drained_keeps}
+use Rattle.trace_worker.proofs.ReclaimSteps.{Keeping, drained_keeps, emptied_keeps, trimmed_keeps}
 use Rattle.trace_worker.proofs.SlotLemmas.{count-with, count-emptied}
 
 module _ {H Part : Type 0} {h : Ghosts H Part} where
@@ -126,7 +125,7 @@ module _ {H Part : Type 0} {h : Ghosts H Part} where
       ]
 
   -- a line of reclaim
-  balance_reclaim : (zones : List (CountedZone H Part h)) (old new : Worker H Part h) (w : ℕ) → Reclaims zones KeepsSeat old w new → (z : ℕ) → Balances z old new
+  balance_reclaim : (zones : List (CountedZone H Part h)) (old new : Worker H Part h) (w : ℕ) → Reclaims zones Keeping old w new → (z : ℕ) → Balances z old new
   balance_reclaim zones old new w step z before after here there =
       let slots_are : live_count z new.slots ≡ live_count z old.slots = ap (live_count z) step.slots in
       let ledger_is : ledger_of step.after ≡ ledger_of step.before = ap (λ c. c.ledger) step.leaves.counts in
@@ -162,15 +161,15 @@ module _ {H Part : Type 0} {h : Ghosts H Part} where
   balance_step zones old new Enter can (inl step) = balance_holds old new step.holds
   balance_step zones old new Enter can (inr step) = balance_holds old new step.holds
   balance_step zones old new Exit can step = balance_holds old new step.holds
-  balance_step zones old new (Prealloc zone items) can step = Balances-self old new step
+  balance_step zones old new (Prealloc zone items) can step = Balances-self old new step.same
   balance_step zones old new (Bind key value) can step = absurd can
   balance_step zones old new (Unbind key) can step = absurd can
   balance_step zones old new (Look key) can step = absurd can
   balance_step zones old new Away can step = absurd can
   balance_step zones old new Back can step = absurd can
-  balance_step zones old new (Trim zone) can step = balance_reclaim zones old new zone (flushed_keeps zones old new zone step)
-  balance_step zones old new (Drain zone) can step = balance_reclaim zones old new zone (flushed_keeps zones old new zone step)
-  balance_step zones old new (DrainSeat zone) can step = balance_reclaim zones old new zone (drained_keeps zones old new zone step)
+  balance_step zones old new (Trim zone) can step = balance_reclaim zones old new zone (trimmed_keeps zones old new zone step)
+  balance_step zones old new (Drain zone) can step = balance_reclaim zones old new zone (drained_keeps zones old new zone step)
+  balance_step zones old new (DrainSeat zone) can step = balance_reclaim zones old new zone (emptied_keeps zones old new zone step)
 
   -- one after another
   pub Balances-chain : (z : ℕ) (first second third : Worker H Part h) → length second.seats.items ≡ length third.seats.items → Balances z first second → Balances z second third → Balances z first third

@@ -1,4 +1,5 @@
 pub mod Alike
+pub mod Asked
 pub mod AtPlace
 pub mod Attending
 pub mod Balance
@@ -25,4 +26,5 @@ pub mod SeenSteps
 pub mod SlotLemmas
 pub mod SlotReading
 pub mod StandSteps
+pub mod Visits
 pub mod Worked

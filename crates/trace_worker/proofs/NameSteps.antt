@@ -128,7 +128,7 @@ module _ {H Part : Type 0} {h : Ghosts H Part} where
   late_step zones Enter old new (inl step) = same_of step.late
   late_step zones Enter old new (inr step) = more_of step.late
   late_step zones Exit old new step = same_of step.late
-  late_step zones (Prealloc zone items) old new step = same_of (ap (λ (w : Worker H Part h). w.late) step)
+  late_step zones (Prealloc zone items) old new step = same_of (ap (λ (w : Worker H Part h). w.late) step.same)
   late_step zones (Bind key value) old new step = absurd step
   late_step zones (Unbind key) old new step = absurd step
   late_step zones (Look key) old new step = absurd step
@@ -306,13 +306,13 @@ ledger_refused slabs n key value lines more more' old new refusal one_more turne
       kept = λ other is. subst (NamesRefuse slabs) (same_Some refusal other (sym turned.last ∙ is)) fits;
     }
 
-ledger_bind : (slabs n key value : ℕ) (lines : List Line) (done : Bool) (counts counts' : NameCounts) (old new : SeatLedger) → CountsBind done counts counts' → BindCounts slabs done old new
+ledger_bind : (slabs n key value : ℕ) (IsFound : Refusal → Type 0) (lines : List Line) (done : Bool) (counts counts' : NameCounts) (old new : SeatLedger) → CountsBind done counts counts' → BindCounts slabs IsFound done old new
     → NameLedgerStands slabs n lines counts.refused old → NameLedgerStands slabs n (Does n (Bind key value) ∷ lines) counts'.refused new
-ledger_bind slabs n key value lines true counts counts' old new is counted stands =
+ledger_bind slabs n key value IsFound lines true counts counts' old new is counted stands =
     ledger_got slabs n key value lines counts.refused counts'.refused old counted.between new (same_of (ap refused is)) counted.alloc counted.evicts stands
-ledger_bind slabs n key value lines false counts counts' old new is (inl turned) stands =
+ledger_bind slabs n key value IsFound lines false counts counts' old new is (inl turned) stands =
     ledger_refused slabs n key value lines counts.refused counts'.refused old new turned.refusal (ap refused is) turned.turned turned.fits stands
-ledger_bind slabs n key value lines false counts counts' old new is (inr given) stands =
+ledger_bind slabs n key value IsFound lines false counts counts' old new is (inr given) stands =
     ledger_got slabs n key value lines counts.refused counts'.refused old given.between new (more_of (ap refused is)) given.alloc (inr given.back) stands
 
 ledger_unbind : (slabs n key : ℕ) (lines : List Line) (done : Bool) (counts counts' : NameCounts) (old new : SeatLedger) → CountsUnbind done counts counts' → UnbindCounts done old new
@@ -389,7 +389,7 @@ module _ {N H C S Part : Type 0} {h : Ghosts H Part} (names : NameGhosts N H C S
     seat = seat;
     counts = counts_bind n key value lines old.worker.late new.worker.late step.done old.naming.counts new.naming.counts (same_of step.section.late) step.counts stands.counts;
     ledger = on_both (names.counted old.naming.seat) (names.counted new.naming.seat) step.ledger
-        (λ before after counted was. ledger_bind (slabs names cache) n key value lines step.done old.naming.counts new.naming.counts before after step.counts counted was) stands.ledger;
+        (λ before after counted was. ledger_bind (slabs names cache) n key value (names.IsFound cache) lines step.done old.naming.counts new.naming.counts before after step.counts counted was) stands.ledger;
   }
 
   named_unbind : (n key : ℕ) (lines : List Line) (old new : Doing N H C S Part h) → UnbindsLine names cache old key new → names.IsSeat cache new.naming.seat

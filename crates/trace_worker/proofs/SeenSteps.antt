@@ -21,7 +21,7 @@ module _ {H Part : Type 0} {h : Ghosts H Part} where
   seen_step zones Enter old new can (inl step) = step.seen
   seen_step zones Enter old new can (inr step) = step.seen
   seen_step zones Exit old new can step = step.seen
-  seen_step zones (Prealloc zone items) old new can step = seen_same old new step
+  seen_step zones (Prealloc zone items) old new can step = seen_same old new step.same
   seen_step zones (Bind key value) old new can step = absurd can
   seen_step zones (Unbind key) old new can step = absurd can
   seen_step zones (Look key) old new can step = absurd can

@@ -29,7 +29,6 @@ use Rattle.trace_worker.specs.Items.{CountedSeat, CountedZone, LiveItem}
 use Rattle.trace_worker.specs.LedgerStands.{LedgerStands}
 use Rattle.trace_worker.specs.Live.{holding}
 use Rattle.trace_worker.specs.Performs.{Allocs, Frees, FreesSlot, EntersInTime, EntersLate, Leaves, KeepsHolds, KeepsSection, Reclaims, IsBetween, CanPerform, Performs, ask_of}
-use Rattle.trace_worker.specs.Reclaims.{KeepsSeat}
 use Rattle.trace_worker.specs.Requests.{Ends}
 use Rattle.trace_worker.specs.Slots.{slot_at, filled, with_held, emptied}
 use Rattle.trace_worker.specs.Stands.{NamesZone, Stands}
@@ -42,7 +41,7 @@ use Rattle.trace_worker.proofs.Numbers.{still_some, far_above, below_as, below_n
 use Rattle.trace_worker.proofs.EntrySteps.{entries_entered, entries_kept, entries_late, looks_up, wants}
 use Rattle.trace_worker.proofs.LedgerSteps.{LedgerStands-other, LedgerStands-other_zone, LedgerStands-served, LedgerStands-turned, LedgerStands-dropped, LedgerStands-freed}
 use Rattle.trace_worker.proofs.LineCounts.{is_enter-own, is_look-own, is_section-look}
-use Rattle.trace_worker.proofs.ReclaimSteps.{flushed_keeps, drained_keeps}
+use Rattle.trace_worker.proofs.ReclaimSteps.{Keeping, drained_keeps, emptied_keeps, trimmed_keeps}
 use Rattle.trace_worker.proofs.SlotLemmas.{slot_at-with_same, slot_at-with_other, slot_at-emptied_same, slot_at-emptied_other, emptied_none, length-emptied, length-filled}
 use Rattle.trace_worker.proofs.SlotReading.{held-own, in_section-own, held-alloc_same, held-alloc_other, held-free_other}
 
@@ -366,7 +365,7 @@ module _ {H Part : Type 0} {h : Ghosts H Part} where
   -- a line of reclaim, which leaves the ledger of its seat
   stands_reclaim : (zones : List (CountedZone H Part h)) (clock : Clock H Part) (n : ℕ) (op : Op) (z : ℕ) (lines : List Line) (old new : Worker H Part h) → ((i : ℕ) → is_ask n i (Does n op) ≡ false) → ((i : ℕ) → is_ask_with_arg n i (Does n op) ≡ false)
       → ((slot : ℕ) (o : Option ℕ) → held_after op slot o ≡ o) → in_section (Does n op ∷ lines) n ≡ in_section lines n → is_section n lines (Does n op) ≡ false
-      → Reclaims zones KeepsSeat old z new → Stands zones clock n lines old → Stands zones clock n (Does n op ∷ lines) new
+      → Reclaims zones Keeping old z new → Stands zones clock n lines old → Stands zones clock n (Does n op ∷ lines) new
   stands_reclaim zones clock n op z lines old new no_ask no_arg quiet same_section no_section step stands =
       let P : ℕ → CountedZone H Part h → CountedSeat H Part h → Type 0 = λ i zone seat. LedgerStands (NamesZone zone) n i (Does n op ∷ lines) (ledger_of seat) in
       let Q : List (Option Held) → Type 0 = ReadsAs n (Does n op ∷ lines) in
@@ -386,15 +385,15 @@ module _ {H Part : Type 0} {h : Ghosts H Part} where
         overtaken = λ some. le_trans (stands.overtaken (still_some step.section.late some)) step.section.seen;
       }
 
-  pub stands_trim : (zones : List (CountedZone H Part h)) (clock : Clock H Part) (n z : ℕ) (lines : List Line) (old new : Worker H Part h) → Reclaims zones KeepsSeat old z new → Stands zones clock n lines old → Stands zones clock n (Does n (Trim z) ∷ lines) new
+  pub stands_trim : (zones : List (CountedZone H Part h)) (clock : Clock H Part) (n z : ℕ) (lines : List Line) (old new : Worker H Part h) → Reclaims zones Keeping old z new → Stands zones clock n lines old → Stands zones clock n (Does n (Trim z) ∷ lines) new
   stands_trim zones clock n z lines old new step stands =
       stands_reclaim zones clock n (Trim z) z lines old new (λ i. refl) (λ i. refl) (λ slot o. refl) (in_section-own lines n (Trim z)) refl step stands
 
-  pub stands_drain : (zones : List (CountedZone H Part h)) (clock : Clock H Part) (n z : ℕ) (lines : List Line) (old new : Worker H Part h) → Reclaims zones KeepsSeat old z new → Stands zones clock n lines old → Stands zones clock n (Does n (Drain z) ∷ lines) new
+  pub stands_drain : (zones : List (CountedZone H Part h)) (clock : Clock H Part) (n z : ℕ) (lines : List Line) (old new : Worker H Part h) → Reclaims zones Keeping old z new → Stands zones clock n lines old → Stands zones clock n (Does n (Drain z) ∷ lines) new
   stands_drain zones clock n z lines old new step stands =
       stands_reclaim zones clock n (Drain z) z lines old new (λ i. refl) (λ i. refl) (λ slot o. refl) (in_section-own lines n (Drain z)) refl step stands
 
-  pub stands_drain_seat : (zones : List (CountedZone H Part h)) (clock : Clock H Part) (n z : ℕ) (lines : List Line) (old new : Worker H Part h) → Reclaims zones KeepsSeat old z new → Stands zones clock n lines old
+  pub stands_drain_seat : (zones : List (CountedZone H Part h)) (clock : Clock H Part) (n z : ℕ) (lines : List Line) (old new : Worker H Part h) → Reclaims zones Keeping old z new → Stands zones clock n lines old
       → Stands zones clock n (Does n (DrainSeat z) ∷ lines) new
   stands_drain_seat zones clock n z lines old new step stands =
       stands_reclaim zones clock n (DrainSeat z) z lines old new (λ i. refl) (λ i. refl) (λ slot o. refl) (in_section-own lines n (DrainSeat z)) refl step stands
@@ -408,12 +407,12 @@ module _ {H Part : Type 0} {h : Ghosts H Part} where
   stand_step zones clock n Exit lines old new of can step stands = stands_exit zones clock n lines old new step stands
   stand_step zones clock n (Prealloc zone items) lines old new of can step stands =
       let P : Worker H Part h → Type 0 = Stands zones clock n (Does n (Prealloc zone items) ∷ lines) in
-      subst P (sym step) (stands_prealloc zones clock n zone items lines old stands)
+      subst P (sym step.same) (stands_prealloc zones clock n zone items lines old stands)
   stand_step zones clock n (Bind key value) lines old new of can step stands = absurd can
   stand_step zones clock n (Unbind key) lines old new of can step stands = absurd can
   stand_step zones clock n (Look key) lines old new of can step stands = absurd can
   stand_step zones clock n Away lines old new of can step stands = absurd can
   stand_step zones clock n Back lines old new of can step stands = absurd can
-  stand_step zones clock n (Trim zone) lines old new of can step stands = stands_trim zones clock n zone lines old new (flushed_keeps zones old new zone step) stands
-  stand_step zones clock n (Drain zone) lines old new of can step stands = stands_drain zones clock n zone lines old new (flushed_keeps zones old new zone step) stands
-  stand_step zones clock n (DrainSeat zone) lines old new of can step stands = stands_drain_seat zones clock n zone lines old new (drained_keeps zones old new zone step) stands
+  stand_step zones clock n (Trim zone) lines old new of can step stands = stands_trim zones clock n zone lines old new (trimmed_keeps zones old new zone step) stands
+  stand_step zones clock n (Drain zone) lines old new of can step stands = stands_drain zones clock n zone lines old new (drained_keeps zones old new zone step) stands
+  stand_step zones clock n (DrainSeat zone) lines old new of can step stands = stands_drain_seat zones clock n zone lines old new (emptied_keeps zones old new zone step) stands

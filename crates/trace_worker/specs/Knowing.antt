@@ -1,5 +1,5 @@
 -- What a pass knows of the rows of names, before and after a call (own). Who keeps the names says when a pass knows a record: it is of a row, has a version, and binds a key to a value, or nothing.
-use Rattle.std.specs.Prelude.{◌≡◌, ◌<◌, ◌≤◌, ◌+◌, ◌%◌, ◌==◌, ℕ, cond, Option, Some, None}
+use Rattle.std.specs.Prelude.{◌≡◌, ◌<◌, ◌≤◌, ◌+◌, ◌%◌, ◌==◌, ℕ, cond, List, ◌∷◌, Option, Some, None}
 
 -- when somebody knows a record of this row with this version, which binds this
 abbrev pub Knowledge : Type 0 → Type 1
@@ -53,4 +53,16 @@ pub record Finds {V : Type 0} (Knows : Knowledge V) (rows key : ℕ) (v : V) (fo
   pub content : Option (ℕ × ℕ)
   pub knows : Knows v' (key % rows) version content
   pub met : IsNewest Knows (key % rows) version v
+  pub answer : found ≡ bound_to key content
+
+-- a record of a row: the row, its version, and what it binds
+abbrev pub Told : Type 0
+Told = ℕ × ℕ × Option (ℕ × ℕ)
+
+-- A look for the key loaded a record of its row, which says the answer: it is one more in front of those that were known, as a load of a row's word puts it there. None of the row that was known before is newer.
+pub record Loads {V : Type 0} (Knows : Knowledge V) (told : V → List Told) (rows key : ℕ) (v : V) (found : Option ℕ) (v' : V) : Type 0 where
+  pub version : ℕ
+  pub content : Option (ℕ × ℕ)
+  pub met : IsNewest Knows (key % rows) version v
+  pub loaded : told v' ≡ (key % rows, version, content) ∷ told v
   pub answer : found ≡ bound_to key content

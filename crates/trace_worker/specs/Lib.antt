@@ -1,3 +1,4 @@
+pub mod Asking
 pub mod Attendance
 pub mod Boxed
 pub mod Clocks

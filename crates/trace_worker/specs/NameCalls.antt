@@ -1,6 +1,8 @@
 -- How the calls behind the lines of names answer (own).
-use Rattle.std.specs.Prelude.{ℕ, Bool, true, false, Option, Some, None}
+use Rattle.std.specs.Prelude.{◌≡◌, ◌⊎◌, ℕ, Bool, true, false, List, [], ◌++◌, Option, Some, None}
+use Rattle.uma_life.specs.declared.ticket.Ticket.{Ticket}
 use Rattle.zone_stats.specs.declared.ledger.SeatLedger.{SeatLedger}
+use Rattle.zone_stats.specs.declared.refusal.Refusal.{Refusal}
 use Rattle.trace_worker.specs.Knowing.{Knowledge, Binds, Unbinds, FindsUnbound}
 use Rattle.trace_worker.specs.NameLedger.{BindCounts, UnbindCounts}
 
@@ -21,9 +23,16 @@ OnBoth Counts None None = Unit {0}
 OnBoth Counts old new = ⊥
 
 -- what a bind counts
-abbrev pub CountedBind : ℕ → Bool → Option SeatLedger → Option SeatLedger → Type 0
-CountedBind slabs done old new = OnBoth (BindCounts slabs done) old new
+abbrev pub CountedBind : ℕ → (Refusal → Type 0) → Bool → Option SeatLedger → Option SeatLedger → Type 0
+CountedBind slabs IsFound done old new = OnBoth (BindCounts slabs IsFound done) old new
 
 -- what an unbind counts
 abbrev pub CountedUnbind : Bool → Option SeatLedger → Option SeatLedger → Type 0
 CountedUnbind done old new = OnBoth (UnbindCounts done) old new
+
+-- What a bind does to the usable entries of its seat: what was usable and what it brought is what is usable now and what it handed out. What it brought is nothing, or came as `Came` says.
+pub record MovesEntries (Came : List Ticket → Type 0) (old new : List Ticket) : Type 0 where
+  pub brought : List Ticket
+  pub handed : List Ticket
+  pub balance : new ++ handed ≡ old ++ brought
+  pub come : (brought ≡ []) ⊎ Came brought

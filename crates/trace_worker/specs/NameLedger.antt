@@ -37,16 +37,17 @@ pub record CountsGivenBack (old new : SeatLedger) : Type 0 where
   pub alloc : CountsAlloc old between
   pub back : CountsOneFree between new
 
--- A bind got no entry: its zone refused one.
-pub record CountsRefused (slabs : ℕ) (old new : SeatLedger) : Type 0 where
+-- A bind got no entry: its zone refused one, which is the refusal that its one fetch found.
+pub record CountsRefused (slabs : ℕ) (IsFound : Refusal → Type 0) (old new : SeatLedger) : Type 0 where
   pub refusal : Refusal
   pub turned : CountsTurned old new refusal
   pub fits : NamesRefuse slabs refusal
+  pub found : IsFound refusal
 
 -- what a bind counts, by whether it bound
-abbrev pub BindCounts : ℕ → Bool → SeatLedger → SeatLedger → Type 0
-BindCounts slabs true old new = CountsBind old new
-BindCounts slabs false old new = CountsRefused slabs old new ⊎ CountsGivenBack old new
+abbrev pub BindCounts : ℕ → (Refusal → Type 0) → Bool → SeatLedger → SeatLedger → Type 0
+BindCounts slabs IsFound true old new = CountsBind old new
+BindCounts slabs IsFound false old new = CountsRefused slabs IsFound old new ⊎ CountsGivenBack old new
 
 -- what an unbind counts, by whether it took the key out
 abbrev pub UnbindCounts : Bool → SeatLedger → SeatLedger → Type 0

@@ -15,8 +15,8 @@ use Rattle.trace_worker.specs.declared.running.Running.{Running}
 use Rattle.trace_worker.specs.declared.worker.Worker.{Worker}
 use Rattle.trace_worker.specs.Attendance.{is_out, worker_in}
 use Rattle.trace_worker.specs.Items.{CountedZone}
-use Rattle.trace_worker.specs.Knowing.{StillKnows, Finds}
-use Rattle.trace_worker.specs.NameCalls.{Bound, Unbound, CountedBind, CountedUnbind}
+use Rattle.trace_worker.specs.Knowing.{StillKnows, Finds, Loads}
+use Rattle.trace_worker.specs.NameCalls.{Bound, Unbound, CountedBind, CountedUnbind, MovesEntries}
 use Rattle.trace_worker.specs.NameLedger.{HasRoomToBind}
 use Rattle.trace_worker.specs.Naming.{CountsFew, CountsBind, CountsUnbind, CountsAnswer, CountsLate}
 use Rattle.trace_worker.specs.Performs.{CanPerform, IsBetween, KeepsAll, KeepsHolds, KeepsSection, Performs}
@@ -53,23 +53,25 @@ module _ {N H C S P : Type 0} (names : NameGhosts N H C S P) where
     pub ledger : IfSome (names.counted naming.seat) HasRoomToBind
 
 module _ {N H C S P : Type 0} {h : Ghosts H P} (names : NameGhosts N H C S P) (cache : C) where
-  -- a `bind` line: one call, which bound the key or didn't; the seat stays in its memory domain
+  -- a `bind` line: one call, which bound the key or didn't; the seat stays in its memory domain, and what leaves it was usable there or came by this call
   pub record BindsLine (old : Doing N H C S P h) (key value : ℕ) (new : Doing N H C S P h) : Type 0 where
     pub done : Bool
     pub still : StillKnows names.knows (view old.worker.pass) (view new.worker.pass)
     pub bound : Bound names.knows (names.sizes_of cache).rows key value (view old.worker.pass) done (view new.worker.pass)
-    pub ledger : CountedBind (names.sizes_of cache).slabs done (names.counted old.naming.seat) (names.counted new.naming.seat)
+    pub ledger : CountedBind (names.sizes_of cache).slabs (names.IsFound cache) done (names.counted old.naming.seat) (names.counted new.naming.seat)
+    pub moves : MovesEntries (names.Came cache) (names.usable old.naming.seat) (names.usable new.naming.seat)
     pub domain : names.domain_of new.naming.seat ≡ names.domain_of old.naming.seat
     pub counts : CountsBind done old.naming.counts new.naming.counts
     pub holds : KeepsHolds old.worker new.worker
     pub section : KeepsSection old.worker new.worker
 
-  -- an `unbind` line: one call, which took the key out or found it unbound; the seat stays in its memory domain
+  -- an `unbind` line: one call, which took the key out or found it unbound; the seat stays in its memory domain, and no other entry is usable there
   pub record UnbindsLine (old : Doing N H C S P h) (key : ℕ) (new : Doing N H C S P h) : Type 0 where
     pub done : Bool
     pub still : StillKnows names.knows (view old.worker.pass) (view new.worker.pass)
     pub unbound : Unbound names.knows (names.sizes_of cache).rows key (view old.worker.pass) done (view new.worker.pass)
     pub ledger : CountedUnbind done (names.counted old.naming.seat) (names.counted new.naming.seat)
+    pub usable : names.usable new.naming.seat ≡ names.usable old.naming.seat
     pub domain : names.domain_of new.naming.seat ≡ names.domain_of old.naming.seat
     pub counts : CountsUnbind done old.naming.counts new.naming.counts
     pub holds : KeepsHolds old.worker new.worker
@@ -81,6 +83,7 @@ module _ {N H C S P : Type 0} {h : Ghosts H P} (names : NameGhosts N H C S P) (c
     pub inside : phase_of old.worker ≡ Inside
     pub still : StillKnows names.knows (view old.worker.pass) (view new.worker.pass)
     pub finds : Finds names.knows (names.sizes_of cache).rows key (view old.worker.pass) found (view new.worker.pass)
+    pub loads : Loads names.knows names.told (names.sizes_of cache).rows key (view old.worker.pass) found (view new.worker.pass)
     pub counts : CountsAnswer found old.naming.counts new.naming.counts
     pub seat : new.naming.seat ≡ old.naming.seat
     pub holds : KeepsHolds old.worker new.worker
@@ -92,6 +95,7 @@ module _ {N H C S P : Type 0} {h : Ghosts H P} (names : NameGhosts N H C S P) (c
     pub outside : phase_of old.worker ≡ Outside
     pub still : StillKnows names.knows (view old.worker.pass) (view new.worker.pass)
     pub finds : Finds names.knows (names.sizes_of cache).rows key (view old.worker.pass) found (view new.worker.pass)
+    pub loads : Loads names.knows names.told (names.sizes_of cache).rows key (view old.worker.pass) found (view new.worker.pass)
     pub counts : CountsAnswer found old.naming.counts new.naming.counts
     pub seat : new.naming.seat ≡ old.naming.seat
     pub phase : phase_of new.worker ≡ Outside

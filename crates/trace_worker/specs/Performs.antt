@@ -3,18 +3,20 @@ use Rattle.std.specs.Prelude.{◌≡◌, ◌<◌, ◌≤◌, ◌+◌, ◌⊎◌,
 use Rattle.smr_clock.specs.declared.host.Host.{Ghosts}
 use Rattle.smr_core.specs.declared.phase.Phase.TheVariants.{Outside, Inside}
 use Rattle.smr_clock.specs.declared.refused.Overtaken.{Overtaken}
+use Rattle.smr_clock.specs.declared.view.View.{View}
 use Rattle.smr_clock.specs.Belongs.{view}
 use Rattle.smr_clock.specs.Sections.{Enters, Misses}
 use Rattle.smr_clock.specs.Steps.{clearing}
 use Rattle.trace_text.specs.declared.op.Op.{Op}
 use Rattle.trace_text.specs.Limits.{last_slot}
 use Rattle.trace_text.specs.declared.op.Op.TheVariants.{Alloc, Free, Enter, Exit, Prealloc, Trim, Drain, DrainSeat}
+use Rattle.uma_seat.specs.Seat.{seat_domain}
 use Rattle.uma_zone.specs.declared.alloc_ask.AllocAsk.{AllocAsk}
 use Rattle.trace_worker.specs.declared.held.Held.{Held}
 use Rattle.trace_worker.specs.declared.worker.Worker.{Worker}
 use Rattle.trace_worker.specs.Items.{CountedSeat, CountedZone, LiveItem}
-use Rattle.trace_worker.specs.Reclaims.{IsFlushed, IsDrained}
-use Rattle.trace_worker.specs.Requests.{Requests, GivesBack}
+use Rattle.trace_worker.specs.Reclaims.{HasDrained, HasDrainedSeat, HasTrimmed}
+use Rattle.trace_worker.specs.Requests.{BringsItems, GivesBack, HasFreed, Reaches, Requests}
 use Rattle.trace_worker.specs.Slots.{slot_at, filled, emptied}
 use Rattle.trace_worker.specs.Live.{holding}
 use Rattle.trace_worker.specs.Worker.{phase_of, seen_of}
@@ -44,6 +46,7 @@ module _ {H P : Type 0} {h : Ghosts H P} where
     pub after : CountedSeat H P h
     pub got : Option LiveItem
     pub requests : Requests of ask before got after
+    pub reaches : Reaches of (view old.pass) before after (view new.pass)
     pub seats : new.seats.items ≡ slice_set old.seats.items zone after
     pub slots : new.slots ≡ filled old.slots slot (option_map (holding zone) got)
     pub section : KeepsSection old new
@@ -57,6 +60,7 @@ module _ {H P : Type 0} {h : Ghosts H P} where
     pub at : slice_get old.seats.items it.zone ≡ Some before
     pub after : CountedSeat H P h
     pub gives_back : GivesBack of before it.item after
+    pub freed : HasFreed of (view old.pass) before gives_back.ready it.item after (view new.pass)
     pub seats : new.seats.items ≡ slice_set old.seats.items it.zone after
     pub slots : new.slots ≡ emptied old.slots slot
     pub section : KeepsSection old new
@@ -99,17 +103,27 @@ module _ {H P : Type 0} {h : Ghosts H P} where
     pub late : new.late ≡ old.late
     pub holds : KeepsHolds old new
 
-  -- a line of reclaim: its call left this of the worker's seat of its zone
-  pub record Reclaims (zones : List (CountedZone H P h)) (Leaves : CountedSeat H P h → CountedSeat H P h → Type 0) (old : Worker H P h) (zone : ℕ) (new : Worker H P h) : Type 0 where
+  -- a line of reclaim: its call, by the worker's pass, gave this back and left this of the worker's seat of its zone
+  pub record Reclaims (zones : List (CountedZone H P h)) (Leaves : CountedZone H P h → View P → CountedSeat H P h → CountedSeat H P h → Type 0) (old : Worker H P h) (zone : ℕ) (new : Worker H P h) : Type 0 where
     pub of : CountedZone H P h
     pub is_zone : slice_get zones zone ≡ Some of
     pub before : CountedSeat H P h
     pub at : slice_get old.seats.items zone ≡ Some before
     pub after : CountedSeat H P h
-    pub leaves : Leaves before after
+    pub leaves : Leaves of (view old.pass) before after
     pub seats : new.seats.items ≡ slice_set old.seats.items zone after
     pub slots : new.slots ≡ old.slots
     pub section : KeepsSection old new
+
+module _ {H P : Type 0} {h : Ghosts H P} where
+  -- a `prealloc` line: slabs of its zone came in for its items, of the domain of the worker's seat there, up to a refusal; the worker stays as it is
+  pub record BringsIn (zones : List (CountedZone H P h)) (old : Worker H P h) (zone items : ℕ) (new : Worker H P h) : Type 0 where
+    pub of : CountedZone H P h
+    pub is_zone : slice_get zones zone ≡ Some of
+    pub seat : CountedSeat H P h
+    pub at : slice_get old.seats.items zone ≡ Some seat
+    pub brings : BringsItems of items (seat_domain seat)
+    pub same : new ≡ old
 
 -- what a request asks
 abbrev pub ask_of : ℕ → Bool → AllocAsk
@@ -138,8 +152,8 @@ module _ {H P : Type 0} {h : Ghosts H P} where
   Performs zones old (Free slot) new = FreesSlot zones old slot new
   Performs zones old Enter new = EntersInTime old new ⊎ EntersLate old new
   Performs zones old Exit new = Leaves old new
-  Performs zones old (Prealloc zone items) new = new ≡ old
-  Performs zones old (Trim zone) new = Reclaims zones IsFlushed old zone new
-  Performs zones old (Drain zone) new = Reclaims zones IsFlushed old zone new
-  Performs zones old (DrainSeat zone) new = Reclaims zones IsDrained old zone new
+  Performs zones old (Prealloc zone items) new = BringsIn zones old zone items new
+  Performs zones old (Trim zone) new = Reclaims zones HasTrimmed old zone new
+  Performs zones old (Drain zone) new = Reclaims zones HasDrained old zone new
+  Performs zones old (DrainSeat zone) new = Reclaims zones HasDrainedSeat old zone new
   Performs zones old op new = ⊥

@@ -1,12 +1,12 @@
 ghost use Rattle.std.specs.Prelude.{◌≡◌, ◌<◌, ◌≤◌, length, OnOk};
-ghost use Rattle.smr_clock.specs.Belongs.{IsOf, clock_id, holder};
+ghost use Rattle.smr_clock.specs.Belongs.{IsOf, clock_id, holder, view};
 ghost use Rattle.uma_bucket.specs.Home.{IsHome};
 ghost use Rattle.uma_life.specs.Live.{live_ticket};
 ghost use Rattle.uma_seat.specs.Seat.{ledger_of, spares_of};
 ghost use Rattle.uma_zone.specs.Zone.{zone_home, zone_clock, IsSeatOf};
 ghost use Rattle.zone_stats.specs.LedgerSteps.{HasRoom};
 ghost use Rattle.trace_worker.specs.Performs.{FreesSlot};
-ghost use Rattle.trace_worker.specs.Requests.{MakesReady, Releases, GivesBack};
+ghost use Rattle.trace_worker.specs.Requests.{IsGivenBack, MakesReady, ReadiesSeat, Releases, ReleasesBy};
 ghost use Rattle.trace_worker.specs.Worker.{AreOfClock, Fits, HasRooms};
 
 use crate::Memory;
@@ -74,7 +74,7 @@ fn give_back<H: Host, R: Wait>(
     ensures pass { OnOk result (IsOf clock.now pass.new) }
     ensures phase { OnOk result ((holder pass.new).phase ≡ (holder pass.old).phase) }
     ensures seen { OnOk result ((holder pass.old).seen ≤ (holder pass.new).seen) }
-    ensures gives_back { OnOk result (GivesBack zone.now seat.old item seat.new) }
+    ensures gives_back { OnOk result (IsGivenBack zone.now (view pass.old) seat.old item seat.new (view pass.new)) }
 {
     make_ready(rt, alloc, zone, clock, pass, seat)?;
     release(zone, clock, pass, seat, item);
@@ -98,6 +98,7 @@ fn make_ready<H: Host, R: Wait>(
     ensures phase { (holder pass.new).phase ≡ (holder pass.old).phase }
     ensures seen { (holder pass.old).seen ≤ (holder pass.new).seen }
     ensures ready { OnOk result (MakesReady seat.old seat.new) }
+    ensures readies { OnOk result (ReadiesSeat zone.now (view pass.old) seat.old seat.new (view pass.new)) }
 {
     if seat.spare() > 0 {
         return Ok(());
@@ -127,6 +128,7 @@ fn release<H: Host>(
     ensures phase { (holder pass.new).phase ≡ (holder pass.old).phase }
     ensures seen { (holder pass.old).seen ≤ (holder pass.new).seen }
     ensures released { Releases zone.now seat.old item seat.new }
+    ensures by { ReleasesBy zone.now (view pass.old) seat.old item seat.new (view pass.new) }
 {
     if zone.is_smr() {
         zone.free_smr(clock, pass, seat, item);

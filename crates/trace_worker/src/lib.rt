@@ -4,7 +4,7 @@
 //! with the other workers by reference. Its pass may leave and come back ([`Attendance`]). [`Running::turn`] does a worker's
 //! own list of lines in one round, for a thread of its own; [`move_slot`] moves what a slot holds to another worker, between
 //! two rounds. The lines of reclaim and of names are done through [`ReclaimCalls`] and [`NameCalls`], which the replay brings
-//! along: so it stands neither on uma_reclaim nor on name_cache.
+//! along: so it calls neither uma_reclaim nor name_cache, and has from uma_reclaim only the words of its contracts.
 //!
 //! # Choices
 //!
@@ -15,8 +15,11 @@
 //!   into one of another variant; core's `replace_with` has.
 //! - What a worker stands for is said over the lines so far (`Stands`), never over what others do. Lists of lines that read
 //!   alike for a worker are exchanged (`Alike`), so its own list on top of the rounds before gives the whole round.
-//! - [`ReclaimCalls`] says what a call leaves of seat and pass, which is all that a report needs; how much goes back no
-//!   clause of it says. What a look found a trace doesn't say; the value is shown to contracts alone.
+//! - [`ReclaimCalls`] says of each of its calls what uma_reclaim's says, but for the counts that it answers: no line of a
+//!   report names them. What a look found a trace doesn't say; the value is shown to contracts alone.
+//! - A gate counts its own calls: a turn opens a visit, to which only the gate adds, and a clause says the whole list. That a
+//!   turn opens no second visit no clause says. That an operation is told as done only after it was performed is a condition
+//!   of performing it: the gate's last call is then still the one that asked for it.
 //! - The items, [`Counted`], have all their counts and hooks that refuse no init. Those of uma_item refuse a secondary zone
 //!   where they lack a box, and that the items of a keg have it is no clause of a zone.
 //! - A slot is a box, and the list grows to the greatest that was filled: an empty slot takes 16 bytes. To keep an emptied
@@ -51,7 +54,7 @@ pub use absentee::Absentee;
 pub use attendance::Attendance;
 pub use count_hooks::CountHooks;
 pub use counted::Counted;
-pub use gate::{FreeGate, Gate, Go};
+pub use gate::{Call, Calls, FreeGate, Gate, Go};
 pub use giving::move_slot;
 pub use held::Held;
 pub use items::{CountedSeat, CountedZone};

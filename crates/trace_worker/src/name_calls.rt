@@ -1,4 +1,4 @@
-ghost use Rattle.std.specs.Prelude.{◌≡◌, ◌≤◌, ◌<◌, ◌^◌, ℕ, Bool, Option, IsTrue, IfOk, IfErr, IfSome, is_some, false};
+ghost use Rattle.std.specs.Prelude.{◌≡◌, ◌≤◌, ◌<◌, ◌^◌, ℕ, Bool, Option, IsTrue, IfOk, IfErr, IfSome, OnOk, is_some, false, []};
 ghost use Rattle.smr_clock.specs.Belongs.{IsOf, clock_id, holder, setup_of, view};
 ghost use Rattle.smr_clock.specs.Sections.{Misses};
 ghost use Rattle.smr_core.specs.declared.phase.Phase.{Phase};
@@ -7,8 +7,8 @@ ghost use Rattle.uma_bucket.specs.Sums.{Adds, AreOfAtMost, Balance, nothing_held
 ghost use Rattle.uma_keg.specs.Census.{census_counts};
 ghost use Rattle.zone_stats.specs.LedgerSteps.{HasRoom, IsNew};
 ghost use Rattle.trace_worker.specs.Clocks.{ArePasses, IsClockOf};
-ghost use Rattle.trace_worker.specs.Knowing.{Finds, StillKnows};
-ghost use Rattle.trace_worker.specs.NameCalls.{Bound, CountedBind, CountedUnbind, Unbound};
+ghost use Rattle.trace_worker.specs.Knowing.{Finds, Loads, StillKnows};
+ghost use Rattle.trace_worker.specs.NameCalls.{Bound, CountedBind, CountedUnbind, MovesEntries, Unbound};
 ghost use Rattle.trace_worker.specs.NameLedger.{HasRoomToBind};
 ghost use Rattle.trace_worker.specs.NameSizes.{sizes_for};
 ghost use Rattle.trace_worker.specs.NameSums.{HasLinked};
@@ -33,13 +33,17 @@ pub trait NameCalls {
 
     type Seat: Send + Drop;
 
-    ghost use Rattle.std.specs.Prelude.{◌≡◌, ℕ, Bool, Option, is_some};
+    ghost use Rattle.std.specs.Prelude.{◌≡◌, ℕ, Bool, List, Option, is_some};
     ghost use Rattle.smr_clock.specs.Belongs.{TableId};
     ghost use Rattle.smr_clock.specs.declared.setup.Setup.{Setup};
     ghost use Rattle.smr_clock.specs.declared.view.View.{View};
     ghost use Rattle.trace_text.specs.declared.head.Head.{Head};
+    ghost use Rattle.uma_keg.specs.declared.census.Census.{Census};
+    ghost use Rattle.uma_life.specs.declared.ticket.Ticket.{Ticket};
     ghost use Rattle.uma_life.specs.Hook.{Hook};
     ghost use Rattle.zone_stats.specs.declared.ledger.SeatLedger.{SeatLedger};
+    ghost use Rattle.zone_stats.specs.declared.refusal.Refusal.{Refusal};
+    ghost use Rattle.trace_worker.specs.Knowing.{Told};
     ghost use Rattle.trace_worker.specs.NameSizes.{NameSizes};
 
     // Whether it serves names.
@@ -59,6 +63,19 @@ pub trait NameCalls {
     // What the seat counted, where names are served.
     ghost counted: { Self.Seat → Option SeatLedger };
 
+    // The entries that a bind can have of the seat, by their tickets.
+    ghost usable: { Self.Seat → List Ticket };
+
+    // These entries came to a seat by one call: by one fetch from the keg, or out of a bucket of freed entries that waited
+    // until no section may see them.
+    ghost Came: { Self.Cache → List Ticket → Type 0 };
+
+    // One fetch from the keg was refused so, by the numbers that it found under the keg's lock.
+    ghost IsFound: { Self.Cache → Refusal → Type 0 };
+
+    // The census is of the cache's keg.
+    ghost IsCensus: { Self.Cache → Census → Type 0 };
+
     // How often the entries that the seat holds passed each hook, and how many of them are deferred.
     ghost passed: { Self.Seat → Hook → ℕ };
 
@@ -69,6 +86,9 @@ pub trait NameCalls {
 
     // The pass knows the record of this row and version, which binds this key to this value, or nothing.
     ghost knows: { View Self.H.Part → ℕ → ℕ → Option (ℕ × ℕ) → Type 0 };
+
+    // The records that the pass loaded or was told of, one in front of the other.
+    ghost told: { View Self.H.Part → List Told };
 
     ghost counts_where_served: { (seat : Self.Seat) → is_some (counted seat) ≡ serves };
 
@@ -97,9 +117,10 @@ pub trait NameCalls {
         requires domain { IsTrue serves → domain < (sizes_of cache.now).domains }
         ensures seat { IfOk result (IsSeat cache.now) }
         ensures own { IfOk result (λ seat. IsTrue serves → domain_of seat ≡ domain) }
-        ensures fresh { IfOk result (λ seat. IfSome (counted seat) IsNew) };
+        ensures fresh { IfOk result (λ seat. IfSome (counted seat) IsNew) }
+        ensures unused { IfOk result (λ seat. usable seat ≡ []) };
 
-    /// Binds a key to a value. False where it is refused for another cause than want of memory. Waits for the locks of the
+    /// Binds a key to a value. False where its one fetch was refused an entry, or the row didn't take the one that it got. Waits for the locks of the
     /// key's row and of the zone.
     ///
     /// After `Memory` the replay is over.
@@ -125,7 +146,8 @@ pub trait NameCalls {
         ensures seen { (holder pass.old).seen ≤ (holder pass.new).seen }
         ensures still { StillKnows knows (view pass.old) (view pass.new) }
         ensures binds { IfOk result (λ done. Bound knows (sizes_of cache.now).rows key value (view pass.old) done (view pass.new)) }
-        ensures counts { IfOk result (λ done. CountedBind (sizes_of cache.now).slabs done (counted seat.old) (counted seat.new)) };
+        ensures counts { IfOk result (λ done. CountedBind (sizes_of cache.now).slabs (IsFound cache.now) done (counted seat.old) (counted seat.new)) }
+        ensures moves { OnOk result (MovesEntries (Came cache.now) (usable seat.old) (usable seat.new)) };
 
     /// Takes a key out. True where its row bound it. Waits for the locks of the key's row and of the zone.
     ///
@@ -151,7 +173,8 @@ pub trait NameCalls {
         ensures seen { (holder pass.old).seen ≤ (holder pass.new).seen }
         ensures still { StillKnows knows (view pass.old) (view pass.new) }
         ensures unbinds { IfOk result (λ done. Unbound knows (sizes_of cache.now).rows key (view pass.old) done (view pass.new)) }
-        ensures counts { IfOk result (λ done. CountedUnbind done (counted seat.old) (counted seat.new)) };
+        ensures counts { IfOk result (λ done. CountedUnbind done (counted seat.old) (counted seat.new)) }
+        ensures usable { OnOk result (usable seat.new ≡ usable seat.old) };
 
     /// The value that the key's row binds to the key, looked up in the section in which the pass is. Takes no memory and
     /// waits for nobody.
@@ -169,7 +192,8 @@ pub trait NameCalls {
         ensures inside { (holder pass.new).phase ≡ Phase.Inside }
         ensures seen { (holder pass.old).seen ≤ (holder pass.new).seen }
         ensures still { StillKnows knows (view pass.old) (view pass.new) }
-        ensures finds { Finds knows (sizes_of cache.now).rows key (view pass.old) result (view pass.new) };
+        ensures finds { Finds knows (sizes_of cache.now).rows key (view pass.old) result (view pass.new) }
+        ensures loads { IsTrue serves → Loads knows told (sizes_of cache.now).rows key (view pass.old) result (view pass.new) };
 
     /// The value that the key's row binds to the key, looked up in a section of its own. Takes no memory and waits for
     /// nobody.
@@ -192,6 +216,7 @@ pub trait NameCalls {
         ensures seen { (holder pass.old).seen ≤ (holder pass.new).seen }
         ensures still { StillKnows knows (view pass.old) (view pass.new) }
         ensures finds { IfOk result (λ found. Finds knows (sizes_of cache.now).rows key (view pass.old) found (view pass.new)) }
+        ensures loads { IsTrue serves → IfOk result (λ found. Loads knows told (sizes_of cache.now).rows key (view pass.old) found (view pass.new)) }
         ensures late { IfErr result (λ late. Misses (view pass.old) late (view pass.new)) };
 
     /// What a seat counted. None exactly where no names are served.
@@ -209,7 +234,9 @@ pub trait NameCalls {
     /// The census of the keg of entries, lent no item. Waits until it has the keg's lock.
     fn census<R: Wait>(&self, cache: &Self::Cache, rt: &R, alloc: Global) -> Result<Census, Memory>
         ensures cap { IfOk result (λ census. (census_counts census).cap ≡ (sizes_of cache.now).slabs) }
-        ensures reserve { IfOk result (λ census. (census_counts census).reserve ≡ 0) };
+        ensures own { IfOk result (IsCensus cache.now) }
+        ensures reserve { IfOk result (λ census. (census_counts census).reserve ≡ 0) }
+        ensures per_slab { IfOk result (λ census. (census_counts census).per_slab ≡ 64) };
 
     /// How often the entries that the domains have in lists and inboxes and the rows link passed each hook, and how many are
     /// freed. Waits until it has the lock of each domain and of each row.

@@ -1,6 +1,8 @@
 ghost use Rattle.std.specs.Prelude.{◌≡◌, ◌<◌, ◌≤◌, length, OnOk};
-ghost use Rattle.trace_worker.specs.Performs.{CanPerform, Performs};
+ghost use Rattle.trace_worker.specs.Performs.{BringsIn, CanPerform, Performs};
+ghost use Rattle.trace_worker.specs.Requests.{BringsItems};
 ghost use Rattle.trace_worker.specs.Worker.{AreOfClock, Fits, HasRooms, HasSeats};
+ghost use Rattle.uma_seat.specs.Seat.{seat_domain};
 ghost use Rattle.uma_zone.specs.Zone.{IsSeatOf};
 
 use crate::Memory;
@@ -74,6 +76,7 @@ impl<H: Host> Worker<H> {
         requires zone { zone < length zones.now }
         requires items { items ≤ 262144 }
         requires seats { HasSeats zones.now self.now.seats.items }
+        ensures brings { OnOk result (BringsIn zones.now self.now zone items self.now) }
     {
         let place = zone as usize;
         bring(rt, alloc, &zones[place], &self.seats[place], items)
@@ -90,9 +93,11 @@ fn bring<H: Host, R: Wait>(
 ) -> Result<(), Memory>
     requires items { items ≤ 262144 }
     requires seat { IsSeatOf zone.now seat.now }
+    ensures { OnOk result (BringsItems zone.now items (seat_domain seat.now)) }
 {
     match zone.prealloc(rt, alloc, items, seat.domain()) {
-        Ok(_) | Err(FetchRefused::Refused { .. }) => Ok(()),
+        Ok(_) => Ok(()),
+        Err(FetchRefused::Refused { .. }) => Ok(()),
         Err(FetchRefused::Memory) => Err(Memory),
     }
 }

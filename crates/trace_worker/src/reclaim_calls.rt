@@ -1,7 +1,7 @@
 ghost use Rattle.std.specs.Prelude.{◌≡◌, ◌≤◌, OnOk};
-ghost use Rattle.smr_clock.specs.Belongs.{IsOf, clock_id, holder};
+ghost use Rattle.smr_clock.specs.Belongs.{IsOf, clock_id, holder, view};
 ghost use Rattle.uma_zone.specs.Zone.{zone_clock, IsSeatOf};
-ghost use Rattle.trace_worker.specs.Reclaims.{KeepsSeat, IsFlushed, IsDrained};
+ghost use Rattle.trace_worker.specs.Reclaims.{HasDrained, HasDrainedSeat, HasTrimmed, KeepsSeat};
 
 use crate::Memory;
 use crate::count_hooks::CountHooks;
@@ -35,7 +35,7 @@ pub trait ReclaimCalls {
         ensures phase { (holder pass.new).phase ≡ (holder pass.old).phase }
         ensures seen { (holder pass.old).seen ≤ (holder pass.new).seen }
         ensures keeps { KeepsSeat seat.old seat.new }
-        ensures trimmed { OnOk result (IsFlushed seat.old seat.new) };
+        ensures trimmed { OnOk result (HasTrimmed zone.now (view pass.old) seat.old seat.new) };
 
     /// Flushes the seat, gives back all that may be given back of what the domains list, and has the keg give up its wholly
     /// free slabs.
@@ -56,7 +56,7 @@ pub trait ReclaimCalls {
         ensures phase { (holder pass.new).phase ≡ (holder pass.old).phase }
         ensures seen { (holder pass.old).seen ≤ (holder pass.new).seen }
         ensures keeps { KeepsSeat seat.old seat.new }
-        ensures drained { OnOk result (IsFlushed seat.old seat.new) };
+        ensures drained { OnOk result (HasDrained zone.now (view pass.old) seat.old seat.new) };
 
     /// Drains, and gives back the usable and the cross items of the seat besides. Its deferred items stay.
     fn drain_seat<H: Host, R: Wait>(
@@ -76,5 +76,5 @@ pub trait ReclaimCalls {
         ensures phase { (holder pass.new).phase ≡ (holder pass.old).phase }
         ensures seen { (holder pass.old).seen ≤ (holder pass.new).seen }
         ensures keeps { KeepsSeat seat.old seat.new }
-        ensures drained { OnOk result (IsDrained seat.old seat.new) };
+        ensures drained { OnOk result (HasDrainedSeat zone.now (view pass.old) seat.old seat.new) };
 }

@@ -1,6 +1,6 @@
 ghost use Rattle.std.specs.Prelude.{◌<◌, length, OnOk};
 ghost use Rattle.trace_worker.specs.Performs.{Reclaims};
-ghost use Rattle.trace_worker.specs.Reclaims.{IsFlushed, IsDrained};
+ghost use Rattle.trace_worker.specs.Reclaims.{HasDrained, HasDrainedSeat, HasTrimmed};
 ghost use Rattle.trace_worker.specs.Worker.{AreOfClock, Fits};
 
 use crate::Memory;
@@ -28,7 +28,7 @@ impl<H: Host> Worker<H> {
         requires clock { AreOfClock clock.now zones.now }
         requires fits { Fits zones.now clock.now self.old }
         ensures fits { OnOk result (Fits zones.now clock.now self.new) }
-        ensures reclaims { OnOk result (Reclaims zones.now IsFlushed self.old zone self.new) }
+        ensures reclaims { OnOk result (Reclaims zones.now HasTrimmed self.old zone self.new) }
     {
         let place = zone as usize;
         let seat = &mut self.seats[place];
@@ -51,7 +51,7 @@ impl<H: Host> Worker<H> {
         requires clock { AreOfClock clock.now zones.now }
         requires fits { Fits zones.now clock.now self.old }
         ensures fits { OnOk result (Fits zones.now clock.now self.new) }
-        ensures reclaims { OnOk result (Reclaims zones.now IsFlushed self.old zone self.new) }
+        ensures reclaims { OnOk result (Reclaims zones.now HasDrained self.old zone self.new) }
     {
         let place = zone as usize;
         let seat = &mut self.seats[place];
@@ -75,7 +75,7 @@ impl<H: Host> Worker<H> {
         requires clock { AreOfClock clock.now zones.now }
         requires fits { Fits zones.now clock.now self.old }
         ensures fits { OnOk result (Fits zones.now clock.now self.new) }
-        ensures reclaims { OnOk result (Reclaims zones.now IsDrained self.old zone self.new) }
+        ensures reclaims { OnOk result (Reclaims zones.now HasDrainedSeat self.old zone self.new) }
     {
         let place = zone as usize;
         let seat = &mut self.seats[place];

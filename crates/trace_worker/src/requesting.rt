@@ -1,10 +1,10 @@
 ghost use Rattle.std.specs.Prelude.{◌≡◌, ◌<◌, ◌≤◌, None, IfOk, OnOk, length, option_map};
-ghost use Rattle.smr_clock.specs.Belongs.{IsOf, clock_id, holder};
+ghost use Rattle.smr_clock.specs.Belongs.{IsOf, clock_id, holder, view};
 ghost use Rattle.uma_seat.specs.Seat.{ledger_of};
 ghost use Rattle.uma_zone.specs.Zone.{zone_clock, IsSeatOf};
 ghost use Rattle.zone_stats.specs.LedgerSteps.{HasRoom};
 ghost use Rattle.trace_worker.specs.Performs.{Allocs};
-ghost use Rattle.trace_worker.specs.Requests.{Requests};
+ghost use Rattle.trace_worker.specs.Requests.{Reaches, Requests};
 ghost use Rattle.trace_worker.specs.Live.{holding};
 ghost use Rattle.trace_worker.specs.Slots.{slot_at, filled};
 ghost use Rattle.trace_worker.specs.Worker.{AreOfClock, Fits, HasRooms};
@@ -70,6 +70,7 @@ pub(crate) fn request<H: Host, R: Wait>(
     ensures phase { (holder pass.new).phase ≡ (holder pass.old).phase }
     ensures seen { (holder pass.old).seen ≤ (holder pass.new).seen }
     ensures requests { IfOk result (λ got. Requests zone.now ask seat.old got seat.new) }
+    ensures reaches { OnOk result (Reaches zone.now (view pass.old) seat.old seat.new (view pass.new)) }
 {
     match zone.alloc(rt, alloc, clock, pass, seat, ask) {
         Ok(item) => Ok(Some(item)),

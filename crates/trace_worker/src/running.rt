@@ -1,5 +1,6 @@
 ghost use Rattle.std.specs.Prelude.{◌≡◌, ◌<◌, ◌≤◌, ◌+◌, ◌^◌, Some, length, IfOk, IfSome, OnOk, slice_get};
 ghost use Rattle.trace_text.specs.Valid.{comes_back};
+ghost use Rattle.trace_worker.specs.Asking.{Answers, AsksGate, IsAskedLast, Waits, heard_by};
 ghost use Rattle.trace_worker.specs.declared.attendance.Attendance.TheVariants.{There};
 ghost use Rattle.trace_worker.specs.Attendance.{is_out, worker_in};
 ghost use Rattle.trace_worker.specs.NameLines.{CanDo, DoesLine, HasNameRooms, KeepsGate, doing};
@@ -81,6 +82,7 @@ impl<N: NameCalls> Running<N> {
         requires ready { IsReady N.NameCalls cache.now trace.now zones.now clock.now round number self.old }
         ensures worked { OnOk self.new.ended (HasWorked N.NameCalls cache.now trace.now zones.now clock.now round number self.old self.new) }
         ensures free { G.is_free gate.now → self.new.gave_up ≡ self.old.gave_up }
+        ensures asks { OnOk self.new.ended (AsksGate G.Gate gate.now number (length (ops_at trace.now.rounds round number)) self.old self.new) }
     {
         self.ended = self.work(
             rt, alloc, trace, zones, clock, names, cache, gate, reclaim, round, number,
@@ -104,20 +106,28 @@ impl<N: NameCalls> Running<N> {
         requires ready { IsReady N.NameCalls cache.now trace.now zones.now clock.now round number self.old }
         ensures worked { OnOk result (HasWorked N.NameCalls cache.now trace.now zones.now clock.now round number self.old self.new) }
         ensures free { G.is_free gate.now → self.new.gave_up ≡ self.old.gave_up }
+        ensures asks { OnOk result (AsksGate G.Gate gate.now number (length (ops_at trace.now.rounds round number)) self.old self.new) }
     {
         let ops = own_list(trace, round, number);
+        let worker = number as u32;
+        let mut visit = gate.open();
         for place in 0..ops.len() {
-            self.await_gate(gate, number as u32, place as u64 + 1);
-            self.perform(rt, alloc, zones, clock, names, cache, reclaim, ops[place])?;
-            gate.done(number as u32, place as u64 + 1);
+            let op = place as u64 + 1;
+            self.await_gate(gate, &mut visit, worker, op);
+            self.perform(
+                rt, alloc, zones, clock, names, cache, reclaim, gate, &visit, worker, op,
+                ops[place],
+            )?;
+            gate.done(&mut visit, worker, op);
         }
         Ok(())
     }
 
-    /// Does one line of the worker, by its kind. Waits where the zones' calls do, and those of the names.
+    /// Does one line of the worker, by its kind: its operation of this number, which the gate was asked for last, and not yet
+    /// told as done. Waits where the zones' calls do, and those of the names.
     ///
     /// After the Err, which is want of memory, the replay is over.
-    fn perform<R: Wait, C: ReclaimCalls>(
+    fn perform<R: Wait, G: Gate, C: ReclaimCalls>(
         &mut self,
         rt: &R,
         alloc: Global,
@@ -126,8 +136,13 @@ impl<N: NameCalls> Running<N> {
         names: &N,
         cache: &N::Cache,
         reclaim: &C,
+        _gate: &G,
+        visit: &G::Visit,
+        worker: u32,
+        number: u64,
         op: Op,
     ) -> Result<(), Memory>
+        requires asked { IsAskedLast worker number (G.heard visit.now) }
         requires can { CanDo N.NameCalls zones.now (worker_in self.old) op }
         requires there { is_out self.old.attendance ≡ comes_back op }
         requires clock { AreOfClock clock.now zones.now }
@@ -162,9 +177,13 @@ impl<N: NameCalls> Running<N> {
     }
 
     /// Asks the gate before an operation, and counts it.
-    fn await_gate<G: Gate>(&mut self, gate: &G, worker: u32, op: u64)
+    fn await_gate<G: Gate>(&mut self, gate: &G, visit: &mut G::Visit, worker: u32, op: u64)
+        requires of_gate { G.is_of gate.now visit.old }
         requires asks { self.old.asked + most_asks < 2 ^ 64 }
         requires gave_up { self.old.gave_up + 1 < 2 ^ 64 }
+        ensures of_gate { G.is_of gate.now visit.new }
+        ensures waits { Waits worker op (heard_by (G.heard visit.old) self.old) (heard_by (G.heard visit.new) self.new) }
+        ensures asked { IsAskedLast worker op (G.heard visit.new) }
         ensures attendance { self.new.attendance ≡ self.old.attendance }
         ensures naming { self.new.naming ≡ self.old.naming }
         ensures asked_some { self.old.asked + 1 ≤ self.new.asked }
@@ -172,7 +191,7 @@ impl<N: NameCalls> Running<N> {
         ensures gave_up { self.new.gave_up ≤ self.old.gave_up + 1 }
         ensures free { G.is_free gate.now → self.new.gave_up ≡ self.old.gave_up }
     {
-        match ask(gate, worker, op) {
+        match ask(gate, visit, worker, op) {
             Some(times) => self.asked += times,
             None => {
                 self.asked += MOST_ASKS;
@@ -183,14 +202,18 @@ impl<N: NameCalls> Running<N> {
 }
 
 /// Asks the gate until it lets the operation go, and answers how often. None where it held each of 100,000,000 times.
-fn ask<G: Gate>(gate: &G, worker: u32, op: u64) -> Option<u64>
+fn ask<G: Gate>(gate: &G, visit: &mut G::Visit, worker: u32, op: u64) -> Option<u64>
+    requires { G.is_of gate.now visit.old }
+    ensures of_gate { G.is_of gate.now visit.new }
+    ensures heard { Answers worker op (G.heard visit.old) result (G.heard visit.new) }
     ensures some { IfSome result (λ times. 1 ≤ times) }
     ensures few { IfSome result (λ times. times ≤ most_asks) }
     ensures free { G.is_free gate.now → result ≡ Some 1 }
 {
     for asked in 0..MOST_ASKS {
-        if gate.at(worker, op) == Go::Go {
-            return Some(asked + 1);
+        match gate.at(visit, worker, op) {
+            Go::Go => return Some(asked + 1),
+            Go::Hold => (),
         }
     }
     None

@@ -1,10 +1,10 @@
 -- The headline, from the hall and its report.
-use Rattle.std.proofs.Common.{◌≡◌, ◌⊎◌, ℕ, zero, suc, ◌+◌, ◌<◌, Bool, true, List, [], ◌∷◌, ◌++◌, Option, None, Some, cond, length, get_or, map, inl, inr, refl, sym, ap, ◌∙◌, subst, arith}
+use Rattle.std.proofs.Common.{◌≡◌, ℕ, zero, suc, ◌+◌, ◌<◌, ◌≤◌, Bool, true, List, [], ◌∷◌, ◌++◌, Option, None, Some, cond, length, get_or, map, inl, inr, refl, sym, ap, ◌∙◌, subst, arith}
 use Rattle.std.proofs.lemmas.Bool.{false≢true}
-use Rattle.std.proofs.lemmas.List.Elements.{All-head, All-tail, All-weaker, Contains-append_cases, Contains-append_left, Contains-append_right}
-use Rattle.std.proofs.lemmas.List.Sums.{sum_by-cons}
+use Rattle.std.proofs.lemmas.List.Elements.{All-head, All-tail, All-weaker}
+use Rattle.std.proofs.lemmas.List.Sums.{sum_by-append, sum_by-cons}
 use Rattle.std.proofs.lemmas.Option.{none-some, same_Some, slice_get_within, get_or_from_slice_get}
-use Rattle.std.specs.Prelude.{All, Contains, IfOk, IfSome, Result, Ok, Err, count_by, is_some, slice_get}
+use Rattle.std.specs.Prelude.{All, IfOk, IfSome, Result, Ok, Err, count_by, is_some, slice_get, take}
 use Rattle.std.specs.List.{flat_map}
 use Rattle.std.specs.Option.{option_map_or}
 use Rattle.smr_clock.specs.declared.host.Host.{Ghosts}
@@ -18,7 +18,7 @@ use Rattle.uma_seat.specs.Seat.{usable_of, ledger_of, KeepsCounts}
 use Rattle.uma_seat.specs.Counts.{ledger_in}
 use Rattle.uma_zone.specs.declared.alloc_ask.AllocAsk.{AllocAsk}
 use Rattle.uma_zone.specs.declared.alloc_ask.AllocRefused.TheVariants.{Refused}
-use Rattle.uma_zone.specs.Alloc.{Refuses, RefusesCtor, TurnsAway}
+use Rattle.uma_zone.specs.Alloc.{Refuses}
 use Rattle.uma_zone.specs.SafeReuse.{usable_tickets}
 use Rattle.uma_zone.specs.Zone.{zone_smr}
 use Rattle.zone_stats.specs.declared.ledger.SeatLedger.{SeatLedger}
@@ -39,14 +39,15 @@ use Rattle.uma_replay.specs.declared.hall.Hall.{Hall}
 use Rattle.uma_replay.specs.declared.hall.Played.{Played}
 use Rattle.uma_replay.specs.Counting.{report_zones, worker_ops}
 use Rattle.uma_replay.specs.Hall.{HallStands}
-use Rattle.uma_replay.specs.Headline.{SeatCall, Request, Return, Flush, Empty, Nothing, SeatLine, NameLine, AreLines, AreNameLines, IsCall, HasDone, Follow, Comes, gone, brought_by, got_none, is_refused, PassesHooks, AreOnTrail, HasCause, AreTotals, FindsBound, RefusesEntry, Headline}
+use Rattle.uma_replay.specs.Headline.{SeatCall, Request, Return, Flush, Empty, Nothing, SeatLine, NameLine, AreLines, AreNameLines, AreAmong, IsCall, HasDone, Follow, Comes, gone, brought_by, got_none, is_refused, PassesHooks, AreOnTrail, HasCause, AreKept, AreTotals, FindsBound, RefusesEntry, WaitsForReaders, Headline}
 use Rattle.uma_replay.specs.Limits.{last_limit}
 use Rattle.uma_replay.specs.Names.{AreNameLedgers, IsWhole}
 use Rattle.uma_replay.specs.Report.{IsLineOf, StandsFor, ledgers_at}
 use Rattle.uma_replay.specs.Reporting.{AreLedgersOf}
 use Rattle.uma_replay.proofs.NameStory as name_story
+use Rattle.uma_replay.proofs.NameStory.{after, before, came, handed}
 use Rattle.uma_replay.proofs.PlainStands.{some_at}
-use Rattle.uma_replay.proofs.SeatLines.{IsGood, story_of_rounds}
+use Rattle.uma_replay.proofs.SeatLines.{IsGood, Stories, from_seat, to_seat, stories_of_rounds}
 
 -- ---- on numbers and lists
 
@@ -83,53 +84,54 @@ get_last xs y z is = ap (slice_get (xs ++ y ∷ [])) is ∙ at_length xs y
 abbrev unit : Bool → ℕ
 unit b = cond b 1 0
 
-abbrev Has : List Ticket → List Ticket → Ticket → Type 0
-Has usable others item = Contains usable item ⊎ Contains others item
+-- ---- what left a seat is among what was brought to it
+
+abbrev times : (Ticket → Bool) → List Ticket → ℕ
+times is items = count_by is items
+
+times-append : (is : Ticket → Bool) (xs ys : List Ticket) → times is (xs ++ ys) ≡ times is xs + times is ys
+times-append is xs ys = sum_by-append (λ (item : Ticket). unit (is item)) xs ys
+
+-- usable before and after one line, what it brought and what left by it, and what came and left later
+with_later : (left later usable usable' came more from all all_came : ℕ) → all ≡ left + later → all_came ≡ came + more → usable' + left ≡ usable + came → usable ≡ from → later ≤ usable' + more → all ≤ from + all_came
+with_later left later usable usable' came more from all all_came e1 e2 e3 e4 few = omega arith
+
+from_no_item : (all came : ℕ) → all ≤ 0 + came → all ≤ came
+from_no_item all came few = omega arith
+
+module _ {L S : Type 0} (old new : L → S) (usable : S → List Ticket) (gone brought : L → List Ticket) where
+  abbrev Balances : L → Type 0
+  Balances line = usable (new line) ++ gone line ≡ usable (old line) ++ brought line
+
+  counted : (is : Ticket → Bool) (line : L) → Balances line → times is (usable (new line)) + times is (gone line) ≡ times is (usable (old line)) + times is (brought line)
+  counted is line balance = sym (times-append is (usable (new line)) (gone line)) ∙ (ap (times is) balance ∙ times-append is (usable (old line)) (brought line))
+
+  flows : (count : ℕ) (is : Ticket → Bool) (lines : List L) (from to : S) → All Balances lines → Follow old new from lines to
+      → times is (flat_map gone (take count lines)) ≤ times is (usable from) + times is (flat_map brought (take count lines))
+  flows zero is [] from to balance follow = omega arith
+  flows zero is (line ∷ lines) from to balance follow = omega arith
+  flows (suc count) is [] from to balance follow = omega arith
+  flows (suc count) is (line ∷ lines) from to balance follow =
+      with_later (times is (gone line)) (times is (flat_map gone (take count lines))) (times is (usable (old line))) (times is (usable (new line))) (times is (brought line)) (times is (flat_map brought (take count lines))) (times is (usable from)) _ _
+      (times-append is (gone line) (flat_map gone (take count lines))) (times-append is (brought line) (flat_map brought (take count lines)))
+      (counted is line (All-head Balances line lines balance)) (ap (λ (s : S). times is (usable s)) follow.0)
+      (flows count is lines (new line) to (All-tail Balances line lines balance) follow.1)
+
+  pub among : (lines : List L) (from to : S) → All Balances lines → Follow old new from lines to → usable from ≡ [] → AreAmong gone brought lines
+  among lines from to balance follow empty count is =
+      let left = times is (flat_map gone (take count lines)) in
+      let came = times is (flat_map brought (take count lines)) in
+      let P : List Ticket → Type 0 = λ l. left ≤ times is l + came in
+      from_no_item left came (subst P empty (flows count is lines from to balance follow))
 
 module _ {H Part : Type 0} {h : Ghosts H Part} where
   -- ---- safe reuse
 
-  -- what is usable after a line or left in it was usable before or came
-  from_line : (zone : CountedZone H Part h) (z : ℕ) (line : SeatLine H Part h) (item : Ticket) → zone_smr zone ≡ true → IsGood zone z line → Contains (usable_tickets line.new ++ gone line) item → Has (usable_tickets line.old) line.brought item
-  from_line zone z line item smr good has =
-      let both : Contains (usable_tickets line.old ++ line.brought) item = subst (λ (l : List Ticket). Contains l item) (good.waits smr).1 has in
-      Contains-append_cases (usable_tickets line.old) line.brought item both
-
-  first_line : (line : SeatLine H Part h) (lines : List (SeatLine H Part h)) (from : CountedSeat H Part h) (item : Ticket) → line.old ≡ from → Has (usable_tickets line.old) line.brought item
-      → Has (usable_tickets from) (flat_map brought_by (line ∷ lines)) item
-  first_line line lines from item same (inl was) = inl (subst (λ (s : CountedSeat H Part h). Contains (usable_tickets s) item) same was)
-  first_line line lines from item same (inr came) = inr (Contains-append_left line.brought (flat_map brought_by lines) item came)
-
-  -- with the line before
-  after_line : (zone : CountedZone H Part h) (z : ℕ) (line : SeatLine H Part h) (lines : List (SeatLine H Part h)) (from : CountedSeat H Part h) (item : Ticket) → zone_smr zone ≡ true → IsGood zone z line → line.old ≡ from
-      → Has (usable_tickets line.new) (flat_map brought_by lines) item → Has (usable_tickets from) (flat_map brought_by (line ∷ lines)) item
-  after_line zone z line lines from item smr good same (inl between) =
-      first_line line lines from item same (from_line zone z line item smr good (Contains-append_left (usable_tickets line.new) (gone line) item between))
-  after_line zone z line lines from item smr good same (inr came) = inr (Contains-append_right line.brought (flat_map brought_by lines) item came)
-
-  flows : (zone : CountedZone H Part h) (z : ℕ) (lines : List (SeatLine H Part h)) (from to : CountedSeat H Part h) (item : Ticket) → zone_smr zone ≡ true → All (IsGood zone z) lines → Follow from lines to
-      → Has (usable_tickets to) (flat_map gone lines) item → Has (usable_tickets from) (flat_map brought_by lines) item
-  flows zone z [] from to item smr good follow (inl there) = inl (subst (λ (s : CountedSeat H Part h). Contains (usable_tickets s) item) follow there)
-  flows zone z [] from to item smr good follow (inr left) = inr left
-  flows zone z (line ∷ lines) from to item smr good follow (inl there) =
-      after_line zone z line lines from item smr (All-head (IsGood zone z) line lines good) follow.0
-      (flows zone z lines line.new to item smr (All-tail (IsGood zone z) line lines good) follow.1 (inl there))
-  flows zone z (line ∷ lines) from to item smr good follow (inr left) = elim (Contains-append_cases (gone line) (flat_map gone lines) item left) [
-    | inl here ↦ first_line line lines from item follow.0
-        (from_line zone z line item smr (All-head (IsGood zone z) line lines good) (Contains-append_right (usable_tickets line.new) (gone line) item here))
-    | inr more ↦ after_line zone z line lines from item smr (All-head (IsGood zone z) line lines good) follow.0
-        (flows zone z lines line.new to item smr (All-tail (IsGood zone z) line lines good) follow.1 (inr more))
-  ]
-
-  among : (zone : CountedZone H Part h) (z : ℕ) (lines : List (SeatLine H Part h)) (from to : CountedSeat H Part h) → zone_smr zone ≡ true → All (IsGood zone z) lines → Follow from lines to → usable_of from ≡ []
-      → (item : Ticket) → Contains (flat_map gone lines) item → Contains (flat_map brought_by lines) item
-  among zone z lines from to smr good follow empty item left = elim (flows zone z lines from to item smr good follow (inr left)) [
-    | inl was ↦
-        let none = subst (λ (l : List CachedItem). Contains (map cached_ticket l) item) empty was in
-        let below : none.0 < 0 = none.1 in
-        absurd (omega arith)
-    | inr came ↦ came
-  ]
+  waits : (zone : CountedZone H Part h) (z : ℕ) (lines : List (SeatLine H Part h)) (from to : CountedSeat H Part h) → zone_smr zone ≡ true → All (IsGood zone z) lines → Follow from_seat to_seat from lines to → usable_of from ≡ []
+      → AreAmong gone brought_by lines
+  waits zone z lines from to smr good follow empty =
+      let Even : SeatLine H Part h → Type 0 = λ line. usable_tickets line.new ++ gone line ≡ usable_tickets line.old ++ brought_by line in
+      among from_seat to_seat usable_tickets gone brought_by lines from to (All-weaker (IsGood zone z) Even (λ line g. (g.waits smr).1) lines good) follow (ap (map cached_ticket) empty)
 
   -- ---- hooks
 
@@ -149,18 +151,10 @@ module _ {H Part : Type 0} {h : Ghosts H Part} where
 
   -- ---- refusals
 
-  cause_of : (zone : CountedZone H Part h) (ask : AllocAsk) (old new : CountedSeat H Part h) (refusal : Refusal) → Refuses zone ask old new (Refused refusal)
-      → ((code : ℕ) × RefusesCtor zone ask code old new) ⊎ ((refusal : Refusal) × TurnsAway zone ask.reserve refusal old new)
-  cause_of zone ask old new (AtLimit out limit) why = inr (AtLimit out limit, why)
-  cause_of zone ask old new (Reserved free reserve) why = inr (Reserved free reserve, why)
-  cause_of zone ask old new (Full slabs made) why = inr (Full slabs made, why)
-  cause_of zone ask old new (Init code) why = inr (Init code, why)
-  cause_of zone ask old new (Ctor code) why = inl (code, why)
-
   has_cause : (zone : CountedZone H Part h) (z : ℕ) (line : SeatLine H Part h) → IsGood zone z line → HasCause zone line
   has_cause zone z line good ask is =
       let r : Requests zone ask line.old None line.new = subst (λ (c : SeatCall). HasDone zone line.old c line.new) is good.done in
-      cause_of zone ask line.old line.new r.ends.0 r.ends.1
+      r.ends
 
   abbrev fails_of : CountedSeat H Part h → ℕ
   fails_of seat = (ledger_of seat).fails
@@ -186,7 +180,7 @@ module _ {H Part : Type 0} {h : Ghosts H Part} where
   line_fails zone old Empty new did = same_count (fails_of old) (fails_of new) (counts_fails old new did.keeps.counts)
   line_fails zone old Nothing new did = same_count (fails_of old) (fails_of new) (ap fails_of did)
 
-  all_fails : (zone : CountedZone H Part h) (z : ℕ) (lines : List (SeatLine H Part h)) (from to : CountedSeat H Part h) → All (IsGood zone z) lines → Follow from lines to → fails_of to ≡ fails_of from + count_by is_refused lines
+  all_fails : (zone : CountedZone H Part h) (z : ℕ) (lines : List (SeatLine H Part h)) (from to : CountedSeat H Part h) → All (IsGood zone z) lines → Follow from_seat to_seat from lines to → fails_of to ≡ fails_of from + count_by is_refused lines
   all_fails zone z [] from to good follow = same_count (fails_of from) (fails_of to) (ap fails_of follow)
   all_fails zone z (line ∷ lines) from to good follow =
       let one = line_fails zone line.old line.call line.new (All-head (IsGood zone z) line lines good).done in
@@ -219,30 +213,47 @@ none_failed None new = refl
 none_failed (Some ledger) new = new.fails
 
 module _ {N H C S Part : Type 0} {h : Ghosts H Part} (names : NameGhosts N H C S Part) (t : Trace) (report : Report) (hall : Hall N H C S Part h) (stands : StandsFor t report) (has : HallStands names t report hall) where
-  -- ---- the lines of a seat
+  -- ---- the lines of a worker's seats
 
-  abbrev Lines : ℕ → ℕ → CountedZone H Part h → CountedSeat H Part h → Type 0
-  Lines n z zone seat = (lines : List (SeatLine H Part h)) × AreLines zone z (worker_ops t n) lines seat × All (IsGood zone z) lines
+  naming_of : (n : ℕ) (w : Worker H Part h) → slice_get hall.workers n ≡ Some w → (naming : Naming N H C S Part) × (slice_get hall.namings n ≡ Some naming)
+  naming_of n w at = some_at hall.namings n (below_by n (length hall.workers) (length hall.namings) t.head.workers (slice_get_within hall.workers n w at) has.done.worker_count has.named.naming_count)
 
-  lines_at : (n z : ℕ) (w : Worker H Part h) (zone : CountedZone H Part h) (seat : CountedSeat H Part h) → slice_get hall.workers n ≡ Some w → slice_get hall.zones z ≡ Some zone → slice_get w.seats.items z ≡ Some seat → Lines n z zone seat
-  lines_at n z w zone seat at at_zone at_seat =
-      let naming = some_at hall.namings n (below_by n (length hall.workers) (length hall.namings) t.head.workers (slice_get_within hall.workers n w at) has.done.worker_count has.named.naming_count) in
+  seat_lines : (n : ℕ) (w : Worker H Part h) → slice_get hall.workers n ≡ Some w → (befores : List (Worker H Part h)) × AreKept names t hall n w befores
+  seat_lines n w at =
+      let naming = naming_of n w at in
       let p = has.named.played n w naming.0 at naming.1 in
-      let first = some_at (worker_in p.begin).seats.items z (below_as z (length hall.zones) (length (worker_in p.begin).seats.items) (slice_get_within hall.zones z zone at_zone) p.is_new.fits.seats.count) in
-      let unused = p.is_new.seats z first.0 first.1 in
-      let s = story_of_rounds names hall.names hall.zones z zone at_zone t.rounds n (doing p.begin) p.end first.0 first.1 p.plays in
-      let same : s.to ≡ seat = same_Some s.to seat (sym s.at ∙ (ap (λ x. slice_get x.items z) (sym p.stays.seats) ∙ at_seat)) in (
-        s.lines,
-        record {
-          all = s.all;
-          calls = All-weaker (IsGood zone z) (λ (line : SeatLine H Part h). IsCall z line.op line.call) (λ line g. g.call) s.lines s.good;
-          done = All-weaker (IsGood zone z) (λ (line : SeatLine H Part h). HasDone zone line.old line.call line.new) (λ line g. g.done) s.lines s.good;
-          first = first.0;
-          empty = unused.usable;
-          fresh = unused.ledger;
-          follow = subst (λ (x : CountedSeat H Part h). Follow first.0 s.lines x) same s.follow;
-        },
-        s.good,
+      let all = stories_of_rounds names hall.names hall.zones t.rounds n (doing p.begin) p.end p.plays in (
+        all.befores,
+        λ z zone seat at_zone at_seat.
+            let first = some_at (worker_in p.begin).seats.items z (below_as z (length hall.zones) (length (worker_in p.begin).seats.items) (slice_get_within hall.zones z zone at_zone) p.is_new.fits.seats.count) in
+            let unused = p.is_new.seats z first.0 first.1 in
+            let s = all.each z zone first.0 at_zone first.1 in
+            let same : s.to ≡ seat = same_Some s.to seat (sym s.at ∙ (ap (λ x. slice_get x.items z) (sym p.stays.seats) ∙ at_seat)) in
+            let follow = subst (λ (x : CountedSeat H Part h). Follow from_seat to_seat first.0 s.lines x) same s.follow in (
+              s.lines,
+              record {
+                all = s.all;
+                by = s.by;
+                seats = All-weaker (IsGood zone z) (λ (line : SeatLine H Part h). slice_get line.by.seats.items z ≡ Some line.old) (λ line g. g.seat) s.lines s.good;
+                calls = All-weaker (IsGood zone z) (λ (line : SeatLine H Part h). IsCall z line.by.slots line.op line.call) (λ line g. g.call) s.lines s.good;
+                done = All-weaker (IsGood zone z) (λ (line : SeatLine H Part h). HasDone zone line.old line.call line.new) (λ line g. g.done) s.lines s.good;
+                first = first.0;
+                empty = unused.usable;
+                fresh = unused.ledger;
+                follow = follow;
+              },
+              record {
+                safe = λ smr. record {
+                  come = All-weaker (IsGood zone z) (Comes zone) (λ line g. (g.waits smr).0) s.lines s.good;
+                  among = waits zone z s.lines first.0 seat smr s.good follow unused.usable;
+                };
+                hooks = All-weaker (IsGood zone z) (λ (line : SeatLine H Part h). PassesHooks zone line.call) (λ line g. passes zone line.old line.call line.new g.done) s.lines s.good;
+                refusals = record {
+                  causes = All-weaker (IsGood zone z) (HasCause zone) (λ line g. has_cause zone z line g) s.lines s.good;
+                  fails = from_none _ _ _ unused.ledger.fails (all_fails zone z s.lines first.0 seat s.good follow);
+                };
+              },
+            ),
       )
 
   -- ---- totals
@@ -289,41 +300,28 @@ module _ {N H C S Part : Type 0} {h : Ghosts H Part} (names : NameGhosts N H C S
       let s = name_story.story_of_rounds names hall.names hall.zones t.rounds n (doing p.begin) p.end p.plays in
       let hits = from_none _ _ _ (ap (λ (c : NameCounts). c.hits) p.is_first.counts) s.hits in
       let fails = from_none _ _ _ (none_failed (names.counted p.begin.naming.seat) p.is_first.fresh) s.fails in
-      let Fine : NameLine Part → Type 0 = name_story.IsFine names hall.names in (
+      let Fine : NameLine Part → Type 0 = name_story.IsFine names hall.names in
+      let from_first = subst (λ (from : List Ticket). Follow before after from s.lines (names.usable p.end.naming.seat)) p.is_first.unused s.follow in
+      let follow = subst (λ (to : List Ticket). Follow before after [] s.lines to) (ap (λ (g : Naming N H C S Part). names.usable g.seat) (sym p.naming_stays)) from_first in (
         s.lines,
         record {
           all = s.all;
           looked = All-weaker Fine (λ (line : NameLine Part). IfSome line.found (FindsBound names hall.names line)) (λ line fine. fine.looked) s.lines s.fine;
           hits = ap (λ (g : Naming N H C S Part). g.counts.hits) p.naming_stays ∙ hits;
           bound = All-weaker Fine (λ (line : NameLine Part). IfSome line.refused (RefusesEntry names hall.names line)) (λ line fine. fine.bound) s.lines s.fine;
+          waits = All-weaker Fine (WaitsForReaders names hall.names) (λ line fine. fine.waits) s.lines s.fine;
+          follow = follow;
+          among =
+              (let Even : NameLine Part → Type 0 = λ line. line.after ++ line.handed ≡ line.before ++ line.brought in
+              among before after (λ items. items) handed came s.lines [] (names.usable naming.seat) (All-weaker Fine Even (λ line fine. fine.waits.balance) s.lines s.fine) follow refl);
           fails = if_fails (names.counted naming.seat) (count_by name_story.has_refused s.lines) (ap (λ (g : Naming N H C S Part). option_map_or (λ (l : SeatLedger). l.fails) (names.counted g.seat) 0) p.naming_stays ∙ fails);
         },
       )
 
   pub headline_of : Headline names t report hall
   headline_of = record {
-    safe = λ n z w zone seat at at_zone at_seat.
-        let l = lines_at n z w zone seat at at_zone at_seat in (
-          l.0,
-          l.1,
-          λ smr. record {
-            come = All-weaker (IsGood zone z) (Comes zone) (λ line g. (g.waits smr).0) l.0 l.2;
-            among = among zone z l.0 l.1.first seat smr l.2 l.1.follow l.1.empty;
-          },
-        );
-    hooks = λ n z w zone seat at at_zone at_seat.
-        let l = lines_at n z w zone seat at at_zone at_seat in
-        (l.0, l.1, All-weaker (IsGood zone z) (λ (line : SeatLine H Part h). PassesHooks zone line.call) (λ line g. passes zone line.old line.call line.new g.done) l.0 l.2);
+    seats = seat_lines;
     trails = λ n w at. on_trail w;
-    refusals = λ n z w zone seat at at_zone at_seat.
-        let l = lines_at n z w zone seat at at_zone at_seat in (
-          l.0,
-          l.1,
-          record {
-            causes = All-weaker (IsGood zone z) (HasCause zone) (λ line g. has_cause zone z line g) l.0 l.2;
-            fails = from_none _ _ _ l.1.fresh.fails (all_fails zone z l.0 l.1.first seat l.2 l.1.follow);
-          },
-        );
     totals = totals_at;
     name_totals = λ line named at. let n = some_of t.head.names named in name_totals_by t.head.names has.whole n.0 n.1 line at;
     lookups = names_at;

@@ -14,19 +14,20 @@ use Rattle.smr_clock.specs.Belongs.{view}
 use Rattle.trace_text.specs.declared.op.Op.{Op}
 use Rattle.trace_text.specs.declared.op.Op.TheVariants.{Alloc, Free, Enter, Exit, Bind, Unbind, Look, Trim, Drain, DrainSeat, Prealloc, Away, Back}
 use Rattle.trace_text.specs.declared.round.Round.{Round}
+use Rattle.uma_life.specs.declared.ticket.Ticket.{Ticket}
 use Rattle.zone_stats.specs.declared.ledger.SeatLedger.{SeatLedger}
 use Rattle.zone_stats.specs.declared.refusal.Refusal.{Refusal}
 use Rattle.trace_worker.specs.declared.name_calls.NameCalls.{Ghosts as NameGhosts}
 use Rattle.trace_worker.specs.declared.naming.NameCounts.{NameCounts}
 use Rattle.trace_worker.specs.declared.naming.Naming.{Naming}
 use Rattle.trace_worker.specs.Items.{CountedZone}
-use Rattle.trace_worker.specs.Knowing.{Finds, bound_to}
+use Rattle.trace_worker.specs.Knowing.{Loads, Told, bound_to}
 use Rattle.trace_worker.specs.NameCalls.{OnBoth}
-use Rattle.trace_worker.specs.NameLedger.{BindCounts, UnbindCounts, MayCountFree, NamesRefuse}
+use Rattle.trace_worker.specs.NameLedger.{BindCounts, UnbindCounts, MayCountFree}
 use Rattle.trace_worker.specs.NameLines.{Changes, Doing, DoesAll}
 use Rattle.trace_worker.specs.Naming.{CountsAnswer, CountsBind, CountsUnbind}
 use Rattle.trace_play.specs.Plays.{PlaysRounds, ops_in}
-use Rattle.uma_replay.specs.Headline.{NameLine, FindsBound, RefusesEntry}
+use Rattle.uma_replay.specs.Headline.{NameLine, FindsBound, Follow, RefusesEntry, WaitsForReaders}
 
 -- ---- on numbers
 
@@ -54,9 +55,9 @@ from_none a b n e1 e2 = omega arith
 -- ---- one line's ledger
 
 -- what a bind was refused, and what that did to the fails
-record Ends (slabs : ℕ) (old new : Option SeatLedger) : Type 0 where
+record Ends (IsFound : Refusal → Type 0) (old new : Option SeatLedger) : Type 0 where
   refused : Option Refusal
-  fits : IfSome refused (NamesRefuse slabs)
+  found : IfSome refused IsFound
   fails : fails_in new ≡ fails_in old + unit (is_some refused)
 
 may_free : (between new : SeatLedger) → MayCountFree between new → new.fails ≡ between.fails
@@ -65,18 +66,18 @@ may_free between new may = elim may [
   | inr one ↦ one.1.fails
 ]
 
-bind_ends : (slabs : ℕ) (done : Bool) (old new : Option SeatLedger) → OnBoth (BindCounts slabs done) old new → Ends slabs old new
-bind_ends slabs done None None counts = record { refused = None; fits = tt; fails = refl }
-bind_ends slabs done None (Some new) counts = absurd counts
-bind_ends slabs done (Some old) None counts = absurd counts
-bind_ends slabs true (Some old) (Some new) counts = record {
+bind_ends : (slabs : ℕ) (IsFound : Refusal → Type 0) (done : Bool) (old new : Option SeatLedger) → OnBoth (BindCounts slabs IsFound done) old new → Ends IsFound old new
+bind_ends slabs IsFound done None None counts = record { refused = None; found = tt; fails = refl }
+bind_ends slabs IsFound done None (Some new) counts = absurd counts
+bind_ends slabs IsFound done (Some old) None counts = absurd counts
+bind_ends slabs IsFound true (Some old) (Some new) counts = record {
   refused = None;
-  fits = tt;
+  found = tt;
   fails = three_same old.fails counts.between.fails new.fails counts.alloc.fails (may_free counts.between new counts.evicts);
 }
-bind_ends slabs false (Some old) (Some new) counts = elim counts [
-  | inl turned ↦ record { refused = Some turned.refusal; fits = turned.fits; fails = turned.turned.fails }
-  | inr back ↦ record { refused = None; fits = tt; fails = three_same old.fails back.between.fails new.fails back.alloc.fails back.back.1.fails }
+bind_ends slabs IsFound false (Some old) (Some new) counts = elim counts [
+  | inl turned ↦ record { refused = Some turned.refusal; found = turned.found; fails = turned.turned.fails }
+  | inr back ↦ record { refused = None; found = tt; fails = three_same old.fails back.between.fails new.fails back.alloc.fails back.back.1.fails }
 ]
 
 unbind_ends : (slabs : ℕ) (done : Bool) (old new : Option SeatLedger) → OnBoth (UnbindCounts done) old new → fails_in new ≡ fails_in old + 0
@@ -85,6 +86,10 @@ unbind_ends slabs done None (Some new) counts = absurd counts
 unbind_ends slabs done (Some old) None counts = absurd counts
 unbind_ends slabs true (Some old) (Some new) counts = as_before old.fails new.fails counts.1.fails
 unbind_ends slabs false (Some old) (Some new) counts = as_before old.fails new.fails (ap (λ (l : SeatLedger). l.fails) counts)
+
+if_found : {P Q : Refusal → Type 0} (o : Option Refusal) → ((refusal : Refusal) → P refusal → Q refusal) → IfSome o P → IfSome o Q
+if_found None f p = tt
+if_found (Some refusal) f p = f refusal p
 
 -- ---- one line's hits
 
@@ -118,25 +123,42 @@ module _ {Part : Type 0} where
   abbrev pub has_refused : NameLine Part → Bool
   has_refused line = is_some line.refused
 
-module _ {N H C S Part : Type 0} (names : NameGhosts N H C S Part) (cache : C) where
-  found_bound : (key : ℕ) (old new : View Part) (found : Option ℕ) (refused : Option Refusal) → Finds names.knows (names.sizes_of cache).rows key old found new
-      → IfSome found (FindsBound names cache (record { op = Look key; old = old; new = new; found = found; refused = refused }))
-  found_bound key old new None refused finds = tt
-  found_bound key old new (Some value) refused finds =
-      let row = key % (names.sizes_of cache).rows in
-      let Knows : Option (ℕ × ℕ) → Type 0 = λ content. names.knows new row finds.version content in
-      record { key = key; looks = refl; version = finds.version; knows = subst Knows (binds_key key value finds.content finds.answer) finds.knows; newest = finds.met }
+  -- the entries of a line
+  abbrev pub before : NameLine Part → List Ticket
+  before line = line.before
 
-  entry_refused : (key value : ℕ) (old new : View Part) (found : Option ℕ) (refused : Option Refusal) → IfSome refused (NamesRefuse (names.sizes_of cache).slabs)
-      → IfSome refused (RefusesEntry names cache (record { op = Bind key value; old = old; new = new; found = found; refused = refused }))
-  entry_refused key value old new found None fits = tt
-  entry_refused key value old new found (Some refusal) fits = record { key = key; value = value; binds = refl; fits = fits }
+  abbrev pub after : NameLine Part → List Ticket
+  after line = line.after
+
+  abbrev pub came : NameLine Part → List Ticket
+  came line = line.brought
+
+  abbrev pub handed : NameLine Part → List Ticket
+  handed line = line.handed
+
+module _ {N H C S Part : Type 0} (names : NameGhosts N H C S Part) (cache : C) where
+  -- a line that neither brings nor hands out an entry
+  abbrev quiet : Op → View Part → View Part → Option ℕ → List Ticket → List Ticket → NameLine Part
+  quiet op old new found before after = record { op = op; old = old; new = new; found = found; refused = None; before = before; brought = []; handed = []; after = after }
+
+  found_bound : (key : ℕ) (old new : View Part) (found : Option ℕ) (before after : List Ticket) → Loads names.knows names.told (names.sizes_of cache).rows key old found new
+      → IfSome found (FindsBound names cache (quiet (Look key) old new found before after))
+  found_bound key old new None before after loads = tt
+  found_bound key old new (Some value) before after loads =
+      let row = key % (names.sizes_of cache).rows in
+      let content = binds_key key value loads.content loads.answer in
+      let front : Option (ℕ × ℕ) → List Told = λ bound. (row, loads.version, bound) ∷ names.told old in
+      record { key = key; looks = refl; version = loads.version; loaded = loads.loaded ∙ ap front content; newest = loads.met }
+
+  entry_refused : (line : NameLine Part) (key value : ℕ) → line.op ≡ Bind key value → IfSome line.refused (names.IsFound cache) → IfSome line.refused (RefusesEntry names cache line)
+  entry_refused line key value is found = if_found line.refused (λ refusal so. record { key = key; value = value; binds = is; found = so }) found
 
   -- ---- one line
 
   pub record IsFine (line : NameLine Part) : Type 0 where
     pub looked : IfSome line.found (FindsBound names cache line)
     pub bound : IfSome line.refused (RefusesEntry names cache line)
+    pub waits : WaitsForReaders names cache line
 
   record IsNext (op : Op) (old new : Naming N H C S Part) : Type 0 where
     line : NameLine Part
@@ -144,6 +166,8 @@ module _ {N H C S Part : Type 0} (names : NameGhosts N H C S Part) (cache : C) w
     fine : IsFine line
     hits : new.counts.hits ≡ old.counts.hits + unit (is_some line.found)
     fails : fails_in (names.counted new.seat) ≡ fails_in (names.counted old.seat) + unit (is_some line.refused)
+    from : line.before ≡ names.usable old.seat
+    to : line.after ≡ names.usable new.seat
 
   -- ---- one line after another
 
@@ -153,6 +177,7 @@ module _ {N H C S Part : Type 0} (names : NameGhosts N H C S Part) (cache : C) w
     pub fine : All IsFine lines
     pub hits : new.counts.hits ≡ old.counts.hits + count_by has_found lines
     pub fails : fails_in (names.counted new.seat) ≡ fails_in (names.counted old.seat) + count_by has_refused lines
+    pub follow : Follow before after (names.usable old.seat) lines (names.usable new.seat)
 
   story-none : (old new : Naming N H C S Part) → new ≡ old → Story [] old new
   story-none old new same = record {
@@ -161,6 +186,7 @@ module _ {N H C S Part : Type 0} (names : NameGhosts N H C S Part) (cache : C) w
     fine = All-nil IsFine;
     hits = as_before _ _ (ap (λ (n : Naming N H C S Part). n.counts.hits) same);
     fails = as_before _ _ (ap (λ (n : Naming N H C S Part). fails_in (names.counted n.seat)) same);
+    follow = ap (λ (n : Naming N H C S Part). names.usable n.seat) same;
   }
 
   story-cons : (op : Op) (ops : List Op) (old mid new : Naming N H C S Part) → IsNext op old mid → Story ops mid new → Story (op ∷ ops) old new
@@ -170,7 +196,12 @@ module _ {N H C S Part : Type 0} (names : NameGhosts N H C S Part) (cache : C) w
     fine = All-cons IsFine n.line s.lines n.fine s.fine;
     hits = add_up _ _ _ _ _ n.hits s.hits ∙ ap (λ (m : ℕ). old.counts.hits + m) (sym (sum_by-cons (λ (line : NameLine Part). unit (has_found line)) n.line s.lines));
     fails = add_up _ _ _ _ _ n.fails s.fails ∙ ap (λ (m : ℕ). fails_in (names.counted old.seat) + m) (sym (sum_by-cons (λ (line : NameLine Part). unit (has_refused line)) n.line s.lines));
+    follow = (n.from, subst (λ (from : List Ticket). Follow before after from s.lines (names.usable new.seat)) (sym n.to) s.follow);
   }
+
+  joined : (lines more : List (NameLine Part)) (from mid to : List Ticket) → Follow before after from lines mid → Follow before after mid more to → Follow before after from (lines ++ more) to
+  joined [] more from mid to same rest = subst (λ (at : List Ticket). Follow before after at more to) same rest
+  joined (line ∷ lines) more from mid to first rest = (first.0, joined lines more line.after mid to first.1 rest)
 
   story-append : (ops others : List Op) (old mid new : Naming N H C S Part) → Story ops old mid → Story others mid new → Story (ops ++ others) old new
   story-append ops others old mid new s t = record {
@@ -179,56 +210,90 @@ module _ {N H C S Part : Type 0} (names : NameGhosts N H C S Part) (cache : C) w
     fine = All-append IsFine s.lines t.lines s.fine t.fine;
     hits = add_up _ _ _ _ _ s.hits t.hits ∙ ap (λ (m : ℕ). old.counts.hits + m) (sym (sum_by-append (λ (line : NameLine Part). unit (has_found line)) s.lines t.lines));
     fails = add_up _ _ _ _ _ s.fails t.fails ∙ ap (λ (m : ℕ). fails_in (names.counted old.seat) + m) (sym (sum_by-append (λ (line : NameLine Part). unit (has_refused line)) s.lines t.lines));
+    follow = joined s.lines t.lines (names.usable old.seat) (names.usable mid.seat) (names.usable new.seat) s.follow t.follow;
   }
 
 module _ {N H C S Part : Type 0} {h : Ghosts H Part} (names : NameGhosts N H C S Part) (cache : C) where
+  abbrev usable_by : Doing N H C S Part h → List Ticket
+  usable_by d = names.usable d.naming.seat
+
+  -- the seat's usable entries stay
+  quiet_waits : (op : Op) (old new : Doing N H C S Part h) (found : Option ℕ) → usable_by new ≡ usable_by old → WaitsForReaders names cache (quiet names cache op (view old.worker.pass) (view new.worker.pass) found (usable_by old) (usable_by new))
+  quiet_waits op old new found same = record { balance = ap (λ (l : List Ticket). l ++ []) same; come = inl refl }
+
   -- it isn't of names
   passes : (op : Op) (old new : Doing N H C S Part h) → new.naming ≡ old.naming → IsNext names cache op old.naming new.naming
   passes op old new same = record {
-    line = record { op = op; old = view old.worker.pass; new = view new.worker.pass; found = None; refused = None };
+    line = quiet names cache op (view old.worker.pass) (view new.worker.pass) None (usable_by old) (usable_by new);
     is_op = refl;
-    fine = record { looked = tt; bound = tt };
+    fine = record { looked = tt; bound = tt; waits = quiet_waits op old new None (ap (λ (n : Naming N H C S Part). names.usable n.seat) same) };
     hits = as_before _ _ (ap (λ (n : Naming N H C S Part). n.counts.hits) same);
     fails = as_before _ _ (ap (λ (n : Naming N H C S Part). fails_in (names.counted n.seat)) same);
+    from = refl;
+    to = refl;
   }
 
   -- a look that ended so
-  looks : (key : ℕ) (old new : Doing N H C S Part h) (found : Option ℕ) → Finds names.knows (names.sizes_of cache).rows key (view old.worker.pass) found (view new.worker.pass) → CountsAnswer found old.naming.counts new.naming.counts
+  looks : (key : ℕ) (old new : Doing N H C S Part h) (found : Option ℕ) → Loads names.knows names.told (names.sizes_of cache).rows key (view old.worker.pass) found (view new.worker.pass) → CountsAnswer found old.naming.counts new.naming.counts
       → new.naming.seat ≡ old.naming.seat → IsNext names cache (Look key) old.naming new.naming
-  looks key old new found finds counts seat = record {
-    line = record { op = Look key; old = view old.worker.pass; new = view new.worker.pass; found = found; refused = None };
+  looks key old new found loads counts seat = record {
+    line = quiet names cache (Look key) (view old.worker.pass) (view new.worker.pass) found (usable_by old) (usable_by new);
     is_op = refl;
-    fine = record { looked = found_bound names cache key (view old.worker.pass) (view new.worker.pass) found None finds; bound = tt };
+    fine = record {
+      looked = found_bound names cache key (view old.worker.pass) (view new.worker.pass) found (usable_by old) (usable_by new) loads;
+      bound = tt;
+      waits = quiet_waits (Look key) old new found (ap names.usable seat);
+    };
     hits = answer_hits found old.naming.counts new.naming.counts counts;
     fails = as_before _ _ (ap (λ s. fails_in (names.counted s)) seat);
+    from = refl;
+    to = refl;
   }
 
   next : (zones : List (CountedZone H Part h)) (op : Op) (old new : Doing N H C S Part h) → Changes names cache zones old op new → IsNext names cache op old.naming new.naming
   next zones (Bind key value) old new did =
-      let ends = bind_ends (names.sizes_of cache).slabs did.done (names.counted old.naming.seat) (names.counted new.naming.seat) did.ledger in
+      let ends = bind_ends (names.sizes_of cache).slabs (names.IsFound cache) did.done (names.counted old.naming.seat) (names.counted new.naming.seat) did.ledger in
+      let moves = did.moves in
+      let line : NameLine Part = record {
+        op = Bind key value;
+        old = view old.worker.pass;
+        new = view new.worker.pass;
+        found = None;
+        refused = ends.refused;
+        before = usable_by old;
+        brought = moves.brought;
+        handed = moves.handed;
+        after = usable_by new;
+      } in
       record {
-        line = record { op = Bind key value; old = view old.worker.pass; new = view new.worker.pass; found = None; refused = ends.refused };
+        line = line;
         is_op = refl;
-        fine = record { looked = tt; bound = entry_refused names cache key value (view old.worker.pass) (view new.worker.pass) None ends.refused ends.fits };
+        fine = record { looked = tt; bound = entry_refused names cache line key value refl ends.found; waits = record { balance = moves.balance; come = moves.come } };
         hits = bind_hits did.done old.naming.counts new.naming.counts did.counts;
         fails = ends.fails;
+        from = refl;
+        to = refl;
       }
   next zones (Unbind key) old new did = record {
-    line = record { op = Unbind key; old = view old.worker.pass; new = view new.worker.pass; found = None; refused = None };
+    line = quiet names cache (Unbind key) (view old.worker.pass) (view new.worker.pass) None (usable_by old) (usable_by new);
     is_op = refl;
-    fine = record { looked = tt; bound = tt };
+    fine = record { looked = tt; bound = tt; waits = quiet_waits (Unbind key) old new None did.usable };
     hits = unbind_hits did.done old.naming.counts new.naming.counts did.counts;
     fails = unbind_ends (names.sizes_of cache).slabs did.done (names.counted old.naming.seat) (names.counted new.naming.seat) did.ledger;
+    from = refl;
+    to = refl;
   }
   next zones (Look key) old new did = elim did [
-    | inl f ↦ looks key old new f.found f.finds f.counts f.seat
-    | inr (inl l) ↦ looks key old new l.found l.finds l.counts l.seat
+    | inl f ↦ looks key old new f.found f.loads f.counts f.seat
+    | inr (inl l) ↦ looks key old new l.found l.loads l.counts l.seat
     | inr (inr l) ↦ record {
-      line = record { op = Look key; old = view old.worker.pass; new = view new.worker.pass; found = None; refused = None };
+      line = quiet names cache (Look key) (view old.worker.pass) (view new.worker.pass) None (usable_by old) (usable_by new);
       is_op = refl;
-      fine = record { looked = tt; bound = tt };
+      fine = record { looked = tt; bound = tt; waits = quiet_waits (Look key) old new None (ap names.usable l.seat) };
       hits = as_before _ _ (ap (λ (c : NameCounts). c.hits) l.counts);
       fails = as_before _ _ (ap (λ s. fails_in (names.counted s)) l.seat);
+      from = refl;
+      to = refl;
     }
   ]
   next zones (Alloc place slot arg reserve) old new did = passes (Alloc place slot arg reserve) old new did.1

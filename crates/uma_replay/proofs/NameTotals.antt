@@ -129,13 +129,15 @@ module _ {N H C S Part : Type 0} (names : NameGhosts N H C S Part) (cache : C) (
     links = linked_more (names.sizes_of cache).rows rest seats sums has (so.balance cache are) adds;
   }
 
-  pub names_close : (census : Census) (tally : TallySum) (sums : Sums) → (census_counts census).cap ≡ (names.sizes_of cache).slabs → (census_counts census).reserve ≡ 0 → AreNameSums names cache namings sums
+  pub names_close : (census : Census) (tally : TallySum) (sums : Sums) → names.IsCensus cache census → (census_counts census).per_slab ≡ 64 → (census_counts census).cap ≡ (names.sizes_of cache).slabs → (census_counts census).reserve ≡ 0 → AreNameSums names cache namings sums
       → ((hook : Hook) → sum_of tally hook ≡ sum_of (census_tally census) hook + sum_of sums.tally hook) → NamesClose names cache namings census tally sums.deferred
-  names_close census tally sums cap reserve are adds =
+  names_close census tally sums own per_slab cap reserve are adds =
       let has = are.links in
       record {
+        own = own;
         cap = cap;
         reserve = reserve;
+        per_slab = per_slab;
         hooks = λ hook. both_le (sum_of (census_tally census) hook) (seats_passed names hook namings) (sum_of sums.tally hook) (sum_of tally hook) (are.passed hook) (adds hook);
         waiting = are.waiting;
         linked = has.linked;

@@ -78,12 +78,12 @@ module _ {N H C S Part : Type 0} {h : Ghosts H Part} (names : NameGhosts N H C S
   }
 
   -- a worker before its first turn
-  pub first_of : (seat : S) (domain : ℕ) (r : Running N H C S Part h) → names.IsSeat cache seat → (IsTrue names.serves → names.domain_of seat ≡ domain) → IfSome (names.counted seat) IsNew → r.naming.seat ≡ seat
+  pub first_of : (seat : S) (domain : ℕ) (r : Running N H C S Part h) → names.IsSeat cache seat → (IsTrue names.serves → names.domain_of seat ≡ domain) → IfSome (names.counted seat) IsNew → names.usable seat ≡ [] → r.naming.seat ≡ seat
       → r.naming.counts ≡ no_counts → r.asked ≡ 0 → r.gave_up ≡ 0 → is_out r.attendance ≡ false → IsFirst names cache domain r
-  first_of seat domain r of_cache own new same counts asked gave_up there =
+  first_of seat domain r of_cache own new unused same counts asked gave_up there =
       let P : S → Type 0 = λ s. names.IsSeat cache s in
       let Q : S → Type 0 = λ s. IfSome (names.counted s) IsNew in
-      record { seat = subst P (sym same) of_cache; own = λ serves. ap names.domain_of same ∙ own serves; fresh = subst Q (sym same) new; counts = counts; asked = asked; gave_up = gave_up; there = there }
+      record { seat = subst P (sym same) of_cache; own = λ serves. ap names.domain_of same ∙ own serves; fresh = subst Q (sym same) new; unused = ap names.usable same ∙ unused; counts = counts; asked = asked; gave_up = gave_up; there = there }
 
   -- one more
   pub first_more : (domains : ℕ) (workers : List (Worker H Part h)) (runnings all : List (Running N H C S Part h)) (w : Worker H Part h) (r : Running N H C S Part h) → AreFirst names cache domains workers runnings

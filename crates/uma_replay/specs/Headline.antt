@@ -2,8 +2,10 @@
 --
 -- Over every interleaving of the atomic steps, no item freed by an SMR free is destroyed or handed out while a section entered before that free is open; each item passes init, ctor and dtor in pairs, and fini, in order; a request is refused only at the limit its own step found, by a hook, or for memory; the printed totals are the sums of the seats' ledgers.
 --
--- `Headline`, at the end, has its clauses, one after another. They speak of what each worker's lines did to its seat of each zone, whatever the other workers' threads did meanwhile.
-use Rattle.std.specs.Prelude.{◌≡◌, ◌≢◌, ◌⊎◌, ◌<◌, ◌%◌, ℕ, All, Bool, true, false, List, [], ◌∷◌, Option, Some, None, Contains, IfSome, count_by, is_some, length, map, slice_get}
+-- `Headline`, at the end, has its clauses. They speak of what each worker's lines did to its seat of each zone, whatever the other workers' threads did meanwhile.
+--
+-- Of other crates it stands on `Requests`, `GivesBack`, `IsFlushed` and `IsDrained`, what a line does to a seat (trace_worker); `AreReused`, `IsOneFetch` and `Refuses` (uma_zone); `after` and `IsAt`, the hooks of an item (uma_life); and `IsNew`, a ledger that counted nothing (zone_stats). What it says of names, `told`, `knows`, `usable`, `Came` and `IsFound`, are the words of who keeps them (`NameCalls`): in the program `CacheNames`.
+use Rattle.std.specs.Prelude.{◌≡◌, ◌≢◌, ◌⊎◌, ◌<◌, ◌≤◌, ◌%◌, ℕ, All, Bool, true, false, List, [], ◌∷◌, ◌++◌, Option, Some, None, IfSome, count_by, is_some, length, map, slice_get, take}
 use Rattle.std.specs.List.{flat_map}
 use Rattle.smr_clock.specs.declared.host.Host.{Ghosts}
 use Rattle.smr_clock.specs.declared.view.View.{View}
@@ -18,7 +20,8 @@ use Rattle.uma_life.specs.Live.{live_body, live_ticket, live_zone}
 use Rattle.uma_life.specs.Trail.{IsAt}
 use Rattle.uma_seat.specs.Seat.{usable_of, ledger_of}
 use Rattle.uma_zone.specs.declared.alloc_ask.AllocAsk.{AllocAsk}
-use Rattle.uma_zone.specs.Alloc.{AreReused, IsOneFetch, RefusesCtor, TurnsAway}
+use Rattle.uma_zone.specs.declared.alloc_ask.AllocRefused.TheVariants.{Refused}
+use Rattle.uma_zone.specs.Alloc.{AreReused, IsOneFetch, Refuses}
 use Rattle.uma_zone.specs.SafeReuse.{usable_tickets}
 use Rattle.uma_zone.specs.Zone.{zone_index, zone_smr}
 use Rattle.zone_stats.specs.declared.ledger.SeatLedger.{SeatLedger}
@@ -32,8 +35,6 @@ use Rattle.trace_worker.specs.declared.name_calls.NameCalls.{Ghosts as NameGhost
 use Rattle.trace_worker.specs.declared.naming.Naming.{Naming}
 use Rattle.trace_worker.specs.declared.worker.Worker.{Worker}
 use Rattle.trace_worker.specs.Items.{CachedItem, CountedSeat, CountedZone, LiveItem, counted_life}
-use Rattle.trace_worker.specs.Knowing.{IsNewest}
-use Rattle.trace_worker.specs.NameLedger.{NamesRefuse}
 use Rattle.trace_worker.specs.Performs.{ask_of}
 use Rattle.trace_worker.specs.Reclaims.{IsDrained, IsFlushed}
 use Rattle.trace_worker.specs.Requests.{GivesBack, Requests}
@@ -42,6 +43,17 @@ use Rattle.uma_replay.specs.declared.hall.Hall.{Hall}
 use Rattle.uma_replay.specs.Counting.{worker_ops}
 use Rattle.uma_replay.specs.Names.{AreNameLedgers}
 use Rattle.uma_replay.specs.Reporting.{AreLedgersOf}
+
+-- ---- lines
+
+-- one line after another, each from the state that the one before it left
+abbrev pub Follow : {L S : Type 0} → (L → S) → (L → S) → S → List L → S → Type 0
+Follow old new from [] to = to ≡ from
+Follow old new from (line ∷ lines) to = (old line ≡ from) × Follow old new (new line) lines to
+
+-- After each so many of the lines, of no kind of items more had left the seat than were brought to it.
+abbrev pub AreAmong : {L : Type 0} → (L → List Ticket) → (L → List Ticket) → List L → Type 0
+AreAmong gone brought lines = (count : ℕ) (is : Ticket → Bool) → count_by is (flat_map gone (take count lines)) ≤ count_by is (flat_map brought (take count lines))
 
 -- ---- the lines of a worker at its seat of a zone
 
@@ -62,18 +74,24 @@ got_none call = false
 abbrev pub IsThere : ℕ → ℕ → (SeatCall → Type 0) → SeatCall → Type 0
 IsThere z zone Is call = ((zone ≡ z) × Is call) ⊎ ((zone ≢ z) × (call ≡ Nothing))
 
--- What an operation is at the seat of the zone at place `z`. A `free` line is of the zone whose item its slot holds.
-abbrev pub IsCall : ℕ → Op → SeatCall → Type 0
-IsCall z (Alloc zone slot arg reserve) call = IsThere z zone (λ c. (got : Option LiveItem) × (c ≡ Request (ask_of arg reserve) got)) call
-IsCall z (Free slot) call = ((item : LiveItem) × (call ≡ Return item)) ⊎ (call ≡ Nothing)
-IsCall z (Trim zone) call = IsThere z zone (λ c. c ≡ Flush) call
-IsCall z (Drain zone) call = IsThere z zone (λ c. c ≡ Flush) call
-IsCall z (DrainSeat zone) call = IsThere z zone (λ c. c ≡ Empty) call
-IsCall z op call = call ≡ Nothing
+-- a `free` line is of the zone whose item its slot holds, and the free of that item; of an empty slot it does nothing
+abbrev pub IsReturn : ℕ → Option Held → SeatCall → Type 0
+IsReturn z None call = call ≡ Nothing
+IsReturn z (Some it) call = IsThere z it.zone (λ c. c ≡ Return it.item) call
 
--- one line: the operation, what it is there, the seat before and after it, and the items, by their tickets, that it brought to the seat
+-- what an operation of a worker with these slots is at its seat of the zone at place `z`
+abbrev pub IsCall : ℕ → List (Option Held) → Op → SeatCall → Type 0
+IsCall z slots (Alloc zone slot arg reserve) call = IsThere z zone (λ c. (got : Option LiveItem) × (c ≡ Request (ask_of arg reserve) got)) call
+IsCall z slots (Free slot) call = IsReturn z (slot_at slots slot) call
+IsCall z slots (Trim zone) call = IsThere z zone (λ c. c ≡ Flush) call
+IsCall z slots (Drain zone) call = IsThere z zone (λ c. c ≡ Flush) call
+IsCall z slots (DrainSeat zone) call = IsThere z zone (λ c. c ≡ Empty) call
+IsCall z slots op call = call ≡ Nothing
+
+-- one line: the operation, the worker before it, what it is at the seat, the seat before and after it, and the items, by their tickets, that it brought to the seat
 pub record SeatLine (H P : Type 0) (h : Ghosts H P) : Type 0 where
   pub op : Op
+  pub by : Worker H P h
   pub call : SeatCall
   pub old : CountedSeat H P h
   pub brought : List Ticket
@@ -95,20 +113,17 @@ module _ {H P : Type 0} {h : Ghosts H P} where
   HasDone zone old Empty new = IsDrained old new
   HasDone zone old Nothing new = new ≡ old
 
-  -- one line after another, from a seat to a seat
-  abbrev pub Follow : CountedSeat H P h → List (SeatLine H P h) → CountedSeat H P h → Type 0
-  Follow from [] to = to ≡ from
-  Follow from (line ∷ lines) to = (line.old ≡ from) × Follow line.new lines to
-
-  -- These are all lines of the worker, one after another, at its seat of the zone at place `z`: from an empty one, which counted nothing, to this one.
-  pub record AreLines (zone : CountedZone H P h) (z : ℕ) (ops : List Op) (lines : List (SeatLine H P h)) (seat : CountedSeat H P h) : Type 0 where
+  -- These are all lines of the worker, which was so before each, one after another, at its seat of the zone at place `z`: from an empty one, which counted nothing, to this one.
+  pub record AreLines (zone : CountedZone H P h) (z : ℕ) (ops : List Op) (befores : List (Worker H P h)) (lines : List (SeatLine H P h)) (seat : CountedSeat H P h) : Type 0 where
     pub all : map (λ (line : SeatLine H P h). line.op) lines ≡ ops
-    pub calls : All (λ (line : SeatLine H P h). IsCall z line.op line.call) lines
+    pub by : map (λ (line : SeatLine H P h). line.by) lines ≡ befores
+    pub seats : All (λ (line : SeatLine H P h). slice_get line.by.seats.items z ≡ Some line.old) lines
+    pub calls : All (λ (line : SeatLine H P h). IsCall z line.by.slots line.op line.call) lines
     pub done : All (λ (line : SeatLine H P h). HasDone zone line.old line.call line.new) lines
     pub first : CountedSeat H P h
     pub empty : usable_of first ≡ []
     pub fresh : IsNew (ledger_of first)
-    pub follow : Follow first lines seat
+    pub follow : Follow (λ (line : SeatLine H P h). line.old) (λ (line : SeatLine H P h). line.new) first lines seat
 
   -- ---- safe reuse
 
@@ -141,10 +156,10 @@ module _ {H P : Type 0} {h : Ghosts H P} where
   abbrev pub Comes : CountedZone H P h → SeatLine H P h → Type 0
   Comes zone line = (line.brought ≡ []) ⊎ ComeRipe zone line.brought ⊎ ComeFromKeg zone line.brought line.new
 
-  -- What the lines hand out or give to the keg is among what they brought. (Into the keg goes an item that is cached, and a freed one becomes that only where its bucket is ripe: so say the types of buckets, also of those that reclaim takes from the zone's lists.)
+  -- What the lines hand out or give to the keg is among what they brought, each item as often at most. (Into the keg goes an item that is cached, and a freed one becomes that only where its bucket is ripe: so say the types of buckets, also of those that reclaim takes from the zone's lists.)
   pub record WaitForReaders (zone : CountedZone H P h) (lines : List (SeatLine H P h)) : Type 0 where
     pub come : All (Comes zone) lines
-    pub among : (item : Ticket) → Contains (flat_map gone lines) item → Contains (flat_map brought_by lines) item
+    pub among : AreAmong gone brought_by lines
 
   -- ---- hooks
 
@@ -168,13 +183,22 @@ module _ {H P : Type 0} {h : Ghosts H P} where
 
   -- A request that got no item was refused by `ctor`, with its code for this argument, or by its one fetch, at the limit, the reserve, the capacity or the code that this fetch found.
   abbrev pub HasCause : CountedZone H P h → SeatLine H P h → Type 0
-  HasCause zone line = (ask : AllocAsk) → line.call ≡ Request ask None
-      → ((code : ℕ) × RefusesCtor zone ask code line.old line.new) ⊎ ((refusal : Refusal) × TurnsAway zone ask.reserve refusal line.old line.new)
+  HasCause zone line = (ask : AllocAsk) → line.call ≡ Request ask None → (refusal : Refusal) × Refuses zone ask line.old line.new (Refused refusal)
 
   -- and the ledger's fails are just these
   pub record AreForCause (zone : CountedZone H P h) (lines : List (SeatLine H P h)) (seat : CountedSeat H P h) : Type 0 where
     pub causes : All (HasCause zone) lines
     pub fails : (ledger_of seat).fails ≡ count_by is_refused lines
+
+  -- ---- what the sentence says of a worker's seat
+
+  pub record IsKept (zone : CountedZone H P h) (lines : List (SeatLine H P h)) (seat : CountedSeat H P h) : Type 0 where
+    -- "no item freed by an SMR free is destroyed or handed out while a section entered before that free is open"
+    pub safe : zone_smr zone ≡ true → WaitForReaders zone lines
+    -- "each item passes init, ctor and dtor in pairs, and fini, in order"
+    pub hooks : All (λ (line : SeatLine H P h). PassesHooks zone line.call) lines
+    -- "a request is refused only at the limit its own step found, by a hook, or for memory": for want of memory the replay ends without a report
+    pub refusals : AreForCause zone lines seat
 
   -- ---- totals
 
@@ -184,56 +208,65 @@ module _ {H P : Type 0} {h : Ghosts H P} where
 
 -- ---- names
 
--- One line of a worker, as its lines of names go: the operation, what its pass saw before and after it, the value that a look found, and what refused a bind its entry.
+-- One line of a worker, as its lines of names go: the operation, what its pass saw before and after it, the value that a look found, and what refused a bind its entry; then the entries that are usable on its seat before and after it, and those that it brought there and handed out.
 pub record NameLine (P : Type 0) : Type 0 where
   pub op : Op
   pub old : View P
   pub new : View P
   pub found : Option ℕ
   pub refused : Option Refusal
+  pub before : List Ticket
+  pub brought : List Ticket
+  pub handed : List Ticket
+  pub after : List Ticket
 
 module _ {N H C S P : Type 0} (names : NameGhosts N H C S P) (cache : C) where
-  -- A look that found this value: a record of the key's row, which the pass knows after the line, binds the key to it, and no record of the row that it knew before is newer.
+  -- A look that found this value: in this line the pass loaded a record of the key's row, which binds the key to it. It is one more in front of those that the pass was told of before, and of that row none of them is newer.
   pub record FindsBound (line : NameLine P) (value : ℕ) : Type 0 where
     pub key : ℕ
     pub looks : line.op ≡ Look key
     pub version : ℕ
-    pub knows : names.knows line.new (key % (names.sizes_of cache).rows) version (Some (key, value))
-    pub newest : IsNewest names.knows (key % (names.sizes_of cache).rows) version line.old
+    pub loaded : names.told line.new ≡ (key % (names.sizes_of cache).rows, version, Some (key, value)) ∷ names.told line.old
+    pub newest : (other : ℕ) (bound : Option (ℕ × ℕ)) → names.knows line.old (key % (names.sizes_of cache).rows) other bound → other ≤ version
 
-  -- a bind that got no entry: its zone refused one, at the limit or the capacity that it names, or by its hooks' code
+  -- a bind that got no entry: its one fetch was refused so
   pub record RefusesEntry (line : NameLine P) (refusal : Refusal) : Type 0 where
     pub key : ℕ
     pub value : ℕ
     pub binds : line.op ≡ Bind key value
-    pub fits : NamesRefuse (names.sizes_of cache).slabs refusal
+    pub found : names.IsFound cache refusal
 
-  -- These are all lines of the worker. Its hits are the looks that found a value, and the fails of its seat of the names the binds that got no entry.
+  -- What was usable and what came is what is usable now and what was handed out. What came was brought by a fetch from the keg, or out of a bucket that waited until a poll said yes.
+  pub record WaitsForReaders (line : NameLine P) : Type 0 where
+    pub balance : line.after ++ line.handed ≡ line.before ++ line.brought
+    pub come : (line.brought ≡ []) ⊎ names.Came cache line.brought
+
+  -- These are all lines of the worker. Its hits are the looks that found a value, and the fails of its seat of the names the binds that got no entry. Its seat began empty, and what it handed out is among what was brought to it, each entry as often at most.
   pub record AreNameLines (ops : List Op) (lines : List (NameLine P)) (naming : Naming N H C S P) : Type 0 where
     pub all : map (λ (line : NameLine P). line.op) lines ≡ ops
     pub looked : All (λ (line : NameLine P). IfSome line.found (FindsBound line)) lines
     pub hits : naming.counts.hits ≡ count_by (λ (line : NameLine P). is_some line.found) lines
     pub bound : All (λ (line : NameLine P). IfSome line.refused (RefusesEntry line)) lines
     pub fails : IfSome (names.counted naming.seat) (λ ledger. ledger.fails ≡ count_by (λ (line : NameLine P). is_some line.refused) lines)
+    pub waits : All WaitsForReaders lines
+    pub follow : Follow (λ (line : NameLine P). line.before) (λ (line : NameLine P). line.after) [] lines (names.usable naming.seat)
+    pub among : AreAmong (λ (line : NameLine P). line.handed) (λ (line : NameLine P). line.brought) lines
 
 -- ---- the headline
 
 module _ {N H C S P : Type 0} {h : Ghosts H P} (names : NameGhosts N H C S P) where
-  -- for each worker's seat of each zone there are the lines that made it, of which this is so
-  abbrev pub OfEachSeat : Trace → Hall N H C S P h → (CountedZone H P h → List (SeatLine H P h) → CountedSeat H P h → Type 0) → Type 0
-  OfEachSeat t hall Says = (n z : ℕ) (w : Worker H P h) (zone : CountedZone H P h) (seat : CountedSeat H P h) → slice_get hall.workers n ≡ Some w → slice_get hall.zones z ≡ Some zone → slice_get w.seats.items z ≡ Some seat
-      → (lines : List (SeatLine H P h)) × AreLines zone z (worker_ops t n) lines seat × Says zone lines seat
+  -- For a worker's seat of each zone there are the lines that made it, of which the sentence is so; before each of them the worker was as at its other seats.
+  abbrev pub AreKept : Trace → Hall N H C S P h → ℕ → Worker H P h → List (Worker H P h) → Type 0
+  AreKept t hall n w befores = (z : ℕ) (zone : CountedZone H P h) (seat : CountedSeat H P h) → slice_get hall.zones z ≡ Some zone → slice_get w.seats.items z ≡ Some seat
+      → (lines : List (SeatLine H P h)) × AreLines zone z (worker_ops t n) befores lines seat × IsKept zone lines seat
 
   pub record Headline (t : Trace) (report : Report) (hall : Hall N H C S P h) : Type 0 where
-    -- "no item freed by an SMR free is destroyed or handed out while a section entered before that free is open"
-    pub safe : OfEachSeat t hall (λ zone lines seat. zone_smr zone ≡ true → WaitForReaders zone lines)
-    -- "each item passes init, ctor and dtor in pairs, and fini, in order"
-    pub hooks : OfEachSeat t hall (λ zone lines seat. All (λ (line : SeatLine H P h). PassesHooks zone line.call) lines)
+    -- the clauses of `IsKept`: items wait for readers, pass their hooks, and are refused only for cause
+    pub seats : (n : ℕ) (w : Worker H P h) → slice_get hall.workers n ≡ Some w → (befores : List (Worker H P h)) × AreKept t hall n w befores
+    -- "in pairs, and fini, in order"
     pub trails : (n : ℕ) (w : Worker H P h) → slice_get hall.workers n ≡ Some w → AreOnTrail w
-    -- "a request is refused only at the limit its own step found, by a hook, or for memory": for want of memory the replay ends without a report
-    pub refusals : OfEachSeat t hall AreForCause
     -- "the printed totals are the sums of the seats' ledgers": of the zones of the zone lines, and of the zone of the names
     pub totals : (z : ℕ) (line : ZoneLine) → z < length t.head.zones → slice_get report.lines z ≡ Some line → IsSumOf hall.workers z line
     pub name_totals : (line : ZoneLine) → is_some t.head.names ≡ true → slice_get report.lines (length t.head.zones) ≡ Some line → (ledgers : List SeatLedger) × AreNameLedgers names hall.namings ledgers × AreTotals ledgers line
-    -- of names: each look that found a value found one that was bound to its key, by a record no older than each that was known before, and a bind is refused an entry only for cause
+    -- of names: a look that found a value loaded a record in that line that binds it to its key, a bind is refused an entry only for cause, and entries wait for readers as items do
     pub lookups : (n : ℕ) (naming : Naming N H C S P) → slice_get hall.namings n ≡ Some naming → (lines : List (NameLine P)) × AreNameLines names hall.names (worker_ops t n) lines naming

@@ -107,10 +107,12 @@ module _ {N H C S P : Type 0} (names : NameGhosts N H C S P) where
     pub waiting : seats_waiting namings ≤ sums.deferred
     pub links : HasLinked (names.sizes_of cache).rows sums
 
-  -- The zone of the names when all lines are done: a census of its keg, how often its entries passed each hook wherever they are, and how many of them are deferred. So many more are linked in rows.
+  -- The zone of the names when all lines are done: a census of its own keg, how often its entries passed each hook wherever they are, and how many of them are deferred. So many more are linked in rows.
   pub record NamesClose (cache : C) (namings : List (Naming N H C S P)) (census : Census) (tally : TallySum) (deferred : ℕ) : Type 0 where
+    pub own : names.IsCensus cache census
     pub cap : (census_counts census).cap ≡ (names.sizes_of cache).slabs
     pub reserve : (census_counts census).reserve ≡ 0
+    pub per_slab : (census_counts census).per_slab ≡ 64
     -- counted are those of the census and of the seats, and more, since the domains and the rows have some too
     pub hooks : (hook : Hook) → sum_of (census_tally census) hook + seats_passed hook namings ≤ sum_of tally hook
     pub waiting : seats_waiting namings ≤ deferred

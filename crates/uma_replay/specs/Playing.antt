@@ -1,5 +1,5 @@
 -- How each worker began, and how it came to what it is when all lines are done (own).
-use Rattle.std.specs.Prelude.{◌≡◌, ◌≤◌, ◌%◌, ℕ, List, false, IfSome, IsTrue, length, map, reverse, Some, slice_get}
+use Rattle.std.specs.Prelude.{◌≡◌, ◌≤◌, ◌%◌, ℕ, List, [], false, IfSome, IsTrue, length, map, reverse, Some, slice_get}
 use Rattle.smr_clock.specs.declared.clock.Clock.{Clock}
 use Rattle.smr_clock.specs.declared.host.Host.{Ghosts}
 use Rattle.smr_clock.specs.Belongs.{IsOf}
@@ -39,6 +39,7 @@ module _ {N H C S P : Type 0} {h : Ghosts H P} (names : NameGhosts N H C S P) (c
     pub seat : names.IsSeat cache r.naming.seat
     pub own : IsTrue names.serves → names.domain_of r.naming.seat ≡ domain
     pub fresh : IfSome (names.counted r.naming.seat) IsNew
+    pub unused : names.usable r.naming.seat ≡ []
     pub counts : r.naming.counts ≡ no_counts
     pub asked : r.asked ≡ 0
     pub gave_up : r.gave_up ≡ 0

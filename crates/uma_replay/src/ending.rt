@@ -57,6 +57,7 @@ pub(crate) fn close<N: NameCalls, R: Wait>(
     ensures hall { IfOk result (λ played. HallStands N.NameCalls trace.now played.report played.hall) }
     ensures clock { IfOk result (λ played. played.hall.clock ≡ clock) }
     ensures gave_up { IfOk result (λ played. played.report.gave_up ≡ sum gave_ups.items) }
+    ensures gave_ups { IfOk result (λ played. played.hall.gave_ups ≡ gave_ups.items) }
 {
     let ended = take_stock(
         rt,
@@ -148,6 +149,7 @@ fn reported<N: NameCalls, R: Wait>(
     ensures hall { IfOk result (λ played. HallStands N.NameCalls trace.now played.report played.hall) }
     ensures clock { IfOk result (λ played. played.hall.clock ≡ clock) }
     ensures gave_up { IfOk result (λ played. played.report.gave_up ≡ sum gave_ups) }
+    ensures gave_ups { IfOk result (λ played. played.hall.gave_ups ≡ gave_ups) }
 {
     let Ended {
         read,

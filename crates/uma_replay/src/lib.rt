@@ -34,5 +34,7 @@ mod whole;
 pub use collecting::collect;
 pub use hall::{CensusList, GaveUps, Hall, Namings, Played, Workers, ZoneList};
 pub use replaying::replay;
-pub use trace_worker::{CountHooks, Counted, FreeGate, Gate, Go, NameCalls, ReclaimCalls};
+pub use trace_worker::{
+    Call, Calls, CountHooks, Counted, FreeGate, Gate, Go, NameCalls, ReclaimCalls,
+};
 pub use zone_stats::Memory;

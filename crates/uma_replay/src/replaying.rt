@@ -1,10 +1,12 @@
 ghost use Rattle.std.specs.Prelude.{◌≡◌, ◌≤◌, IfOk, IfSome, IsTrue, is_some, length};
 ghost use Rattle.smr_clock.specs.Belongs.{clock_id, setup_of};
+ghost use Rattle.trace_play.specs.Asks.{AllAsk};
 ghost use Rattle.trace_play.specs.Rounds.{GaveUpAsBefore, IsBegun, Suits};
 ghost use Rattle.trace_play.specs.Setting.{IsSetUp};
 ghost use Rattle.trace_text.specs.Lines.{lines_of};
 ghost use Rattle.trace_text.specs.Valid.{IsValid};
 ghost use Rattle.trace_worker.specs.NameSizes.{sizes_for};
+ghost use Rattle.uma_replay.specs.Asked.{AreGivenUp};
 ghost use Rattle.uma_replay.specs.Hall.{HallStands};
 ghost use Rattle.uma_replay.specs.Headline.{Headline};
 ghost use Rattle.uma_replay.specs.Playing.{AreEnded};
@@ -25,10 +27,10 @@ use trace_worker::{CountedZone, Gate, NameCalls, ReclaimCalls, Running};
 /// Replays a trace, each worker on a thread of its own, and reports what its ledgers, its kegs, its clock and its names
 /// counted, and how often its workers gave up waiting.
 ///
-/// The gate is asked before each operation, `names` does the lines of names, which it serves where the trace has a names
-/// line, and `reclaim` the lines of reclaim. When all lines are done, each worker that is away comes back, which counts
-/// nothing, a census of each keg is taken, and the clock's hands are read. Waits where a worker's lines do. `Memory` where
-/// memory is wanting; nothing else refuses a valid trace.
+/// The gate is asked before each operation, in one visit of each worker in each round; `names` does the lines of names,
+/// which it serves where the trace has a names line, and `reclaim` the lines of reclaim. When all lines are done, each
+/// worker that is away comes back, which counts nothing, a census of each keg is taken, and the clock's hands are read.
+/// Waits where a worker's lines do. `Memory` where memory is wanting; nothing else refuses a valid trace.
 pub fn replay<
     N: NameCalls + Sync,
     R: Threads + Wait + Sync,
@@ -50,6 +52,7 @@ pub fn replay<
     ensures headline { IfOk result (λ played. Headline N.NameCalls trace.now played.report played.hall) }
     ensures plan { IfOk result (λ played. (setup_of played.hall.clock).plan ≡ N.plans trace.now.head) }
     ensures free { G.is_free gate.now → IfOk result (λ played. played.report.gave_up ≡ 0) }
+    ensures asks { IfOk result (λ played. AreGivenUp G.Gate gate.now trace.now.rounds played.hall.gave_ups) }
 {
     let (cache, clock, passes) = names.set_up(alloc, trace)?;
     let setting = set_up_with(rt, alloc, trace, clock, passes)?;
@@ -82,6 +85,7 @@ fn replay_from<
     ensures hall { IfOk result (λ played. HallStands N.NameCalls trace.now played.report played.hall) }
     ensures clock { IfOk result (λ played. played.hall.clock ≡ setting.clock) }
     ensures free { G.is_free gate.now → IfOk result (λ played. played.report.gave_up ≡ 0) }
+    ensures asks { IfOk result (λ played. AreGivenUp G.Gate gate.now trace.now.rounds played.hall.gave_ups) }
 {
     let Setting {
         clock,
@@ -117,6 +121,7 @@ fn play_all<N: NameCalls + Sync, R: Threads + Wait + Sync, G: Gate + Sync, C: Re
     requires begun { IsBegun N.NameCalls cache.now zones.now clock.now runnings.items }
     ensures ended { IfOk result (λ all. AreEnded N.NameCalls cache.now trace.now zones.now clock.now runnings.items all.items) }
     ensures free { G.is_free gate.now → IfOk result (λ all. GaveUpAsBefore runnings.items all.items) }
+    ensures asks { IfOk result (λ all. AllAsk G.Gate gate.now trace.now.rounds runnings.items all.items) }
 {
     let workers = runnings.as_mut_slice();
     play(

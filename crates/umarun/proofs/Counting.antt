@@ -7,7 +7,7 @@ use Rattle.zone_stats.specs.declared.refusal.Refusal.{Refusal}
 use Rattle.zone_stats.specs.declared.refusal.Refusal.TheVariants.{AtLimit, Reserved, Full, Init, Ctor}
 use Rattle.uma_seat.specs.Counts.{ledger_in}
 use Rattle.uma_seat.specs.Seat.{ledger_of}
-use Rattle.uma_zone.specs.Alloc.{Names}
+use Rattle.uma_zone.specs.Alloc.{IsOneRefusal, Names}
 use Rattle.uma_zone.specs.Zone.{zone_cap, zone_reserve}
 use Rattle.smr_clock.specs.declared.view.View.{View}
 use Rattle.name_rows.specs.declared.part.Part.{Part}
@@ -56,8 +56,8 @@ module _ (zone : ZoneOfEntries) (no_reserve : zone_reserve zone ≡ 0) where
   given_back : (v' : View Part) (old new : EntrySeat) (handed freed : LiveEntry) → HandsBack zone old handed freed v' new → CountsGivenBack (ledger_of old) (ledger_of new)
   given_back v' old new handed freed back = record { between = ledger_of back.after; alloc = back.takes.counted; back = (_, back.frees.free) }
 
-  pub refusal_counts : (rows key : ℕ) (v v' : View Part) (old new : EntrySeat) (refused : BindRefused) → RefusesToBind zone rows key v old v' new refused → refused ≢ Memory → BindCounts (zone_cap zone) false (ledger_of old) (ledger_of new)
-  refusal_counts rows key v v' old new (Zone refusal) turned other = inl (record { refusal = refusal; turned = turned.turned.counted; fits = fits refusal turned.turned.names })
+  pub refusal_counts : (rows key : ℕ) (v v' : View Part) (old new : EntrySeat) (refused : BindRefused) → RefusesToBind zone rows key v old v' new refused → refused ≢ Memory → BindCounts (zone_cap zone) (λ (refusal : Refusal). IsOneRefusal zone false refusal) false (ledger_of old) (ledger_of new)
+  refusal_counts rows key v v' old new (Zone refusal) turned other = inl (record { refusal = refusal; turned = turned.turned.counted; fits = fits refusal turned.turned.names; found = turned.turned.one })
   refusal_counts rows key v v' old new (Worn row version) worn other = inr (given_back v' old new worn.handed worn.freed worn.back)
   refusal_counts rows key v v' old new (Unripe read stamp) unripe other = inr (given_back v' old new unripe.handed unripe.freed unripe.back)
   refusal_counts rows key v v' old new Memory wants other = absurd (other refl)

@@ -1,5 +1,5 @@
 -- What a pass knows of the rows of names after the calls of a cache, as the lines of names need it.
-use Rattle.std.proofs.Common.{◌≡◌, ℕ, ◌<◌, ◌≤◌, ◌+◌, Option, None, Some, Result, Ok, Err, refl, sym, ap, subst, ◌∙◌, inl, inr, arith}
+use Rattle.std.proofs.Common.{◌≡◌, ◌∷◌, List, ℕ, ◌<◌, ◌≤◌, ◌+◌, Option, None, Some, Result, Ok, Err, refl, sym, ap, subst, ◌∙◌, inl, inr, arith}
 use Rattle.std.specs.Prelude.{◌%◌, Bool, IfErr, IfNone, IfOk, IfSome, is_some}
 use Rattle.smr_core.specs.declared.holder.Holder.{Holder}
 use Rattle.smr_clock.specs.declared.view.View.{View}
@@ -18,8 +18,8 @@ use Rattle.name_cache.specs.Look.{Looks}
 use Rattle.name_cache.specs.Types.{ZoneOfEntries, EntrySeat}
 use Rattle.name_cache.specs.Unbind as cache_unbind
 use Rattle.trace_worker.specs.NameCalls.{Unbound}
-use Rattle.trace_worker.specs.Knowing.{StillKnows, IsAbove, IsNewest, Binds, Unbinds, FindsUnbound, Finds, bound_to}
-use Rattle.umarun.specs.Known.{KnowsRecord}
+use Rattle.trace_worker.specs.Knowing.{StillKnows, IsAbove, IsNewest, Binds, Unbinds, FindsUnbound, Finds, Loads, Told, bound_to}
+use Rattle.umarun.specs.Known.{KnowsRecord, told_by, told_in}
 
 pub still_known : (v v' : View Part) → cache.StillKnows v v' → StillKnows KnowsRecord v v'
 still_known v v' still row version bound k = record { at = k.at; knows = still k.at k.knows; of_row = k.of_row; numbered = k.numbered; binds = k.binds }
@@ -108,6 +108,18 @@ module _ (key : ℕ) (v v' : View Part) (found : Option ℕ) (f : reading.Finds 
         answer = f.result ∙ same_binding key f.last.content;
       }
 
+  pub loads_of : (rows : ℕ) → v.setup.plan.0 ≡ rows → Loads KnowsRecord told_in rows key v found v'
+  loads_of rows plan =
+      let of_row = f.of_row ∙ ap (λ (n : ℕ). key % n) plan in
+      let All : ℕ → List Told = λ row. (row, f.last.version, pair_of f.last.content) ∷ told_in v in
+      record {
+        version = f.last.version;
+        content = pair_of f.last.content;
+        met = newest_at (key % rows) f.last.version v f.last f.newest of_row refl;
+        loaded = ap told_in f.after ∙ ap All of_row;
+        answer = f.result ∙ same_binding key f.last.content;
+      }
+
 -- ---- a look in a section of its own
 
 module _ (key : ℕ) (v v' : View Part) (found : Option ℕ) (l : Looks key v found v') where
@@ -131,6 +143,18 @@ module _ (key : ℕ) (v v' : View Part) (found : Option ℕ) (l : Looks key v fo
         content = f.content;
         knows = still_known l.looked v' (same_known l.looked v' left) (key % rows) f.version f.content f.knows;
         met = λ other bound k. f.met other bound (still_known v l.inside (same_known v l.inside entered) (key % rows) other bound k);
+        answer = f.answer;
+      }
+
+  pub look_loads : (rows : ℕ) → v.setup.plan.0 ≡ rows → Loads KnowsRecord told_in rows key v found v'
+  look_loads rows plan =
+      let f = loads_of key l.inside l.looked found l.finds rows (ap (λ (w : View Part). w.setup.plan.0) l.enters.third.after ∙ plan) in
+      let All : Part → List Told = λ part. (key % rows, f.version, f.content) ∷ told_by part in
+      record {
+        version = f.version;
+        content = f.content;
+        met = λ other bound k. f.met other bound (still_known v l.inside (same_known v l.inside entered) (key % rows) other bound k);
+        loaded = ap told_by (sym left) ∙ (f.loaded ∙ ap All (sym entered));
         answer = f.answer;
       }
 

@@ -4,5 +4,6 @@ mod Outcomes
 mod Shown
 mod Counting
 mod Knowing
+mod Moving
 mod Ranges
 pub mod Shared

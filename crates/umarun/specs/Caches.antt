@@ -1,12 +1,21 @@
 -- What contracts see of the cache of a trace (own).
-use Rattle.std.specs.Prelude.{◌*◌, ℕ}
+use Rattle.std.specs.Prelude.{◌≡◌, ◌*◌, ◌⊎◌, ℕ, false, List, map}
 use Rattle.std.specs.Option.{option_map_or}
 use Rattle.smr_clock.specs.declared.setup.Setup.{Setup}
 use Rattle.smr_clock.specs.Belongs.{TableId}
+use Rattle.uma_keg.specs.declared.census.Census.{Census}
+use Rattle.uma_keg.specs.Census.{census_table}
+use Rattle.uma_life.specs.declared.cached.Cached.{Cached}
+use Rattle.uma_life.specs.declared.ticket.Ticket.{Ticket}
+use Rattle.uma_life.specs.Cached.{cached_ticket}
+use Rattle.uma_zone.specs.Alloc.{AreReused, IsOneFetch, IsOneRefusal}
 use Rattle.uma_zone.specs.Zone.{zone_bucket, zone_cap}
-use Rattle.name_cache.specs.Cache.{cache_zone, cache_clock, cache_domains, row_count, IsCacheSeat}
+use Rattle.name_cache.specs.Cache.{cache_zone, cache_clock, cache_domains, cache_home, row_count, IsCacheSeat}
+use Rattle.name_cache.specs.contracts.raised_entry.RaisedEntryBody.TheImpl.{ghosts as raised_body}
 use Rattle.name_cache.specs.declared.cache.NameCache.{NameCache}
+use Rattle.name_cache.specs.declared.raised_entry.RaisedEntry.{RaisedEntry}
 use Rattle.name_cache.specs.Types.{EntrySeat}
+use Rattle.zone_stats.specs.declared.refusal.Refusal.{Refusal}
 use Rattle.trace_text.specs.declared.head.Head.{Head}
 use Rattle.trace_text.specs.declared.head.NamesHead.{NamesHead}
 use Rattle.trace_worker.specs.NameSizes.{NameSizes}
@@ -32,3 +41,20 @@ plan_by line = (line.rows, line.slabs * 64)
 
 abbrev pub plan_for : Head → ℕ × ℕ
 plan_for head = option_map_or plan_by head.names (0, 0)
+
+abbrev pub CachedEntry : Type 0
+CachedEntry = Cached RaisedEntry raised_body
+
+-- These entries, by their tickets, came to a seat by one call: out of a bucket of freed entries, which waited until a poll said yes, or by one fetch from the keg.
+pub record CameIn (kept : TraceCache) (tickets : List Ticket) : Type 0 where
+  pub items : List CachedEntry
+  pub are : tickets ≡ map cached_ticket items
+  pub from : AreReused (cache_zone kept.cache) items ⊎ ((seat : EntrySeat) × IsOneFetch (cache_zone kept.cache) false items seat)
+
+-- one fetch from its keg was refused so, by the numbers that it found
+abbrev pub IsFoundIn : TraceCache → Refusal → Type 0
+IsFoundIn kept refusal = IsOneRefusal (cache_zone kept.cache) false refusal
+
+-- the census is of its keg
+abbrev pub IsCensusIn : TraceCache → Census → Type 0
+IsCensusIn kept census = census_table census ≡ (cache_home kept.cache).book

@@ -38,9 +38,10 @@ impl NameCalls for CacheNames {
 
     ghost use Rattle.std.specs.Prelude.{refl, true, Some};
     ghost use Rattle.uma_seat.specs.Seat.{ledger_of, seat_domain};
+    ghost use Rattle.uma_zone.specs.SafeReuse.{usable_tickets};
     ghost use Rattle.uma_seat.specs.Sums.{deferred_in_seat, times_in_seat};
-    ghost use Rattle.umarun.specs.Caches.{IsSeatIn, clock_in, plan_for, sizes_in};
-    ghost use Rattle.umarun.specs.Known.{KnowsRecord};
+    ghost use Rattle.umarun.specs.Caches.{CameIn, IsCensusIn, IsFoundIn, IsSeatIn, clock_in, plan_for, sizes_in};
+    ghost use Rattle.umarun.specs.Known.{KnowsRecord, told_in};
 
     ghost serves = { true };
 
@@ -54,6 +55,14 @@ impl NameCalls for CacheNames {
 
     ghost counted = { λ seat. Some (ledger_of seat) };
 
+    ghost usable = { λ seat. usable_tickets seat };
+
+    ghost Came = { CameIn };
+
+    ghost IsFound = { IsFoundIn };
+
+    ghost IsCensus = { IsCensusIn };
+
     ghost passed = { λ seat hook. times_in_seat hook seat };
 
     ghost deferred = { deferred_in_seat };
@@ -61,6 +70,8 @@ impl NameCalls for CacheNames {
     ghost plans = { plan_for };
 
     ghost knows = { KnowsRecord };
+
+    ghost told = { told_in };
 
     ghost counts_where_served = { λ seat. refl };
 

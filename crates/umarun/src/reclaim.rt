@@ -19,10 +19,10 @@ impl ReclaimCalls for Reclaim {
         pass: &mut Pass<H>,
         seat: &mut SeatCache<Counted, H>,
     ) -> Result<(), Memory> {
-        match uma_reclaim::trim(rt, alloc, zone, clock, pass, seat) {
-            Ok(_) => Ok(()),
-            Err(_) => Err(Memory),
-        }
+        let Ok(_done) = uma_reclaim::trim(rt, alloc, zone, clock, pass, seat) else {
+            return Err(Memory);
+        };
+        Ok(())
     }
 
     fn drain<H: Host, R: Wait>(
@@ -34,10 +34,10 @@ impl ReclaimCalls for Reclaim {
         pass: &mut Pass<H>,
         seat: &mut SeatCache<Counted, H>,
     ) -> Result<(), Memory> {
-        match uma_reclaim::drain(rt, alloc, zone, clock, pass, seat) {
-            Ok(_) => Ok(()),
-            Err(_) => Err(Memory),
-        }
+        let Ok(_done) = uma_reclaim::drain(rt, alloc, zone, clock, pass, seat) else {
+            return Err(Memory);
+        };
+        Ok(())
     }
 
     fn drain_seat<H: Host, R: Wait>(
@@ -49,9 +49,9 @@ impl ReclaimCalls for Reclaim {
         pass: &mut Pass<H>,
         seat: &mut SeatCache<Counted, H>,
     ) -> Result<(), Memory> {
-        match uma_reclaim::drain_seat(rt, alloc, zone, clock, pass, seat) {
-            Ok(_) => Ok(()),
-            Err(_) => Err(Memory),
-        }
+        let Ok(_done) = uma_reclaim::drain_seat(rt, alloc, zone, clock, pass, seat) else {
+            return Err(Memory);
+        };
+        Ok(())
     }
 }

@@ -1,4 +1,5 @@
 use Rattle.std.proofs.Common.{◌≡◌, ◌<◌, ◌≤◌, ◌∙◌, length, refl, rules}
+use Rattle.trace_play.proofs.Asks.{ask_all, ask_more, ask_none}
 use Rattle.trace_play.proofs.Done.{rounds_begun, rounds_ended, rounds_more}
 use Rattle.trace_play.proofs.Played.{begun, ended}
 use Rattle.trace_play.proofs.Plays.{play_all, play_more, play_none}
@@ -9,6 +10,7 @@ loop-round-init g c = record {
   after = begun g.N.NameCalls c.args.cache.now c.args.trace.now c.args.zones.now c.args.clock.now c.args.workers.now c.requires.begun;
   plays = play_none g.N.NameCalls c.args.cache.now c.args.zones.now c.args.trace.now.rounds c.args.workers.now;
   rounds = rounds_begun g.N.NameCalls c.args.cache.now c.args.zones.now c.args.trace.now.rounds c.args.workers.now;
+  asks = ask_none g.G.Gate c.args.gate.now c.args.trace.now.rounds c.args.workers.now;
   free = λ free. refl;
 }
 
@@ -21,6 +23,7 @@ loop-round-preserved g c =
       plays = play_more g.N.NameCalls c.args.cache.now c.args.zones.now c.args.trace.now.rounds c.loop-round.round c.args.workers.now c.loop-round.workers c.play_round.new.workers below size c.loop-round.invariant.plays
           c.in_ok-play_round.ensures.plays;
       rounds = rounds_more g.N.NameCalls c.args.cache.now c.args.zones.now c.args.trace.now.rounds c.loop-round.round c.args.workers.now c.loop-round.workers c.play_round.new.workers below c.loop-round.invariant.rounds c.in_ok-play_round.ensures.round;
+      asks = ask_more g.G.Gate c.args.gate.now c.args.trace.now.rounds c.loop-round.round c.args.workers.now c.loop-round.workers c.play_round.new.workers below size c.loop-round.invariant.asks c.in_ok-play_round.ensures.asks;
       free = λ free. c.in_ok-play_round.ensures.free free ∙ c.loop-round.invariant.free free;
     }
 
@@ -48,3 +51,8 @@ pub returns-clause-named : goal.returns-clause-named
 returns-clause-named g c =
     let past : length c.args.trace.now.rounds ≤ c.loop-round.round = search rules in
     (ended g.N.NameCalls c.args.cache.now c.args.trace.now c.args.zones.now c.args.clock.now c.loop-round.round c.loop-round.workers past c.loop-round.invariant.after).named
+
+pub returns-clause-asks : goal.returns-clause-asks
+returns-clause-asks g c =
+    let past : length c.args.trace.now.rounds ≤ c.loop-round.round = search rules in
+    ask_all g.G.Gate c.args.gate.now c.args.trace.now.rounds c.loop-round.round c.args.workers.now c.loop-round.workers past c.loop-round.invariant.asks

@@ -1,4 +1,5 @@
 use Rattle.std.proofs.Common.{take}
+use Rattle.trace_play.specs.Asks.{AllAsk}
 use Rattle.trace_play.specs.Betweens.{DoRounds}
 use Rattle.trace_play.specs.Plays.{AllPlay}
 use Rattle.trace_play.specs.Rounds.{AreAfter, GaveUpAsBefore}
@@ -10,5 +11,6 @@ invariant-loop-round g l = record {
   after : AreAfter g.N.NameCalls l.cache l.zones l.clock (lines_before l.trace.rounds l.round) l.workers;
   plays : AllPlay g.N.NameCalls l.cache l.zones (take l.round l.trace.rounds) l.initial.workers l.workers;
   rounds : DoRounds g.N.NameCalls l.cache l.zones (take l.round l.trace.rounds) l.initial.workers l.workers;
+  asks : AllAsk g.G.Gate l.gate (take l.round l.trace.rounds) l.initial.workers l.workers;
   free : g.G.Gate.is_free l.gate → GaveUpAsBefore l.initial.workers l.workers;
 }

@@ -3,6 +3,7 @@ use Rattle.trace_text.specs.declared.between.Between.{Between}
 use Rattle.trace_play.specs.Betweens.{DoBetweens}
 use Rattle.trace_play.specs.Rounds.{AllMoved}
 use Rattle.trace_play.proofs.AfterRound.{all_ready, gave_up_same}
+use Rattle.trace_play.proofs.Asks.{asks_round}
 use Rattle.trace_play.proofs.Done.{round_done}
 use Rattle.trace_play.proofs.Played.{after_round, both_ok, some_workers, still_free}
 use Rattle.trace_play.proofs.Plays.{plays_round}
@@ -45,3 +46,9 @@ returns-clause-free g c free =
     both_ok c.do_betweens.result _ _ _ c.do_betweens.ensures.rest c.do_betweens.ensures.rest (λ keeps again.
     still_free c.args.workers.now c.work_round.new.workers c.do_betweens.new.workers more keeps
     (gave_up_same c.args.workers.now c.work_round.new.workers size (c.work_round.ensures.free free)))
+
+pub returns-clause-asks : goal.returns-clause-asks
+returns-clause-asks g c =
+    let size : length c.work_round.new.workers ≡ length c.args.workers.now = search rules in
+    both_ok c.do_betweens.result _ _ _ c.do_betweens.ensures.rest c.do_betweens.ensures.rest (λ keeps again.
+    asks_round g.G.Gate c.args.gate.now c.args.trace.now.rounds c.args.round c.args.workers.now c.work_round.new.workers c.do_betweens.new.workers size c.in_ok-all_ended.ensures c.work_round.ensures.asks keeps)

@@ -37,6 +37,7 @@ for_each_mut-requires-clause-accepts g c κs within i worker below at =
       (
         param_send _ _ (arg_send _ no _ c.type_bounds.send-N-H),
         param_send _ _ (arg_send _ no _ c.type_bounds.send-N-Seat),
+        param_send _ _ (arg_send _ no _ c.type_bounds.send-G-Visit),
         search (c.type_bounds.sync-N, sendable),
         search (c.type_bounds.sync-R, sendable),
         search (c.type_bounds.sync-G, sendable),

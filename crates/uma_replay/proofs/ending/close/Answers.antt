@@ -72,3 +72,8 @@ pub returns-clause-gave_up : goal.returns-clause-gave_up
 returns-clause-gave_up g c =
     let P : List ℕ → Type 0 = λ list. IfOk c.reported.result (λ played. played.report.gave_up ≡ sum list) in
     subst P c.from_vec-gave_ups.ensures c.reported.ensures.gave_up
+
+pub returns-clause-gave_ups : goal.returns-clause-gave_ups
+returns-clause-gave_ups g c =
+    let P : List ℕ → Type 0 = λ list. IfOk c.reported.result (λ played. played.hall.gave_ups ≡ list) in
+    subst P c.from_vec-gave_ups.ensures c.reported.ensures.gave_ups

@@ -1,5 +1,6 @@
 use Rattle.std.proofs.Common.{List, length, map, refl, sym, ap, ◌∙◌, subst}
 use Rattle.trace_worker.specs.declared.running.Running.{Running}
+use Rattle.trace_play.specs.Asks.{AllAsk}
 use Rattle.trace_play.specs.Rounds.{GaveUpAsBefore, IsBegun, Suits}
 use Rattle.uma_replay.specs.Playing.{AreEnded}
 use Rattle.uma_replay.proofs.Beginning.{written_back}
@@ -44,3 +45,12 @@ returns-clause-free g c = λ free.
     let same = written_back new old.items old.len old.ok.0 (c.play.ensures.count ∙ ap length c.as_mut_slice-workers.ensures.value) in
     let P : List (Running _ _ _ _ _ _) → Type 0 = λ list. GaveUpAsBefore old.items list in
     subst P (sym same) (c.in_ok-play.ensures.free free ∙ ap (map (λ (r : Running _ _ _ _ _ _). r.gave_up)) c.as_mut_slice-workers.ensures.value)
+
+pub returns-clause-asks : goal.returns-clause-asks
+returns-clause-asks g c =
+    let old = c.args.runnings in
+    let new = c.play.new.workers in
+    let same = written_back new old.items old.len old.ok.0 (c.play.ensures.count ∙ ap length c.as_mut_slice-workers.ensures.value) in
+    let P : List (Running _ _ _ _ _ _) → Type 0 = λ list. AllAsk g.G.Gate c.args.gate.now c.args.trace.now.rounds old.items list in
+    let Q : List (Running _ _ _ _ _ _) → Type 0 = λ list. AllAsk g.G.Gate c.args.gate.now c.args.trace.now.rounds list new in
+    subst P (sym same) (subst Q c.as_mut_slice-workers.ensures.value c.in_ok-play.ensures.asks)

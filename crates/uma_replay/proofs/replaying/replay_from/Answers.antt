@@ -1,13 +1,15 @@
-use Rattle.std.proofs.Common.{◌≡◌, ◌∙◌, List, sum, sym, ap, subst}
+use Rattle.std.proofs.Common.{◌≡◌, ◌∙◌, ℕ, List, sum, sym, ap, subst}
 use Rattle.std.proofs.lemmas.Result.{IfOk-weaker}
 use Rattle.trace_worker.specs.Attendance.{worker_in}
 use Rattle.trace_worker.specs.Items.{CountedZone}
 use Rattle.trace_play.specs.Rounds.{IsBegun, Suits}
 use Rattle.trace_play.proofs.AfterRound.{in_crew}
 use Rattle.trace_worker.specs.Together.{crew}
+use Rattle.uma_replay.specs.Asked.{AreGivenUp}
 use Rattle.uma_replay.specs.Hall.{HallStands}
 use Rattle.uma_replay.specs.Playing.{AreEnded, gave_ups_of}
 use Rattle.uma_replay.specs.Report.{StandsFor}
+use Rattle.uma_replay.proofs.Asked.{given_up}
 use Rattle.uma_replay.proofs.Beginning.{begun_of, done_of, few_workers, named_of, none_gave_up, served_domains, suits_of}
 use Rattle.uma_replay.proofs.ComingBack.{back_stay}
 use Rattle.uma_replay.proofs.HallOf.{done_stay, stands_of_hall}
@@ -80,3 +82,14 @@ returns-clause-free g c = λ free.
     let none : sum (gave_ups_of all) ≡ 0 = none_gave_up first all (λ n r at. (c.in_ok-first.ensures.each n r at).gave_up) (c.in_ok-runnings.ensures.free free) in
     let shown : sum counts ≡ 0 = ap sum c.in_ok-workers.ensures.gave_ups ∙ none in
     IfOk-weaker c.close.result (λ played. played.report.gave_up ≡ sum counts) (λ played. played.report.gave_up ≡ 0) (λ played is. is ∙ shown) c.close.ensures.gave_up
+
+pub returns-clause-asks : goal.returns-clause-asks
+returns-clause-asks g c =
+    let first = c.in_ok-first.first.items in
+    let all = c.in_ok-runnings.runnings.items in
+    let counts = c.in_ok-workers.gave_ups.items in
+    let rounds = c.args.trace.now.rounds in
+    let given = given_up g.G.Gate c.args.gate.now rounds first all counts c.in_ok-runnings.ensures.ended.count (λ n r at. ((c.in_ok-first.ensures.each n r at).asked, (c.in_ok-first.ensures.each n r at).gave_up)) c.in_ok-runnings.ensures.asks
+    c.in_ok-workers.ensures.gave_ups in
+    let P : List ℕ → Type 0 = λ list. AreGivenUp g.G.Gate c.args.gate.now rounds list in
+    IfOk-weaker c.close.result (λ played. played.hall.gave_ups ≡ counts) (λ played. AreGivenUp g.G.Gate c.args.gate.now rounds played.hall.gave_ups) (λ played is. subst P (sym is) given) c.close.ensures.gave_ups

@@ -13,5 +13,5 @@ loop-worker-preserved g c =
     let new = c.new.ensures in
     let number = c.len-in-loop-worker.ensures ∙ begun.ok.0 in
     first_more names cache domains c.loop-worker.yielded begun.items c.push.new.self.items c.in-Some.worker c.new.result c.loop-worker.invariant
-    (first_of names cache seat.seat (length begun.items % domains) c.new.result seat.ensures.seat (λ serves. seat.ensures.own serves ∙ ap (λ n. n % domains) number) seat.ensures.fresh new.seat new.counts new.asked new.gave_up (ap is_out new.worker))
+    (first_of names cache seat.seat (length begun.items % domains) c.new.result seat.ensures.seat (λ serves. seat.ensures.own serves ∙ ap (λ n. n % domains) number) seat.ensures.fresh seat.ensures.unused new.seat new.counts new.asked new.gave_up (ap is_out new.worker))
     (ap worker_at new.worker) c.in_ok-push.ensures.items

@@ -1,4 +1,4 @@
-use Rattle.std.proofs.Common.{◌≡◌, ◌%◌, [], length, sym, ap, subst, rules, arith}
+use Rattle.std.proofs.Common.{◌∙◌, ◌≡◌, ◌%◌, [], length, sym, ap, subst, rules, arith}
 use Rattle.std.proofs.lemmas.Result.{err_from_is_err_and}
 use Rattle.smr_clock.specs.Belongs.{view}
 use Rattle.zone_stats.specs.declared.ledger.SeatLedger.{SeatLedger}
@@ -6,7 +6,12 @@ use Rattle.zone_stats.specs.LedgerSteps.{HasRoom, CountsAlloc}
 use Rattle.uma_seat.specs.Counts.{ledger_in}
 use Rattle.uma_seat.specs.Seat.{ledger_of, spares_of, shelf_of}
 use Rattle.uma_zone.specs.Flushed.{HasLastOf}
+use Rattle.uma_zone.specs.Ports.{sent_of}
+use Rattle.uma_zone.specs.Zone.{lists_of}
+use Rattle.uma_zone.proofs.Listings.{still_flushed}
+use Rattle.name_rows.specs.Records.{told}
 use Rattle.name_cache.specs.declared.rebound.Rebound.{Rebound}
+use Rattle.name_cache.specs.declared.rebound.Rebound.TheVariants.{Refused}
 use Rattle.name_cache.specs.Cache.{cache_zone, cache_clock, cache_home, row_count, first_version}
 use Rattle.name_cache.specs.LockedRow.{HasItemOf}
 use Rattle.name_cache.specs.Rebound.{HasRebound, IsBoundAbove}
@@ -14,19 +19,20 @@ use Rattle.name_cache.specs.Bind.{Binds}
 use Rattle.name_cache.specs.Room.{MakesRoom}
 use Rattle.name_cache.proofs.Ends.{binds, refuses, refuses_none}
 use Rattle.name_cache.proofs.Linked.{done_item}
-use Rattle.name_cache.proofs.Rooms.{wants_room}
+use Rattle.name_cache.proofs.Rooms.{wants_room, flushed_still}
 use Rattle.name_cache.proofs.Taking.{room_left}
 use Rattle.name_cache.proofs.Telling.{still_then, still_host, above_next}
+use Rattle.name_cache.proofs.Wanting.{same_err, not_err, row_not_memory}
 use Rattle.name_cache.proofs.cache.NameCache.bind.Goals as goal
 
 pub returns-then-is_err-clause-refused : goal.returns-then-is_err-clause-refused
 returns-then-is_err-clause-refused g c =
     let made = c.make_room.ensures in
     let stay : HasLastOf (shelf_of c.args.seat.now) (shelf_of c.make_room.new.seat) = search rules in
-    wants_room c.args.seat.now c.make_room.new.seat made.same made.top made.plain made.freed made.counts stay
+    wants_room c.args.seat.now c.make_room.new.seat made.kept.same made.kept.top made.kept.plain made.kept.freed made.kept.counts stay
 
 pub rebind-requires-clause-room : goal.rebind-requires-clause-room
-rebind-requires-clause-room g c = subst (λ (l : SeatLedger). HasRoom l) (ap ledger_in (sym c.make_room.ensures.counts)) c.requires.room.now
+rebind-requires-clause-room g c = subst (λ (l : SeatLedger). HasRoom l) (ap ledger_in (sym c.make_room.ensures.kept.counts)) c.requires.room.now
 
 pub returns-in_err-receipt-clause-refused : goal.returns-in_err-receipt-clause-refused
 returns-in_err-receipt-clause-refused g c =
@@ -35,20 +41,20 @@ returns-in_err-receipt-clause-refused g c =
     let room = c.make_room.ensures in
     let shelf : shelf_of one ≡ [] = search rules in
     let two : length (spares_of one) ≡ 2 = search rules in
-    let made : MakesRoom c.args.seat.now one = record { shelf = shelf; spares = two; top = room.top; plain = room.plain; freed = room.freed; counts = room.counts; misses = room.misses } in
+    let made : MakesRoom c.args.seat.now one = record { shelf = shelf; spares = two; same = room.kept.same; top = room.kept.top; plain = room.kept.plain; freed = room.kept.freed; counts = room.kept.counts; misses = room.kept.misses } in
     let v = view c.args.pass.now in
     let v1 = view c.make_room.new.pass in
     let v2 = view c.rebind.new.pass in
     let left = c.rebind.new.seat in
     let p = err_from_is_err_and c.from_residual.result c.from_residual.ensures.1 in
     rw (p.1, p.2)
-    (refuses_none (cache_zone cache) (row_count cache) c.args.key c.args.value v v1 v2 v2 c.args.seat.now one left left made (still_host v v1 room.host) c.in_err-receipt.field-0.0
-    room.same c.rebind.ensures.freed c.rebind.ensures.shelf c.in_err-receipt.ensures.refused)
+    (refuses_none (cache_zone cache) (row_count cache) c.args.key c.args.value v v1 v2 v2 c.args.seat.now one left left made (still_host v v1 room.pass.host) c.in_err-receipt.field-0.0
+    room.kept.same c.rebind.ensures.freed c.rebind.ensures.shelf c.in_err-receipt.ensures.refused)
 
 pub free_evicted-requires-clause-room : goal.free_evicted-requires-clause-room
 free_evicted-requires-clause-room g c =
     let two = c.rebind.new.seat in
-    room_left (ledger_of c.args.seat.now) (ledger_of two) c.requires.room (subst (λ (l : SeatLedger). CountsAlloc l (ledger_of two)) (ap ledger_in c.make_room.ensures.counts) c.in_ok-receipt.ensures.counted)
+    room_left (ledger_of c.args.seat.now) (ledger_of two) c.requires.room (subst (λ (l : SeatLedger). CountsAlloc l (ledger_of two)) (ap ledger_in c.make_room.ensures.kept.counts) c.in_ok-receipt.ensures.counted)
 
 pub free_evicted-requires-clause-item : goal.free_evicted-requires-clause-item
 free_evicted-requires-clause-item g c =
@@ -64,13 +70,13 @@ binds_so g c =
     let room = c.make_room.ensures in
     let shelf : shelf_of one ≡ [] = search rules in
     let spares : length (spares_of one) ≡ 2 = search rules in
-    let made : MakesRoom c.args.seat.now one = record { shelf = shelf; spares = spares; top = room.top; plain = room.plain; freed = room.freed; counts = room.counts; misses = room.misses } in
+    let made : MakesRoom c.args.seat.now one = record { shelf = shelf; spares = spares; same = room.kept.same; top = room.kept.top; plain = room.kept.plain; freed = room.kept.freed; counts = room.kept.counts; misses = room.kept.misses } in
     let done = c.in_ok-receipt.ensures in
     let v = view c.args.pass.now in
     let v1 = view c.make_room.new.pass in
     let v2 = view c.rebind.new.pass in
     let h = subst (λ (r : Rebound). HasRebound (cache_zone cache) (row_count cache) c.args.key c.args.value v1 one r v2 two) c.in-Done.is done.rebound in
-    binds (cache_zone cache) (row_count cache) c.args.key c.args.value v v1 v2 (view c.free_evicted.new.pass) c.args.seat.now one two c.free_evicted.new.seat made (still_host v v1 room.host)
+    binds (cache_zone cache) (row_count cache) c.args.key c.args.value v v1 v2 (view c.free_evicted.new.pass) c.args.seat.now one two c.free_evicted.new.seat made (still_host v v1 room.pass.host)
     c.in-Done.receipt c.in-Done.evicted h done.counted done.freed done.shelf c.free_evicted.ensures.frees c.free_evicted.ensures.host
 
 pub returns-in-Done-clause-bound : goal.returns-in-Done-clause-bound
@@ -84,7 +90,7 @@ returns-in-Done-clause-above g c =
 pub free-requires-clause-room : goal.free-requires-clause-room
 free-requires-clause-room g c =
     let two = c.rebind.new.seat in
-    room_left (ledger_of c.args.seat.now) (ledger_of two) c.requires.room (subst (λ (l : SeatLedger). CountsAlloc l (ledger_of two)) (ap ledger_in c.make_room.ensures.counts) c.in_ok-receipt.ensures.counted)
+    room_left (ledger_of c.args.seat.now) (ledger_of two) c.requires.room (subst (λ (l : SeatLedger). CountsAlloc l (ledger_of two)) (ap ledger_in c.make_room.ensures.kept.counts) c.in_ok-receipt.ensures.counted)
 
 pub returns-in-Done-clause-since : goal.returns-in-Done-clause-since
 returns-in-Done-clause-since g c = subst (λ (r : Rebound). IsBoundAbove (first_version c.args.self.now (c.args.key % row_count c.args.self.now)) r) c.in-Done.is c.in_ok-receipt.ensures.since
@@ -97,13 +103,13 @@ returns-in-Refused-clause-refused g c =
     let room = c.make_room.ensures in
     let shelf : shelf_of one ≡ [] = search rules in
     let spares : length (spares_of one) ≡ 2 = search rules in
-    let made : MakesRoom c.args.seat.now one = record { shelf = shelf; spares = spares; top = room.top; plain = room.plain; freed = room.freed; counts = room.counts; misses = room.misses } in
+    let made : MakesRoom c.args.seat.now one = record { shelf = shelf; spares = spares; same = room.kept.same; top = room.kept.top; plain = room.kept.plain; freed = room.kept.freed; counts = room.kept.counts; misses = room.kept.misses } in
     let done = c.in_ok-receipt.ensures in
     let v = view c.args.pass.now in
     let v1 = view c.make_room.new.pass in
     let v2 = view c.rebind.new.pass in
     let h = subst (λ (r : Rebound). HasRebound (cache_zone cache) (row_count cache) c.args.key c.args.value v1 one r v2 two) c.in-Refused.is done.rebound in
-    refuses (cache_zone cache) (row_count cache) c.args.key c.args.value v v1 v2 (view c.free.new.pass) c.args.seat.now one two c.free.new.seat made (still_host v v1 room.host)
+    refuses (cache_zone cache) (row_count cache) c.args.key c.args.value v v1 v2 (view c.free.new.pass) c.args.seat.now one two c.free.new.seat made (still_host v v1 room.pass.host)
     c.in-Refused.entry c.free.ensures.frees done.counted done.freed done.shelf c.free.ensures.host c.in-Refused.refused h
 
 pub free_evicted-requires-clause-spare : goal.free_evicted-requires-clause-spare
@@ -127,13 +133,13 @@ free-requires-clause-item g c =
 -- ---- what the pass still knows
 
 pub returns-then-is_err-clause-still : goal.returns-then-is_err-clause-still
-returns-then-is_err-clause-still g c = still_host (view c.args.pass.now) (view c.make_room.new.pass) c.make_room.ensures.host
+returns-then-is_err-clause-still g c = still_host (view c.args.pass.now) (view c.make_room.new.pass) c.make_room.ensures.pass.host
 
 pub returns-in_err-receipt-clause-still : goal.returns-in_err-receipt-clause-still
 returns-in_err-receipt-clause-still g c =
     let v = view c.args.pass.now in
     let v1 = view c.make_room.new.pass in
-    still_then v v1 (view c.rebind.new.pass) (still_host v v1 c.make_room.ensures.host) c.rebind.ensures.still
+    still_then v v1 (view c.rebind.new.pass) (still_host v v1 c.make_room.ensures.pass.host) c.rebind.ensures.still
 
 pub returns-in-Done-clause-still : goal.returns-in-Done-clause-still
 returns-in-Done-clause-still g c =
@@ -141,7 +147,7 @@ returns-in-Done-clause-still g c =
     let v1 = view c.make_room.new.pass in
     let v2 = view c.rebind.new.pass in
     let v3 = view c.free_evicted.new.pass in
-    still_then v v2 v3 (still_then v v1 v2 (still_host v v1 c.make_room.ensures.host) c.rebind.ensures.still) (still_host v2 v3 c.free_evicted.ensures.host)
+    still_then v v2 v3 (still_then v v1 v2 (still_host v v1 c.make_room.ensures.pass.host) c.rebind.ensures.still) (still_host v2 v3 c.free_evicted.ensures.host)
 
 pub returns-in-Refused-clause-still : goal.returns-in-Refused-clause-still
 returns-in-Refused-clause-still g c =
@@ -149,4 +155,43 @@ returns-in-Refused-clause-still g c =
     let v1 = view c.make_room.new.pass in
     let v2 = view c.rebind.new.pass in
     let v3 = view c.free.new.pass in
-    still_then v v2 v3 (still_then v v1 v2 (still_host v v1 c.make_room.ensures.host) c.rebind.ensures.still) (still_host v2 v3 c.free.ensures.host)
+    still_then v v2 v3 (still_then v v1 v2 (still_host v v1 c.make_room.ensures.pass.host) c.rebind.ensures.still) (still_host v2 v3 c.free.ensures.host)
+
+-- ---- where memory was wanting
+
+pub returns-then-is_err-clause-flushed : goal.returns-then-is_err-clause-flushed
+returns-then-is_err-clause-flushed g c _ = record { left = view c.make_room.new.pass; flushes = c.make_room.ensures.flushes }
+
+pub returns-then-is_err-clause-unheard : goal.returns-then-is_err-clause-unheard
+returns-then-is_err-clause-unheard g c _ = c.make_room.ensures.pass.host
+
+pub returns-in_err-receipt-clause-flushed : goal.returns-in_err-receipt-clause-flushed
+returns-in_err-receipt-clause-flushed g c memory =
+    let one = c.make_room.new.seat in
+    let two = c.rebind.new.seat in
+    let shelf : shelf_of one ≡ [] = search rules in
+    let p = err_from_is_err_and c.from_residual.result c.from_residual.ensures.1 in
+    let none = flushed_still (shelf_of one) (shelf_of two) shelf c.rebind.ensures.shelf in
+    still_flushed (lists_of (cache_zone c.args.self.now)) told (shelf_of c.args.seat.now) (shelf_of one) (shelf_of two) (sent_of c.args.seat.now) (sent_of one) (sent_of two) (view c.args.pass.now) (none ∙ sym shelf)
+    (c.in_err-receipt.ensures.unsent (same_err c.from_residual.result p.0 _ _ p.1 p.2 memory) shelf) (record { left = view c.make_room.new.pass; flushes = c.make_room.ensures.flushes })
+
+pub returns-in_err-receipt-clause-unheard : goal.returns-in_err-receipt-clause-unheard
+returns-in_err-receipt-clause-unheard g c memory =
+    let p = err_from_is_err_and c.from_residual.result c.from_residual.ensures.1 in
+    c.in_err-receipt.ensures.unheard (same_err c.from_residual.result p.0 _ _ p.1 p.2 memory) ∙ c.make_room.ensures.pass.host
+
+pub returns-in-Done-clause-flushed : goal.returns-in-Done-clause-flushed
+returns-in-Done-clause-flushed g c memory = absurd (not_err _ _ memory)
+
+pub returns-in-Done-clause-unheard : goal.returns-in-Done-clause-unheard
+returns-in-Done-clause-unheard g c memory = absurd (not_err _ _ memory)
+
+refused_so : (g : _) (c : goal.After-free g) → HasRebound (cache_zone c.args.self.now) (row_count c.args.self.now) c.args.key c.args.value (view c.make_room.new.pass) c.make_room.new.seat (Refused c.in-Refused.entry c.in-Refused.refused) (view c.rebind.new.pass) c.rebind.new.seat
+refused_so g c =
+    subst (λ (r : Rebound). HasRebound (cache_zone c.args.self.now) (row_count c.args.self.now) c.args.key c.args.value (view c.make_room.new.pass) c.make_room.new.seat r (view c.rebind.new.pass) c.rebind.new.seat) c.in-Refused.is c.in_ok-receipt.ensures.rebound
+
+pub returns-in-Refused-clause-flushed : goal.returns-in-Refused-clause-flushed
+returns-in-Refused-clause-flushed g c memory = absurd (row_not_memory _ _ _ _ _ _ _ _ _ _ (refused_so g c) memory)
+
+pub returns-in-Refused-clause-unheard : goal.returns-in-Refused-clause-unheard
+returns-in-Refused-clause-unheard g c memory = absurd (row_not_memory _ _ _ _ _ _ _ _ _ _ (refused_so g c) memory)

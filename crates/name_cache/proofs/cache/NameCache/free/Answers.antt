@@ -23,6 +23,7 @@ returns-clause-frees c =
         full = freed.full;
         free = freed.ledger;
         fetches = freed.fetches;
+        same = freed.same;
         top = freed.top;
         plain = freed.plain;
         misses = freed.misses;

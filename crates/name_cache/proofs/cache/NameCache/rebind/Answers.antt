@@ -1,4 +1,5 @@
 use Rattle.std.proofs.Common.{◌≡◌, ◌%◌, sym, ap, subst, ◌∙◌}
+use Rattle.std.proofs.lemmas.Result.{err_from_is_err_and}
 use Rattle.smr_clock.specs.declared.setup.Setup.{Setup}
 use Rattle.smr_clock.specs.Belongs.{TableId, view}
 use Rattle.name_cache.specs.Cache.{row_count, first_version}
@@ -6,6 +7,7 @@ use Rattle.name_cache.specs.LockedRow.{IsItemOf, HasItemOf}
 use Rattle.name_cache.specs.RowKey.{Identity}
 use Rattle.name_cache.proofs.Since.{rebound_above}
 use Rattle.name_cache.proofs.Telling.{still_then}
+use Rattle.name_cache.proofs.Wanting.{same_err, not_err}
 use Rattle.name_cache.proofs.cache.NameCache.rebind.Goals as goal
 
 pub bind-requires-clause-item : goal.bind-requires-clause-item
@@ -42,3 +44,19 @@ returns-clause-items g c = subst (λ (id : Identity). HasItemOf id.clock id.home
 
 pub returns-clause-still : goal.returns-clause-still
 returns-clause-still g c = still_then (view c.args.pass.now) (view c.take_entry.new.pass) (view c.bind.new.pass) c.take_entry.ensures.still c.bind.ensures.still
+
+pub returns-in_err-entry-clause-unsent : goal.returns-in_err-entry-clause-unsent
+returns-in_err-entry-clause-unsent g c memory none =
+    let p = err_from_is_err_and c.from_residual.result c.from_residual.ensures.1 in
+    c.in_err-entry.ensures.unsent (same_err c.from_residual.result p.0 _ _ p.1 p.2 memory) none
+
+pub returns-in_err-entry-clause-unheard : goal.returns-in_err-entry-clause-unheard
+returns-in_err-entry-clause-unheard g c memory =
+    let p = err_from_is_err_and c.from_residual.result c.from_residual.ensures.1 in
+    c.in_err-entry.ensures.unheard (same_err c.from_residual.result p.0 _ _ p.1 p.2 memory)
+
+pub returns-clause-unsent : goal.returns-clause-unsent
+returns-clause-unsent g c memory none = absurd (not_err _ _ memory)
+
+pub returns-clause-unheard : goal.returns-clause-unheard
+returns-clause-unheard g c memory = absurd (not_err _ _ memory)

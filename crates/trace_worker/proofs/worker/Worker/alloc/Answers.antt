@@ -28,7 +28,7 @@ returns-clause-allocs g c =
     on_ok_weaker c.fill.result
     (λ (slots : c.fill.new.slots ≡ filled old.slots c.args.slot c.held_of.result).
     allocs_at c.args.zones.now c.args.clock.now old new c.args.zone c.args.slot c.index-zones-place.result c.index_mut-seat.result.now c.request.new.seat c.args.ask c.in_ok-got.got
-    c.requires.fits c.requires.zone c.index-zones-place.is c.index_mut-seat.ensures.value c.in_ok-got.ensures.requests
+    c.requires.fits c.requires.zone c.index-zones-place.is c.index_mut-seat.ensures.value c.in_ok-got.ensures.requests c.in_ok-got.ensures.reaches
     refl (slots ∙ ap (filled old.slots c.args.slot) c.held_of.ensures)
     (record { phase = c.request.ensures.phase; seen = c.request.ensures.seen; entered = refl; late = refl }))
     c.fill.ensures

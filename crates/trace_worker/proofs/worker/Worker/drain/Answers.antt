@@ -1,8 +1,9 @@
 use Rattle.std.proofs.Common.{refl}
 use Rattle.std.proofs.lemmas.Result.{on_ok_weaker}
 use Rattle.std.specs.Vec.{with_item}
+use Rattle.smr_clock.specs.Belongs.{view}
 use Rattle.trace_worker.specs.declared.worker.Worker.{Worker}
-use Rattle.trace_worker.specs.Reclaims.{IsFlushed}
+use Rattle.trace_worker.specs.Reclaims.{HasDrained}
 use Rattle.trace_worker.proofs.AtPlace.{seat_at, fits_reclaim, reclaims_at}
 use Rattle.trace_worker.proofs.worker.Worker.drain.Goals as goal
 
@@ -15,7 +16,7 @@ returns-clause-fits g c =
     let old : Worker _ _ _ = c.args.self.now in
     let new : Worker _ _ _ = record { pass = c.drain.new.pass; seats = with_item old.seats c.args.zone c.drain.new.seat; slots = old.slots; entered = old.entered; late = old.late } in
     on_ok_weaker c.drain.result
-    (λ (left : IsFlushed c.index_mut-seat.result.now c.drain.new.seat).
+    (λ (left : HasDrained c.index-zones-place.result (view c.args.self.now.pass) c.index_mut-seat.result.now c.drain.new.seat).
     fits_reclaim c.args.zones.now c.args.clock.now old new c.args.zone c.index-zones-place.result c.index_mut-seat.result.now c.drain.new.seat
     c.requires.fits c.requires.zone c.index-zones-place.is c.index_mut-seat.ensures.value c.drain.ensures.seat c.drain.ensures.pass refl refl)
     c.drain.ensures.drained
@@ -25,8 +26,8 @@ returns-clause-reclaims g c =
     let old : Worker _ _ _ = c.args.self.now in
     let new : Worker _ _ _ = record { pass = c.drain.new.pass; seats = with_item old.seats c.args.zone c.drain.new.seat; slots = old.slots; entered = old.entered; late = old.late } in
     on_ok_weaker c.drain.result
-    (λ (left : IsFlushed c.index_mut-seat.result.now c.drain.new.seat).
-    reclaims_at c.args.zones.now c.args.clock.now IsFlushed old new c.args.zone c.index-zones-place.result c.index_mut-seat.result.now c.drain.new.seat
+    (λ (left : HasDrained c.index-zones-place.result (view c.args.self.now.pass) c.index_mut-seat.result.now c.drain.new.seat).
+    reclaims_at c.args.zones.now c.args.clock.now HasDrained old new c.args.zone c.index-zones-place.result c.index_mut-seat.result.now c.drain.new.seat
     c.requires.fits c.requires.zone c.index-zones-place.is c.index_mut-seat.ensures.value left refl refl
     (record { phase = c.drain.ensures.phase; seen = c.drain.ensures.seen; entered = refl; late = refl }))
     c.drain.ensures.drained

@@ -1,8 +1,9 @@
 use Rattle.std.proofs.Common.{refl}
 use Rattle.std.proofs.lemmas.Result.{on_ok_weaker}
 use Rattle.std.specs.Vec.{with_item}
+use Rattle.smr_clock.specs.Belongs.{view}
 use Rattle.trace_worker.specs.declared.worker.Worker.{Worker}
-use Rattle.trace_worker.specs.Reclaims.{IsDrained}
+use Rattle.trace_worker.specs.Reclaims.{HasDrainedSeat}
 use Rattle.trace_worker.proofs.AtPlace.{seat_at, fits_reclaim, reclaims_at}
 use Rattle.trace_worker.proofs.worker.Worker.drain_seat.Goals as goal
 
@@ -15,7 +16,7 @@ returns-clause-fits g c =
     let old : Worker _ _ _ = c.args.self.now in
     let new : Worker _ _ _ = record { pass = c.drain_seat.new.pass; seats = with_item old.seats c.args.zone c.drain_seat.new.seat; slots = old.slots; entered = old.entered; late = old.late } in
     on_ok_weaker c.drain_seat.result
-    (λ (left : IsDrained c.index_mut-seat.result.now c.drain_seat.new.seat).
+    (λ (left : HasDrainedSeat c.index-zones-place.result (view c.args.self.now.pass) c.index_mut-seat.result.now c.drain_seat.new.seat).
     fits_reclaim c.args.zones.now c.args.clock.now old new c.args.zone c.index-zones-place.result c.index_mut-seat.result.now c.drain_seat.new.seat
     c.requires.fits c.requires.zone c.index-zones-place.is c.index_mut-seat.ensures.value c.drain_seat.ensures.seat c.drain_seat.ensures.pass refl refl)
     c.drain_seat.ensures.drained
@@ -25,8 +26,8 @@ returns-clause-reclaims g c =
     let old : Worker _ _ _ = c.args.self.now in
     let new : Worker _ _ _ = record { pass = c.drain_seat.new.pass; seats = with_item old.seats c.args.zone c.drain_seat.new.seat; slots = old.slots; entered = old.entered; late = old.late } in
     on_ok_weaker c.drain_seat.result
-    (λ (left : IsDrained c.index_mut-seat.result.now c.drain_seat.new.seat).
-    reclaims_at c.args.zones.now c.args.clock.now IsDrained old new c.args.zone c.index-zones-place.result c.index_mut-seat.result.now c.drain_seat.new.seat
+    (λ (left : HasDrainedSeat c.index-zones-place.result (view c.args.self.now.pass) c.index_mut-seat.result.now c.drain_seat.new.seat).
+    reclaims_at c.args.zones.now c.args.clock.now HasDrainedSeat old new c.args.zone c.index-zones-place.result c.index_mut-seat.result.now c.drain_seat.new.seat
     c.requires.fits c.requires.zone c.index-zones-place.is c.index_mut-seat.ensures.value left refl refl
     (record { phase = c.drain_seat.ensures.phase; seen = c.drain_seat.ensures.seen; entered = refl; late = refl }))
     c.drain_seat.ensures.drained

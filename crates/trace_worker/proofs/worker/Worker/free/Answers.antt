@@ -1,9 +1,9 @@
 use Rattle.std.proofs.Common.{◌≡◌, ◌≤◌, ◌<◌, Some, refl, sym, ◌∙◌, length}
 use Rattle.std.specs.Vec.{with_item}
-use Rattle.smr_clock.specs.Belongs.{IsOf, holder}
+use Rattle.smr_clock.specs.Belongs.{IsOf, holder, view}
 use Rattle.uma_zone.specs.Zone.{IsSeatOf}
 use Rattle.trace_worker.specs.declared.worker.Worker.{Worker}
-use Rattle.trace_worker.specs.Requests.{GivesBack}
+use Rattle.trace_worker.specs.Requests.{IsGivenBack}
 use Rattle.trace_worker.specs.Slots.{slot_at}
 use Rattle.trace_worker.proofs.AtPlace.{seat_at, clock_at, room_at, fits_free, fits_none, held_below, home_at, frees_at, frees_none}
 use Rattle.trace_worker.proofs.Ends.{both_ok, three_ok}
@@ -77,7 +77,7 @@ returns-clause-frees g c =
     let holds : slot_at old.slots c.args.slot ≡ Some it = sym c.take.ensures.taken ∙ c.in-Some.is in
     three_ok c.give_back.result
     (λ (phase : (holder c.give_back.new.pass).phase ≡ (holder old.pass).phase) (seen : (holder old.pass).seen ≤ (holder c.give_back.new.pass).seen)
-    (gives : GivesBack c.index-zones-place.result c.index_mut-seat.result.now it.item c.give_back.new.seat).
+    (gives : IsGivenBack c.index-zones-place.result (view old.pass) c.index_mut-seat.result.now it.item c.give_back.new.seat (view c.give_back.new.pass)).
     frees_at c.args.zones.now c.args.clock.now old new c.args.slot it c.index-zones-place.result c.index_mut-seat.result.now c.give_back.new.seat
     c.requires.fits holds c.index-zones-place.is c.index_mut-seat.ensures.value gives refl c.take.ensures.left
     (record { phase = phase; seen = seen; entered = refl; late = refl }))

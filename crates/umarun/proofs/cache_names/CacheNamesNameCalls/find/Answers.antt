@@ -4,7 +4,7 @@ use Rattle.smr_clock.specs.Belongs.{TableId, view}
 use Rattle.smr_core.specs.declared.holder.Holder.{Holder}
 use Rattle.name_rows.specs.Belongs.{FitsNames}
 use Rattle.name_cache.specs.Cache.{row_count}
-use Rattle.umarun.proofs.Knowing.{find_holder, find_keeps, finds_of, same_seen, still_known}
+use Rattle.umarun.proofs.Knowing.{find_holder, find_keeps, finds_of, loads_of, same_seen, still_known}
 use Rattle.umarun.proofs.cache_names.CacheNamesNameCalls.find.Goals as goal
 
 pub find-requires-clause-names : goal.find-requires-clause-names
@@ -29,3 +29,8 @@ pub returns-clause-finds : goal.returns-clause-finds
 returns-clause-finds c =
     let plan = ap (λ (id : TableId × Setup). id.1.plan.0) (c.requires.pass ∙ c.requires.clock) in
     finds_of c.args.key (view c.args.pass.now) (view c.find.new.pass) c.find.result c.find.ensures.finds (row_count c.args._cache.now.cache) plan
+
+pub returns-clause-loads : goal.returns-clause-loads
+returns-clause-loads c = λ serves.
+    let plan = ap (λ (id : TableId × Setup). id.1.plan.0) (c.requires.pass ∙ c.requires.clock) in
+    loads_of c.args.key (view c.args.pass.now) (view c.find.new.pass) c.find.result c.find.ensures.finds (row_count c.args._cache.now.cache) plan

@@ -4,9 +4,9 @@ use Rattle.smr_clock.specs.declared.setup.Setup.{Setup}
 use Rattle.smr_clock.specs.Belongs.{TableId, view}
 use Rattle.name_cache.specs.Cache.{row_count}
 use Rattle.name_cache.specs.Look.{Looks}
-use Rattle.trace_worker.specs.Knowing.{Finds}
-use Rattle.umarun.specs.Known.{KnowsRecord}
-use Rattle.umarun.proofs.Knowing.{looks_of, look_ends, still_known}
+use Rattle.trace_worker.specs.Knowing.{Finds, Loads}
+use Rattle.umarun.specs.Known.{KnowsRecord, told_in}
+use Rattle.umarun.proofs.Knowing.{look_loads, looks_of, look_ends, still_known}
 use Rattle.umarun.proofs.cache_names.CacheNamesNameCalls.look.Goals as goal
 
 pub returns-clause-still : goal.returns-clause-still
@@ -23,3 +23,12 @@ returns-clause-finds c =
     let plan = ap (λ (id : TableId × Setup). id.1.plan.0) (c.requires.pass ∙ c.requires.clock) in
     IfOk-weaker c.look.result (λ (found : Option ℕ). Looks c.args.key v found v') (λ (found : Option ℕ). Finds KnowsRecord rows c.args.key v found v')
     (λ found l. looks_of c.args.key v v' found l rows plan) c.look.ensures.looked
+
+pub returns-clause-loads : goal.returns-clause-loads
+returns-clause-loads c = λ serves.
+    let v = view c.args.pass.now in
+    let v' = view c.look.new.pass in
+    let rows = row_count c.args.cache.now.cache in
+    let plan = ap (λ (id : TableId × Setup). id.1.plan.0) (c.requires.pass ∙ c.requires.clock) in
+    IfOk-weaker c.look.result (λ (found : Option ℕ). Looks c.args.key v found v') (λ (found : Option ℕ). Loads KnowsRecord told_in rows c.args.key v found v')
+    (λ found l. look_loads c.args.key v v' found l rows plan) c.look.ensures.looked

@@ -2,6 +2,7 @@ use Rattle.smr_clock.specs.Belongs.{view}
 use Rattle.name_cache.specs.Cache.{row_count}
 use Rattle.umarun.proofs.Counting.{unbind_counts}
 use Rattle.umarun.proofs.Knowing.{still_known, unbind_ends}
+use Rattle.umarun.proofs.Moving.{unbind_usable}
 use Rattle.umarun.proofs.cache_names.CacheNamesNameCalls.unbind.Goals as goal
 
 pub returns-in-Ok-clause-unbinds : goal.returns-in-Ok-clause-unbinds
@@ -17,3 +18,7 @@ returns-in-Ok-clause-still g c = still_known (view c.args.pass.now) (view c.unbi
 
 pub returns-in-Err-clause-still : goal.returns-in-Err-clause-still
 returns-in-Err-clause-still g c = still_known (view c.args.pass.now) (view c.unbind.new.pass) c.unbind.ensures.still
+
+pub returns-in-Ok-clause-usable : goal.returns-in-Ok-clause-usable
+returns-in-Ok-clause-usable g c =
+    unbind_usable (row_count c.args.cache.now.cache) c.args.key (view c.args.pass.now) (view c.unbind.new.pass) c.args.seat.now c.unbind.new.seat c.in-Ok.found c.in-Ok.ensures.unbound c.in-Ok.ensures.none

@@ -1,0 +1,11 @@
+use Rattle.uma_reclaim.specs.Reclaimed.{takes_of}
+use Rattle.umarun.proofs.reclaim.ReclaimReclaimCalls.trim.Goals as goal
+
+pub returns-clause-trimmed : goal.returns-clause-trimmed
+returns-clause-trimmed g c =
+    let done = c.in-Ok._done in
+    let told = c.in-Ok.ensures in
+    record {
+      seat = record { keeps = record { same = told.kept.same; spares = told.spares; freed = told.kept.freed; counts = told.kept.counts; misses = told.kept.misses }; flushed = told.flushed; top = told.kept.top; plain = told.kept.plain };
+      gives = record { shelf = told.flushes; settled = told.settled; takes = takes_of done; from = told.from; own = told.own; given = told.given };
+    }
