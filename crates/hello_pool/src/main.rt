@@ -21,7 +21,7 @@ fn main(rt: HostRuntime) -> Result<()> {
     let third = local.alloc(&rt, alloc, 0)?;
     println!(rt; "after a free it is item {}", third.no())?;
 
-    let line = pool.stats(&rt, alloc, b"counter", &[local.ledger()])?;
+    let line = local.stats(&rt, alloc, b"counter")?;
     print!(rt; "{}", Table::new(alloc, vec![in alloc; line]?)?)?;
     local.free(&rt, alloc, second)?;
     local.free(&rt, alloc, third)?;

@@ -3,3 +3,5 @@ mod Knows
 mod NoneLeft
 mod Ready
 mod Freed
+mod Refusing
+mod Lines

@@ -4,8 +4,14 @@ use Rattle.std.specs.contracts.snapshot.Snapshot as Snapshot
 use denote.RattleType.{RattleType}
 use denote.Builtin.{unit}
 use denote.Ref.{NamedLft}
-use denote.Param.Send.{IsSend, IsSync, shr_send, sendable}
+use denote.Param.Send.{AllSync, IsSend, IsSync, recorded_sync, shr_send, struct_sync, sendable}
 use denote.Param.SendFields.{declared_send, declared_sync}
+use denote.Struct.Declared.{shape}
+use denote.Struct.Field.{rows}
+use denote.Struct.Struct.{Struct}
+use denote.Struct.Tuple.{TupleAt, parts, type_at}
+use mir.Syntax.{Sym}
+use Rattle.std.proofs.Common.{List, [], ◌∷◌}
 use Rattle.keyed_lock.specs.contracts.lock.KeyedLock as KeyedLock
 use Rattle.keyed_lock.proofs.lock.KeyedLock.TheSendSync as lock
 use Rattle.smr_clock.specs.contracts.bare.Bare as Bare
@@ -16,6 +22,12 @@ use Rattle.smr_clock.proofs.clock.Clock.TheSendSync as clock
 use Rattle.smr_clock.specs.contracts.pass.Pass as Pass
 use Rattle.smr_clock.specs.declared.host.Host as host
 use Rattle.smr_clock.proofs.pass.Pass.TheSendSync as pass
+use Rattle.uma_item.specs.contracts.item.Item as Item
+use Rattle.uma_item.proofs.item.Item.TheSendSync as item
+use Rattle.uma_item.specs.contracts.trail_hooks.TrailHooks as TrailHooks
+use Rattle.uma_item.proofs.trail_hooks.TrailHooks.TheSendSync as trail
+use Rattle.uma_life.specs.contracts.live.Live as Live
+use Rattle.uma_life.proofs.live.Live.TheSendSync as live
 use Rattle.uma_life.specs.declared.body.Body as body
 use Rattle.uma_life.specs.declared.hooks.Hooks as hooks
 use Rattle.uma_zone.proofs.Shared.{zone_sync, seat_send}
@@ -33,6 +45,30 @@ use Rattle.uma.specs.contracts.passes.ReadyPasses as ReadyPasses
 use Rattle.uma.proofs.name_plan.NamePlan.TheSendSync as name_plan
 use Rattle.uma.proofs.plan.Plan.TheSendSync as plan
 use Rattle.uma.specs.contracts.pool.Pool as Pool
+
+-- what a closure shares with other threads, one row after another
+
+parts_sync : (Ts : List RattleType) → AllSync Ts → AllSync (rows (parts Ts))
+parts_sync [] all = tt
+parts_sync (T ∷ Ts) all = (all.0, parts_sync Ts all.1)
+
+pub rows_sync : (Ts : List RattleType) (ν : Sym) → AllSync Ts → IsSync (TupleAt ν Ts)
+rows_sync Ts ν all = recorded_sync (Struct (shape (type_at ν Ts))) _ _ (type_at ν Ts).to_one (struct_sync (shape (type_at ν Ts)) (parts_sync Ts all))
+
+-- items with data that may be sent, and hooks by those of their user
+
+pub item_send : (B : RattleType) → IsSend B → IsSend (Item.the_row B)
+item_send B b = search (item.the_send, b, crosses, sendable) depth 20
+
+pub hooks_send : (K : RattleType) → IsSend K → IsSend (TrailHooks.the_row K)
+hooks_send K s = search (trail.the_send, s, sendable) depth 20
+
+pub hooks_sync : (K : RattleType) → IsSync K → IsSync (TrailHooks.the_row K)
+hooks_sync K s = search (trail.the_sync, s, sendable) depth 20
+
+-- an item that somebody holds
+pub held_send : (T : RattleType) (g : body.Ghosts T.Denot) → IsSend T → IsSend (Live.the_row T g)
+held_send T g t = search (live.the_send, t, crosses, sendable) depth 20
 
 -- a snapshot owns nothing
 snapshot_send : (Y : RattleType) → IsSend (Snapshot.the_row Y)

@@ -1,3 +1,6 @@
+pub use Rattle.zone_stats.specs.LedgerSteps
+pub use Rattle.zone_stats.specs.declared.ledger.SeatLedger
+pub use Rattle.zone_stats.specs.declared.refusal.Refusal
 pub mod Plan
 pub mod NamePlan
 pub mod Phases
@@ -5,9 +8,12 @@ pub mod Passes
 pub mod NoPass
 pub mod Making
 pub mod Pool
+pub mod Data
 pub mod Taken
 pub mod Section
 pub mod Local
+pub mod Refusing
 pub mod Drained
 pub mod Table
+pub mod NameTable
 pub mod Directory

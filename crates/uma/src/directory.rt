@@ -35,7 +35,8 @@ pub struct Directory {
 }
 
 impl Directory {
-    ghost use Rattle.uma.specs.Directory.{RefusesWay, directory_of, directory_plan};
+    ghost use Rattle.zone_stats.specs.LedgerSteps.{IsNew};
+    ghost use Rattle.uma.specs.Directory.{RefusesWay, counted_by, directory_of, directory_plan};
     ghost use Rattle.name_rows.specs.contracts.names.NamesHost.TheImpl.{ghosts as names};
     ghost use Rattle.uma.specs.NoPass.{HasNoPass};
 
@@ -83,6 +84,7 @@ impl Directory {
         alloc: Global,
     ) -> Result<DirectoryLocal<'a>, Refused>
         ensures directory { IfOk result (λ local. directory_of local ≡ self.now) }
+        ensures ledger { IfOk result (λ local. IsNew (counted_by local)) }
         ensures refused { IfErr result (RefusesWay self.now) }
     {
         let Some(pass) = self.take_pass(rt) else {

@@ -6,11 +6,13 @@ ghost use Rattle.name_cache.specs.Bind.{HasRoomToBind};
 ghost use Rattle.name_cache.specs.Cache.{IsCacheSeat};
 
 use crate::directory::Directory;
+use crate::name_ledger::NameLedger;
 use crate::refused::Refused;
 use name_cache::{BindRefused, RaisedEntry, Receipt};
 use name_rows::Names;
 use smr_clock::Pass;
 use std::alloc::Global;
+use std::snapshot::Snapshot;
 use std::sync::Wait;
 use uma_seat::SeatCache;
 use zone_stats::SeatLedger;
@@ -27,6 +29,7 @@ pub struct DirectoryLocal<'a> {
 }
 
 impl<'a> DirectoryLocal<'a> {
+    ghost use Rattle.uma.specs.NameTable.{IsNameLedgerOf};
     ghost use Rattle.uma.specs.Directory.{BindsName, FindsNone, IsLate, LooksUp, RefusesBind, RefusesUnbind, StillKnows, TakesOut, WasBound, counted_by, directory_of, known_to};
 
     /// Binds a name to a value. A name that its row bound before is evicted: whoever looks for that finds nothing from then on. Waits
@@ -126,10 +129,14 @@ impl<'a> DirectoryLocal<'a> {
     }
 
     /// What it counted: an entry is allocated for each bind, and freed as its name goes.
-    pub fn ledger(&self) -> SeatLedger
-        ensures { result ≡ counted_by self.now }
+    pub fn ledger(&self) -> NameLedger
+        ensures counts { result.counts ≡ counted_by self.now }
+        ensures directory { IsNameLedgerOf (directory_of self.now) result }
     {
-        self.seat.ledger()
+        NameLedger {
+            counts: self.seat.ledger(),
+            directory: Snapshot::of(self.directory),
+        }
     }
 }
 

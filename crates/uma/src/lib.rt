@@ -38,9 +38,11 @@
 
 mod directory;
 mod directory_local;
+mod directory_stats;
 mod draining;
 mod filled;
 mod local;
+mod name_ledger;
 mod name_plan;
 mod not_freed;
 mod passes;
@@ -57,6 +59,7 @@ pub use directory::Directory;
 pub use directory_local::DirectoryLocal;
 pub use filled::Filled;
 pub use local::Local;
+pub use name_ledger::NameLedger;
 pub use name_plan::NamePlan;
 pub use not_freed::NotFreed;
 pub use plan::Plan;

@@ -33,6 +33,7 @@ impl<'a, T: Body + Drop, K: Hooks<T>> Local<'a, T, K> {
     ghost use Rattle.uma.specs.Table.{IsLedgerOf};
     ghost use Rattle.uma_life.specs.Live.{live_domain};
     ghost use Rattle.uma.specs.Local.{pool_of, ledger_in, Allocs, RefusesAlloc, CanHold, Puts, Defers, Frees, IsNotReady, KeepsLocal, KeepsUsable};
+    ghost use Rattle.uma.specs.Refusing.{KeepsOut, TellsRefusal};
     ghost use Rattle.zone_stats.specs.LedgerSteps.{HasRoom, CountsAlloc, CountsFree};
 
     /// An item whose `ctor` took this argument. It is the one that was freed last here, where there is one; else the local
@@ -44,10 +45,12 @@ impl<'a, T: Body + Drop, K: Hooks<T>> Local<'a, T, K> {
     /// `Counts` where the local's counts are full. `Memory` where memory is wanting.
     pub fn alloc<R: Wait>(&mut self, rt: &R, alloc: Global, arg: u64) -> Result<Live<T>, Refused>
         ensures pool { pool_of self.new ≡ pool_of self.old }
-        ensures home { IfOk result (IsItemOf (pool_of self.old)) }
+        ensures home { IfOk result (IsItemOf (pool_of self.new)) }
         ensures served { IfOk result (λ held. Allocs arg false self.old held self.new) }
         ensures counted { OnOk result (CountsAlloc (ledger_in self.old) (ledger_in self.new)) }
         ensures refused { IfErr result (RefusesAlloc arg false self.old self.new) }
+        ensures told { IfErr result (TellsRefusal arg false self.old self.new) }
+        ensures out { OnErr result (KeepsOut self.old self.new) }
     {
         self.ask(rt, alloc, arg, false)
     }
@@ -64,10 +67,12 @@ impl<'a, T: Body + Drop, K: Hooks<T>> Local<'a, T, K> {
         arg: u64,
     ) -> Result<Live<T>, Refused>
         ensures pool { pool_of self.new ≡ pool_of self.old }
-        ensures home { IfOk result (IsItemOf (pool_of self.old)) }
+        ensures home { IfOk result (IsItemOf (pool_of self.new)) }
         ensures served { IfOk result (λ held. Allocs arg true self.old held self.new) }
         ensures counted { OnOk result (CountsAlloc (ledger_in self.old) (ledger_in self.new)) }
         ensures refused { IfErr result (RefusesAlloc arg true self.old self.new) }
+        ensures told { IfErr result (TellsRefusal arg true self.old self.new) }
+        ensures out { OnErr result (KeepsOut self.old self.new) }
     {
         self.ask(rt, alloc, arg, true)
     }
@@ -80,18 +85,19 @@ impl<'a, T: Body + Drop, K: Hooks<T>> Local<'a, T, K> {
         reserve: bool,
     ) -> Result<Live<T>, Refused>
         ensures pool { pool_of self.new ≡ pool_of self.old }
-        ensures home { IfOk result (IsItemOf (pool_of self.old)) }
+        ensures home { IfOk result (IsItemOf (pool_of self.new)) }
         ensures served { IfOk result (λ held. Allocs arg reserve self.old held self.new) }
         ensures counted { OnOk result (CountsAlloc (ledger_in self.old) (ledger_in self.new)) }
         ensures refused { IfErr result (RefusesAlloc arg reserve self.old self.new) }
+        ensures told { IfErr result (TellsRefusal arg reserve self.old self.new) }
+        ensures out { OnErr result (KeepsOut self.old self.new) }
     {
         if !self.seat.room() {
             return Err(Refused::Counts);
         }
         let ask = AllocAsk { arg, reserve };
         let pool = self.pool;
-        let asked = pool.zone.alloc(rt, alloc, &pool.clock, &mut self.pass, &mut self.seat, ask);
-        match asked {
+        match pool.zone.alloc(rt, alloc, &pool.clock, &mut self.pass, &mut self.seat, ask) {
             Ok(held) => Ok(held),
             Err(AllocRefused::Refused { refusal }) => Err(Refused::Turned { refusal }),
             Err(AllocRefused::Memory) => Err(Refused::Memory),
@@ -121,8 +127,9 @@ impl<'a, T: Body + Drop, K: Hooks<T>> Local<'a, T, K> {
         Ok(())
     }
 
-    // Frees an item, for which there is a bucket.
-    fn put(&mut self, held: Live<T>)
+    /// Frees an item, for which [`Local::make_ready`] has seen to a bucket: what it does is what [`Local::free`] does, but it neither fails
+    /// nor waits, and takes no memory.
+    pub fn put(&mut self, held: Live<T>)
         requires room { HasRoom (ledger_in self.old) }
         requires spare { CanHold self.old }
         requires home { IsItemOf (pool_of self.old) held }
@@ -141,8 +148,13 @@ impl<'a, T: Body + Drop, K: Hooks<T>> Local<'a, T, K> {
         pool.zone.free(&mut self.seat, held);
     }
 
-    // Sees to it that a free can be counted, and that there is a bucket for what is freed.
-    fn make_ready<R: Wait>(&mut self, rt: &R, alloc: Global) -> Result<(), Refused>
+    /// Sees to it that a free can be counted, and that there is a bucket for what is freed: so the next `put` may be called. Waits, and
+    /// takes memory, only where the local has no spare bucket.
+    ///
+    /// # Errors
+    ///
+    /// As [`Local::free`].
+    pub fn make_ready<R: Wait>(&mut self, rt: &R, alloc: Global) -> Result<(), Refused>
         ensures room { OnOk result (HasRoom (ledger_in self.new)) }
         ensures spare { OnOk result (CanHold self.new) }
         ensures kept { KeepsLocal self.old self.new }

@@ -1,5 +1,6 @@
 ghost use Rattle.std.specs.Prelude.{◌≡◌, All, IfOk, IfErr, map};
 
+use crate::local::Local;
 use crate::pool::Pool;
 use crate::pool_ledger::PoolLedger;
 use crate::refused::Refused;
@@ -41,6 +42,21 @@ impl<T: Body + Drop, K: Hooks<T>> Pool<T, K> {
         let (size, limit) = (self.plan.size, self.plan.limit);
         let (out, free) = (census.outs()[0], census.counts().free);
         Ok(sum(name, size, limit, counts.as_slice(), out, free))
+    }
+}
+
+impl<T: Body + Drop, K: Hooks<T>> Local<'_, T, K> {
+    ghost use Rattle.std.specs.Prelude.{[], ◌∷◌};
+    ghost use Rattle.uma.specs.Local.{ledger_in, pool_of};
+    ghost use Rattle.uma.specs.Table.{IsLineOf, RefusesLine};
+
+    /// What this local counted, as a line of a table under this name: that of its pool, where no other local counted anything. Waits and
+    /// fails as [`Pool::stats`], which adds several locals up.
+    pub fn stats<R: Wait>(&self, rt: &R, alloc: Global, name: &[u8]) -> Result<ZoneLine, Refused>
+        ensures line { IfOk result (IsLineOf (pool_of self.now) name.now (ledger_in self.now ∷ [])) }
+        ensures refused { IfErr result (RefusesLine name.now) }
+    {
+        self.pool.stats(rt, alloc, name, &[self.ledger()])
     }
 }
 
