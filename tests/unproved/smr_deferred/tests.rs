@@ -135,18 +135,20 @@ impl Writer<'_> {
         let before = std::mem::replace(&mut self.found, next);
         match self.list.retire(alloc, self.clock, &mut self.pass, before) {
             Ok(()) => Ok(()),
-            Err(_) => Err(AllocError),
+            Err((_, RetireRefused::Memory)) => Err(AllocError),
+            Err((_, RetireRefused::Spent { .. })) => {
+                self.apart = false;
+                Ok(())
+            }
         }
     }
 
-    // How many boxes came back. None where something was refused, or a box came back that readers find.
-    fn turns(mut self, alloc: Global) -> Option<u64> {
+    // How many boxes came back, and whether none of them was one that readers find.
+    fn turns(mut self, alloc: Global) -> Result<(u64, bool), AllocError> {
         for number in 1..=TURNS {
-            if self.turn(alloc, number).is_err() {
-                return None;
-            }
+            self.turn(alloc, number)?;
         }
-        if self.apart { Some(self.reaped) } else { None }
+        Ok((self.reaped, self.apart))
     }
 }
 
@@ -158,7 +160,7 @@ fn both<R: Threads + Sync>(
     clock: &Clock<Bare>,
     reader: Pass<Bare>,
     writer: Writer<'_>,
-) -> (Option<u64>, u64) {
+) -> (Result<(u64, bool), AllocError>, u64) {
     join(
         rt,
         move || writer.turns(alloc),
@@ -190,7 +192,8 @@ fn no_stamp_changes_inside_a_section(rt: HostRuntime) -> Result<(), Fail> {
         };
         let (reaped, changed) = both(&rt, rt.alloc(), &shelf, &clock, reader, writer);
         assert_eq!(rt; changed, 0);
-        assert!(rt; reaped.is_some_and(|count| count > 0));
+        let (count, apart) = reaped?;
+        assert!(rt; apart && count > 0);
     }
     Ok(())
 }
@@ -206,12 +209,14 @@ fn values_that_may_not_be_dropped_come_back(rt: HostRuntime) -> Result<(), Fail>
     let Some(mut pass) = passes.pop() else {
         unreachable!()
     };
-    let Ok(mut list) = RetireList::new(rt.alloc(), 1) else {
-        unreachable!()
-    };
+    let mut list = RetireList::new(rt.alloc(), 1)?;
     match list.retire(rt.alloc(), &clock, &mut pass, Bound { number: 7 }) {
         Ok(()) => {}
-        Err((Bound { number: _ }, _)) => unreachable!(),
+        Err((Bound { number }, refused)) => {
+            list.destroy_empty();
+            assert_eq!(rt; number, 7);
+            return Err(refused)?;
+        }
     }
     let back = match list.reap(&clock, &mut pass) {
         Ok(Some(Bound { number })) => number,

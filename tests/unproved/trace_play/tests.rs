@@ -10,7 +10,7 @@ use std::sync::Wait;
 use std::test::Fail;
 use trace_text::parse;
 use trace_worker::CountedZone;
-use uma_zone::AllocAsk;
+use uma_zone::{AllocAsk, AllocRefused};
 
 /// Two kegs: the first has two secondary zones, the second one.
 const TWO_KEGS: &[u8] =
@@ -38,6 +38,7 @@ fn number_of<R: Wait>(
     };
     match zone.alloc(rt, alloc, clock, pass, &mut seat, ask) {
         Ok(live) => Ok(live.zone()),
+        Err(AllocRefused::Memory) => Err(AllocRefused::Memory)?,
         Err(_) => Err(Fail::new("no item")),
     }
 }

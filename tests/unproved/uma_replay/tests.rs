@@ -5,7 +5,7 @@ ghost use Rattle.trace_text.specs.Valid.{IsValid};
 ghost use Rattle.trace_worker.specs.OwnLines.{own_ops};
 ghost use Rattle.trace_worker.specs.Worker.{AreOfClock};
 
-use crate::{Gate, Go, Memory, ReclaimCalls};
+use crate::{Call, Calls, Gate, Go, Memory, ReclaimCalls};
 use smr_clock::{Bare, Clock, Host, Pass};
 use std::alloc::Global;
 use std::sync::Wait;
@@ -28,16 +28,27 @@ struct SecondFirst {
 }
 
 impl Gate for SecondFirst {
+    type Visit = Calls;
+
     ghost is_free = { λ _. ⊥ };
 
-    fn at(&self, worker: u32, op: u64) -> Go {
-        if worker == 0 && op == 1 && !self.done.load(Ordering::SeqCst) {
-            return Go::Hold;
-        }
-        Go::Go
+    ghost is_of = { λ _ _. Unit {0} };
+
+    ghost heard = { λ calls. calls };
+
+    fn open(&self) -> Calls {
+        Calls::new()
     }
 
-    fn done(&self, worker: u32, op: u64) {
+    fn at(&self, calls: &mut Calls, worker: u32, op: u64) -> Go {
+        let held = worker == 0 && op == 1 && !self.done.load(Ordering::SeqCst);
+        let answer = if held { Go::Hold } else { Go::Go };
+        calls.push(Call::Asked { worker, op, answer });
+        answer
+    }
+
+    fn done(&self, calls: &mut Calls, worker: u32, op: u64) {
+        calls.push(Call::Done { worker, op });
         if worker == 1 && op == 1 {
             self.done.store(true, Ordering::SeqCst);
         }

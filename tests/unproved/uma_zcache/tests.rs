@@ -2,3 +2,4 @@ mod ports;
 mod ranges;
 mod refusals;
 mod threads;
+mod told;

@@ -9,6 +9,7 @@ mod makings;
 mod own_domain;
 mod own_lists;
 mod plain_zones;
+mod recovering;
 mod reserve_rows;
 mod seated_zone;
 mod secondary_rows;

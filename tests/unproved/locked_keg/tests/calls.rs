@@ -9,7 +9,7 @@ ghost use Rattle.locked_keg.specs.LockedKeg.{keg_in, fails_in};
 
 use super::marks::{Marks, MarksKeg};
 use crate::LockedKeg;
-use deed_book::{Deed, FailBook, FailShare};
+use deed_book::{Deed, FailBook, FailShare, Memory};
 use smr_clock::{Bare, Clock};
 use std::alloc::Global;
 use std::snapshot::Snapshot;
@@ -22,6 +22,14 @@ use uma_seat::{SeatCache, Seating};
 
 pub(super) fn marks() -> TrailHooks<Marks> {
     TrailHooks::with_stays(Marks)
+}
+
+/// The answer of a fetch; where memory is wanting the test stops.
+pub(super) fn told(answer: Result<u32, FetchRefused>) -> Result<Result<u32, FetchRefused>, Memory> {
+    match answer {
+        Err(FetchRefused::Memory) => Err(Memory),
+        other => Ok(other),
+    }
 }
 
 /// What came from behind the lock of a new keg, of two domains and items of 1,024 bytes, four a slab, with its rights.
@@ -104,14 +112,14 @@ fn two_ports(
     Ok(ports)
 }
 
-/// Fetches four items for a zone, where it exists and the seat's ledger has room.
+/// Fetches four items for a zone, where it exists and the seat's ledger has room. Stops where memory is wanting.
 pub(super) fn fetches<R: Wait>(
     rt: &R,
     alloc: Global,
     locked: &mut MarksKeg,
     zone: u8,
     seat: &mut SeatCache<Item<u32>, Bare>,
-) -> Option<Result<u32, FetchRefused>>
+) -> Result<Option<Result<u32, FetchRefused>>, Memory>
     requires mine { table_at (fails_in locked.old) zone ≡ Some (seat_fails seat.old) }
     requires empty { (top_of seat.old).items ≡ [] }
     requires room { 4 ≤ (top_of seat.old).room }
@@ -123,7 +131,7 @@ pub(super) fn fetches<R: Wait>(
         domain: 0,
     };
     if !locked.has_zone(zone) || !seat.ledger().room() {
-        return None;
+        return Ok(None);
     }
-    Some(locked.fetch(rt, alloc, &marks(), ask, seat))
+    Ok(Some(told(locked.fetch(rt, alloc, &marks(), ask, seat))?))
 }

@@ -12,13 +12,13 @@ fn a_zone_is_refused_at_its_limit(rt: HostRuntime) -> Result<(), Fail> {
     };
     let mut seat = new_seat(rt.alloc(), &locked, zone, share)?;
     assert!(rt; !locked.has_zone(1) && locked.has_zone(zone));
-    let fetched = fetches(&rt, rt.alloc(), &mut locked, zone, &mut seat);
+    let fetched = fetches(&rt, rt.alloc(), &mut locked, zone, &mut seat)?;
     assert_eq!(rt; (zone, fetched), (0, Some(Ok(3))));
     assert_eq!(rt; seat.ledger().fails, 0);
     let share = locked.fails.new_share(0);
     let mut other = new_seat(rt.alloc(), &locked, 0, share)?;
     let at_limit = Refusal::AtLimit { out: 3, limit: 3 };
-    let fetched = fetches(&rt, rt.alloc(), &mut locked, 0, &mut other);
+    let fetched = fetches(&rt, rt.alloc(), &mut locked, 0, &mut other)?;
     let refused = FetchRefused::Refused { refusal: at_limit };
     assert_eq!(rt; fetched, Some(Err(refused)));
     let ledger = other.ledger();
@@ -28,11 +28,11 @@ fn a_zone_is_refused_at_its_limit(rt: HostRuntime) -> Result<(), Fail> {
     // A lowered limit takes nothing away, and a raised one gives what is within it.
     assert_eq!(rt; locked.set_limit(0, 2), 3);
     let at_limit = Refusal::AtLimit { out: 3, limit: 2 };
-    let fetched = fetches(&rt, rt.alloc(), &mut locked, 0, &mut other);
+    let fetched = fetches(&rt, rt.alloc(), &mut locked, 0, &mut other)?;
     let refused = FetchRefused::Refused { refusal: at_limit };
     assert_eq!(rt; fetched, Some(Err(refused)));
     assert_eq!(rt; locked.set_limit(0, 4), 2);
-    let fetched = fetches(&rt, rt.alloc(), &mut locked, 0, &mut other);
+    let fetched = fetches(&rt, rt.alloc(), &mut locked, 0, &mut other)?;
     assert_eq!(rt; fetched, Some(Ok(1)));
     Ok(())
 }
@@ -48,7 +48,7 @@ fn each_zone_has_its_own_limit(rt: HostRuntime) -> Result<(), Fail> {
     let mut seat = new_seat(rt.alloc(), &locked, zone, share)?;
     assert!(rt; locked.has_zone(0) && locked.has_zone(1));
     assert_eq!(rt; locked.set_limit(0, 1), 3);
-    let fetched = fetches(&rt, rt.alloc(), &mut locked, zone, &mut seat);
+    let fetched = fetches(&rt, rt.alloc(), &mut locked, zone, &mut seat)?;
     assert_eq!(rt; (zone, fetched), (1, Some(Ok(4))));
     Ok(())
 }

@@ -4,7 +4,7 @@ ghost use Rattle.uma_bucket.specs.Bucket.{items_of};
 ghost use Rattle.uma_keg.specs.Keg.{table_in};
 ghost use Rattle.locked_keg.specs.LockedKeg.{keg_in};
 
-use super::calls::{adds_by_the_last, marks, new_keg};
+use super::calls::{adds_by_the_last, marks, new_keg, told};
 use super::marks::MarksKeg;
 use std::alloc::Global;
 use std::sync::Wait;
@@ -31,9 +31,9 @@ fn three_items<R: Wait>(
     if !locked.has_zone(0) {
         return Err(Fail::new("no zone"));
     }
-    let Ok(_) = locked.keg.fetch(rt, alloc, &marks(), ask, &mut bucket) else {
+    if told(locked.keg.fetch(rt, alloc, &marks(), ask, &mut bucket))?.is_err() {
         return Err(Fail::new("refused"));
-    };
+    }
     Ok(bucket)
 }
 

@@ -5,6 +5,7 @@ ghost use Rattle.name_cache.specs.Cache.{cache_clock};
 use super::setting::{new_cache, take_pass};
 use super::worker::{Worker, new_worker};
 use crate::{BindRefused, NameCache};
+use deed_book::Memory;
 use name_rows::Names;
 use smr_clock::{Clock, Pass};
 use smr_core::Phase;
@@ -58,35 +59,37 @@ fn looks(mut reader: Reader<'_>) -> bool {
     right
 }
 
-// A bind. It may be refused where all entries wait for the reader.
-fn binds<R: Wait>(rt: &R, alloc: Global, worker: &mut Worker<'_>, turn: u64) -> bool {
+// A bind, and whether it went well. It may be refused where all entries wait for the reader.
+fn binds<R: Wait>(rt: &R, alloc: Global, worker: &mut Worker<'_>, turn: u64) -> Result<bool, Memory> {
     let key = key_of(turn);
     match worker.try_bind(rt, alloc, key, key * SPAN + turn % SPAN) {
-        Some(Ok(receipt)) => receipt.row == 3,
-        Some(Err(refused)) => matches!(refused, BindRefused::Zone { .. }),
-        None => false,
+        Some(Ok(receipt)) => Ok(receipt.row == 3),
+        Some(Err(BindRefused::Memory)) => Err(Memory),
+        Some(Err(refused)) => Ok(matches!(refused, BindRefused::Zone { .. })),
+        None => Ok(false),
     }
 }
 
-fn writes<R: Wait>(rt: &R, alloc: Global, mut worker: Worker<'_>) -> bool {
+fn writes<R: Wait>(rt: &R, alloc: Global, mut worker: Worker<'_>) -> Result<bool, Memory> {
     let mut right = true;
     for turn in 0..TURNS {
-        if !binds(rt, alloc, &mut worker, turn) {
+        if !binds(rt, alloc, &mut worker, turn)? {
             right = false;
         }
     }
-    right
+    Ok(right)
 }
 
-// One thread binds two keys of one row in turn while another looks them up. Whether all went right.
+// One thread binds two keys of one row in turn while another looks them up. Whether all went right; the looks have to where memory is
+// wanting too.
 fn race<R: Threads + Wait + Sync>(
     rt: &R,
     alloc: Global,
     worker: Worker<'_>,
     reader: Reader<'_>,
-) -> bool {
+) -> Result<bool, Memory> {
     let (wrote, right) = join(rt, move || writes(rt, alloc, worker), move || looks(reader));
-    wrote && right
+    Ok(right && wrote?)
 }
 
 #[test]
@@ -99,6 +102,6 @@ fn a_look_finds_only_what_was_bound_to_its_key(rt: HostRuntime) -> Result<(), Fa
         pass: take_pass(&clock, &mut passes)?,
     };
     let worker = new_worker(&rt, alloc, &cache, &clock, passes)?;
-    assert!(rt; race(&rt, alloc, worker, reader));
+    assert!(rt; race(&rt, alloc, worker, reader)?);
     Ok(())
 }

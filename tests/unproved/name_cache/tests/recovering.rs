@@ -16,7 +16,7 @@ fn is_all_there<R: Wait>(
     alloc: Global,
     cache: &NameCache,
     one: &Worker,
-) -> Result<bool, Fail> {
+) -> Result<bool, Memory> {
     let listed = cache.sums(rt)?.tally.keg_inits;
     let seated = one.seat.sums().tally.keg_inits;
     let census = cache.census(rt, alloc)?;
@@ -33,20 +33,22 @@ fn bind<R: Wait>(
     value: u64,
 ) -> Result<(), Fail> {
     let (before, ledger) = (one.look(key)?, one.seat.ledger());
-    match one.bind(rt, alloc, key, value)? {
-        Ok(_) => return Ok(()),
-        Err(BindRefused::Memory) => {}
-        Err(_) => return Err(Fail::new("a bind is refused")),
+    match one.try_bind(rt, alloc, key, value) {
+        Some(Ok(_)) => return Ok(()),
+        Some(Err(BindRefused::Memory)) => {}
+        _ => return Err(Fail::new("a bind is refused")),
     }
     if one.look(key)? != before || one.seat.ledger() != ledger {
         return Err(Fail::new("want of memory changed the row or the ledger"));
     }
-    if !is_all_there(rt, alloc, cache, one)? {
-        return Err(Fail::new("an entry is lost by a bind"));
+    match is_all_there(rt, alloc, cache, one) {
+        Ok(true) => {}
+        Ok(false) => return Err(Fail::new("an entry is lost by a bind")),
+        Err(Memory) => return Err(Fail::new("memory is wanting twice")),
     }
-    match one.bind(rt, alloc, key, value)? {
-        Ok(_) => Ok(()),
-        Err(_) => Err(Fail::new("a bind is refused where memory is there")),
+    match one.try_bind(rt, alloc, key, value) {
+        Some(Ok(_)) => Ok(()),
+        _ => Err(Fail::new("a bind is refused where memory is there")),
     }
 }
 
@@ -65,8 +67,10 @@ fn unbind<R: Wait>(
     if one.look(key)? != before || one.seat.ledger() != ledger {
         return Err(Fail::new("want of memory changed the row or the ledger"));
     }
-    if !is_all_there(rt, alloc, cache, one)? {
-        return Err(Fail::new("an entry is lost by an unbind"));
+    match is_all_there(rt, alloc, cache, one) {
+        Ok(true) => {}
+        Ok(false) => return Err(Fail::new("an entry is lost by an unbind")),
+        Err(Memory) => return Err(Fail::new("memory is wanting twice")),
     }
     match one.try_unbind(rt, alloc, key)? {
         Ok(out) => Ok(out.map(|(value, _)| value)),

@@ -3,6 +3,7 @@ ghost use Rattle.std.specs.Prelude.{◌≡◌, ◌≤◌, true};
 use super::setting::{SET, new_cache, open_names};
 use super::worker::new_worker;
 use crate::{BindRefused, NameCache, Receipt};
+use deed_book::Memory;
 use std::alloc::Global;
 use std::test::Fail;
 use uma_zone::{ZoneRefused, ZoneSet};
@@ -61,6 +62,7 @@ fn refusal_of(alloc: Global, set: ZoneSet) -> Result<Option<ZoneRefused>, Fail>
     let opened = open_names(alloc, 4, 1, 0)?;
     match NameCache::new(alloc, opened, set) {
         Ok(_) => Ok(None),
+        Err(ZoneRefused::Memory) => Err(Memory)?,
         Err(why) => Ok(Some(why)),
     }
 }

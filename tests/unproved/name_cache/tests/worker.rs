@@ -67,7 +67,7 @@ pub(super) fn has_room(ledger: SeatLedger) -> bool
 }
 
 impl Worker<'_> {
-    /// Binds a key to a value. None where the seat's ledger is full.
+    /// Binds a key to a value, or tells that memory is wanting. None where the seat's ledger is full.
     pub fn try_bind<R: Wait>(
         &mut self,
         rt: &R,
@@ -91,7 +91,7 @@ impl Worker<'_> {
         )
     }
 
-    /// Binds a key to a value.
+    /// Binds a key to a value. Stops where memory is wanting.
     pub fn bind<R: Wait>(
         &mut self,
         rt: &R,
@@ -100,6 +100,7 @@ impl Worker<'_> {
         value: u64,
     ) -> Result<Result<Receipt, BindRefused>, Fail> {
         match self.try_bind(rt, alloc, key, value) {
+            Some(Err(BindRefused::Memory)) => Err(Memory)?,
             Some(ended) => Ok(ended),
             None => Err(Fail::new("the ledger is full")),
         }
@@ -116,7 +117,7 @@ impl Worker<'_> {
         Ok(all)
     }
 
-    /// Takes a key out.
+    /// Takes a key out. Stops where memory is wanting.
     pub fn unbind<R: Wait>(
         &mut self,
         rt: &R,

@@ -2,8 +2,9 @@ use crate::{FreeGate, Gate, Go};
 
 /// What a worker sees of a gate.
 fn may_go<G: Gate>(gate: &G) -> bool {
-    let goes = gate.at(0, 1) == Go::Go;
-    gate.done(0, 1);
+    let mut visit = gate.open();
+    let goes = gate.at(&mut visit, 0, 1) == Go::Go;
+    gate.done(&mut visit, 0, 1);
     goes
 }
 

@@ -1,5 +1,5 @@
 //! Calls of names for tests, where no key is ever bound: each bind is refused, as if the zone had all its slabs.
-ghost use Rattle.std.specs.Prelude.{◌≡◌, Some, None, true, refl};
+ghost use Rattle.std.specs.Prelude.{◌≡◌, [], Some, None, true, refl};
 ghost use Rattle.smr_clock.specs.Belongs.{clock_id};
 
 use crate::Memory;
@@ -34,6 +34,14 @@ impl NameCalls for NoKeys {
 
     ghost counted = { λ ledger. Some ledger };
 
+    ghost usable = { λ _. [] };
+
+    ghost Came = { λ _ _. ⊥ };
+
+    ghost IsFound = { λ _ _. Unit {0} };
+
+    ghost IsCensus = { λ _ _. ⊥ };
+
     ghost passed = { λ _ _. 0 };
 
     ghost deferred = { λ _. 0 };
@@ -41,6 +49,8 @@ impl NameCalls for NoKeys {
     ghost plans = { λ _. (0, 0) };
 
     ghost knows = { λ _ row version bound. (version ≡ 0) × (bound ≡ None) };
+
+    ghost told = { λ _. [] };
 
     ghost counts_where_served = { λ _. refl };
 

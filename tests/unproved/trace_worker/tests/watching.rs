@@ -1,7 +1,7 @@
 //! A gate and calls of reclaim that see each other, and count their own calls.
 ghost use Rattle.std.specs.Prelude.{⊥};
 
-use crate::{CountHooks, Counted, Gate, Go, Memory, ReclaimCalls};
+use crate::{Call, Calls, CountHooks, Counted, Gate, Go, Memory, ReclaimCalls};
 use smr_clock::{Clock, Host, Pass};
 use std::alloc::Global;
 use std::sync::Wait;
@@ -61,18 +61,8 @@ impl Watch {
         }
     }
 
-    fn call(&self, digit: u64) {
-        let calls = self.calls.load(Ordering::SeqCst);
-        self.calls.store(calls * 10 + digit, Ordering::SeqCst);
-        self.steps.fetch_add(1, Ordering::SeqCst);
-    }
-}
-
-impl Gate for Watch {
-    ghost is_free = { λ _. ⊥ };
-
-    fn at(&self, worker: u32, op: u64) -> Go {
-        self.expect(worker, op, 2);
+    /// Holds operation 1 seven times, and operation 2 for ever.
+    fn answer(&self, op: u64) -> Go {
         if op == 2 || op == 1 && self.holds.load(Ordering::SeqCst) < 7 {
             self.holds.fetch_add(1, Ordering::SeqCst);
             return Go::Hold;
@@ -81,7 +71,35 @@ impl Gate for Watch {
         Go::Go
     }
 
-    fn done(&self, worker: u32, op: u64) {
+    fn call(&self, digit: u64) {
+        let calls = self.calls.load(Ordering::SeqCst);
+        self.calls.store(calls * 10 + digit, Ordering::SeqCst);
+        self.steps.fetch_add(1, Ordering::SeqCst);
+    }
+}
+
+impl Gate for Watch {
+    type Visit = Calls;
+
+    ghost is_free = { λ _. ⊥ };
+
+    ghost is_of = { λ _ _. Unit {0} };
+
+    ghost heard = { λ calls. calls };
+
+    fn open(&self) -> Calls {
+        Calls::new()
+    }
+
+    fn at(&self, calls: &mut Calls, worker: u32, op: u64) -> Go {
+        self.expect(worker, op, 2);
+        let answer = self.answer(op);
+        calls.push(Call::Asked { worker, op, answer });
+        answer
+    }
+
+    fn done(&self, calls: &mut Calls, worker: u32, op: u64) {
+        calls.push(Call::Done { worker, op });
         self.expect(worker, op, 1);
         self.steps.fetch_add(1, Ordering::SeqCst);
     }

@@ -11,7 +11,7 @@ ghost use Rattle.uma_domain.specs.Listed.{IsPlainOf, IsLooseOf};
 
 use super::body::{Plain, hooks};
 use crate::Domain;
-use deed_book::Book;
+use deed_book::{Book, Memory};
 use smr_clock::{Bare, Clock, ClockRefused, Pass};
 use std::alloc::Global;
 use std::sync::Wait;
@@ -131,7 +131,7 @@ pub(super) fn put<R: Wait>(
     let bucket = plain(rt, alloc, book, no)?;
     let mut port = domain.port(rt);
     if domain.put_plain(rt, &mut port, bucket).is_err() {
-        return Err(Fail::new("no memory"));
+        return Err(Memory)?;
     }
     domain.settle(rt)?;
     Ok(())
@@ -152,7 +152,7 @@ pub(super) fn put_loose<R: Wait>(
     let bucket = loose(rt, alloc, book, no)?;
     let mut port = domain.port(rt);
     if domain.put_loose(rt, &mut port, bucket).is_err() {
-        return Err(Fail::new("no memory"));
+        return Err(Memory)?;
     }
     domain.settle(rt)?;
     Ok(())
@@ -178,7 +178,7 @@ pub(super) fn put_sealed<R: Wait>(
     let bucket = sealed(rt, alloc, book, no, clock, pass)?;
     let mut port = domain.port(rt);
     if domain.put_sealed(rt, &mut port, bucket).is_err() {
-        return Err(Fail::new("no memory"));
+        return Err(Memory)?;
     }
     domain.settle(rt)?;
     Ok(())

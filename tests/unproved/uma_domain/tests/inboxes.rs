@@ -8,7 +8,7 @@ use super::body::Plain;
 use super::buckets::{plain, two_seats};
 use super::working_set::take;
 use crate::Domain;
-use deed_book::Book;
+use deed_book::{Book, Memory};
 use smr_clock::Bare;
 use std::snapshot::Snapshot;
 use std::sync::Wait;
@@ -18,18 +18,24 @@ use uma_bucket::{Bucket, Port};
 
 type Pair = (Bucket<Plain>, Bucket<Plain>);
 
-/// Puts two buckets by one port. Answers whether both went well.
+/// Puts two buckets by one port. Only want of memory stops it.
 fn put_two<R: Wait>(
     rt: &R,
     domain: &Domain<Plain, Bare>,
     mut port: Port<Plain, Bare>,
     pair: Pair,
-) -> bool
+) -> Result<(), Memory>
     requires port { port_origin port ≡ origin_of (domain_identity domain.now) }
     requires here { IsPlainOf (domain_identity domain.now).home pair.0 × IsPlainOf (domain_identity domain.now).home pair.1 }
 {
     let (first, second) = pair;
-    domain.put_plain(rt, &mut port, first).is_ok() && domain.put_plain(rt, &mut port, second).is_ok()
+    let Ok(()) = domain.put_plain(rt, &mut port, first) else {
+        return Err(Memory);
+    };
+    match domain.put_plain(rt, &mut port, second) {
+        Ok(()) => Ok(()),
+        Err(_) => Err(Memory),
+    }
 }
 
 /// Two threads put two buckets each.
@@ -38,21 +44,22 @@ fn put_four<R: Threads + Wait + Sync>(
     domain: &Domain<Plain, Bare>,
     ones: Pair,
     others: Pair,
-) -> bool
+) -> Result<(), Memory>
     requires ones { IsPlainOf (domain_identity domain.now).home ones.0 × IsPlainOf (domain_identity domain.now).home ones.1 }
     requires others { IsPlainOf (domain_identity domain.now).home others.0 × IsPlainOf (domain_identity domain.now).home others.1 }
 {
     let (a, b) = (domain.port(rt), domain.port(rt));
     let (one, other) = join(
         rt,
-        move || -> bool
+        move || -> Result<(), Memory>
             requires { (port_origin a ≡ origin_of (domain_identity domain.now)) × IsPlainOf (domain_identity domain.now).home ones.0 × IsPlainOf (domain_identity domain.now).home ones.1 }
         { put_two(rt, domain, a, ones) },
-        move || -> bool
+        move || -> Result<(), Memory>
             requires { (port_origin b ≡ origin_of (domain_identity domain.now)) × IsPlainOf (domain_identity domain.now).home others.0 × IsPlainOf (domain_identity domain.now).home others.1 }
         { put_two(rt, domain, b, others) },
     );
-    one && other
+    one?;
+    other
 }
 
 /// The numbers from `from` to `to`, in their order.
@@ -79,11 +86,11 @@ fn two_ports_are_settled_in_their_orders(rt: HostRuntime) -> Result<(), Fail> {
         let mut share = domain.open_misses(&rt);
         let ones = (plain(&rt, rt.alloc(), &mut book, 0)?, plain(&rt, rt.alloc(), &mut book, 1)?);
         let others = (plain(&rt, rt.alloc(), &mut book, 2)?, plain(&rt, rt.alloc(), &mut book, 3)?);
-        assert!(rt; put_four(&rt, &domain, ones, others));
+        put_four(&rt, &domain, ones, others)?;
         // They lie in the inbox, and in no list.
         assert_eq!(rt; domain.count(&rt), 0);
-        assert_eq!(rt; domain.settle(&rt), Ok(4));
-        assert_eq!(rt; domain.settle(&rt), Ok(0));
+        assert_eq!(rt; domain.settle(&rt)?, 4);
+        assert_eq!(rt; domain.settle(&rt)?, 0);
         assert_eq!(rt; domain.count(&rt), 4);
         let taken = [
             take(&rt, &domain, &mut share),
@@ -106,7 +113,9 @@ fn sums_settle_first(rt: HostRuntime) -> Result<(), Fail> {
     let domain = Domain::new(rt.alloc(), &clock, Snapshot::of(&book), 0, 1, false)?;
     let mut port = domain.port(&rt);
     let bucket = plain(&rt, rt.alloc(), &mut book, 0)?;
-    assert!(rt; domain.put_plain(&rt, &mut port, bucket).is_ok());
+    let Ok(()) = domain.put_plain(&rt, &mut port, bucket) else {
+        return Err(Memory)?;
+    };
     assert_eq!(rt; domain.count(&rt), 0);
     let sums = domain.sums(&rt)?;
     assert_eq!(rt; sums.deferred, 0);

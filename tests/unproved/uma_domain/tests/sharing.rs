@@ -9,7 +9,7 @@ ghost use Rattle.uma_domain.specs.Listed.{IsPlainOf};
 use super::body::Plain;
 use super::buckets::{plain, two_seats};
 use crate::{Domain, Taken, TakenBucket};
-use deed_book::{Book, FailShare};
+use deed_book::{Book, FailShare, Memory};
 use smr_clock::{Bare, Host};
 use std::alloc::Global;
 use std::ops::Range;
@@ -41,27 +41,32 @@ fn buckets<R: Wait>(
     Ok(buckets)
 }
 
-/// Puts a bucket and settles, and then takes the newest and puts it back. Answers whether each call went well.
+/// Puts a bucket and settles, and then takes the newest and puts it back. Answers whether there was one, and stops where memory is
+/// wanting.
 fn put_and_cycle<T: Body + Drop, H: Host, R: Wait>(
     rt: &R,
     domain: &Domain<T, H>,
     share: &mut FailShare,
     port: &mut Port<T, H>,
     bucket: Bucket<T>,
-) -> bool
+) -> Result<bool, Memory>
     requires plain { (domain_identity domain.now).smr ≡ false }
     requires share { share_table share.old ≡ (domain_identity domain.now).misses }
     requires port { port_origin port.old ≡ origin_of (domain_identity domain.now) }
     requires here { IsPlainOf (domain_identity domain.now).home bucket }
     ensures { (share_table share.new ≡ share_table share.old) × (port_origin port.new ≡ port_origin port.old) }
 {
-    if domain.put_plain(rt, port, bucket).is_err() || domain.settle(rt).is_err() {
-        return false;
-    }
-    let Some(taken) = domain.take_plain(rt, share) else {
-        return false;
+    let Ok(()) = domain.put_plain(rt, port, bucket) else {
+        return Err(Memory);
     };
-    domain.put_plain(rt, port, taken).is_ok()
+    domain.settle(rt)?;
+    let Some(taken) = domain.take_plain(rt, share) else {
+        return Ok(false);
+    };
+    match domain.put_plain(rt, port, taken) {
+        Ok(()) => Ok(true),
+        Err(_) => Err(Memory),
+    }
 }
 
 /// The same with each bucket.
@@ -70,7 +75,7 @@ fn put_each<T: Body + Drop, H: Host, R: Wait>(
     domain: &Domain<T, H>,
     mut share: FailShare,
     mut buckets: Vec<Bucket<T>>,
-) -> bool
+) -> Result<bool, Memory>
     requires plain { (domain_identity domain.now).smr ≡ false }
     requires share { share_table share ≡ (domain_identity domain.now).misses }
     requires here { All (IsPlainOf (domain_identity domain.now).home) buckets.items }
@@ -78,13 +83,13 @@ fn put_each<T: Body + Drop, H: Host, R: Wait>(
     let mut port = domain.port(rt);
     for _ in 0..buckets.len() {
         let Some(bucket) = buckets.pop() else {
-            return false;
+            return Ok(false);
         };
-        if !put_and_cycle(rt, domain, &mut share, &mut port, bucket) {
-            return false;
+        if !put_and_cycle(rt, domain, &mut share, &mut port, bucket)? {
+            return Ok(false);
         }
     }
-    true
+    Ok(true)
 }
 
 /// The same by two threads.
@@ -94,7 +99,7 @@ fn two_put_each<T: Body + Drop + Send, H: Host + Send + Sync, R: Threads + Wait 
     shares: (FailShare, FailShare),
     ones: Vec<Bucket<T>>,
     others: Vec<Bucket<T>>,
-) -> bool
+) -> Result<bool, Memory>
     requires plain { (domain_identity domain.now).smr ≡ false }
     requires shares { (share_table shares.0 ≡ (domain_identity domain.now).misses) × (share_table shares.1 ≡ (domain_identity domain.now).misses) }
     requires here { All (IsPlainOf (domain_identity domain.now).home) ones.items × All (IsPlainOf (domain_identity domain.now).home) others.items }
@@ -102,14 +107,17 @@ fn two_put_each<T: Body + Drop + Send, H: Host + Send + Sync, R: Threads + Wait 
     let (first, second) = shares;
     let (one, other) = join(
         rt,
-        move || -> bool
+        move || -> Result<bool, Memory>
             requires { ((domain_identity domain.now).smr ≡ false) × (share_table first ≡ (domain_identity domain.now).misses) × All (IsPlainOf (domain_identity domain.now).home) ones.items }
         { put_each(rt, domain, first, ones) },
-        move || -> bool
+        move || -> Result<bool, Memory>
             requires { ((domain_identity domain.now).smr ≡ false) × (share_table second ≡ (domain_identity domain.now).misses) × All (IsPlainOf (domain_identity domain.now).home) others.items }
         { put_each(rt, domain, second, others) },
     );
-    one && other
+    if one == Ok(false) || other == Ok(false) {
+        return Ok(false);
+    }
+    Ok(one? && other?)
 }
 
 /// How often each number is there.
@@ -141,7 +149,7 @@ fn two_threads_lose_no_bucket(rt: HostRuntime) -> Result<(), Fail> {
     let shares = (domain.open_misses(&rt), domain.open_misses(&rt));
     let ones = buckets(&rt, rt.alloc(), &mut book, 0..BUCKETS / 2)?;
     let others = buckets(&rt, rt.alloc(), &mut book, BUCKETS / 2..BUCKETS)?;
-    assert!(rt; two_put_each(&rt, &domain, shares, ones, others));
+    assert!(rt; two_put_each(&rt, &domain, shares, ones, others)?);
     domain.settle(&rt)?;
     assert_eq!(rt; domain.count(&rt), u64::from(BUCKETS));
     let taken = domain.take_all(&rt, rt.alloc(), &clock)?;

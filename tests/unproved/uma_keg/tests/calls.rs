@@ -11,7 +11,7 @@ ghost use Rattle.uma_keg.specs.Keg.{table_in, rights_in};
 use crate::tests::body::Plain;
 use crate::tests::refusing::RefusingHooks;
 use crate::{FetchAsk, FetchRefused, Keg};
-use deed_book::Deed;
+use deed_book::{Deed, Memory};
 use std::alloc::Global;
 use std::sync::Wait;
 use std::test::Fail;
@@ -20,6 +20,14 @@ use uma_life::{Cached, Live};
 use zone_stats::Refusal;
 
 pub type PlainKeg = Keg<Plain, RefusingHooks>;
+
+/// The answer of a fetch, or of a call that brings slabs in; where memory is wanting the test stops.
+pub fn told<T: Drop>(answer: Result<T, FetchRefused>) -> Result<Result<T, FetchRefused>, Memory> {
+    match answer {
+        Err(FetchRefused::Memory) => Err(Memory),
+        other => Ok(other),
+    }
+}
 
 pub fn refused(refusal: Refusal) -> Option<Result<u32, FetchRefused>> {
     Some(Err(FetchRefused::Refused { refusal }))
@@ -36,6 +44,7 @@ pub fn adds_by_the_last(keg: &mut PlainKeg, rights: &mut Vec<Deed>, limit: u64) 
 }
 
 /// Fetches, where the zone exists and the bucket has room. The bucket's items are of the keg then, if they were before.
+/// Stops where memory is wanting.
 pub fn fetches<R: Wait>(
     rt: &R,
     alloc: Global,
@@ -43,17 +52,17 @@ pub fn fetches<R: Wait>(
     hooks: &RefusingHooks,
     ask: FetchAsk,
     into: &mut Bucket<Plain>,
-) -> Option<Result<u32, FetchRefused>>
+) -> Result<Option<Result<u32, FetchRefused>>, Memory>
     ensures table { table_in keg.new ≡ table_in keg.old }
     ensures of_keg { All (λ item. cached_table item ≡ table_in keg.old) (items_of into.old) → All (λ item. cached_table item ≡ table_in keg.new) (items_of into.new) }
 {
     if ask.zone > 7 || !keg.has_zone(ask.zone) || ask.most == 0 {
-        return None;
+        return Ok(None);
     }
     if into.size() - into.len() < ask.most {
-        return None;
+        return Ok(None);
     }
-    Some(keg.fetch(rt, alloc, hooks, ask, into))
+    Ok(Some(told(keg.fetch(rt, alloc, hooks, ask, into))?))
 }
 
 /// Takes the last item of a bucket whose items are of the keg.

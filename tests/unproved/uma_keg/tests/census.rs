@@ -1,17 +1,18 @@
 use crate::KegCounts;
-use crate::tests::calls::PlainKeg;
+use crate::tests::calls::{PlainKeg, told};
 use crate::tests::refusing::no_refusal;
+use deed_book::Memory;
 use std::test::Fail;
 use uma_life::{Lives, TallySum};
 
 #[test]
 fn a_census_counts_slabs_and_free_items(rt: HostRuntime) -> Result<(), Fail> {
     let (mut keg, _rights) = PlainKeg::new(rt.alloc(), 256, 4, 3, no_refusal())?;
-    assert_eq!(rt; keg.bring(&rt, rt.alloc(), 1), Ok(()));
-    assert_eq!(rt; keg.bring(&rt, rt.alloc(), 2), Ok(()));
+    assert_eq!(rt; told(keg.bring(&rt, rt.alloc(), 1))?, Ok(()));
+    assert_eq!(rt; told(keg.bring(&rt, rt.alloc(), 2))?, Ok(()));
     let lives = Lives::from_vec(Vec::new(rt.alloc()));
     let Ok((census, back)) = keg.census(rt.alloc(), lives) else {
-        return Err(Fail::new("memory"));
+        return Err(Memory)?;
     };
     let counts = KegCounts {
         slabs: 2,

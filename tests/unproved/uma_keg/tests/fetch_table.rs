@@ -81,7 +81,7 @@ fn first_disagreement<R: Wait>(
         let outcome = ending(found, ask);
         let after = left(found, outcome);
         let answer = outcome.map_err(|refusal| FetchRefused::Refused { refusal });
-        let fetched = fetches(rt, alloc, &mut keg, &no_refusal(), ask, &mut into);
+        let fetched = fetches(rt, alloc, &mut keg, &no_refusal(), ask, &mut into)?;
         let stands = found_in(&keg);
         if fetched != Some(answer) || stands != after {
             return Ok(Some(Disagreement {

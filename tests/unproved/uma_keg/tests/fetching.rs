@@ -21,16 +21,16 @@ fn a_fetch_stops_at_the_limit(rt: HostRuntime) -> Result<(), Fail> {
         domain: 1,
     };
     assert_eq!(rt;
-        fetches(&rt, rt.alloc(), &mut keg, &no_refusal(), ask, &mut into),
+        fetches(&rt, rt.alloc(), &mut keg, &no_refusal(), ask, &mut into)?,
         Some(Ok(2))
     );
     assert_eq!(rt;
-        fetches(&rt, rt.alloc(), &mut keg, &no_refusal(), ask, &mut into),
+        fetches(&rt, rt.alloc(), &mut keg, &no_refusal(), ask, &mut into)?,
         Some(Ok(1))
     );
     let at_limit = refused(Refusal::AtLimit { out: 3, limit: 3 });
     assert_eq!(rt;
-        fetches(&rt, rt.alloc(), &mut keg, &no_refusal(), ask, &mut into),
+        fetches(&rt, rt.alloc(), &mut keg, &no_refusal(), ask, &mut into)?,
         at_limit
     );
     assert_eq!(rt; (keg.out(0), into.len()), (3, 3));
@@ -39,18 +39,18 @@ fn a_fetch_stops_at_the_limit(rt: HostRuntime) -> Result<(), Fail> {
     assert_eq!(rt; (keg.set_limit(0, 2), keg.limit(0), keg.limit(1)), (3, 2, 0));
     let at_limit = refused(Refusal::AtLimit { out: 3, limit: 2 });
     assert_eq!(rt;
-        fetches(&rt, rt.alloc(), &mut keg, &no_refusal(), ask, &mut into),
+        fetches(&rt, rt.alloc(), &mut keg, &no_refusal(), ask, &mut into)?,
         at_limit
     );
     assert_eq!(rt; keg.set_limit(0, 0), 2);
     assert_eq!(rt;
-        fetches(&rt, rt.alloc(), &mut keg, &no_refusal(), ask, &mut into),
+        fetches(&rt, rt.alloc(), &mut keg, &no_refusal(), ask, &mut into)?,
         Some(Ok(1))
     );
     assert_eq!(rt; keg.set_limit(0, 3), 0);
     let at_limit = refused(Refusal::AtLimit { out: 4, limit: 3 });
     assert_eq!(rt;
-        fetches(&rt, rt.alloc(), &mut keg, &no_refusal(), ask, &mut into),
+        fetches(&rt, rt.alloc(), &mut keg, &no_refusal(), ask, &mut into)?,
         at_limit
     );
     Ok(())
@@ -91,7 +91,7 @@ fn a_fetch_keeps_the_reserve_and_stops_at_the_cap(rt: HostRuntime) -> Result<(),
         (ask, full),
     ];
     for (ask, answer) in rows {
-        let fetched = fetches(&rt, rt.alloc(), &mut keg, &no_refusal(), ask, &mut into);
+        let fetched = fetches(&rt, rt.alloc(), &mut keg, &no_refusal(), ask, &mut into)?;
         assert_eq!(rt; fetched, answer);
     }
     let counts = KegCounts {
@@ -122,11 +122,11 @@ fn a_refused_item_stays_in_the_keg(rt: HostRuntime) -> Result<(), Fail> {
     let hooks = hooks_refusing(2, 9);
     let init = refused(Refusal::Init { code: 9 });
     assert_eq!(rt;
-        fetches(&rt, rt.alloc(), &mut keg, &hooks, ask, &mut into),
+        fetches(&rt, rt.alloc(), &mut keg, &hooks, ask, &mut into)?,
         Some(Ok(2))
     );
     assert_eq!(rt;
-        fetches(&rt, rt.alloc(), &mut keg, &hooks, ask, &mut into),
+        fetches(&rt, rt.alloc(), &mut keg, &hooks, ask, &mut into)?,
         init
     );
     assert_eq!(rt; (keg.out(1), keg.counts().free, into.len()), (2, 2, 2));
@@ -153,7 +153,7 @@ fn a_refused_slab_ends_a_fetch(rt: HostRuntime) -> Result<(), Fail> {
             domain: 1,
         };
         let init = refused(Refusal::Init { code: 9 });
-        let fetched = fetches(&rt, rt.alloc(), &mut keg, &no_refusal(), ask, &mut into);
+        let fetched = fetches(&rt, rt.alloc(), &mut keg, &no_refusal(), ask, &mut into)?;
         assert_eq!(rt; fetched, init);
         let counts = keg.counts();
         assert_eq!(rt;

@@ -1,5 +1,5 @@
 use crate::FetchAsk;
-use crate::tests::calls::{PlainKeg, adds_by_the_last, fetches};
+use crate::tests::calls::{PlainKeg, adds_by_the_last, fetches, told};
 use crate::tests::refusing::no_refusal;
 use std::test::Fail;
 use uma_bucket::Bucket;
@@ -15,8 +15,8 @@ fn the_reserve_stays_free(rt: HostRuntime) -> Result<(), Fail> {
         (5, 0, 4),
     ] {
         let (mut keg, _rights) = PlainKeg::new(rt.alloc(), 2048, 3, reserve, no_refusal())?;
-        assert_eq!(rt; keg.bring(&rt, rt.alloc(), 0), Ok(()));
-        assert_eq!(rt; keg.bring(&rt, rt.alloc(), 1), Ok(()));
+        assert_eq!(rt; told(keg.bring(&rt, rt.alloc(), 0))?, Ok(()));
+        assert_eq!(rt; told(keg.bring(&rt, rt.alloc(), 1))?, Ok(()));
         assert_eq!(rt; keg.free_slabs(&rt), freed);
         assert_eq!(rt; (keg.counts().free, keg.counts().made), (left, 2));
     }
@@ -27,8 +27,8 @@ fn the_reserve_stays_free(rt: HostRuntime) -> Result<(), Fail> {
 fn the_items_of_a_slab_that_goes_are_buried(rt: HostRuntime) -> Result<(), Fail> {
     let (mut keg, _rights) = PlainKeg::new(rt.alloc(), 256, 2, 0, no_refusal())?;
     assert_eq!(rt; keg.free_slabs(&rt), 0);
-    assert_eq!(rt; keg.bring(&rt, rt.alloc(), 0), Ok(()));
-    assert_eq!(rt; keg.bring(&rt, rt.alloc(), 0), Ok(()));
+    assert_eq!(rt; told(keg.bring(&rt, rt.alloc(), 0))?, Ok(()));
+    assert_eq!(rt; told(keg.bring(&rt, rt.alloc(), 0))?, Ok(()));
     assert_eq!(rt; keg.free_slabs(&rt), 2);
     let sums = keg.wide_tally();
     assert_eq!(rt; (sums.keg_inits, sums.keg_finis), (32, 32));
@@ -42,8 +42,8 @@ fn the_slab_of_greatest_index_goes(rt: HostRuntime) -> Result<(), Fail> {
     let (mut keg, mut rights) = PlainKeg::new(rt.alloc(), 2048, 3, 2, no_refusal())?;
     let mut into = Bucket::make(rt.alloc(), 16)?;
     assert_eq!(rt; adds_by_the_last(&mut keg, &mut rights, 0), Some(0));
-    assert_eq!(rt; keg.bring(&rt, rt.alloc(), 3), Ok(()));
-    assert_eq!(rt; keg.bring(&rt, rt.alloc(), 4), Ok(()));
+    assert_eq!(rt; told(keg.bring(&rt, rt.alloc(), 3))?, Ok(()));
+    assert_eq!(rt; told(keg.bring(&rt, rt.alloc(), 4))?, Ok(()));
     assert_eq!(rt; (keg.free_slabs(&rt), keg.counts().slabs), (1, 1));
     let ask = FetchAsk {
         zone: 0,
@@ -52,7 +52,7 @@ fn the_slab_of_greatest_index_goes(rt: HostRuntime) -> Result<(), Fail> {
         domain: 5,
     };
     for count in [2, 2, 1, 1] {
-        let fetched = fetches(&rt, rt.alloc(), &mut keg, &no_refusal(), ask, &mut into);
+        let fetched = fetches(&rt, rt.alloc(), &mut keg, &no_refusal(), ask, &mut into)?;
         assert_eq!(rt; fetched, Some(Ok(count)));
     }
     let mut seen = Vec::new(rt.alloc());

@@ -29,7 +29,7 @@ fn fetches_first<R: Wait>(
     ensures of_keg { IfOk result (λ (fetched, into). All (λ item. cached_table item ≡ table_in keg.new) (items_of into)) }
 {
     let mut into = Bucket::make(alloc, 4)?;
-    let fetched = fetches(rt, alloc, keg, hooks, ask, &mut into);
+    let fetched = fetches(rt, alloc, keg, hooks, ask, &mut into)?;
     Ok((fetched, into))
 }
 
@@ -49,13 +49,13 @@ fn what_is_given_back_is_fetched_again(rt: HostRuntime) -> Result<(), Fail> {
     let (fetched, mut into) = fetches_first(&rt, rt.alloc(), &mut keg, &no_refusal(), ask)?;
     assert_eq!(rt; fetched, Some(Ok(2)));
     assert_eq!(rt;
-        fetches(&rt, rt.alloc(), &mut keg, &no_refusal(), ask, &mut into),
+        fetches(&rt, rt.alloc(), &mut keg, &no_refusal(), ask, &mut into)?,
         at_limit
     );
     assert_eq!(rt; gives_last(&mut keg, &no_refusal(), &mut into), Some(1));
     assert_eq!(rt; (keg.out(1), keg.counts().free, into.len()), (1, 3, 1));
     assert_eq!(rt;
-        fetches(&rt, rt.alloc(), &mut keg, &no_refusal(), ask, &mut into),
+        fetches(&rt, rt.alloc(), &mut keg, &no_refusal(), ask, &mut into)?,
         Some(Ok(1))
     );
     assert_eq!(rt; (keg.out(1), keg.counts().free, into.len()), (2, 2, 2));
@@ -84,7 +84,7 @@ fn what_is_given_back_has_the_mark_of_its_own_zone(rt: HostRuntime) -> Result<()
     assert_eq!(rt; fetched, Some(Ok(1)));
     assert_eq!(rt; gives_last(&mut keg, &marking(2), &mut into), Some(0));
     assert_eq!(rt;
-        fetches(&rt, rt.alloc(), &mut keg, &marking(2), ask, &mut into),
+        fetches(&rt, rt.alloc(), &mut keg, &marking(2), ask, &mut into)?,
         Some(Ok(1))
     );
     let Some(item) = into.pop() else {

@@ -8,6 +8,7 @@ use crate::tests::body::Plain;
 use crate::tests::calls::{PlainKeg, adds_by_the_last, builds_last, fetches, gives_last};
 use crate::tests::refusing::no_refusal;
 use crate::{Census, FetchAsk, KegCounts};
+use deed_book::Memory;
 use std::alloc::Global;
 use std::sync::Wait;
 use std::test::Fail;
@@ -20,7 +21,7 @@ fn fetches_in_turn<R: Wait>(
     alloc: Global,
     keg: &mut PlainKeg,
     into: &mut Bucket<Plain>,
-) -> bool
+) -> Result<bool, Memory>
     ensures table { table_in keg.new ≡ table_in keg.old }
     ensures of_keg { All (λ item. cached_table item ≡ table_in keg.old) (items_of into.old) → All (λ item. cached_table item ≡ table_in keg.new) (items_of into.new) }
 {
@@ -31,11 +32,11 @@ fn fetches_in_turn<R: Wait>(
             reserve: false,
             domain: 1,
         };
-        if fetches(rt, alloc, keg, &no_refusal(), ask, into) != Some(Ok(most)) {
-            return false;
+        if fetches(rt, alloc, keg, &no_refusal(), ask, into)? != Some(Ok(most)) {
+            return Ok(false);
         }
     }
-    true
+    Ok(true)
 }
 
 /// Builds the four last items of the bucket, the last one first.
@@ -104,11 +105,11 @@ fn a_census_gives_live_items_back(rt: HostRuntime) -> Result<(), Fail> {
     let mut cached = Bucket::make(rt.alloc(), 8)?;
     assert_eq!(rt; adds_by_the_last(&mut keg, &mut rights, 0), Some(0));
     assert_eq!(rt; adds_by_the_last(&mut keg, &mut rights, 4), Some(1));
-    assert!(rt; fetches_in_turn(&rt, rt.alloc(), &mut keg, &mut cached));
+    assert!(rt; fetches_in_turn(&rt, rt.alloc(), &mut keg, &mut cached)?);
     let lives = builds_four(rt.alloc(), &keg, &mut cached)?;
     assert_eq!(rt; gives_last(&mut keg, &no_refusal(), &mut cached), Some(1));
     let Some((census, back)) = counts_lent(&mut keg, rt.alloc(), lives) else {
-        return Err(Fail::new("memory"));
+        return Err(Memory)?;
     };
     let counts = KegCounts {
         slabs: 2,

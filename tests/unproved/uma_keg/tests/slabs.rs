@@ -1,4 +1,4 @@
-use crate::tests::calls::PlainKeg;
+use crate::tests::calls::{PlainKeg, told};
 use crate::tests::refusing::{hooks_refusing, no_refusal};
 use crate::{FetchRefused, KegCounts};
 use std::test::Fail;
@@ -7,12 +7,12 @@ use zone_stats::Refusal;
 #[test]
 fn a_keg_brings_in_slabs_up_to_its_cap(rt: HostRuntime) -> Result<(), Fail> {
     let (mut keg, _rights) = PlainKeg::new(rt.alloc(), 256, 2, 3, no_refusal())?;
-    assert_eq!(rt; keg.bring(&rt, rt.alloc(), 1), Ok(()));
-    assert_eq!(rt; keg.bring(&rt, rt.alloc(), 0), Ok(()));
+    assert_eq!(rt; told(keg.bring(&rt, rt.alloc(), 1))?, Ok(()));
+    assert_eq!(rt; told(keg.bring(&rt, rt.alloc(), 0))?, Ok(()));
     let full = FetchRefused::Refused {
         refusal: Refusal::Full { slabs: 2, made: 2 },
     };
-    assert_eq!(rt; keg.bring(&rt, rt.alloc(), 0), Err(full));
+    assert_eq!(rt; told(keg.bring(&rt, rt.alloc(), 0))?, Err(full));
     let counts = KegCounts {
         slabs: 2,
         cap: 2,
@@ -34,7 +34,7 @@ fn a_refused_slab_ends_the_items_before(rt: HostRuntime) -> Result<(), Fail> {
     let refused = FetchRefused::Refused {
         refusal: Refusal::Init { code: 9 },
     };
-    assert_eq!(rt; keg.bring(&rt, rt.alloc(), 0), Err(refused));
+    assert_eq!(rt; told(keg.bring(&rt, rt.alloc(), 0))?, Err(refused));
     assert_eq!(rt;
         (keg.counts().slabs, keg.counts().made, keg.counts().free),
         (0, 0, 0)

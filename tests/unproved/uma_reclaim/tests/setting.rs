@@ -3,6 +3,7 @@ ghost use Rattle.smr_clock.specs.Belongs.{IsOf, clock_id};
 ghost use Rattle.uma_zone.specs.Zone.{zone_index, zone_clock, zone_smr, zone_domains};
 
 use super::body::{IdleHooks, Plain, hooks};
+use deed_book::Memory;
 use smr_clock::{Bare, Clock, Pass};
 use std::alloc::Global;
 use std::sync::Wait;
@@ -96,9 +97,9 @@ pub(super) fn census<R: Wait>(
     rt: &R,
     alloc: Global,
     zone: &TestZone,
-) -> Result<(u128, TallySum), Fail> {
+) -> Result<(u128, TallySum), Memory> {
     let Ok((census, _)) = zone.census(rt, alloc, Lives::from_vec(Vec::new(alloc))) else {
-        return Err(Fail::new("no memory"));
+        return Err(Memory);
     };
     Ok((u128::from(census.outs()[0]), *census.tally()))
 }

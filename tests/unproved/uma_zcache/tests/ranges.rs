@@ -1,4 +1,6 @@
+use super::told::alloc_told;
 use crate::{ArenaImport, SizeRefused, ZAllocRefused, ZCache};
+use deed_book::Memory;
 use std::alloc::Global;
 use std::test::Fail;
 use vmem_arena::Arena;
@@ -25,14 +27,19 @@ fn a_base_is_found_again_once_the_other_seat_was_drained(rt: HostRuntime) -> Res
         greatest: 0,
     };
     let held = cache.alloc(&rt, alloc, &mut first)?;
+    if cache.out(&rt) == 1 {
+        // The round ended at its second range, since memory is wanting: the first one was handed out.
+        assert!(rt; held.base() == 4_096);
+        return Err(Memory)?;
+    }
     assert!(rt; held.base() == 4_128);
-    assert!(rt; cache.alloc(&rt, alloc, &mut second).err() == Some(no_fit));
+    assert!(rt; alloc_told(cache.alloc(&rt, alloc, &mut second))? == Some(no_fit));
     assert!(rt; cache.out(&rt) == 2);
     cache.free(&rt, &mut first, held);
-    assert!(rt; cache.alloc(&rt, alloc, &mut second).err() == Some(no_fit));
+    assert!(rt; alloc_told(cache.alloc(&rt, alloc, &mut second))? == Some(no_fit));
     assert!(rt; cache.drain(&rt, &mut first) == 2);
     assert!(rt; cache.out(&rt) == 0);
-    assert!(rt; cache.alloc(&rt, alloc, &mut second).is_ok());
+    assert!(rt; alloc_told(cache.alloc(&rt, alloc, &mut second))?.is_none());
     Ok(())
 }
 
@@ -44,7 +51,7 @@ fn with_one_number_the_other_seat_finds_it_out(rt: HostRuntime) -> Result<(), Fa
     let mut second = cache.seat(&rt, alloc, 4)?;
     assert!(rt; cache.alloc(&rt, alloc, &mut first)?.base() == 4_096);
     let out = ZAllocRefused::Out { out: 1, numbers: 1 };
-    assert!(rt; cache.alloc(&rt, alloc, &mut second).err() == Some(out));
+    assert!(rt; alloc_told(cache.alloc(&rt, alloc, &mut second))? == Some(out));
     Ok(())
 }
 

@@ -1,4 +1,5 @@
 use super::ports::Ports;
+use super::told::{alloc_told, cache_told, seat_told};
 use crate::{ZAllocRefused, ZCache, ZRefused, ZSeatRefused};
 use std::test::Fail;
 
@@ -6,13 +7,12 @@ use std::test::Fail;
 fn a_cache_has_1_to_262144_numbers(rt: HostRuntime) -> Result<(), Fail> {
     let alloc = rt.alloc();
     for numbers in [0, 262_145] {
-        let Err(refused) = ZCache::new(alloc, Ports::new(alloc, 1)?, numbers) else {
-            panic!(rt; "no refusal");
-        };
-        assert!(rt; refused == ZRefused::Numbers { numbers });
+        let refused = cache_told(ZCache::new(alloc, Ports::new(alloc, 1)?, numbers))?;
+        assert!(rt; refused == Some(ZRefused::Numbers { numbers }));
     }
     for numbers in [1, 262_144] {
-        assert!(rt; ZCache::new(alloc, Ports::new(alloc, 1)?, numbers).is_ok());
+        let refused = cache_told(ZCache::new(alloc, Ports::new(alloc, 1)?, numbers))?;
+        assert!(rt; refused.is_none());
     }
     Ok(())
 }
@@ -22,13 +22,11 @@ fn a_stack_has_room_for_4_to_64_items(rt: HostRuntime) -> Result<(), Fail> {
     let alloc = rt.alloc();
     let cache = ZCache::new(alloc, Ports::new(alloc, 1)?, 1)?;
     for bucket in [0, 3, 65] {
-        let Err(refused) = cache.seat(&rt, alloc, bucket) else {
-            panic!(rt; "no refusal");
-        };
-        assert!(rt; refused == ZSeatRefused::Bucket { bucket });
+        let refused = seat_told(cache.seat(&rt, alloc, bucket))?;
+        assert!(rt; refused == Some(ZSeatRefused::Bucket { bucket }));
     }
     for bucket in [4, 64] {
-        assert!(rt; cache.seat(&rt, alloc, bucket).is_ok());
+        assert!(rt; seat_told(cache.seat(&rt, alloc, bucket))?.is_none());
     }
     Ok(())
 }
@@ -41,10 +39,8 @@ fn where_all_numbers_are_out_that_is_the_refusal(rt: HostRuntime) -> Result<(), 
     let mut second = cache.seat(&rt, alloc, 4)?;
     let held = cache.alloc(&rt, alloc, &mut first)?;
     assert!(rt; held.base() == 1_000 && held.no() == 0);
-    let Err(refused) = cache.alloc(&rt, alloc, &mut second) else {
-        panic!(rt; "no refusal");
-    };
-    assert!(rt; refused == ZAllocRefused::Out { out: 1, numbers: 1 });
+    let refused = alloc_told(cache.alloc(&rt, alloc, &mut second))?;
+    assert!(rt; refused == Some(ZAllocRefused::Out { out: 1, numbers: 1 }));
     cache.free(&rt, &mut first, held);
     assert!(rt; cache.out(&rt) == 1);
     assert!(rt; cache.drain(&rt, &mut first) == 1);
@@ -61,10 +57,8 @@ fn a_round_stops_at_the_importers_refusal(rt: HostRuntime) -> Result<(), Fail> {
     let mut second = cache.seat(&rt, alloc, 4)?;
     assert!(rt; cache.alloc(&rt, alloc, &mut first)?.base() == 1_001);
     assert!(rt; cache.out(&rt) == 2);
-    let Err(refused) = cache.alloc(&rt, alloc, &mut second) else {
-        panic!(rt; "no refusal");
-    };
-    assert!(rt; refused == ZAllocRefused::NoFit { size: 1, greatest: 0 });
+    let refused = alloc_told(cache.alloc(&rt, alloc, &mut second))?;
+    assert!(rt; refused == Some(ZAllocRefused::NoFit { size: 1, greatest: 0 }));
     assert!(rt; cache.alloc(&rt, alloc, &mut first)?.base() == 1_000);
     Ok(())
 }

@@ -12,13 +12,11 @@ use zone_stats::SeatLedger;
 const TURNS: u32 = 1_000;
 
 /// Allocates an item and frees it, so many times. Whether the counts add up in the end.
-pub(super) fn churn<R: Wait>(rt: &R, alloc: Global, mut worker: Worker<'_>) -> bool {
+pub(super) fn churn<R: Wait>(rt: &R, alloc: Global, mut worker: Worker<'_>) -> Result<bool, Stopped> {
     for _ in 0..TURNS {
-        if turn(rt, alloc, &mut worker).is_err() {
-            return false;
-        }
+        turn(rt, alloc, &mut worker)?;
     }
-    adds_up(worker.seat.ledger())
+    Ok(adds_up(worker.seat.ledger()))
 }
 
 /// Allocates an item, and frees it where there was one.

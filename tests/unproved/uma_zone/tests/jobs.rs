@@ -1,8 +1,9 @@
 use super::churning::churn;
 use super::limits::{hold_many, squeeze};
+use super::stopped::Stopped;
 use super::watching::{Shown, read_all, write_all};
 use super::worker::Worker;
-use std::alloc::{AllocError, Global};
+use std::alloc::Global;
 use std::sync::Wait;
 use std::thread::{Threads, map_vec};
 
@@ -31,7 +32,7 @@ pub(super) struct Job<'a> {
 
 /// Whether the turns of a job went well: its counts add up, it built items, or it saw stamps and none that changed inside a
 /// section.
-fn run<R: Wait>(rt: &R, alloc: Global, job: Job<'_>) -> bool {
+fn run<R: Wait>(rt: &R, alloc: Global, job: Job<'_>) -> Result<bool, Stopped> {
     let Job {
         mut worker,
         shown,
@@ -39,25 +40,28 @@ fn run<R: Wait>(rt: &R, alloc: Global, job: Job<'_>) -> bool {
     } = job;
     match task {
         Task::Churn => churn(rt, alloc, worker),
-        Task::Write => match write_all(rt, alloc, shown, worker) {
-            Ok(built) => built > 0,
-            Err(_) => false,
-        },
+        Task::Write => Ok(write_all(rt, alloc, shown, worker)? > 0),
         Task::Read => match read_all(rt, shown, worker) {
-            Some(sections) => sections > 0,
-            None => false,
+            Some(sections) => Ok(sections > 0),
+            None => Ok(false),
         },
-        Task::Hold => hold_many(rt, alloc, &mut worker).unwrap_or(false),
-        Task::Squeeze => squeeze(rt, &worker),
+        Task::Hold => hold_many(rt, alloc, &mut worker),
+        Task::Squeeze => Ok(squeeze(rt, &worker)),
     }
 }
 
-/// Runs each job in a thread of its own. Whether each went well.
+/// Runs each job in a thread of its own. Whether each went well; where memory was wanting in one of them, the others have to.
 pub(super) fn all_run<R: Threads + Wait + Sync>(
     rt: &R,
     alloc: Global,
     jobs: Vec<Job<'_>>,
-) -> Result<bool, AllocError> {
+) -> Result<bool, Stopped> {
     let each = map_vec(rt, jobs, &|job| run(rt, alloc, job))?;
-    Ok(each.iter().all(|well| *well))
+    if each.iter().any(|ended| *ended == Ok(false)) {
+        return Ok(false);
+    }
+    for ended in each.iter() {
+        (*ended)?;
+    }
+    Ok(true)
 }

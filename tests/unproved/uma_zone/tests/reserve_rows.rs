@@ -87,11 +87,12 @@ fn twenty_items_want_two_slabs_of_sixteen(rt: HostRuntime) -> Result<(), Fail> {
     let zone = zone(rt.alloc(), &clock, 256, PLAIN)?;
     assert_eq!(rt; zone.prealloc(&rt, rt.alloc(), 20, 0)?, 2);
     assert!(rt; zone.counts(&rt).slabs == 2 && zone.counts(&rt).free == 32);
-    let Err(refused) = zone.prealloc(&rt, rt.alloc(), 64, 0) else {
-        panic!(rt; "six slabs of four")
-    };
     let full = Refusal::Full { slabs: 4, made: 4 };
-    assert_eq!(rt; refused, FetchRefused::Refused { refusal: full });
+    match zone.prealloc(&rt, rt.alloc(), 64, 0) {
+        Ok(_) => panic!(rt; "six slabs of four"),
+        Err(FetchRefused::Memory) => Err(FetchRefused::Memory)?,
+        Err(refused) => assert_eq!(rt; refused, FetchRefused::Refused { refusal: full }),
+    }
     assert_eq!(rt; zone.counts(&rt).slabs, 4);
     Ok(())
 }

@@ -4,6 +4,7 @@ ghost use Rattle.uma_zone.specs.Zone.{zone_index, zone_clock, zone_smr, zone_dom
 
 use super::hooks::{Stamped, TestHooks, hooks};
 use crate::{SecondSet, Zone, ZoneRefused, ZoneSet};
+use deed_book::Memory;
 use smr_clock::{Bare, Clock, Pass};
 use std::alloc::Global;
 use std::sync::Wait;
@@ -93,7 +94,7 @@ pub(super) fn second<R: Wait>(
 /// How many items are outside in the primary zone, by a census that is lent nothing.
 pub(super) fn out<R: Wait>(rt: &R, alloc: Global, zone: &TestZone) -> Result<u64, Fail> {
     let Ok((census, _)) = zone.census(rt, alloc, Lives::from_vec(Vec::new(alloc))) else {
-        return Err(Fail::new("no memory"));
+        return Err(Memory)?;
     };
     Ok(census.outs()[0])
 }

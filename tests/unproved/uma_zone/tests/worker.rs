@@ -180,6 +180,12 @@ impl Worker<'_> {
         }
     }
 
+    /// Flushes the seat.
+    pub fn flush<R: Wait>(&mut self, rt: &R) -> Result<(), Memory> {
+        self.zone
+            .flush(rt, self.clock, &mut self.pass, &mut self.seat)
+    }
+
     /// Settles each domain of the zone.
     pub fn settle<R: Wait>(&mut self, rt: &R) -> Result<(), Memory> {
         self.zone.settle(rt, self.clock, &mut self.pass)

@@ -2,7 +2,7 @@
 use super::*;
 use crate::finish::Status;
 use std::sync::atomic::{AtomicBool, Ordering};
-use uma_replay::Go;
+use uma_replay::{Call, Calls, Go};
 
 /// Holds worker 0's first operation until worker 1's first one is done, and worker 1's second one until both are, in this order.
 #[derive(Drop)]
@@ -12,19 +12,28 @@ struct SecondFirst {
 }
 
 impl Gate for SecondFirst {
+    type Visit = Calls;
+
     ghost is_free = { λ _. ⊥ };
 
-    fn at(&self, worker: u32, op: u64) -> Go {
-        if worker == 0 && op == 1 && !self.done.load(Ordering::SeqCst) {
-            return Go::Hold;
-        }
-        if worker == 1 && op == 2 && !self.in_order.load(Ordering::SeqCst) {
-            return Go::Hold;
-        }
-        Go::Go
+    ghost is_of = { λ _ _. Unit {0} };
+
+    ghost heard = { λ calls. calls };
+
+    fn open(&self) -> Calls {
+        Calls::new()
     }
 
-    fn done(&self, worker: u32, op: u64) {
+    fn at(&self, calls: &mut Calls, worker: u32, op: u64) -> Go {
+        let first = worker == 0 && op == 1 && !self.done.load(Ordering::SeqCst);
+        let second = worker == 1 && op == 2 && !self.in_order.load(Ordering::SeqCst);
+        let answer = if first || second { Go::Hold } else { Go::Go };
+        calls.push(Call::Asked { worker, op, answer });
+        answer
+    }
+
+    fn done(&self, calls: &mut Calls, worker: u32, op: u64) {
+        calls.push(Call::Done { worker, op });
         if worker == 1 && op == 1 {
             self.done.store(true, Ordering::SeqCst);
         }
@@ -82,16 +91,27 @@ fn the_workers_of_a_round_run_at_the_same_time_and_each_waits_for_its_gate(
 struct FirstHeld;
 
 impl Gate for FirstHeld {
+    type Visit = Calls;
+
     ghost is_free = { λ _. ⊥ };
 
-    fn at(&self, _worker: u32, op: u64) -> Go {
-        if op == 1 {
-            return Go::Hold;
-        }
-        Go::Go
+    ghost is_of = { λ _ _. Unit {0} };
+
+    ghost heard = { λ calls. calls };
+
+    fn open(&self) -> Calls {
+        Calls::new()
     }
 
-    fn done(&self, _worker: u32, _op: u64) {}
+    fn at(&self, calls: &mut Calls, worker: u32, op: u64) -> Go {
+        let answer = if op == 1 { Go::Hold } else { Go::Go };
+        calls.push(Call::Asked { worker, op, answer });
+        answer
+    }
+
+    fn done(&self, calls: &mut Calls, worker: u32, op: u64) {
+        calls.push(Call::Done { worker, op });
+    }
 }
 
 /// Worker 0 has operations in the first round alone, worker 1 in both.
