@@ -1,5 +1,6 @@
 mod WorkedRows
 pub mod Names
+pub mod TraceNumbers
 pub mod TraceFields
 pub mod TraceRounds
 pub mod TraceClash

@@ -15,6 +15,8 @@ mod clash;
 mod entry;
 mod fields;
 mod head;
+mod name_field;
+mod number;
 mod reader;
 mod rounds;
 mod said;

@@ -15,7 +15,7 @@ const MOST_ZONES: usize = 16;
 /// The most secondary zones of a keg.
 const MOST_SECONDS: usize = 7;
 
-impl Said {
+impl<'a> Said<'a> {
     fn needs_clock(&self) -> bool
         ensures { result ≡ needs_clock self.now }
     {
@@ -55,7 +55,9 @@ impl Said {
     {
         match self {
             Said::Second { second } => !zones.primary_named(&second.of).is_some(),
-            Said::InZone { zone, .. } | Said::SetMax { zone, .. } => !zones.named(zone).is_some(),
+            Said::InZone { zone, .. } | Said::SetMax { zone, .. } => {
+                !zones.place_of(zone.as_bytes()).is_some()
+            }
             _ => false,
         }
     }

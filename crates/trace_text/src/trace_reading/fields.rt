@@ -7,10 +7,10 @@ ghost use Rattle.trace_text.specs.Limits.{last_slot};
 ghost use Rattle.trace_text.specs.TraceLine.{name_in, kind_in, worker_in, slot_in, arg_in, seven_fields, reserve_option, arg_option, options, alloc_fields, only_worker, worker_and_key, worker_and_zone};
 
 use crate::limits::SLOTS;
+use crate::trace_reading::name_field::NameField;
+use crate::trace_reading::number::{number_in, number_within};
 use crate::{TraceKind, ZoneKind};
-use text_lines::{
-    five_fields, next_field, no_field, number_in, number_within, one_field, ranged, two_fields,
-};
+use text_lines::{five_fields, next_field, no_field, one_field, ranged, two_fields};
 use zone_stats::ZoneName;
 
 /// The greatest number of a slot.
@@ -107,13 +107,13 @@ pub fn worker_and_key(workers: u32, text: &[u8]) -> Result<(u32, u64), TraceKind
 }
 
 /// A worker and the name of a zone.
-pub fn worker_and_zone(workers: u32, text: &[u8]) -> Result<(u32, ZoneName), TraceKind>
+pub fn worker_and_zone(workers: u32, text: &[u8]) -> Result<(u32, NameField<'_>), TraceKind>
     ensures value { result ≡ worker_and_zone workers (fields_of text.now) }
     ensures there { IfOk result (λ x. x.0 < workers) }
 {
     let (worker, zone) = two_fields(text)?;
     let worker = worker_in(workers, worker)?;
-    let zone = name_in(zone)?;
+    let zone = NameField::of(zone)?;
     Ok((worker, zone))
 }
 

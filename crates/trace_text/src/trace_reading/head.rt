@@ -13,7 +13,7 @@ use schedule_text::{start_in, window_in};
 use text_lines::{five_fields, four_fields, no_field, number_within, one_field, two_fields};
 
 /// What a header line says behind the first one.
-pub fn head_said(word: HeadWord, rest: &[u8]) -> Result<Said, TraceKind>
+pub fn head_said(word: HeadWord, rest: &[u8]) -> Result<Said<'_>, TraceKind>
     ensures value { result ≡ head_said word (fields_of rest.now) }
     ensures names { (workers : ℕ) → IfOk result (NamesFit workers) }
 {

@@ -7,6 +7,7 @@ ghost use Rattle.trace_text.specs.TraceShown.{NamesFit, WorkSlotFits};
 ghost use Rattle.trace_text.specs.TraceKnown.{Keeps, Knows, trace_by};
 
 use crate::trace_reading::entry::Entry;
+use crate::trace_reading::name_field::NameField;
 use crate::trace_reading::rounds::rounds;
 use crate::trace_reading::said::{Said, ZoneWork};
 use crate::trace_reading::stage::Stage;
@@ -15,7 +16,6 @@ use crate::trace_reading::zones::Zones;
 use crate::{Between, ClockHead, Head, NamesHead, Op, Trace, TraceKind, Version};
 use std::alloc::{AllocError, Global};
 use text_lines::{Grammar, LineRefused};
-use zone_stats::ZoneName;
 
 /// The running state of a reading: what the lines so far have said.
 #[derive(Drop)]
@@ -33,7 +33,7 @@ pub struct TraceReader {
     pub entries: Vec<Entry>,
 }
 
-impl Said {
+impl<'a> Said<'a> {
     /// What the line is in the order of a text.
     pub fn stage(&self) -> Stage
         ensures { result ≡ stage_of self.now }
@@ -131,18 +131,18 @@ impl TraceReader {
     fn add_in_zone(
         &mut self,
         worker: u32,
-        zone: &ZoneName,
+        zone: NameField<'_>,
         work: ZoneWork,
     ) -> Result<(), LineRefused>
         requires whole { AreWhole self.old.tables }
         requires worker { worker < most_workers }
         requires slot { WorkSlotFits work }
-        ensures added { OnOk result (AddsAll (entry_of self.old.zones (InZone worker zone.now work)) self.old self.new) }
+        ensures added { OnOk result (AddsAll (entry_of self.old.zones (InZone worker zone.entry work)) self.old self.new) }
         ensures whole { AreWhole self.new.tables }
         ensures workers { self.new.workers ≡ self.old.workers }
         ensures memory { IfErr result (λ refused. refused ≡ LineRefused.Memory) }
     {
-        let Some(place) = self.zones.named(zone) else {
+        let Some(place) = self.zones.place_of(zone.as_bytes()) else {
             return Ok(());
         };
         let op = work.op(place);
@@ -150,14 +150,14 @@ impl TraceReader {
     }
 
     /// Takes in another limit of a zone, where it is there.
-    fn add_limit(&mut self, zone: &ZoneName, limit: u64) -> Result<(), LineRefused>
+    fn add_limit(&mut self, zone: NameField<'_>, limit: u64) -> Result<(), LineRefused>
         requires whole { AreWhole self.old.tables }
-        ensures added { OnOk result (AddsAll (entry_of self.old.zones (SetMax zone.now limit)) self.old self.new) }
+        ensures added { OnOk result (AddsAll (entry_of self.old.zones (SetMax zone.entry limit)) self.old self.new) }
         ensures whole { AreWhole self.new.tables }
         ensures workers { self.new.workers ≡ self.old.workers }
         ensures memory { IfErr result (λ refused. refused ≡ LineRefused.Memory) }
     {
-        let Some(place) = self.zones.named(zone) else {
+        let Some(place) = self.zones.place_of(zone.as_bytes()) else {
             return Ok(());
         };
         let between = Between::SetMax { zone: place, limit };
@@ -165,7 +165,7 @@ impl TraceReader {
     }
 
     /// What is wrong with a line that says this.
-    fn clash(&self, said: &Said) -> Option<TraceKind>
+    fn clash(&self, said: &Said<'_>) -> Option<TraceKind>
         ensures { result ≡ clash_found self.now said.now }
     {
         said.clash(
@@ -177,12 +177,12 @@ impl TraceReader {
     }
 
     /// Takes in what a line behind the first one says.
-    fn hear(&mut self, said: Said) -> Result<(), LineRefused>
+    fn hear(&mut self, said: Said<'_>) -> Result<(), LineRefused>
         requires kept { Keeps self.old }
         requires new { takes_name self.old.zones said ≡ false }
         requires few { passes_most self.old.zones said ≡ false }
         requires names { NamesFit most_workers said }
-        ensures heard { OnOk result (Hears said self.old self.new) }
+        ensures heard { OnOk result (Hears said.entry self.old self.new) }
         ensures kept { Keeps self.new }
         ensures memory { IfErr result (λ refused. refused ≡ LineRefused.Memory) }
     {
@@ -196,7 +196,7 @@ impl TraceReader {
             Said::Zone { zone } => self.zones.push(zone)?,
             Said::Second { second } => self.zones.push_second(second)?,
             Said::Work { worker, op } => self.add(Entry::Does { worker, op })?,
-            Said::InZone { worker, zone, work } => self.add_in_zone(worker, &zone, work)?,
+            Said::InZone { worker, zone, work } => self.add_in_zone(worker, zone, work)?,
             Said::Round => self.add(Entry::Round)?,
             Said::Give {
                 giver,
@@ -211,7 +211,7 @@ impl TraceReader {
                     slot2,
                 },
             })?,
-            Said::SetMax { zone, limit } => self.add_limit(&zone, limit)?,
+            Said::SetMax { zone, limit } => self.add_limit(zone, limit)?,
             Said::Uma { version } => self.version = version,
             Said::End => {}
         }

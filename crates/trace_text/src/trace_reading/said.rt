@@ -5,6 +5,7 @@ ghost use Rattle.trace_text.specs.TraceLine.{said_by, says};
 ghost use Rattle.trace_text.specs.TraceShown.{NamesFit};
 
 use crate::trace_reading::head::head_said;
+use crate::trace_reading::name_field::NameField;
 use crate::trace_reading::stage::Stage;
 use crate::trace_reading::word::Word;
 use crate::trace_reading::work::{give_said, setmax_said, work_said, zone_said};
@@ -14,7 +15,7 @@ use zone_stats::ZoneName;
 
 /// What a line says. A zone is named here by its name.
 #[derive(Drop)]
-pub enum Said {
+pub enum Said<'a> {
     Uma {
         version: Version,
     },
@@ -45,7 +46,7 @@ pub enum Said {
     /// What a worker does in a zone.
     InZone {
         worker: u32,
-        zone: ZoneName,
+        zone: NameField<'a>,
         work: ZoneWork,
     },
     Round,
@@ -57,7 +58,7 @@ pub enum Said {
     },
     /// Gives a zone another limit.
     SetMax {
-        zone: ZoneName,
+        zone: NameField<'a>,
         limit: u64,
     },
     End,
@@ -84,14 +85,14 @@ pub enum ZoneWork {
     Prealloc { items: u64 },
 }
 
-impl Said {
+impl<'a> Said<'a> {
     /// What a line says behind the first one, or the first thing that is wrong with it.
     pub fn by_line(
         version: Version,
         stage: Stage,
         workers: u32,
-        line: &[u8],
-    ) -> Result<Said, TraceKind>
+        line: &'a [u8],
+    ) -> Result<Said<'a>, TraceKind>
         ensures value { result ≡ says version stage workers (fields_of line.now) }
         ensures names { IfOk result (NamesFit workers) }
     {
@@ -109,7 +110,7 @@ impl Said {
     }
 
     /// What a line says by its word and what stands behind it.
-    fn by_word(workers: u32, word: Word, rest: &[u8]) -> Result<Said, TraceKind>
+    fn by_word(workers: u32, word: Word, rest: &'a [u8]) -> Result<Said<'a>, TraceKind>
         ensures value { result ≡ said_by workers word (fields_of rest.now) }
         ensures names { IfOk result (NamesFit workers) }
     {

@@ -5,12 +5,14 @@ ghost use Rattle.trace_text.specs.TraceLine.{alloc_said, prealloc_said, zone_sai
 ghost use Rattle.trace_text.specs.TraceShown.{NamesFit};
 
 use crate::trace_reading::fields::{
-    AllocFields, arg_in, name_in, only_worker, slot_in, worker_and_key, worker_and_zone, worker_in,
+    AllocFields, arg_in, only_worker, slot_in, worker_and_key, worker_and_zone, worker_in,
 };
+use crate::trace_reading::name_field::NameField;
+use crate::trace_reading::number::{number_in, number_within};
 use crate::trace_reading::said::{Said, ZoneWork};
 use crate::trace_reading::word::{WorkWord, ZoneWord};
 use crate::{Op, TraceKind};
-use text_lines::{four_fields, number_in, number_within, three_fields, two_fields};
+use text_lines::{four_fields, three_fields, two_fields};
 
 /// The most items that a `prealloc` line brings in.
 const MOST_ITEMS: u64 = 262_144;
@@ -19,7 +21,7 @@ const MOST_ITEMS: u64 = 262_144;
 const GREATEST_LIMIT: u64 = 1_000_000;
 
 /// What a worker of so many does by itself.
-pub fn work_said(workers: u32, word: WorkWord, rest: &[u8]) -> Result<Said, TraceKind>
+pub fn work_said(workers: u32, word: WorkWord, rest: &[u8]) -> Result<Said<'_>, TraceKind>
     ensures value { result ≡ work_said workers word (fields_of rest.now) }
     ensures names { IfOk result (NamesFit workers) }
 {
@@ -68,7 +70,7 @@ pub fn work_said(workers: u32, word: WorkWord, rest: &[u8]) -> Result<Said, Trac
 }
 
 /// A free.
-fn free_said(workers: u32, rest: &[u8]) -> Result<Said, TraceKind>
+fn free_said(workers: u32, rest: &[u8]) -> Result<Said<'_>, TraceKind>
     ensures value { result ≡ free_said workers (fields_of rest.now) }
     ensures names { IfOk result (NamesFit workers) }
 {
@@ -80,7 +82,7 @@ fn free_said(workers: u32, rest: &[u8]) -> Result<Said, TraceKind>
 }
 
 /// A binding of a name.
-fn bind_said(workers: u32, rest: &[u8]) -> Result<Said, TraceKind>
+fn bind_said(workers: u32, rest: &[u8]) -> Result<Said<'_>, TraceKind>
     ensures value { result ≡ bind_said workers (fields_of rest.now) }
     ensures names { IfOk result (NamesFit workers) }
 {
@@ -93,7 +95,7 @@ fn bind_said(workers: u32, rest: &[u8]) -> Result<Said, TraceKind>
 }
 
 /// What a worker of so many does in a zone.
-pub fn zone_said(workers: u32, word: ZoneWord, rest: &[u8]) -> Result<Said, TraceKind>
+pub fn zone_said(workers: u32, word: ZoneWord, rest: &[u8]) -> Result<Said<'_>, TraceKind>
     ensures value { result ≡ zone_said workers word (fields_of rest.now) }
     ensures names { IfOk result (NamesFit workers) }
 {
@@ -109,13 +111,13 @@ pub fn zone_said(workers: u32, word: ZoneWord, rest: &[u8]) -> Result<Said, Trac
 }
 
 /// A request.
-fn alloc_said(workers: u32, rest: &[u8]) -> Result<Said, TraceKind>
+fn alloc_said(workers: u32, rest: &[u8]) -> Result<Said<'_>, TraceKind>
     ensures value { result ≡ alloc_said workers (fields_of rest.now) }
     ensures names { IfOk result (NamesFit workers) }
 {
     let fields = AllocFields::of(rest)?;
     let worker = worker_in(workers, fields.worker)?;
-    let zone = name_in(fields.zone)?;
+    let zone = NameField::of(fields.zone)?;
     let slot = slot_in(fields.slot)?;
     let arg = arg_in(fields.arg)?;
     let work = ZoneWork::Alloc {
@@ -127,20 +129,20 @@ fn alloc_said(workers: u32, rest: &[u8]) -> Result<Said, TraceKind>
 }
 
 /// The bringing in of slabs.
-fn prealloc_said(workers: u32, rest: &[u8]) -> Result<Said, TraceKind>
+fn prealloc_said(workers: u32, rest: &[u8]) -> Result<Said<'_>, TraceKind>
     ensures value { result ≡ prealloc_said workers (fields_of rest.now) }
     ensures names { IfOk result (NamesFit workers) }
 {
     let (worker, zone, items) = three_fields(rest)?;
     let worker = worker_in(workers, worker)?;
-    let zone = name_in(zone)?;
+    let zone = NameField::of(zone)?;
     let items = number_within(items, 0, MOST_ITEMS)?;
     let work = ZoneWork::Prealloc { items };
     Ok(Said::InZone { worker, zone, work })
 }
 
 /// A move from a worker's slot to one of a worker.
-pub fn give_said(workers: u32, rest: &[u8]) -> Result<Said, TraceKind>
+pub fn give_said(workers: u32, rest: &[u8]) -> Result<Said<'_>, TraceKind>
     ensures value { result ≡ give_said workers (fields_of rest.now) }
     ensures names { IfOk result (NamesFit workers) }
 {
@@ -154,13 +156,13 @@ pub fn give_said(workers: u32, rest: &[u8]) -> Result<Said, TraceKind>
 }
 
 /// Another limit of a zone.
-pub fn setmax_said(rest: &[u8]) -> Result<Said, TraceKind>
+pub fn setmax_said(rest: &[u8]) -> Result<Said<'_>, TraceKind>
     ensures value { result ≡ setmax_said (fields_of rest.now) }
     ensures names { (workers : ℕ) → IfOk result (NamesFit workers) }
 {
     let (zone, limit) = two_fields(rest)?;
     Ok(Said::SetMax {
-        zone: name_in(zone)?,
+        zone: NameField::of(zone)?,
         limit: number_within(limit, 0, GREATEST_LIMIT)?,
     })
 }

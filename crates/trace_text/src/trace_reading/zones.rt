@@ -1,4 +1,4 @@
-ghost use Rattle.std.specs.Prelude.{◌≡◌, ◌≤◌, ◌<◌, ◌++◌, [], ◌∷◌, None, length, IfOk, IfErr, OnOk};
+ghost use Rattle.std.specs.Prelude.{◌≡◌, ◌≤◌, ◌<◌, ◌++◌, [], ◌∷◌, None, length, IfSome, IfOk, IfErr, OnOk};
 ghost use Rattle.trace_text.specs.Grammar.{zone_named, primary_named, second_zone};
 ghost use Rattle.trace_text.specs.Valid.{sharer_count};
 
@@ -11,8 +11,8 @@ use std::marker::Model;
 use text_lines::LineRefused;
 use zone_stats::ZoneName;
 
-/// The zones of a trace that is being read, in order of naming, found by their names. There are 16 at most. Contracts see the list of
-/// them.
+/// The zones of a trace that is being read, in order of naming, found by their names. There are 16 at most, so a name that is read in
+/// place is looked for among all of them. Contracts see the list of them.
 #[derive(Drop)]
 pub struct Zones {
     heads: IndexMap<ZoneName, ZoneHead>,
@@ -29,6 +29,14 @@ impl Model for Zones {
     ghost view = { λ zones. values zones.heads };
 
     ghost invariant = { λ zones. AreByName zones.heads.entries };
+}
+
+/// Where the zone stands that has these bytes for its name.
+fn place_of_name(zones: &[ZoneHead], name: &[u8]) -> Option<usize>
+    ensures value { result ≡ zone_named zones.now name.now }
+    ensures there { IfSome result (λ place. place < length zones.now) }
+{
+    zones.iter().position(|zone| zone.name.as_bytes() == name)
 }
 
 impl Zones {
@@ -54,6 +62,14 @@ impl Zones {
         ensures { result ≡ zone_named self.now name.now }
     {
         let place = self.heads.get_index_of(name)?;
+        Some(place as u32)
+    }
+
+    /// The place of the zone that has these bytes for its name.
+    pub fn place_of(&self, name: &[u8]) -> Option<u32>
+        ensures { result ≡ zone_named self.now name.now }
+    {
+        let place = place_of_name(self.heads.values().as_slice(), name)?;
         Some(place as u32)
     }
 
