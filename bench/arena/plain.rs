@@ -128,6 +128,7 @@ fn time_all() -> Option<Vec<Timed>> {
     let mut all = each.map(Timed::new).collect::<Option<Vec<_>>>()?;
     for _ in 0..TRIES {
         for timed in &mut all {
+            timed.rounds()?;
             let begin = Instant::now();
             timed.rounds()?;
             timed.least = timed.least.min(begin.elapsed().as_nanos());

@@ -160,17 +160,19 @@ largest_behind l f r a = omega (arith, largest-append l (f ∷ r), largest_le f 
 pub sides_shorter : (l : List Fit) (f : Fit) (r : List Fit) → (length l < length (l ++ f ∷ r)) × (length r < length (l ++ f ∷ r))
 sides_shorter l f r = omega (arith, length-append l (f ∷ r))
 
-or_first : {X : Type 0} (o p : Option X) → (o ≡ None → ⊥) → option_or o p ≡ o
-or_first None p h = absurd (h refl)
-or_first (Some x) p h = refl
+or_else_first : {X : Type 0} (o : Option X) (x : X) (p : Option X) → option_or (option_or o (Some x)) p ≡ option_or o (Some x)
+or_else_first None x p = refl
+or_else_first (Some y) x p = refl
 
-pub find_here : (n : ℕ) (l : List Fit) (f : Fit) (r : List Fit) → n ≤ f.size → find (λ y. nat_le n y.size) l ≡ None → find (λ y. nat_le n y.size) (l ++ f ∷ r) ≡ Some f
-find_here n l f r s e =
+pub or_none : {X : Type 0} (o : Option X) → option_or o None ≡ o
+or_none None = refl
+or_none (Some x) = refl
+
+pub find_here : (n : ℕ) (l : List Fit) (f : Fit) (r : List Fit) (other : Option Fit) → n ≤ f.size → option_or (find (λ y. nat_le n y.size) (l ++ f ∷ r)) other ≡ option_or (find (λ y. nat_le n y.size) l) (Some f)
+find_here n l f r other s =
     let t : nat_le n f.size ≡ true = grind (arith, nat_tests) in
-    find-append (λ y. nat_le n y.size) l (f ∷ r) ∙ rw (e, t) refl
-
-pub find_before : (n : ℕ) (l : List Fit) (f : Fit) (r : List Fit) → (find (λ y. nat_le n y.size) l ≡ None → ⊥) → find (λ y. nat_le n y.size) (l ++ f ∷ r) ≡ find (λ y. nat_le n y.size) l
-find_before n l f r h = find-append (λ y. nat_le n y.size) l (f ∷ r) ∙ or_first _ _ h
+    let e : find (λ y. nat_le n y.size) (l ++ f ∷ r) ≡ option_or (find (λ y. nat_le n y.size) l) (Some f) = find-append (λ y. nat_le n y.size) l (f ∷ r) ∙ rw t refl in
+    rw e (or_else_first (find (λ y. nat_le n y.size) l) f other)
 
 -- ---- all but one
 pub without_it : (l : List Fit) (f : Fit) (r : List Fit) → Around l f r → Ascend (l ++ r)

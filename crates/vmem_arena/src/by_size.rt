@@ -1,6 +1,8 @@
 //! A balanced search tree of the free ranges in order of size. Its balance is no part of a contract: it bounds the depth, which
-//! bench/arena times.
-ghost use Rattle.std.specs.Prelude.{◌≡◌, [], ◌∷◌, ◌++◌, find, nat_le, is_some, IfSome, IfNone};
+//! bench/arena times. A height stands beside the way to its tree, so that no node is read for its height alone, and a node whose
+//! side is as high as before is put back as it is.
+ghost use Rattle.std.specs.Prelude.{◌≡◌, [], ◌∷◌, ◌++◌, find, nat_le, None, is_some, IfSome, IfNone};
+ghost use Rattle.std.specs.Option.{option_or};
 ghost use Rattle.vmem_arena.specs.declared.fit.Fit.{Fit};
 ghost use Rattle.vmem_arena.specs.Fits.{Ascend, HasOneMore, Removal, largest_size};
 ghost use Rattle.vmem_arena.specs.BySize.{node_fits};
@@ -9,11 +11,12 @@ use crate::fit::Fit;
 use std::marker::Model;
 use std::mem;
 
-/// The free ranges in order.
+/// The free ranges in order, and how high the tree of them is.
 #[cycle(by_size)]
 #[derive(Drop)]
 pub(crate) struct BySize {
     top: Link,
+    height: u64,
 }
 
 /// What is at a place of the tree.
@@ -24,13 +27,12 @@ enum Link {
     Full(Box<Node>),
 }
 
-/// A free range, those before it, those behind it, and how high the tree is from here down.
+/// A free range, those before it, and those behind it.
 #[cycle(by_size)]
 #[derive(Drop)]
 pub(crate) struct Node {
     before: BySize,
     fit: Fit,
-    height: u64,
     behind: BySize,
 }
 
@@ -62,7 +64,6 @@ impl Node {
         Node {
             before: BySize::new(),
             fit: Fit { size: 0, base: 0 },
-            height: 0,
             behind: BySize::new(),
         }
     }
@@ -72,14 +73,14 @@ impl BySize {
     pub(crate) fn new() -> BySize
         ensures { result ≡ [] }
     {
-        BySize { top: Link::Empty }
+        BySize {
+            top: Link::Empty,
+            height: 0,
+        }
     }
 
     fn height(&self) -> u64 {
-        match &self.top {
-            Link::Empty => 0,
-            Link::Full(node) => node.height,
-        }
+        self.height
     }
 
     /// The first that has this size or more.
@@ -87,15 +88,21 @@ impl BySize {
         ensures first { result ≡ find (λ f. nat_le size f.size) self.now }
         ensures order { Ascend self.now }
     {
+        self.first_or(size, None)
+    }
+
+    /// The first that has this size or more, or else this one.
+    fn first_or(&self, size: u64, other: Option<Fit>) -> Option<Fit>
+        ensures first { result ≡ option_or (find (λ f. nat_le size f.size) self.now) other }
+        ensures order { Ascend self.now }
+    {
         match &self.top {
-            Link::Empty => None,
+            Link::Empty => other,
             Link::Full(node) => {
                 if node.fit.size < size {
-                    return node.behind.first_from(size);
-                }
-                match node.before.first_from(size) {
-                    None => Some(node.fit),
-                    found => found,
+                    node.behind.first_or(size, other)
+                } else {
+                    node.before.first_or(size, Some(node.fit))
                 }
             }
         }
@@ -111,11 +118,17 @@ impl BySize {
         }
     }
 
-    fn set(&mut self, top: Box<Node>)
+    /// Puts the node back on top, of which one side has changed: where that is `level`, it is as high as before.
+    fn set(&mut self, top: Box<Node>, level: bool)
         requires { Ascend (node_fits top.value) }
-        ensures { self.new ≡ node_fits top.value }
+        ensures same { self.new ≡ node_fits top.value }
+        ensures order { Ascend self.new }
     {
-        self.top = Link::Full(top);
+        if level {
+            self.top = Link::Full(top);
+        } else {
+            self.replace_by(balanced(top));
+        }
     }
 
     fn replace_by(&mut self, other: BySize)
@@ -123,6 +136,7 @@ impl BySize {
         ensures order { Ascend self.new }
     {
         self.top = other.top;
+        self.height = other.height;
     }
 
     /// Puts one more in, at this node, of which nothing else stays.
@@ -131,14 +145,18 @@ impl BySize {
         ensures order { Ascend self.new }
     {
         match mem::replace(&mut self.top, Link::Empty) {
-            Link::Empty => self.set(single(node, fit)),
+            Link::Empty => self.replace_by(single(node, fit)),
             Link::Full(mut top) => {
                 if fit.is_before(top.fit) {
+                    let height = top.before.height();
                     top.before.insert(node, fit);
-                    self.set(balanced(top));
+                    let level = top.before.height() == height;
+                    self.set(top, level);
                 } else {
+                    let height = top.behind.height();
                     top.behind.insert(node, fit);
-                    self.set(balanced(top));
+                    let level = top.behind.height() == height;
+                    self.set(top, level);
                 }
             }
         }
@@ -153,13 +171,17 @@ impl BySize {
             Link::Empty => None,
             Link::Full(mut node) => {
                 if fit.is_before(node.fit) {
+                    let height = node.before.height();
                     let found = node.before.remove(fit);
-                    self.set(balanced(node));
+                    let level = node.before.height() == height;
+                    self.set(node, level);
                     return found;
                 }
                 if node.fit.is_before(fit) {
+                    let height = node.behind.height();
                     let found = node.behind.remove(fit);
-                    self.set(balanced(node));
+                    let level = node.behind.height() == height;
+                    self.set(node, level);
                     return found;
                 }
                 let before = mem::replace(&mut node.before, BySize::new());
@@ -178,30 +200,33 @@ impl BySize {
     {
         match mem::replace(&mut self.top, Link::Empty) {
             Link::Empty => None,
-            Link::Full(mut node) => match node.before.remove_first() {
-                Some(first) => {
-                    self.set(balanced(node));
-                    Some(first)
+            Link::Full(mut node) => {
+                let height = node.before.height();
+                match node.before.remove_first() {
+                    Some(first) => {
+                        let level = node.before.height() == height;
+                        self.set(node, level);
+                        Some(first)
+                    }
+                    None => {
+                        let behind = mem::replace(&mut node.behind, BySize::new());
+                        self.replace_by(behind);
+                        Some(node)
+                    }
                 }
-                None => {
-                    let behind = mem::replace(&mut node.behind, BySize::new());
-                    self.replace_by(behind);
-                    Some(node)
-                }
-            },
+            }
         }
     }
 }
 
 /// A tree of this one alone, at this node.
-fn single(mut node: Box<Node>, fit: Fit) -> Box<Node>
-    ensures { node_fits result.value ≡ fit ∷ [] }
+fn single(mut node: Box<Node>, fit: Fit) -> BySize
+    ensures { result ≡ fit ∷ [] }
 {
     node.before = BySize::new();
     node.behind = BySize::new();
     node.fit = fit;
-    node.height = 1;
-    node
+    tree(node)
 }
 
 /// Those of both, of which none of the second is before one of the first.
@@ -214,18 +239,27 @@ fn joined(before: BySize, mut behind: BySize) -> BySize
         Some(mut node) => {
             node.before = before;
             node.behind = behind;
-            BySize {
-                top: Link::Full(balanced(node)),
-            }
+            balanced(node)
         }
     }
 }
 
+/// The tree with this node at its top.
+fn tree(top: Box<Node>) -> BySize
+    requires { Ascend (node_fits top.value) }
+    ensures { result ≡ node_fits top.value }
+{
+    let height = top.before.height().max(top.behind.height());
+    BySize {
+        top: Link::Full(top),
+        height: height.saturating_add(1),
+    }
+}
+
 /// The same fits, where neither side is more than one higher than the other, if neither was more than two.
-fn balanced(node: Box<Node>) -> Box<Node>
+fn balanced(node: Box<Node>) -> BySize
     requires { Ascend (node_fits node.value) }
-    ensures same { node_fits result.value ≡ node_fits node.value }
-    ensures order { Ascend (node_fits result.value) }
+    ensures { result ≡ node_fits node.value }
 {
     let before = node.before.height();
     let behind = node.behind.height();
@@ -234,80 +268,78 @@ fn balanced(node: Box<Node>) -> Box<Node>
     } else if behind > before.saturating_add(1) {
         lean_before(node)
     } else {
-        levelled(node)
+        tree(node)
     }
 }
 
-/// With its height.
-fn levelled(mut node: Box<Node>) -> Box<Node>
-    ensures { node_fits result.value ≡ node_fits node.value }
-{
-    node.height = node
-        .before
-        .height()
-        .max(node.behind.height())
-        .saturating_add(1);
-    node
-}
-
-fn lean_behind(mut node: Box<Node>) -> Box<Node>
+fn lean_behind(mut node: Box<Node>) -> BySize
     requires { Ascend (node_fits node.value) }
-    ensures { node_fits result.value ≡ node_fits node.value }
+    ensures { result ≡ node_fits node.value }
 {
-    let Link::Full(mut left) = mem::replace(&mut node.before, BySize::new()).top else {
-        return levelled(node);
+    let Link::Full(left) = mem::replace(&mut node.before, BySize::new()).top else {
+        return tree(node);
     };
-    if left.behind.height() > left.before.height() {
-        left = turned_before(left);
-    }
-    node.before = BySize {
-        top: Link::Full(left),
-    };
+    node.before = with_high_front(left);
     turned_behind(node)
 }
 
-fn lean_before(mut node: Box<Node>) -> Box<Node>
+fn lean_before(mut node: Box<Node>) -> BySize
     requires { Ascend (node_fits node.value) }
-    ensures { node_fits result.value ≡ node_fits node.value }
+    ensures { result ≡ node_fits node.value }
 {
-    let Link::Full(mut right) = mem::replace(&mut node.behind, BySize::new()).top else {
-        return levelled(node);
+    let Link::Full(right) = mem::replace(&mut node.behind, BySize::new()).top else {
+        return tree(node);
     };
-    if right.before.height() > right.behind.height() {
-        right = turned_behind(right);
-    }
-    node.behind = BySize {
-        top: Link::Full(right),
-    };
+    node.behind = with_high_back(right);
     turned_before(node)
 }
 
-/// The node before it comes to the top, and the node goes behind that.
-fn turned_behind(mut node: Box<Node>) -> Box<Node>
+/// The same fits, with no more of the height behind the top than before it.
+fn with_high_front(node: Box<Node>) -> BySize
     requires { Ascend (node_fits node.value) }
-    ensures { node_fits result.value ≡ node_fits node.value }
+    ensures { result ≡ node_fits node.value }
+{
+    if node.behind.height() > node.before.height() {
+        turned_before(node)
+    } else {
+        tree(node)
+    }
+}
+
+/// The same fits, with no more of the height before the top than behind it.
+fn with_high_back(node: Box<Node>) -> BySize
+    requires { Ascend (node_fits node.value) }
+    ensures { result ≡ node_fits node.value }
+{
+    if node.before.height() > node.behind.height() {
+        turned_behind(node)
+    } else {
+        tree(node)
+    }
+}
+
+/// The node before it comes to the top, and the node goes behind that.
+fn turned_behind(mut node: Box<Node>) -> BySize
+    requires { Ascend (node_fits node.value) }
+    ensures { result ≡ node_fits node.value }
 {
     let Link::Full(mut top) = mem::replace(&mut node.before, BySize::new()).top else {
-        return levelled(node);
+        return tree(node);
     };
     node.before = mem::replace(&mut top.behind, BySize::new());
-    top.behind = BySize {
-        top: Link::Full(levelled(node)),
-    };
-    levelled(top)
+    top.behind = tree(node);
+    tree(top)
 }
 
 /// The node behind it comes to the top, and the node goes before that.
-fn turned_before(mut node: Box<Node>) -> Box<Node>
+fn turned_before(mut node: Box<Node>) -> BySize
     requires { Ascend (node_fits node.value) }
-    ensures { node_fits result.value ≡ node_fits node.value }
+    ensures { result ≡ node_fits node.value }
 {
     let Link::Full(mut top) = mem::replace(&mut node.behind, BySize::new()).top else {
-        return levelled(node);
+        return tree(node);
     };
     node.behind = mem::replace(&mut top.before, BySize::new());
-    top.before = BySize {
-        top: Link::Full(levelled(node)),
-    };
-    levelled(top)
+    top.before = tree(node);
+    tree(top)
 }

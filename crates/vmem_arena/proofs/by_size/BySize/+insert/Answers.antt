@@ -3,8 +3,8 @@ use Rattle.vmem_arena.proofs.FitLists.{in_order, more_left, more_right, one_more
 use Rattle.vmem_arena.proofs.AtNode.{at_node}
 use Rattle.vmem_arena.proofs.by_size.BySize.+insert.Goals as goal
 
-pub balanced-requires : goal.balanced-requires
-balanced-requires t c =
+pub set-requires : goal.set-requires
+set-requires t c =
     let n = at_node c.self.view_is c.self.invariant (sym c.in-Full.ensures.value) in
     let e = rw c.deref.ensures at c.is_before.ensures in
     let b = sym e ∙ c.if-is_before.true in
@@ -15,10 +15,10 @@ pub returns-then-is_before-clause-more : goal.returns-then-is_before-clause-more
 returns-then-is_before-clause-more t c test =
     let n = at_node c.self.view_is c.self.invariant (sym c.in-Full.ensures.value) in
     let h = rw c.deref_mut.ensures.value at c.insert.ensures.more in
-    rw (c.set-then-is_before.ensures, c.balanced.ensures.same, c.deref_mut.ensures.value, n.is) (one_more_left _ _ _ _ _ h test)
+    rw (c.set.ensures.same, c.deref_mut.ensures.value, n.is) (one_more_left _ _ _ _ _ h test)
 
-pub balanced-requires-else-is_before : goal.balanced-requires-else-is_before
-balanced-requires-else-is_before t c =
+pub set-requires-else-is_before : goal.set-requires-else-is_before
+set-requires-else-is_before t c =
     let n = at_node c.self.view_is c.self.invariant (sym c.in-Full.ensures.value) in
     let e = rw c.deref.ensures at c.is_before.ensures in
     let b = sym e ∙ c.if-is_before.false in
@@ -29,4 +29,4 @@ pub returns-else-is_before-clause-more : goal.returns-else-is_before-clause-more
 returns-else-is_before-clause-more t c test =
     let n = at_node c.self.view_is c.self.invariant (sym c.in-Full.ensures.value) in
     let h = rw c.deref_mut-else-is_before.ensures.value at c.insert-else-is_before.ensures.more in
-    rw (c.set-else-is_before.ensures, c.balanced-else-is_before.ensures.same, c.deref_mut-else-is_before.ensures.value, n.is) (one_more_right _ _ _ _ _ h test)
+    rw (c.set-else-is_before.ensures.same, c.deref_mut-else-is_before.ensures.value, n.is) (one_more_right _ _ _ _ _ h test)

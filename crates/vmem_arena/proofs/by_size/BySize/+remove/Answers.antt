@@ -3,8 +3,8 @@ use Rattle.vmem_arena.proofs.FitLists.{order_left, order_right, removal_left, re
 use Rattle.vmem_arena.proofs.AtNode.{at_node}
 use Rattle.vmem_arena.proofs.by_size.BySize.+remove.Goals as goal
 
-pub balanced-requires : goal.balanced-requires
-balanced-requires t c =
+pub set-requires : goal.set-requires
+set-requires t c =
     let n = at_node c.self.view_is c.self.invariant (sym c.in-Full.ensures.value) in
     let h = rw c.deref_mut.ensures.value at c.remove-found.ensures.removal in
     rw c.deref_mut.ensures.value (order_left (is_some c.remove-found.result) _ _ _ _ c.args.fit h c.remove-found.ensures.order n.order)
@@ -15,10 +15,10 @@ returns-then-is_before-clause-removal t c =
     let e = rw c.deref.ensures at c.is_before.ensures in
     let b = sym e ∙ c.if-is_before.true in
     let h = rw c.deref_mut.ensures.value at c.remove-found.ensures.removal in
-    rw (c.set.ensures, c.balanced.ensures.same, c.deref_mut.ensures.value, n.is) (removal_left (is_some c.remove-found.result) _ _ _ _ _ b h n.order)
+    rw (c.set.ensures.same, c.deref_mut.ensures.value, n.is) (removal_left (is_some c.remove-found.result) _ _ _ _ _ b h n.order)
 
-pub balanced-requires-then-is_before-2 : goal.balanced-requires-then-is_before-2
-balanced-requires-then-is_before-2 t c =
+pub set-requires-then-is_before-2 : goal.set-requires-then-is_before-2
+set-requires-then-is_before-2 t c =
     let n = at_node c.self.view_is c.self.invariant (sym c.in-Full.ensures.value) in
     let h = rw c.deref_mut-then-is_before-2.ensures.value at c.remove-found-then-is_before-2.ensures.removal in
     rw c.deref_mut-then-is_before-2.ensures.value (order_right (is_some c.remove-found-then-is_before-2.result) _ _ _ _ c.args.fit h c.remove-found-then-is_before-2.ensures.order n.order)
@@ -29,7 +29,7 @@ returns-then-is_before-2-clause-removal t c =
     let e = rw c.deref-in-Full.ensures at c.is_before-in-Full.ensures in
     let b = sym e ∙ c.if-is_before-2.true in
     let h = rw c.deref_mut-then-is_before-2.ensures.value at c.remove-found-then-is_before-2.ensures.removal in
-    rw (c.set-then-is_before-2.ensures, c.balanced-then-is_before-2.ensures.same, c.deref_mut-then-is_before-2.ensures.value, n.is) (removal_right (is_some c.remove-found-then-is_before-2.result) _ _ _ _ _ b h n.order)
+    rw (c.set-then-is_before-2.ensures.same, c.deref_mut-then-is_before-2.ensures.value, n.is) (removal_right (is_some c.remove-found-then-is_before-2.result) _ _ _ _ _ b h n.order)
 
 pub joined-requires : goal.joined-requires
 joined-requires t c =
