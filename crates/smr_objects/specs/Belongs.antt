@@ -1,5 +1,5 @@
 -- What contracts see of a clock of objects and of its cells.
-use Rattle.std.specs.Prelude.{ℕ, ◌≤◌, List, [], ◌∷◌, Bool, true, false, Option, Some, None}
+use Rattle.std.specs.Prelude.{ℕ, ◌≤◌, ◌<◌, List, [], ◌∷◌, Bool, true, false, Option, Some, None}
 use Rattle.smr_clock.specs.declared.setup.Setup.{Setup}
 use Rattle.smr_clock.specs.declared.clock.Clock.{Clock}
 use Rattle.smr_clock.specs.Belongs.{table_of, setup_of}
@@ -19,6 +19,17 @@ pub record FitsObjects (a : Setup) (words : ℕ) : Type 0 where
 module _ {H P : Type 0} where
   abbrev pub IsObjectsClock : Clock H P → Type 0
   IsObjectsClock clock = FitsObjects (setup_of clock) (table_of clock).words
+
+  -- the clock is one of objects, and has a cell of this number
+  pub record HasCell (clock : Clock H P) (cell : ℕ) : Type 0 where
+    pub objects : IsObjectsClock clock
+    pub cell_below : cell < (setup_of clock).plan.0
+
+  -- and a slot of this number in it
+  pub record HasSlot (clock : Clock H P) (cell slot : ℕ) : Type 0 where
+    pub objects : IsObjectsClock clock
+    pub cell_below : cell < (setup_of clock).plan.0
+    pub slot_below : slot < (setup_of clock).plan.1
 
 -- the first cell that a seat has
 abbrev pub the_cell : List CellView → CellView

@@ -1,13 +1,7 @@
-ghost use Rattle.std.specs.Prelude.{◌≡◌, ◌+◌, ◌-◌, ◌*◌, ◌≤◌, ◌<◌, [], ◌∷◌, ◌++◌, IfOk, IfErr, OnOk, length, replicate};
-ghost use Rattle.smr_core.specs.ClockState.{IsInRange};
+ghost use Rattle.std.specs.Prelude.{◌≡◌, ◌+◌, ◌*◌, ◌≤◌, ◌<◌, [], ◌∷◌, ◌++◌, IfOk, IfErr, OnOk, replicate};
 ghost use Rattle.smr_clock.specs.Belongs.{setup_of};
-ghost use Rattle.smr_clock.specs.Making.{setup, AreWorkers};
-ghost use Rattle.smr_clock.specs.Notes.{IsSeatOf, seat_knows};
-ghost use Rattle.smr_objects.specs.Belongs.{IsObjectsClock};
-ghost use Rattle.smr_objects.specs.CellViews.{IsCellOf, cell_knows};
-ghost use Rattle.smr_objects.specs.ObjectsLaw.{IsPlan};
-ghost use Rattle.smr_objects.specs.Opening.{AreOpenCells, RefusesObjects};
-ghost use Rattle.smr_objects.specs.Cells.{first_part, fresh_cell, cells_from, told};
+ghost use Rattle.smr_clock.specs.Making.{setup};
+ghost use Rattle.smr_objects.specs.Opening.{AreInRange, AreAllCells, HasCellsFrom, IsOpenCell, Opened, RefusesObjects};
 
 use crate::cell::Cell;
 use crate::hold_refused::HoldRefused;
@@ -38,8 +32,7 @@ impl HostSplit<Objects> for GivesCell {
 
 // Tests the numbers, in order.
 fn check(about: (u32, u64, u64), cells: u32, slots: u32) -> Result<(), HoldRefused>
-    ensures plan { OnOk result (IsPlan cells slots) }
-    ensures clock { OnOk result (IsInRange (setup about.0 about.1 about.2 (cells, slots)).about) }
+    ensures in_range { OnOk result (AreInRange (setup about.0 about.1 about.2 (cells, slots)).about cells slots) }
     ensures refused { IfErr result (RefusesObjects (setup about.0 about.1 about.2 (cells, slots)).about cells slots) }
 {
     if cells < 1 || cells > MOST_CELLS {
@@ -64,13 +57,10 @@ fn opening_words(alloc: Global, cells: u32) -> Result<Vec<u64>, AllocError>
 
 /// Splits the next cell off.
 fn split_cell(clock: &Clock<Objects>, first: &mut HostSeat<Objects>, number: u32) -> Cell
-    requires here { IsSeatOf clock.now first.old }
     requires number { number < (setup_of clock.now).plan.0 }
-    requires cells { (seat_knows first.old).host.cells ≡ cells_from number ((setup_of clock.now).plan.0 - number) }
-    ensures here { IsSeatOf clock.now first.new }
-    ensures cell_here { IsCellOf clock.now result }
-    ensures cells { (seat_knows first.new).host.cells ≡ cells_from (number + 1) ((setup_of clock.now).plan.0 - (number + 1)) }
-    ensures cell { cell_knows result ≡ fresh_cell number }
+    requires has { HasCellsFrom clock.now number first.old }
+    ensures rest { HasCellsFrom clock.now (number + 1) first.new }
+    ensures cell { IsOpenCell clock.now number result }
 {
     let seat = clock.seat_split::<GivesCell>(first);
     Cell {
@@ -97,10 +87,8 @@ fn split_cells(
     clock: &Clock<Objects>,
     first: &mut HostSeat<Objects>,
 ) -> Result<Vec<Cell>, Memory>
-    requires here { IsSeatOf clock.now first.old }
-    requires cells { (seat_knows first.old).host.cells ≡ cells_from 0 (setup_of clock.now).plan.0 }
-    ensures long { IfOk result (λ cells. length cells.items ≡ (setup_of clock.now).plan.0) }
-    ensures cells { IfOk result (λ cells. AreOpenCells clock.now cells.items) }
+    requires { HasCellsFrom clock.now 0 first.old }
+    ensures { IfOk result (λ cells. AreAllCells clock.now cells.items) }
 {
     let mut cells = Vec::new(alloc);
     for number in 0..clock.plan().0 {
@@ -125,11 +113,7 @@ pub fn make(
     cells: u32,
     slots: u32,
 ) -> Result<HoldOpened, HoldRefused>
-    ensures clock { IfOk result (λ opened. setup_of opened.clock ≡ setup seats start window (cells, slots)) }
-    ensures objects { IfOk result (λ opened. IsObjectsClock opened.clock) }
-    ensures passes { IfOk result (λ opened. AreWorkers opened.clock told (first_part (setup seats start window (cells, slots))) opened.passes) }
-    ensures long { IfOk result (λ opened. length opened.cells ≡ cells) }
-    ensures cells { IfOk result (λ opened. AreOpenCells opened.clock opened.cells) }
+    ensures opened { IfOk result (λ opened. Opened (setup seats start window (cells, slots)) opened.clock opened.passes opened.cells) }
     ensures refused { IfErr result (RefusesObjects (setup seats start window (cells, slots)).about cells slots) }
 {
     check((seats, start, window), cells, slots)?;
