@@ -1,6 +1,9 @@
 -- What a publish comes to: what becomes of each slot that it tries, and what it publishes where.
 use Rattle.std.specs.Prelude.{◌≡◌, ◌≢◌, ℕ, ◌+◌, ◌-◌, ◌^◌, ◌<◌, ◌≤◌, ◌⊎◌, ◌∷◌, Option, Some}
+use Rattle.smr_clock.specs.declared.clock.Clock.{Clock}
 use Rattle.smr_clock.specs.declared.view.View.{View}
+use Rattle.smr_objects.specs.declared.objects.Objects.{Objects}
+use Rattle.smr_objects.specs.declared.cell.Cell.{Cell}
 use Rattle.smr_objects.specs.declared.records.Record.{Record}
 use Rattle.smr_objects.specs.declared.records.SlotView.{SlotView}
 use Rattle.smr_objects.specs.declared.records.CellView.{CellView}
@@ -8,6 +11,8 @@ use Rattle.smr_objects.specs.declared.slot_state.SlotState.TheVariants.{Closed, 
 use Rattle.smr_objects.specs.declared.part.Part.{Part}
 use Rattle.smr_objects.specs.Belongs.{the_cell}
 use Rattle.smr_objects.specs.Cells.{current_slot, last_version, slot_at}
+use Rattle.smr_objects.specs.CellViews.{cell_knows, slot_state}
+use Rattle.smr_objects.specs.OwnerCalls.{OwnsSlot}
 use Rattle.smr_hold.specs.declared.slot_cause.SlotCause.{SlotCause}
 use Rattle.smr_hold.specs.declared.slot_cause.SlotCause.TheVariants.{Current, Unripe, Held}
 use Rattle.smr_hold.specs.declared.publish_refused.PublishRefused.{PublishRefused}
@@ -86,6 +91,13 @@ pub record Waits (k : ℕ) (causes : ℕ → SlotCause) (v w : View Part) : Type
 abbrev pub published : ℕ → ℕ → CellView → Record
 published slot value c = record { cell = c.number; version = last_version c.records + 1; slot = slot; value = value }
 
+-- The slot is closed and isn't the current one, and the cell isn't worn.
+pub record MayPut (clock : Clock Objects Part) (cell : Cell) (at : ℕ) : Type 0 where
+  pub slot : OwnsSlot clock cell at
+  pub closed : slot_state cell at ≡ Closed
+  pub idle : current_slot (cell_knows cell).records ≢ Some at
+  pub low : last_version (cell_knows cell).records + 1 < 2 ^ 44
+
 -- The value is in the slot, which is open and the current one; the former one is stamped in this call. Nothing else is changed.
 pub record Puts (slot value : ℕ) (v w : View Part) : Type 0 where
   pub records : (cell_in w).records ≡ published slot value (cell_in v) ∷ (cell_in v).records
@@ -96,6 +108,11 @@ pub record Puts (slot value : ℕ) (v w : View Part) : Type 0 where
   pub others : (n : ℕ) → n ≢ slot → current_in v ≢ Some n → slot_in w n ≡ slot_in v n
   pub seen : v.holder.seen ≤ w.holder.seen
   pub floor : v.holder.floor ≤ w.holder.floor
+
+-- and its version is the next
+pub record PutsNext (slot value : ℕ) (v : View Part) (version : ℕ) (w : View Part) : Type 0 where
+  pub next : version ≡ last_version (cell_in v).records + 1
+  pub puts : Puts slot value v w
 
 -- the first slot that doesn't wait is closed
 pub record FindsFree (slots slot : ℕ) (v w : View Part) : Type 0 where

@@ -1,11 +1,7 @@
-ghost use Rattle.std.specs.Prelude.{◌≡◌, ◌≢◌, ◌<◌, Some, None, OnOk, IfErr, IfSome};
-ghost use Rattle.smr_clock.specs.Belongs.{setup_of};
-ghost use Rattle.smr_objects.specs.Belongs.{IsObjectsClock};
-ghost use Rattle.smr_objects.specs.Cells.{current_slot};
-ghost use Rattle.smr_objects.specs.CellViews.{IsCellOf, cell_view, cell_knows, slot_state};
-ghost use Rattle.smr_objects.specs.declared.slot_state.SlotState.{SlotState};
-ghost use Rattle.smr_hold.specs.Publishing.{SettlesStamp, SlotFrees, SlotWaits, Waits};
-ghost use Rattle.smr_hold.specs.Causes.{cause_at};
+ghost use Rattle.std.specs.Prelude.{OnOk, IfErr};
+ghost use Rattle.smr_objects.specs.CellViews.{IsCellOf, cell_view};
+ghost use Rattle.smr_objects.specs.OwnerCalls.{OwnsSlot, MayStamp};
+ghost use Rattle.smr_hold.specs.Publishing.{SettlesStamp, SlotFrees, SlotWaits};
 
 use crate::slot_cause::SlotCause;
 use crate::slot_causes::SlotCauses;
@@ -14,11 +10,7 @@ use smr_objects::{Cell, Objects, close_slot, load_read, stamp_slot};
 
 /// The stamp of a slot that is neither closed nor current. Where it has none it is stamped first.
 pub(crate) fn settle_stamp(clock: &Clock<Objects>, cell: &mut Cell, slot: u32) -> u64
-    requires here { IsCellOf clock.now cell.old }
-    requires objects { IsObjectsClock clock.now }
-    requires slot { slot < (setup_of clock.now).plan.1 }
-    requires open { slot_state cell.old slot ≢ SlotState.Closed }
-    requires withdrawn { current_slot (cell_knows cell.old).records ≢ Some slot }
+    requires { MayStamp clock.now cell.old slot }
     ensures here { IsCellOf clock.now cell.new }
     ensures settles { SettlesStamp slot (cell_view cell.old) (cell_view cell.new) result }
 {
@@ -34,9 +26,7 @@ pub(crate) fn settle_stamp(clock: &Clock<Objects>, cell: &mut Cell, slot: u32) -
 
 /// Closes a slot that isn't the current one where it can be: it is closed then, or waits for the cause.
 pub(crate) fn free_slot(clock: &Clock<Objects>, cell: &mut Cell, slot: u32) -> Result<(), SlotCause>
-    requires here { IsCellOf clock.now cell.old }
-    requires objects { IsObjectsClock clock.now }
-    requires slot { slot < (setup_of clock.now).plan.1 }
+    requires { OwnsSlot clock.now cell.old slot }
     ensures here { IsCellOf clock.now cell.new }
     ensures frees { OnOk result (SlotFrees slot (cell_view cell.old) (cell_view cell.new)) }
     ensures waits { IfErr result (λ cause. SlotWaits slot cause (cell_view cell.old) (cell_view cell.new)) }

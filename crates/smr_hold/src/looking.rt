@@ -1,7 +1,6 @@
-ghost use Rattle.std.specs.Prelude.{◌≡◌, ◌<◌, None, IfSome};
-ghost use Rattle.smr_core.specs.declared.phase.Phase.{Phase};
-ghost use Rattle.smr_clock.specs.Belongs.{IsOf, view, holder, setup_of};
-ghost use Rattle.smr_objects.specs.Belongs.{IsObjectsClock};
+ghost use Rattle.std.specs.Prelude.{◌≡◌, None, IfSome};
+ghost use Rattle.smr_clock.specs.Belongs.{IsOf, view};
+ghost use Rattle.smr_objects.specs.PassCalls.{MayLook};
 ghost use Rattle.smr_hold.specs.Looks.{FindsNone, Looks};
 
 use crate::found::Look;
@@ -11,10 +10,7 @@ use smr_objects::{Objects, load_cell, load_value};
 /// The record that the cell's word had at the load of it in this call: its value, version and slot. None where nothing was
 /// published then. The pass is inside a section: as long as it is, nobody writes the slot. Waits for nobody.
 pub fn look(clock: &Clock<Objects>, pass: &mut Pass<Objects>, cell: u32) -> Option<Look>
-    requires here { IsOf clock.now pass.old }
-    requires objects { IsObjectsClock clock.now }
-    requires inside { (holder pass.old).phase ≡ Phase.Inside }
-    requires cell { cell < (setup_of clock.now).plan.0 }
+    requires { MayLook clock.now pass.old cell }
     ensures here { IsOf clock.now pass.new }
     ensures none { result ≡ None → FindsNone (view pass.old) cell (view pass.new) }
     ensures some { IfSome result (λ look. Looks (view pass.old) cell look (view pass.new)) }

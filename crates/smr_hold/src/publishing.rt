@@ -1,10 +1,8 @@
-ghost use Rattle.std.specs.Prelude.{◌≡◌, ◌≢◌, ◌<◌, ◌+◌, ◌^◌, Some, None, IfOk, IfErr, IfSome, length};
+ghost use Rattle.std.specs.Prelude.{◌≡◌, None, IfOk, IfErr, IfSome, length};
 ghost use Rattle.smr_clock.specs.Belongs.{setup_of};
-ghost use Rattle.smr_objects.specs.Belongs.{IsObjectsClock};
-ghost use Rattle.smr_objects.specs.Cells.{current_slot, last_version};
-ghost use Rattle.smr_objects.specs.CellViews.{IsCellOf, cell_view, cell_knows, slot_state};
-ghost use Rattle.smr_objects.specs.declared.slot_state.SlotState.{SlotState};
-ghost use Rattle.smr_hold.specs.Publishing.{FindsFree, Publishes, Puts, RefusesPublish, Waits};
+ghost use Rattle.smr_objects.specs.CellViews.{IsCellOf, cell_view};
+ghost use Rattle.smr_objects.specs.OwnerCalls.{OwnsCell};
+ghost use Rattle.smr_hold.specs.Publishing.{MayPut, FindsFree, Publishes, PutsNext, RefusesPublish, Waits};
 ghost use Rattle.smr_hold.specs.Causes.{cause_at};
 
 use crate::freeing::free_slot;
@@ -16,8 +14,7 @@ use smr_objects::{Cell, Objects, open_slot, stamp_slot, switch_to, write_value};
 
 // The first slot that could be closed, or that was.
 fn first_free(clock: &Clock<Objects>, cell: &mut Cell, causes: &mut SlotCauses) -> Option<u32>
-    requires here { IsCellOf clock.now cell.old }
-    requires objects { IsObjectsClock clock.now }
+    requires cell { OwnsCell clock.now cell.old }
     requires room { length causes.old.causes ≡ 16 }
     ensures here { IsCellOf clock.now cell.new }
     ensures count { causes.new.count ≡ causes.old.count }
@@ -35,15 +32,9 @@ fn first_free(clock: &Clock<Objects>, cell: &mut Cell, causes: &mut SlotCauses) 
 
 // Publishes the value in a closed slot, and stamps the former current one.
 fn put(clock: &Clock<Objects>, cell: &mut Cell, slot: u32, value: u64) -> u64
-    requires here { IsCellOf clock.now cell.old }
-    requires objects { IsObjectsClock clock.now }
-    requires slot { slot < (setup_of clock.now).plan.1 }
-    requires closed { slot_state cell.old slot ≡ SlotState.Closed }
-    requires idle { current_slot (cell_knows cell.old).records ≢ Some slot }
-    requires low { last_version (cell_knows cell.old).records + 1 < 2 ^ 44 }
+    requires { MayPut clock.now cell.old slot }
     ensures here { IsCellOf clock.now cell.new }
-    ensures version { result ≡ last_version (cell_knows cell.old).records + 1 }
-    ensures puts { Puts slot value (cell_view cell.old) (cell_view cell.new) }
+    ensures puts { PutsNext slot value (cell_view cell.old) result (cell_view cell.new) }
 {
     let former = cell.current();
     write_value(clock, cell, slot, value);
@@ -64,8 +55,7 @@ fn put(clock: &Clock<Objects>, cell: &mut Cell, slot: u32, value: u64) -> u64
 /// `Worn` exactly where the version is 2^44 - 1; `Crowded` exactly where no slot could be used, with a cause for each. No
 /// record is made then, and no value written.
 pub fn publish(clock: &Clock<Objects>, cell: &mut Cell, value: u64) -> Result<u64, PublishRefused>
-    requires here { IsCellOf clock.now cell.old }
-    requires objects { IsObjectsClock clock.now }
+    requires { OwnsCell clock.now cell.old }
     ensures here { IsCellOf clock.now cell.new }
     ensures published { IfOk result (λ version. Publishes (setup_of clock.now).plan.1 value version (cell_view cell.old) (cell_view cell.new)) }
     ensures refused { IfErr result (RefusesPublish (setup_of clock.now).plan.1 (cell_view cell.old) (cell_view cell.new)) }

@@ -5,4 +5,4 @@ use Rattle.smr_hold.proofs.holds.read.Goals as goal
 
 pub returns-clause-held : goal.returns-clause-held
 returns-clause-held c =
-    held_value (view c.args.pass.now) c.args.hold.now.cell c.args.hold.now.slot c.load_value.result c.requires.holds (λ r h e f. c.load_value.ensures.held r h (e ∙ sym c.cell.ensures) (f ∙ sym c.slot.ensures))
+    held_value (view c.args.pass.now) c.args.hold.now.cell c.args.hold.now.slot c.load_value.result c.requires.holds (λ r h e f. c.load_value.ensures.reads.held r h (e ∙ sym c.cell.ensures) (f ∙ sym c.slot.ensures))
