@@ -1,5 +1,5 @@
 -- What a list has asked of its clock: the goal of its last advance that answered, and the note by which it polls. Own.
-use Rattle.std.specs.Prelude.{◌≡◌, ◌≤◌, ℕ, Bool}
+use Rattle.std.specs.Prelude.{◌≡◌, ◌≤◌, ℕ, Bool, true, false}
 use Rattle.smr_clock.specs.declared.setup.Setup.{Setup}
 use Rattle.smr_clock.specs.declared.view.View.{View}
 use Rattle.smr_clock.specs.declared.host.Host.{Ghosts}
@@ -33,3 +33,10 @@ module _ {H P : Type 0} {g : Ghosts H P} where
   -- That poll said no. The note remembers what this poll found, and has made one poll more that came to its exchange.
   abbrev pub SaidNo : Asked H P g → Asked H P g → Type 0
   SaidNo was is = SaysNo (asked_knows was) (tag_of was.goal) (asked_knows is)
+
+  -- so it did, with a note of this clock
+  pub record PollsAsked (clock : TableId × Setup) (was : Asked H P g) (answer : Bool) (is : Asked H P g) : Type 0 where
+    pub here : IsAskedAt clock is
+    pub polled : IsPolled was answer is
+    pub yes : answer ≡ true → KnowsExpired is
+    pub no : answer ≡ false → SaidNo was is

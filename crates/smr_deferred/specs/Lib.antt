@@ -6,6 +6,7 @@ pub mod Pass
 pub mod Retired
 pub mod RetireList
 pub mod Advancing
+pub mod Frames
 pub mod Goals
 pub mod Retiring
 pub mod Polling

@@ -1,16 +1,18 @@
 -- What a list keeps of its advances. Own.
-use Rattle.std.specs.Prelude.{◌≡◌, ◌≤◌, ℕ, Option}
+use Rattle.std.specs.Prelude.{◌≡◌, ◌≤◌, ◌+◌, ℕ, Option, None}
 use Rattle.std.specs.Option.{ForSome}
 use Rattle.smr_clock.specs.declared.setup.Setup.{Setup}
 use Rattle.smr_clock.specs.declared.refused.AdvanceRefused.{AdvanceRefused}
 use Rattle.smr_clock.specs.declared.host.Host.{Ghosts}
-use Rattle.smr_clock.specs.Belongs.{TableId}
+use Rattle.smr_clock.specs.declared.clock.Clock.{Clock}
+use Rattle.smr_clock.specs.declared.pass.Pass.{Pass}
+use Rattle.smr_clock.specs.Belongs.{TableId, IsOf, clock_id, view}
 use Rattle.smr_clock.specs.Notes.{note_clock}
 use Rattle.smr_deferred.specs.declared.asked.Asked.{Asked}
 use Rattle.smr_deferred.specs.declared.pace.Pace.{Pace}
 use Rattle.smr_deferred.specs.Asked.{IsAskedAt}
 use Rattle.smr_deferred.specs.Counts.{numbers_in}
-use Rattle.smr_deferred.specs.Numbers.{Numbers}
+use Rattle.smr_deferred.specs.Numbers.{Numbers, none}
 
 -- the limits that a list may have
 pub record IsLimit (limit : ℕ) : Type 0 where
@@ -40,3 +42,29 @@ module _ {H P : Type 0} {g : Ghosts H P} where
   pub record IsOfClock (clock : TableId × Setup) (pace : Pace H P g) : Type 0 where
     pub home : ForSome pace.home (λ note. note_clock note ≡ clock)
     pub asked : ForSome pace.asked (IsAskedAt clock)
+
+  -- the pass is of this clock, and what is kept of any clock is of it too
+  pub record AreOfClock (clock : Clock H P) (pass : Pass H P g) (pace : Pace H P g) : Type 0 where
+    pub here : IsOf clock pass
+    pub mine : IsOfClock (clock_id clock) pace
+
+  -- as it is made: nothing was asked or counted, and it is of any clock
+  pub record IsNewPace (least : ℕ) (pace : Pace H P g) : Type 0 where
+    pub limit : limit_in pace ≡ least
+    pub unmoved : moved_in pace ≡ 0
+    pub unasked : asked_in pace ≡ None
+    pub unrefused : refused_in pace ≡ None
+    pub numbers : numbers_of pace ≡ none
+    pub unused : (clock : TableId × Setup) → IsOfClock clock pace
+
+  -- they are, and this much is two above a write hand that the pass has seen, or less
+  pub record MayAdvance (clock : Clock H P) (pass : Pass H P g) (moved : ℕ) (pace : Pace H P g) : Type 0 where
+    pub here : IsOf clock pass
+    pub mine : IsOfClock (clock_id clock) pace
+    pub loaded : moved ≤ (view pass).holder.seen + 2
+
+  -- it is of this clock, and has asked for this goal, which isn't 0
+  pub record MayPoll (clock : TableId × Setup) (goal : ℕ) (pace : Pace H P g) : Type 0 where
+    pub mine : IsOfClock clock pace
+    pub some : 1 ≤ goal
+    pub reached : goal ≤ moved_in pace

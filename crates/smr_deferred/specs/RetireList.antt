@@ -10,7 +10,7 @@ use Rattle.smr_deferred.specs.declared.pace.Pace.{Pace}
 use Rattle.smr_deferred.specs.declared.retired.Retired.{Retired}
 use Rattle.smr_deferred.specs.declared.retire_list.RetireList.{RetireList}
 use Rattle.smr_deferred.specs.Numbers.{Numbers, none}
-use Rattle.smr_deferred.specs.Pace.{limit_in, moved_in, asked_in, refused_in, numbers_of, IsOfClock}
+use Rattle.smr_deferred.specs.Pace.{limit_in, moved_in, asked_in, refused_in, numbers_of, IsLimit, IsOfClock}
 
 module _ {T H P : Type 0} {g : Ghosts H P} where
   -- its values with their goals, the oldest first
@@ -61,3 +61,14 @@ module _ {T H P : Type 0} {g : Ghosts H P} where
     pub asked : asked_of list ≡ None
     pub refused : refused_of list ≡ None
     pub numbers : counts_of list ≡ none
+
+  -- and may be used with any clock: the limit is one that a list may have
+  pub record IsMade (limit : ℕ) (list : RetireList T H P g) : Type 0 where
+    pub in_range : IsLimit limit
+    pub new : IsNew limit list
+    pub unused : (clock : TableId × Setup) → IsUsedWith clock list
+
+-- no list may have the limit, which is named
+pub record RefusesLimit (limit named : ℕ) : Type 0 where
+  pub its_limit : named ≡ limit
+  pub out_of_range : IsLimit limit → ⊥

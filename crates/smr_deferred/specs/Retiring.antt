@@ -10,7 +10,7 @@ use Rattle.smr_deferred.specs.Goals.{CoversOpen}
 use Rattle.smr_deferred.specs.Numbers.{one_pushed}
 use Rattle.smr_deferred.specs.Pass.{LoadsWrite}
 use Rattle.smr_deferred.specs.Retired.{retired}
-use Rattle.smr_deferred.specs.RetireList.{listed, pace_of, counts_of, IsFull}
+use Rattle.smr_deferred.specs.RetireList.{listed, pace_of, counts_of, IsFull, IsSame}
 
 module _ {T H P : Type 0} {g : Ghosts H P} where
   -- The value is the newest, with the goal two above the write hand that was loaded for it, and its goal covers each section open then. Then the list advances, where that is due.
@@ -35,3 +35,8 @@ module _ {T H P : Type 0} {g : Ghosts H P} where
   abbrev pub RefusesRetire : View P → RetireList T H P g → RetireRefused → View P → Type 0
   RefusesRetire v was (Spent write) v' = LoadsWrite v write v' × (2 ^ 63 ≤ write + 2)
   RefusesRetire v was Memory v' = (v' ≡ v) × IsFull was
+
+  -- and the list is as it was
+  pub record DeclinesValue (v : View P) (was : RetireList T H P g) (refused : RetireRefused) (is : RetireList T H P g) (v' : View P) : Type 0 where
+    pub cause : RefusesRetire v was refused v'
+    pub same : IsSame was is

@@ -1,4 +1,4 @@
-ghost use Rattle.std.specs.Prelude.{◌≡◌, ◌≤◌, true, false};
+ghost use Rattle.std.specs.Prelude.{◌≤◌};
 ghost use Rattle.smr_clock.specs.Belongs.{clock_id};
 ghost use Rattle.smr_clock.specs.Goals.{number_of};
 ghost use Rattle.smr_clock.specs.Notes.{note_holder};
@@ -14,15 +14,12 @@ pub(crate) struct Asked<H: Host> {
 }
 
 impl<H: Host> Asked<H> {
-    ghost use Rattle.smr_deferred.specs.Asked.{IsAskedAt, KnowsExpired, IsPolled, SaidNo};
+    ghost use Rattle.smr_deferred.specs.Asked.{IsAskedAt, PollsAsked};
 
     /// Whether the goal is known to be expired, by one poll.
     pub(crate) fn poll(&mut self, clock: &Clock<H>) -> bool
-        requires here { IsAskedAt (clock_id clock.now) self.old }
-        ensures here { IsAskedAt (clock_id clock.now) self.new }
-        ensures polled { IsPolled self.old result self.new }
-        ensures yes { result ≡ true → KnowsExpired self.new }
-        ensures no { result ≡ false → SaidNo self.old self.new }
+        requires { IsAskedAt (clock_id clock.now) self.old }
+        ensures { PollsAsked (clock_id clock.now) self.old result self.new }
     {
         clock.poll(&mut self.note, &self.goal)
     }

@@ -29,22 +29,17 @@ pub(crate) struct Pace<H: Host> {
 }
 
 impl<H: Host> Pace<H> {
-    ghost use Rattle.std.specs.Prelude.{◌<◌, ◌+◌, ◌*◌, true, None, IsTrue, ◌↔◌};
-    ghost use Rattle.smr_clock.specs.Belongs.{IsOf, clock_id, view};
-    ghost use Rattle.smr_deferred.specs.Advancing.{AdvancesOnce, PacesFrom, PushesFrom, Rests, refusal_of};
-    ghost use Rattle.smr_deferred.specs.Numbers.{none, one_retired, one_pushed, IsDue};
-    ghost use Rattle.smr_deferred.specs.Pace.{limit_in, moved_in, asked_in, refused_in, numbers_of, IsLimit, IsOfClock};
-    ghost use Rattle.smr_deferred.specs.Pass.{KnowsMore, Stays};
+    ghost use Rattle.std.specs.Prelude.{◌+◌, ◌*◌, true, IsTrue, ◌↔◌};
+    ghost use Rattle.smr_clock.specs.Belongs.{clock_id, view};
+    ghost use Rattle.smr_deferred.specs.Advancing.{AdvancesOnce, PacesFrom, PushesFrom, refusal_of};
+    ghost use Rattle.smr_deferred.specs.Frames.{CountsTo, GoesOn, Settles};
+    ghost use Rattle.smr_deferred.specs.Numbers.{one_retired, one_pushed, IsDue};
+    ghost use Rattle.smr_deferred.specs.Pace.{limit_in, moved_in, refused_in, numbers_of, AreOfClock, IsLimit, IsNewPace, IsOfClock, MayAdvance, MayPoll};
     ghost use Rattle.smr_deferred.specs.Polling.{PollsOnce, KnowsOver};
 
     pub(crate) fn new(limit: u32) -> Pace<H>
         requires { IsLimit limit }
-        ensures limit { limit_in result ≡ limit }
-        ensures unmoved { moved_in result ≡ 0 }
-        ensures unasked { asked_in result ≡ None }
-        ensures unrefused { refused_in result ≡ None }
-        ensures numbers { numbers_of result ≡ none }
-        ensures clock { (clock : _) → IsOfClock clock result }
+        ensures { IsNewPace limit result }
     {
         Pace {
             limit,
@@ -65,12 +60,8 @@ impl<H: Host> Pace<H> {
 
     // From its first use on the list has a note, and so a clock.
     fn settle(&mut self, clock: &Clock<H>, pass: &mut Pass<H>)
-        requires here { IsOf clock.now pass.old }
-        requires mine { IsOfClock (clock_id clock.now) self.old }
-        ensures here { IsOf clock.now pass.new }
-        ensures mine { IsOfClock (clock_id clock.now) self.new }
-        ensures more { KnowsMore (view pass.old) (view pass.new) }
-        ensures rests { Rests (numbers_of self.old) self.old self.new }
+        requires { AreOfClock clock.now pass.old self.old }
+        ensures { Settles clock.now pass.old pass.new self.old self.new }
     {
         if self.home.is_none() {
             self.home = Some(clock.note(pass));
@@ -79,8 +70,7 @@ impl<H: Host> Pace<H> {
 
     // One value more was listed.
     fn count_value(&mut self)
-        ensures rests { Rests (one_retired (numbers_of self.old)) self.old self.new }
-        ensures mine { (clock : _) → IsOfClock clock self.old → IsOfClock clock self.new }
+        ensures { CountsTo (one_retired (numbers_of self.old)) self.old self.new }
     {
         self.counts = self.counts.retired();
         if self.since < self.limit {
@@ -90,8 +80,7 @@ impl<H: Host> Pace<H> {
 
     // One push more was called.
     fn count_push(&mut self)
-        ensures rests { Rests (one_pushed (numbers_of self.old)) self.old self.new }
-        ensures mine { (clock : _) → IsOfClock clock self.old → IsOfClock clock self.new }
+        ensures { CountsTo (one_pushed (numbers_of self.old)) self.old self.new }
     {
         self.counts = self.counts.pushed();
     }
@@ -110,16 +99,12 @@ impl<H: Host> Pace<H> {
         pass: &mut Pass<H>,
         moved: u64,
     ) -> Result<(), AdvanceRefused>
-        requires here { IsOf clock.now pass.old }
-        requires mine { IsOfClock (clock_id clock.now) self.old }
+        requires used { AreOfClock clock.now pass.old self.old }
         requires loaded { moved ≤ (view pass.old).holder.seen + 2 }
         requires room { limit_in self.old * ((numbers_of self.old).answered + 1) ≤ (numbers_of self.old).retired + limit_in self.old * (numbers_of self.old).pushed }
-        ensures here { IsOf clock.now pass.new }
-        ensures mine { IsOfClock (clock_id clock.now) self.new }
-        ensures stays { Stays (view pass.old) (view pass.new) }
+        ensures goes_on { GoesOn clock.now pass.old pass.new self.old self.new }
         ensures advances { AdvancesOnce H.copied (view pass.old) moved (numbers_of self.old) self.old self.new (view pass.new) }
         ensures kept { refused_in self.new ≡ refusal_of result }
-        ensures few { (view pass.new).holder.advances + (numbers_of self.old).answered ≤ (view pass.old).holder.advances + (numbers_of self.new).answered }
     {
         match clock.advance(pass) {
             Ok(goal) => {
@@ -141,14 +126,9 @@ impl<H: Host> Pace<H> {
     /// Counts a value that was listed with this goal, and then advances once if that is due. What a refused advance says is
     /// kept.
     pub(crate) fn retire(&mut self, clock: &Clock<H>, pass: &mut Pass<H>, goal: u64)
-        requires here { IsOf clock.now pass.old }
-        requires mine { IsOfClock (clock_id clock.now) self.old }
-        requires loaded { goal ≤ (view pass.old).holder.seen + 2 }
-        ensures here { IsOf clock.now pass.new }
-        ensures mine { IsOfClock (clock_id clock.now) self.new }
-        ensures stays { Stays (view pass.old) (view pass.new) }
+        requires { MayAdvance clock.now pass.old goal self.old }
+        ensures goes_on { GoesOn clock.now pass.old pass.new self.old self.new }
         ensures paces { PacesFrom H.copied (view pass.old) goal self.old self.new (view pass.new) }
-        ensures few { (view pass.new).holder.advances + (numbers_of self.old).answered ≤ (view pass.old).holder.advances + (numbers_of self.new).answered }
     {
         self.settle(clock, pass);
         self.count_value();
@@ -164,15 +144,10 @@ impl<H: Host> Pace<H> {
         pass: &mut Pass<H>,
         moved: u64,
     ) -> Result<(), AdvanceRefused>
-        requires here { IsOf clock.now pass.old }
-        requires mine { IsOfClock (clock_id clock.now) self.old }
-        requires loaded { moved ≤ (view pass.old).holder.seen + 2 }
-        ensures here { IsOf clock.now pass.new }
-        ensures mine { IsOfClock (clock_id clock.now) self.new }
-        ensures stays { Stays (view pass.old) (view pass.new) }
+        requires { MayAdvance clock.now pass.old moved self.old }
+        ensures goes_on { GoesOn clock.now pass.old pass.new self.old self.new }
         ensures advances { PushesFrom H.copied (view pass.old) moved self.old self.new (view pass.new) }
         ensures kept { refused_in self.new ≡ refusal_of result }
-        ensures few { (view pass.new).holder.advances + (numbers_of self.old).answered ≤ (view pass.old).holder.advances + (numbers_of self.new).answered }
     {
         self.settle(clock, pass);
         self.count_push();
@@ -188,9 +163,7 @@ impl<H: Host> Pace<H> {
 
     /// Whether a goal that the list has asked for is known to be expired, by one poll.
     pub(crate) fn poll(&mut self, clock: &Clock<H>, goal: u64) -> bool
-        requires mine { IsOfClock (clock_id clock.now) self.old }
-        requires some { 1 ≤ goal }
-        requires reached { goal ≤ moved_in self.old }
+        requires { MayPoll (clock_id clock.now) goal self.old }
         ensures mine { IsOfClock (clock_id clock.now) self.new }
         ensures polled { PollsOnce goal result self.old self.new }
         ensures over { result ≡ true → KnowsOver goal self.new }

@@ -22,22 +22,20 @@ pub struct RetireList<T, H: Host> {
 }
 
 impl<T, H: Host> RetireList<T, H> {
-    ghost use Rattle.std.specs.Prelude.{◌≡◌, ◌<◌, ◌+◌, ℕ, [], Ok, Err, Some, None, IfOk, IfErr, OnOk, OnErr, IfSome};
-    ghost use Rattle.smr_clock.specs.Belongs.{IsOf, clock_id, view, holder};
+    ghost use Rattle.std.specs.Prelude.{◌≡◌, ◌<◌, ℕ, [], Ok, Err, Some, None, IfOk, IfErr, OnOk, IfSome};
+    ghost use Rattle.smr_clock.specs.Belongs.{view};
     ghost use Rattle.smr_deferred.specs.Advancing.{refusal_of};
-    ghost use Rattle.smr_deferred.specs.Pace.{IsLimit};
+    ghost use Rattle.smr_deferred.specs.Frames.{GoesOn, KeepsPass};
+    ghost use Rattle.smr_deferred.specs.Pace.{AreOfClock};
     ghost use Rattle.smr_deferred.specs.Reaping.{Reaps};
-    ghost use Rattle.smr_deferred.specs.RetireList.{listed, limit_of, moved_of, refused_of, counts_of, IsUsedWith, IsSame, IsNew};
+    ghost use Rattle.smr_deferred.specs.RetireList.{listed, pace_of, moved_of, refused_of, IsMade, RefusesLimit};
     ghost use Rattle.smr_deferred.specs.Retired.{oldest_goal};
-    ghost use Rattle.smr_deferred.specs.Retiring.{Retires, Pushes, RefusesRetire};
+    ghost use Rattle.smr_deferred.specs.Retiring.{Retires, Pushes, DeclinesValue};
 
     /// An empty list that advances once in `limit` retirements, which is 1 to 65,536.
     pub fn new(alloc: Global, limit: u32) -> Result<RetireList<T, H>, LimitRefused>
-        ensures in_range { OnOk result (IsLimit limit) }
-        ensures new { IfOk result (IsNew limit) }
-        ensures unused { IfOk result (λ list. (clock : _) → IsUsedWith clock list) }
-        ensures refused { IfErr result (λ refused. refused.limit ≡ limit) }
-        ensures out_of_range { OnErr result (IsLimit limit → ⊥) }
+        ensures made { IfOk result (IsMade limit) }
+        ensures refused { IfErr result (λ refused. RefusesLimit limit refused.limit) }
     {
         if limit == 0 || limit > 65_536 {
             return Err(LimitRefused { limit });
@@ -58,18 +56,10 @@ impl<T, H: Host> RetireList<T, H> {
         pass: &mut Pass<H>,
         value: T,
     ) -> Result<(), (T, RetireRefused)>
-        requires here { IsOf clock.now pass.old }
-        requires mine { IsUsedWith (clock_id clock.now) self.old }
-        ensures here { IsOf clock.now pass.new }
-        ensures mine { IsUsedWith (clock_id clock.now) self.new }
-        ensures phase { (holder pass.new).phase ≡ (holder pass.old).phase }
-        ensures seen { (holder pass.old).seen ≤ (holder pass.new).seen }
-        ensures host { (view pass.new).host ≡ (view pass.old).host }
-        ensures advances { (holder pass.new).advances + (counts_of self.old).answered ≤ (holder pass.old).advances + (counts_of self.new).answered }
+        requires { AreOfClock clock.now pass.old (pace_of self.old) }
+        ensures goes_on { GoesOn clock.now pass.old pass.new (pace_of self.old) (pace_of self.new) }
         ensures retired { OnOk result (Retires H.copied (view pass.old) value self.old self.new (view pass.new)) }
-        ensures back { IfErr result (λ (back, refused). back ≡ value) }
-        ensures refused { IfErr result (λ (back, refused). RefusesRetire (view pass.old) self.old refused (view pass.new)) }
-        ensures same { OnErr result (IsSame self.old self.new) }
+        ensures refused { IfErr result (λ (back, refused). (back ≡ value) × DeclinesValue (view pass.old) self.old refused self.new (view pass.new)) }
     {
         if self.queue.reserve(1).is_err() {
             return Err((value, RetireRefused::Memory));
@@ -87,14 +77,8 @@ impl<T, H: Host> RetireList<T, H> {
     /// Loads the hands and advances once, so that the values listed so far can be reaped once no section before their goals is
     /// open. Refused exactly as that advance.
     pub fn push(&mut self, clock: &Clock<H>, pass: &mut Pass<H>) -> Result<(), AdvanceRefused>
-        requires here { IsOf clock.now pass.old }
-        requires mine { IsUsedWith (clock_id clock.now) self.old }
-        ensures here { IsOf clock.now pass.new }
-        ensures mine { IsUsedWith (clock_id clock.now) self.new }
-        ensures phase { (holder pass.new).phase ≡ (holder pass.old).phase }
-        ensures seen { (holder pass.old).seen ≤ (holder pass.new).seen }
-        ensures host { (view pass.new).host ≡ (view pass.old).host }
-        ensures advances { (holder pass.new).advances + (counts_of self.old).answered ≤ (holder pass.old).advances + (counts_of self.new).answered }
+        requires { AreOfClock clock.now pass.old (pace_of self.old) }
+        ensures goes_on { GoesOn clock.now pass.old pass.new (pace_of self.old) (pace_of self.new) }
         ensures pushed { Pushes H.copied (view pass.old) self.old self.new (view pass.new) }
         ensures kept { refused_of self.new ≡ refusal_of result }
     {
@@ -114,11 +98,8 @@ impl<T, H: Host> RetireList<T, H> {
     /// The oldest value, where a poll says that no section before its goal is open; from here on none ever is. None where the
     /// list is empty. The poll is by the list's own note, so the pass stays as it is.
     pub fn reap(&mut self, clock: &Clock<H>, pass: &mut Pass<H>) -> Result<Option<T>, ReapNo>
-        requires here { IsOf clock.now pass.old }
-        requires mine { IsUsedWith (clock_id clock.now) self.old }
-        ensures here { IsOf clock.now pass.new }
-        ensures mine { IsUsedWith (clock_id clock.now) self.new }
-        ensures pass { view pass.new ≡ view pass.old }
+        requires { AreOfClock clock.now pass.old (pace_of self.old) }
+        ensures kept { KeepsPass clock.now pass.old pass.new (pace_of self.new) }
         ensures reaps { Reaps self.old result self.new }
         ensures none { listed self.old ≡ [] → result ≡ Ok None }
         ensures ahead { (goal : ℕ) → oldest_goal (listed self.old) ≡ Some goal → moved_of self.old < goal → result ≡ Err (ReapNo.Ahead goal (moved_of self.old)) }

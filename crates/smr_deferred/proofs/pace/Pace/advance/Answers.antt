@@ -1,4 +1,4 @@
-use Rattle.std.proofs.Common.{refl}
+use Rattle.std.proofs.Common.{refl, rules}
 use Rattle.smr_clock.specs.Belongs.{view}
 use Rattle.smr_deferred.proofs.Pacing.{goal_reaches}
 use Rattle.smr_deferred.proofs.pace.Pace.advance.Goals as goal
@@ -17,3 +17,6 @@ returns-in-Ok-clause-advances g c =
       numbers = c.answered.ensures;
       limit = refl;
     }
+
+pub returns-in-Ok-clause-goes_on : goal.returns-in-Ok-clause-goes_on
+returns-in-Ok-clause-goes_on g c = record { here = search rules; mine = search rules; stays = search rules; few = search rules }

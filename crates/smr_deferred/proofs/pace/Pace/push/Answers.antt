@@ -3,8 +3,8 @@ use Rattle.smr_deferred.specs.Numbers.{one_pushed}
 use Rattle.smr_deferred.proofs.Pacing.{rests_twice, advances_since}
 use Rattle.smr_deferred.proofs.pace.Pace.push.Goals as goal
 
-pub advance-requires-clause-mine : goal.advance-requires-clause-mine
-advance-requires-clause-mine g c = c.count_push.ensures.mine _ c.settle.ensures.mine
+pub advance-requires-clause-used : goal.advance-requires-clause-used
+advance-requires-clause-used g c = record { here = c.settle.ensures.here; mine = c.count_push.ensures.mine _ c.settle.ensures.mine }
 
 pub returns-clause-advances : goal.returns-clause-advances
 returns-clause-advances g c =

@@ -1,14 +1,20 @@
-use Rattle.std.proofs.Common.{◌≡◌, true, false, refl}
+use Rattle.std.proofs.Common.{◌≡◌, true, false, refl, rules}
 use Rattle.smr_clock.specs.Belongs.{view}
 use Rattle.smr_deferred.specs.Numbers.{one_retired}
 use Rattle.smr_deferred.proofs.Pacing.{rests_twice, paces_due, paces_not_due}
 use Rattle.smr_deferred.proofs.pace.Pace.retire.Goals as goal
 
-pub advance-requires-clause-mine : goal.advance-requires-clause-mine
-advance-requires-clause-mine g c = c.count_value.ensures.mine _ c.settle.ensures.mine
+pub advance-requires-clause-used : goal.advance-requires-clause-used
+advance-requires-clause-used g c = record { here = c.settle.ensures.here; mine = c.count_value.ensures.mine _ c.settle.ensures.mine }
 
-pub returns-else-is_due-clause-mine : goal.returns-else-is_due-clause-mine
-returns-else-is_due-clause-mine g c = c.count_value.ensures.mine _ c.settle.ensures.mine
+pub returns-else-is_due-clause-goes_on : goal.returns-else-is_due-clause-goes_on
+returns-else-is_due-clause-goes_on g c =
+    record {
+      here = c.settle.ensures.here;
+      mine = c.count_value.ensures.mine _ c.settle.ensures.mine;
+      stays = search rules;
+      few = search rules;
+    }
 
 pub returns-then-is_due-clause-paces : goal.returns-then-is_due-clause-paces
 returns-then-is_due-clause-paces g c =
