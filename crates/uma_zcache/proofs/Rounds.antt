@@ -1,6 +1,6 @@
 -- Imports one after another, and releases.
 use Rattle.std.proofs.Common.{◌≡◌, ◌≢◌, ◌<◌, ℕ, List, [], ◌∷◌, ◌++◌, Option, Some, None, length, All, inl, inr, refl, sym, ap, ◌∙◌, subst, arith, append_assoc}
-use Rattle.std.specs.Prelude.{Result, Ok, Err, OnOk, OnErr, IfErr, slice_get, slice_set}
+use Rattle.std.specs.Prelude.{Result, Ok, Err, OnOk, IfErr, slice_get, slice_set}
 use Rattle.std.proofs.lemmas.List.Elements.{All-push, All-weaker}
 use Rattle.uma_zcache.specs.declared.held.Held.{Held}
 use Rattle.uma_zcache.specs.declared.key.ZKey.{ZKey}
@@ -11,6 +11,7 @@ use Rattle.uma_zcache.specs.Held.{held_base, held_no, held_book}
 use Rattle.uma_zcache.specs.Imports.{HasEntry, Imports, RefusesImport, ImportsAll, StopsImporting, Fills, TurnsAway}
 use Rattle.uma_zcache.specs.Locked.{entries_in, book_in, turned_in, counted, IsSound, IsSameCache, CountsNothing, MovesNothing}
 use Rattle.uma_zcache.specs.Releases.{Releases, ReleasesAll}
+use Rattle.uma_zcache.specs.Rounds.{ImportsFull, StopsShort}
 use Rattle.uma_zcache.specs.Rule.{Keeps}
 use Rattle.uma_zcache.proofs.Counts.{get_set_here, get_set_else}
 
@@ -58,9 +59,9 @@ module _ {I : Type 0} {g : _} where
   pub stops : (old mid new : LockedCache I g) (items : List Held) (why : ZAllocRefused) → ImportsAll old items mid → RefusesImport mid why new → StopsImporting old items why new
   stops old mid new items why imports refused = record { left = mid; imports = imports; refused = refused }
 
-  pub fills : (old new : LockedCache I g) (bucket : ℕ) (items : List Held) (end : Result (Unit {0}) ZAllocRefused) → OnOk end (ImportsAll old items new) → OnOk end (length items ≡ bucket) → IfErr end (λ why. StopsImporting old items why new) → OnErr end (length items < bucket) → Fills old bucket items new
-  fills old new bucket items (Ok done) all full stopped fewer = inl (full, all)
-  fills old new bucket items (Err why) all full stopped fewer = inr (fewer, why, stopped)
+  pub fills : (old new : LockedCache I g) (bucket : ℕ) (items : List Held) (end : Result (Unit {0}) ZAllocRefused) → OnOk end (ImportsFull bucket old items new) → IfErr end (λ why. StopsShort bucket old items why new) → Fills old bucket items new
+  fills old new bucket items (Ok done) whole stopped = inl (whole.full, whole.all)
+  fills old new bucket items (Err why) whole stopped = inr (stopped.fewer, why, stopped.stops)
 
   -- the first import was refused, and that was counted
   pub turns_away : (old mid new : LockedCache I g) (items : List Held) (why : ZAllocRefused) → items ≡ [] → StopsImporting old items why mid → MovesNothing mid new → turned_in new ≡ turned_in mid ++ counted why → IsSameCache mid new → TurnsAway old why new

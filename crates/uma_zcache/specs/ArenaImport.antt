@@ -1,5 +1,5 @@
 -- Own: what contracts see of an importer of ranges.
-use Rattle.std.specs.Prelude.{◌≡◌, ◌<◌, ◌⊎◌, ◌^◌, ℕ, List}
+use Rattle.std.specs.Prelude.{◌≡◌, ◌<◌, ◌⊎◌, ◌^◌, ℕ, List, []}
 use Rattle.std.specs.Int.{next_multiple_of}
 use Rattle.vmem_arena.specs.Tags.{Tags, greatest_free}
 use Rattle.vmem_arena.specs.TakenBases.{taken_bases}
@@ -24,3 +24,9 @@ LacksRange import size greatest =
 -- no importer takes ranges of this size
 abbrev pub HasNoSize : ℕ → Type 0
 HasNoSize size = (size ≡ 0) ⊎ (2 ^ 62 < size)
+
+-- it takes ranges of this size of this arena, and has taken none
+pub record IsNewImport (tags : Tags) (quantity : ℕ) (import : ArenaImport) : Type 0 where
+  pub arena : import_tags import ≡ tags
+  pub size : import_size import ≡ quantity
+  pub outside : import_outside import ≡ []

@@ -1,5 +1,5 @@
 -- Own: what contracts see of a cache zone, and what each of its calls did under the lock.
-use Rattle.std.specs.Prelude.{◌≡◌, ◌<◌, ◌⊎◌, ◌++◌, ℕ, List, [], ◌∷◌, All, length, map}
+use Rattle.std.specs.Prelude.{◌≡◌, ◌≤◌, ◌<◌, ◌⊎◌, ◌++◌, ℕ, List, [], ◌∷◌, All, length, map}
 use Rattle.deed_book.specs.Deed.{BookId}
 use Rattle.deed_book.specs.BookId.{numbers_of}
 use Rattle.keyed_lock.specs.KeyedLock.{lock_key}
@@ -39,6 +39,23 @@ module _ {I : Type 0} {g : _} where
     pub fails : seat_fails seat ≡ key_fails (cache_key cache)
     pub held : All (IsHeldOf cache) (held_in seat)
 
+  -- and has no item
+  pub record IsEmptySeatOf (cache : ZCache I g) (seat : ZSeat) : Type 0 where
+    pub mine : IsSeatOf cache seat
+    pub empty : held_in seat ≡ []
+
+  -- the seat and the item are of this cache zone
+  pub record MayFree (cache : ZCache I g) (seat : ZSeat) (item : Held) : Type 0 where
+    pub mine : IsSeatOf cache seat
+    pub held : IsHeldOf cache item
+
+  -- the seat has an empty stack for so many items, and no cause
+  pub record IsNewSeat (cache : ZCache I g) (size : ℕ) (seat : ZSeat) : Type 0 where
+    pub mine : IsSeatOf cache seat
+    pub bucket : bucket_of seat ≡ size
+    pub empty : held_in seat ≡ []
+    pub causes : seat_causes seat ≡ []
+
   -- One import round gave these items, as the cache zone stood under its lock: for a stack of this size. Each item has the base of its number's entry.
   pub record IsOneRound (cache : ZCache I g) (bucket : ℕ) (held : List Held) : Type 0 where
     pub was : LockedCache I g
@@ -70,8 +87,16 @@ module _ {I : Type 0} {g : _} where
     pub kept : Keeps (cache_key cache) was
     pub counts : count ≡ out_of (entries_in was)
 
-  -- The item lay on top of the stack; or the stack was empty, and one round gave the item and those that lie there now. The seat meets no refusal.
+  -- One round gave the items that the seat has now, one or more. The seat meets no refusal.
+  pub record GivesRound (cache : ZCache I g) (old new : ZSeat) : Type 0 where
+    pub round : IsOneRound cache (bucket_of old) (held_in new)
+    pub some : 1 ≤ length (held_in new)
+    pub causes : seat_causes new ≡ seat_causes old
+    pub same : IsSameSeat old new
+
+  -- The item, which is of this cache zone, lay on top of the stack; or the stack was empty, and one round gave the item and those that lie there now. The seat meets no refusal.
   pub record Allocs (cache : ZCache I g) (old : ZSeat) (held : Held) (new : ZSeat) : Type 0 where
+    pub mine : IsHeldOf cache held
     pub from : (held_in old ≡ held_in new ++ held ∷ []) ⊎ ((held_in old ≡ []) × IsOneRound cache (bucket_of old) (held_in new ++ held ∷ []))
     pub causes : seat_causes new ≡ seat_causes old
     pub same : IsSameSeat old new

@@ -7,7 +7,8 @@ pub mod Stack
 pub mod Seat
 pub mod Locked
 pub mod Imports
-pub mod Releases
 pub mod Rule
+pub mod Releases
+pub mod Rounds
 pub mod Cache
 pub mod ArenaImport

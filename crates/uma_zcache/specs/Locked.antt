@@ -1,7 +1,8 @@
 -- Own: what contracts see of what lies behind a cache zone's lock, and what it always keeps.
-use Rattle.std.specs.Prelude.{◌≡◌, ◌≤◌, ℕ, List, [], ◌∷◌, Option, Some, None, map}
+use Rattle.std.specs.Prelude.{◌≡◌, ◌≤◌, ℕ, List, [], ◌∷◌, Option, Some, None, map, replicate}
 use Rattle.deed_book.specs.declared.cause.Cause.{Cause}
 use Rattle.deed_book.specs.Book.{book_table, zones_of}
+use Rattle.deed_book.specs.BookId.{numbers_of}
 use Rattle.deed_book.specs.Deed.{BookId, TableId}
 use Rattle.deed_book.specs.FailBook.{fail_book_table, causes_of}
 use Rattle.uma_zcache.specs.declared.locked.LockedCache.{LockedCache}
@@ -62,6 +63,12 @@ module _ {I : Type 0} {g : _} where
     pub distinct : (base : ℕ) → numbers_with base (entries_in locked) ≤ 1
     pub exact : (base : ℕ) → numbers_with base (entries_in locked) ≡ times base (outside_in locked)
     pub listed : causes_in_book locked ≡ map alloc_cause (turned_in locked)
+
+  -- it has so many numbers, all at home
+  pub record IsNewCache (count : ℕ) (locked : LockedCache I g) : Type 0 where
+    pub home : entries_in locked ≡ replicate count None
+    pub numbers : numbers_of (book_in locked) ≡ count
+    pub sound : IsSound locked
 
   -- it is the same cache zone: by its book of numbers and its fail book
   pub record IsSameCache (old new : LockedCache I g) : Type 0 where

@@ -20,7 +20,7 @@ pub struct ArenaImport {
 impl ArenaImport {
     ghost use Rattle.std.specs.Prelude.{◌≡◌, ◌⊎◌, [], Err, IfOk, IfErr};
     ghost use Rattle.vmem_arena.specs.TakenBases.{taken_bases};
-    ghost use Rattle.uma_zcache.specs.ArenaImport.{import_tags, import_size, import_outside, HasNoSize};
+    ghost use Rattle.uma_zcache.specs.ArenaImport.{IsNewImport, HasNoSize};
 
     /// Takes ranges of `size`, which is 1 to 2^62, of an arena of which nothing is taken.
     ///
@@ -29,9 +29,7 @@ impl ArenaImport {
     /// `SizeRefused` with the size, where it is another.
     pub fn new(arena: Arena, size: u64) -> Result<ArenaImport, SizeRefused>
         requires { taken_bases arena.ranges ≡ [] }
-        ensures arena { IfOk result (λ import. import_tags import ≡ arena) }
-        ensures size { IfOk result (λ import. import_size import ≡ size) }
-        ensures outside { IfOk result (λ import. import_outside import ≡ []) }
+        ensures new { IfOk result (IsNewImport arena size) }
         ensures refused { IfErr result (λ why. (why.size ≡ size) × HasNoSize size) }
     {
         if size == 0 || size > MOST_SIZE {

@@ -1,7 +1,5 @@
-ghost use Rattle.std.specs.Prelude.{◌≡◌, ◌≤◌, ◌++◌, [], Err, IfOk, IfErr, OnOk, OnErr, length, map};
-ghost use Rattle.uma_zcache.specs.Locked.{counted};
-ghost use Rattle.uma_zcache.specs.Refused.{alloc_cause, HasNoNumbers, RefusesNumbers, HasNoBucket, RefusesBucket};
-ghost use Rattle.uma_zcache.specs.Seat.{held_in, bucket_of, seat_causes, IsSameSeat};
+ghost use Rattle.std.specs.Prelude.{◌≡◌, ◌≤◌, [], Err, IfOk, IfErr, OnOk};
+ghost use Rattle.uma_zcache.specs.Refused.{HasNoNumbers, RefusesNumbers, HasNoBucket, RefusesBucket};
 
 use crate::held::Held;
 use crate::import::Import;
@@ -33,10 +31,11 @@ pub struct ZCache<I: Import> {
 impl<I: Import> ZCache<I> {
     ghost use Rattle.uma_zcache.specs.Cache.{
       cache_numbers,
-      IsHeldOf,
+      IsEmptySeatOf,
+      MayFree,
       IsSeatOf,
-      IsOneRound,
-      IsTurnedAway,
+      IsNewSeat,
+      GivesRound,
       AreOut,
       Allocs,
       RefusesAlloc,
@@ -69,10 +68,7 @@ impl<I: Import> ZCache<I> {
     ///
     /// `Bucket` for another size, else `Memory`.
     pub fn seat<R: Wait>(&self, rt: &R, alloc: Global, bucket: u32) -> Result<ZSeat, ZSeatRefused>
-        ensures mine { IfOk result (IsSeatOf self.now) }
-        ensures bucket { IfOk result (λ seat. bucket_of seat ≡ bucket) }
-        ensures empty { IfOk result (λ seat. held_in seat ≡ []) }
-        ensures causes { IfOk result (λ seat. seat_causes seat ≡ []) }
+        ensures new { IfOk result (IsNewSeat self.now bucket) }
         ensures out_of_range { HasNoBucket bucket → result ≡ Err (ZSeatRefused.Bucket bucket) }
         ensures err { IfErr result (RefusesBucket bucket) }
     {
@@ -96,7 +92,6 @@ impl<I: Import> ZCache<I> {
     ) -> Result<Held, ZAllocRefused>
         requires { IsSeatOf self.now seat.old }
         ensures allocs { IfOk result (λ held. Allocs self.now seat.old held seat.new) }
-        ensures held { IfOk result (IsHeldOf self.now) }
         ensures refused { IfErr result (λ why. RefusesAlloc self.now seat.old why seat.new) }
         ensures mine { IsSeatOf self.now seat.new }
     {
@@ -113,8 +108,7 @@ impl<I: Import> ZCache<I> {
     /// Puts an item on the seat's stack. Where the stack is full, all of it is released first; it waits until it has the
     /// lock. It takes no memory.
     pub fn free<R: Wait>(&self, rt: &R, seat: &mut ZSeat, held: Held)
-        requires mine { IsSeatOf self.now seat.old }
-        requires held { IsHeldOf self.now held }
+        requires { MayFree self.now seat.old held }
         ensures frees { Frees self.now seat.old held seat.new }
         ensures mine { IsSeatOf self.now seat.new }
     {
@@ -145,15 +139,9 @@ impl<I: Import> ZCache<I> {
 
     /// One import round into the stack of a seat, which is empty.
     fn fill<R: Wait>(&self, rt: &R, alloc: Global, seat: &mut ZSeat) -> Result<(), ZAllocRefused>
-        requires mine { IsSeatOf self.now seat.old }
-        requires empty { held_in seat.old ≡ [] }
-        ensures round { OnOk result (IsOneRound self.now (bucket_of seat.old) (held_in seat.new)) }
-        ensures some { OnOk result (1 ≤ length (held_in seat.new)) }
-        ensures turned { IfErr result (IsTurnedAway self.now) }
-        ensures none { OnErr result (held_in seat.new ≡ []) }
-        ensures nothing { OnOk result (seat_causes seat.new ≡ seat_causes seat.old) }
-        ensures causes { IfErr result (λ why. seat_causes seat.new ≡ seat_causes seat.old ++ map alloc_cause (counted why)) }
-        ensures seat { IsSameSeat seat.old seat.new }
+        requires { IsEmptySeatOf self.now seat.old }
+        ensures given { OnOk result (GivesRound self.now seat.old seat.new) }
+        ensures refused { IfErr result (λ why. RefusesAlloc self.now seat.old why seat.new) }
         ensures mine { IsSeatOf self.now seat.new }
     {
         let mut guard = self.lock.lock(rt);

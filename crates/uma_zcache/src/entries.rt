@@ -1,6 +1,6 @@
-ghost use Rattle.std.specs.Prelude.{◌≡◌, ◌≤◌, ◌<◌, ℕ, true, IfOk, Some, None, length, replicate, slice_set, vec_capacity};
-ghost use Rattle.uma_zcache.specs.Bases.{times};
-ghost use Rattle.uma_zcache.specs.Entries.{out_of, is_out, IsHome, IsOutWith};
+ghost use Rattle.std.specs.Prelude.{◌≡◌, ◌≤◌, ◌<◌, true, IfOk, None, length, replicate, vec_capacity};
+ghost use Rattle.uma_zcache.specs.Bases.{ListsEach};
+ghost use Rattle.uma_zcache.specs.Entries.{out_of, is_out, CountsOut, PutsOut, PutsHome};
 
 use std::alloc::{AllocError, Global};
 use std::marker::Model;
@@ -46,8 +46,7 @@ impl Entries {
 
     /// How many numbers are out.
     pub(crate) fn out(&self) -> u32
-        ensures out { result ≡ out_of self.now }
-        ensures within { result ≤ length self.now }
+        ensures { CountsOut self.now result }
     {
         (self.bases.len() - self.home.len()) as u32
     }
@@ -55,8 +54,7 @@ impl Entries {
     /// Puts a number out with this base.
     pub(crate) fn put_out(&mut self, base: u64) -> u32
         requires { out_of self.old < length self.old }
-        ensures home { IsHome self.old result }
-        ensures entry { self.new ≡ slice_set self.old result (Some base) }
+        ensures { PutsOut self.old result base self.new }
     {
         let Some(no) = self.home.pop() else {
             unreachable!()
@@ -68,8 +66,7 @@ impl Entries {
     /// Puts a number home that is out, and answers its base.
     pub(crate) fn put_home(&mut self, no: u32) -> u64
         requires { is_out self.old no ≡ true }
-        ensures was { IsOutWith self.old no result }
-        ensures entry { self.new ≡ slice_set self.old no None }
+        ensures { PutsHome self.old no result self.new }
     {
         let Some(base) = self.bases[no as usize] else {
             unreachable!()
@@ -89,10 +86,7 @@ fn no_bases(alloc: Global, numbers: u32) -> Result<Vec<Option<u64>>, AllocError>
 
 /// The numbers below `numbers`, the least at the end.
 fn all_numbers(alloc: Global, numbers: u32) -> Result<Vec<u32>, AllocError>
-    ensures listed { IfOk result (λ home. (number : ℕ) → number < numbers → times number home.items ≡ 1) }
-    ensures others { IfOk result (λ home. (number : ℕ) → numbers ≤ number → times number home.items ≡ 0) }
-    ensures all { IfOk result (λ home. length home.items ≡ numbers) }
-    ensures room { IfOk result (λ home. vec_capacity home ≡ numbers) }
+    ensures { IfOk result (λ home. ListsEach numbers home.items (vec_capacity home)) }
 {
     let mut home = Vec::with_capacity(alloc, numbers as usize)?;
     for passed in 0..numbers {

@@ -1,4 +1,4 @@
-ghost use Rattle.std.specs.Prelude.{◌≡◌, ◌<◌};
+ghost use Rattle.std.specs.Prelude.{◌≡◌};
 
 use deed_book::Deed;
 
@@ -11,8 +11,7 @@ pub struct Held {
 }
 
 impl Held {
-    ghost use Rattle.deed_book.specs.BookId.{numbers_of};
-    ghost use Rattle.uma_zcache.specs.Held.{held_base, held_no, held_book};
+    ghost use Rattle.uma_zcache.specs.Held.{held_base, IsNoOf};
 
     /// The base that the importer gave.
     pub fn base(&self) -> u64
@@ -23,8 +22,7 @@ impl Held {
 
     /// Its number in its cache zone, below the count of numbers. No two items that are outside have one number.
     pub fn no(&self) -> u32
-        ensures number { result ≡ held_no self.now }
-        ensures below { result < numbers_of (held_book self.now) }
+        ensures { IsNoOf self.now result }
     {
         self.deed.no()
     }

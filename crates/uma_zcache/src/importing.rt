@@ -1,15 +1,11 @@
-ghost use Rattle.std.specs.Prelude.{◌≡◌, ◌≤◌, ◌<◌, ◌++◌, [], All, IfOk, IfErr, OnOk, OnErr, length, map};
-ghost use Rattle.uma_zcache.specs.Held.{held_book};
-ghost use Rattle.uma_zcache.specs.Imports.{HasEntry, Imports, RefusesImport, ImportsAll, StopsImporting, Fills, TurnsAway};
-ghost use Rattle.uma_zcache.specs.Locked.{book_in, fails_in, turned_in, counted, IsSound, IsSameCache, CountsNothing, MovesNothing};
-ghost use Rattle.uma_zcache.specs.Refused.{alloc_cause};
-ghost use Rattle.uma_zcache.specs.Rule.{Keeps};
-ghost use Rattle.uma_zcache.specs.Seat.{held_in, bucket_of, seat_fails, seat_causes, IsSameSeat};
+ghost use Rattle.std.specs.Prelude.{IfOk, IfErr, OnOk};
+ghost use Rattle.uma_zcache.specs.Imports.{Imports, RefusesImport};
+ghost use Rattle.uma_zcache.specs.Locked.{IsSound};
+ghost use Rattle.uma_zcache.specs.Rounds.{CountsRefusal, FillsSeat, ImportsFull, KeepsSeat, KeepsStack, MayCount, MayFill, MayImport, StopsShort, TurnsSeatAway};
 ghost use Rattle.uma_zcache.specs.Stack.{stack_items, stack_size};
 
 use crate::held::Held;
 use crate::import::Import;
-use crate::key::ZKey;
 use crate::locked::LockedCache;
 use crate::refused::ZAllocRefused;
 use crate::seat::ZSeat;
@@ -20,19 +16,10 @@ impl<I: Import> LockedCache<I> {
     /// One import round into the stack of a seat, which is empty: up to a bucket's worth, until one is refused. Where none
     /// came, the refusal is the answer. It is counted in the fail book and in the seat's share, but for want of memory.
     pub(crate) fn round(&mut self, alloc: Global, seat: &mut ZSeat) -> Result<(), ZAllocRefused>
-        requires sound { IsSound self.old }
-        requires empty { held_in seat.old ≡ [] }
-        requires mine { seat_fails seat.old ≡ fails_in self.old }
-        ensures fills { OnOk result (Fills self.old (bucket_of seat.old) (held_in seat.new) self.new) }
-        ensures some { OnOk result (1 ≤ length (held_in seat.new)) }
-        ensures entries { All (HasEntry self.new) (held_in seat.new) }
-        ensures books { All (λ held. held_book held ≡ book_in self.old) (held_in seat.new) }
-        ensures turned { IfErr result (λ why. TurnsAway self.old why self.new) }
-        ensures none { OnErr result (held_in seat.new ≡ []) }
-        ensures nothing { OnOk result (seat_causes seat.new ≡ seat_causes seat.old) }
-        ensures causes { IfErr result (λ why. seat_causes seat.new ≡ seat_causes seat.old ++ map alloc_cause (counted why)) }
-        ensures seat { IsSameSeat seat.old seat.new }
-        ensures keeps { (key : ZKey) → Keeps key self.old → Keeps key self.new }
+        requires { MayFill self.old seat.old }
+        ensures fills { OnOk result (FillsSeat self.old seat.old self.new seat.new) }
+        ensures turned { IfErr result (λ why. TurnsSeatAway self.old seat.old why self.new seat.new) }
+        ensures kept { KeepsSeat self.old seat.old self.new seat.new }
     {
         let end = self.import_all(alloc, &mut seat.stack);
         if seat.stack.len() > 0 {
@@ -45,18 +32,10 @@ impl<I: Import> LockedCache<I> {
 
     /// Imports until the stack is full, or one is refused.
     fn import_all(&mut self, alloc: Global, stack: &mut Stack) -> Result<(), ZAllocRefused>
-        requires sound { IsSound self.old }
-        requires empty { stack_items stack.old ≡ [] }
-        ensures all { OnOk result (ImportsAll self.old (stack_items stack.new) self.new) }
-        ensures full { OnOk result (length (stack_items stack.new) ≡ stack_size stack.old) }
-        ensures stops { IfErr result (λ why. StopsImporting self.old (stack_items stack.new) why self.new) }
-        ensures fewer { OnErr result (length (stack_items stack.new) < stack_size stack.old) }
-        ensures entries { All (HasEntry self.new) (stack_items stack.new) }
-        ensures books { All (λ held. held_book held ≡ book_in self.old) (stack_items stack.new) }
-        ensures size { stack_size stack.new ≡ stack_size stack.old }
-        ensures sound { IsSound self.new }
-        ensures same { IsSameCache self.old self.new }
-        ensures nothing { CountsNothing self.old self.new }
+        requires { MayImport self.old stack.old }
+        ensures all { OnOk result (ImportsFull (stack_size stack.old) self.old (stack_items stack.new) self.new) }
+        ensures stops { IfErr result (λ why. StopsShort (stack_size stack.old) self.old (stack_items stack.new) why self.new) }
+        ensures kept { KeepsStack self.old stack.old self.new stack.new }
     {
         for _ in 0..stack.size() {
             let held = self.import_one(alloc)?;
@@ -87,15 +66,8 @@ impl<I: Import> LockedCache<I> {
 
     /// Counts the refusal of a round that gave no item, but for want of memory.
     fn turn_away(&mut self, why: ZAllocRefused, seat: &mut ZSeat)
-        requires sound { IsSound self.old }
-        requires mine { seat_fails seat.old ≡ fails_in self.old }
-        ensures turned { turned_in self.new ≡ turned_in self.old ++ counted why }
-        ensures causes { seat_causes seat.new ≡ seat_causes seat.old ++ map alloc_cause (counted why) }
-        ensures moves { MovesNothing self.old self.new }
-        ensures held { held_in seat.new ≡ held_in seat.old }
-        ensures seat { IsSameSeat seat.old seat.new }
-        ensures sound { IsSound self.new }
-        ensures same { IsSameCache self.old self.new }
+        requires { MayCount self.old seat.old }
+        ensures { CountsRefusal self.old seat.old why self.new seat.new }
     {
         let (kind, first, second) = match why {
             ZAllocRefused::Out { out, numbers } => (1, u64::from(out), u64::from(numbers)),

@@ -27,20 +27,16 @@ pub(crate) struct LockedCache<I: Import> {
 }
 
 impl<I: Import> LockedCache<I> {
-    ghost use Rattle.std.specs.Prelude.{◌≤◌, [], None, Err, IfOk, IfErr, replicate, length};
-    ghost use Rattle.deed_book.specs.BookId.{numbers_of};
-    ghost use Rattle.deed_book.specs.FailShare.{share_table, causes_in};
-    ghost use Rattle.uma_zcache.specs.Entries.{out_of};
-    ghost use Rattle.uma_zcache.specs.Locked.{entries_in, book_in, fails_in, IsSound};
+    ghost use Rattle.std.specs.Prelude.{◌≤◌, [], Err, IfOk, IfErr, length};
+    ghost use Rattle.uma_zcache.specs.Entries.{CountsOut};
+    ghost use Rattle.uma_zcache.specs.Locked.{entries_in, IsNewCache, IsSound};
     ghost use Rattle.uma_zcache.specs.Refused.{HasNoNumbers, RefusesNumbers};
-    ghost use Rattle.uma_zcache.specs.Rule.{Keeps};
+    ghost use Rattle.uma_zcache.specs.Rule.{GivesShare, Keeps};
 
     /// With all numbers at home.
     pub(crate) fn new(alloc: Global, import: I, numbers: u32) -> Result<LockedCache<I>, ZRefused>
         requires { I.outside import ≡ [] }
-        ensures home { IfOk result (λ locked. entries_in locked ≡ replicate numbers None) }
-        ensures numbers { IfOk result (λ locked. numbers_of (book_in locked) ≡ numbers) }
-        ensures sound { IfOk result IsSound }
+        ensures new { IfOk result (IsNewCache numbers) }
         ensures out_of_range { HasNoNumbers numbers → result ≡ Err (ZRefused.Numbers numbers) }
         ensures err { IfErr result (RefusesNumbers numbers) }
     {
@@ -69,17 +65,14 @@ impl<I: Import> LockedCache<I> {
 
     /// A share of its fail book, which has no cause.
     pub(crate) fn new_share(&mut self) -> FailShare
-        ensures mine { share_table result ≡ fails_in self.old }
-        ensures empty { causes_in result ≡ [] }
-        ensures keeps { (key : ZKey) → Keeps key self.old → Keeps key self.new }
+        ensures { GivesShare self.old result self.new }
     {
         self.fails.new_share()
     }
 
     /// How many numbers are out.
     pub(crate) fn out(&self) -> u32
-        ensures out { result ≡ out_of (entries_in self.now) }
-        ensures within { result ≤ length (entries_in self.now) }
+        ensures { CountsOut (entries_in self.now) result }
     {
         self.entries.out()
     }

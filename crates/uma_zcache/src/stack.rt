@@ -22,12 +22,11 @@ pub(crate) struct Stack {
 }
 
 impl Stack {
-    ghost use Rattle.uma_zcache.specs.Stack.{stack_items, stack_size};
+    ghost use Rattle.uma_zcache.specs.Stack.{stack_items, stack_size, IsNewStack, IsSizeOf, Pushes, WasEmpty};
 
     /// An empty stack with room for `size` items, which is 4 to 64.
     pub(crate) fn new(alloc: Global, size: u32) -> Result<Stack, ZSeatRefused>
-        ensures size { IfOk result (λ stack. stack_size stack ≡ size) }
-        ensures empty { IfOk result (λ stack. stack_items stack ≡ []) }
+        ensures new { IfOk result (IsNewStack size) }
         ensures out_of_range { HasNoBucket size → result ≡ Err (ZSeatRefused.Bucket size) }
         ensures err { IfErr result (RefusesBucket size) }
     {
@@ -41,8 +40,7 @@ impl Stack {
     /// Puts an item on top.
     pub(crate) fn push(&mut self, held: Held)
         requires { length (stack_items self.old) < stack_size self.old }
-        ensures items { stack_items self.new ≡ stack_items self.old ++ held ∷ [] }
-        ensures size { stack_size self.new ≡ stack_size self.old }
+        ensures { Pushes self.old held self.new }
     {
         self.items.push_reserved(held);
     }
@@ -50,8 +48,7 @@ impl Stack {
     /// Takes the item on top, which is the last that was put. None exactly where there is none.
     pub(crate) fn pop(&mut self) -> Option<Held>
         ensures last { IfSome result (λ held. stack_items self.old ≡ stack_items self.new ++ held ∷ []) }
-        ensures none { IfNone result (stack_items self.old ≡ []) }
-        ensures unchanged { IfNone result (stack_items self.new ≡ []) }
+        ensures none { IfNone result (WasEmpty self.old self.new) }
         ensures size { stack_size self.new ≡ stack_size self.old }
     {
         self.items.pop()
@@ -74,9 +71,7 @@ impl Stack {
 
     /// How many items there is room for, 4 to 64.
     pub(crate) fn size(&self) -> u32
-        ensures size { result ≡ stack_size self.now }
-        ensures least { 4 ≤ result }
-        ensures most { result ≤ 64 }
+        ensures { IsSizeOf self.now result }
     {
         self.size
     }

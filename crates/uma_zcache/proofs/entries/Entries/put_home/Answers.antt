@@ -1,4 +1,4 @@
-use Rattle.std.proofs.Common.{◌∷◌, ◌++◌, [], ℕ, List, Option, None, arith, subst, sym}
+use Rattle.std.proofs.Common.{rules, ◌∷◌, ◌++◌, [], ℕ, List, Option, None, arith, subst, sym}
 use Rattle.std.specs.Prelude.{slice_set, vec_capacity}
 use Rattle.uma_zcache.specs.Entries.{IsOutWith}
 use Rattle.uma_zcache.specs.HomeList.{Lists}
@@ -20,7 +20,10 @@ invariant_of-self c =
     let home : Lists bases (e.home.items ++ c.args.no ∷ []) (vec_capacity e.home) = lists_home e.bases.items e.home.items (vec_capacity e.home) c.args.no c.in-Some.base c.self.invariant at in
     subst (λ (n : ℕ). Lists bases c.push_reserved.new.self.items n) (sym c.push_reserved.ensures.capacity) (subst (λ (l : List ℕ). Lists bases l (vec_capacity e.home)) (sym c.push_reserved.ensures.items) home)
 
-pub returns-clause-was : goal.returns-clause-was
-returns-clause-was c =
+pub returns : goal.returns
+returns c =
     let e = c.self.inside in
-    subst (λ (l : List (Option ℕ)). IsOutWith l c.args.no c.in-Some.base) c.self.view_is (read_out e.bases.items c.args.self.now c.args.no c.in-Some.base c.index.result.now (sym c.self.view_is) c.requires c.index.ensures c.in-Some.is)
+    record {
+      was = subst (λ (l : List (Option ℕ)). IsOutWith l c.args.no c.in-Some.base) c.self.view_is (read_out e.bases.items c.args.self.now c.args.no c.in-Some.base c.index.result.now (sym c.self.view_is) c.requires c.index.ensures c.in-Some.is);
+      entry = search rules;
+    }

@@ -1,4 +1,4 @@
-use Rattle.std.proofs.Common.{◌≡◌, ℕ, List, Option, Some, None, arith, subst, sym}
+use Rattle.std.proofs.Common.{rules, ◌≡◌, ℕ, List, Option, Some, None, arith, subst, sym}
 use Rattle.std.specs.Prelude.{slice_get, slice_set, vec_capacity}
 use Rattle.std.proofs.lemmas.Option.{slice_get_within}
 use Rattle.uma_zcache.specs.Entries.{IsHome}
@@ -18,7 +18,10 @@ invariant_of-self c =
     let out = lists_out e.bases.items e.home.items c.pop.new.self.items (vec_capacity e.home) c.in-Some.no c.args.base c.self.invariant c.in-Some.ensures.items in
     subst (λ (n : ℕ). Lists (slice_set e.bases.items c.in-Some.no (Some c.args.base)) c.pop.new.self.items n) (sym c.in-Some.ensures.capacity) out
 
-pub returns-clause-home : goal.returns-clause-home
-returns-clause-home c =
+pub returns : goal.returns
+returns c =
     let e = c.self.inside in
-    subst (λ (l : List (Option ℕ)). IsHome l c.in-Some.no) c.self.view_is (last_is_home e.bases.items e.home.items c.pop.new.self.items (vec_capacity e.home) c.in-Some.no c.self.invariant c.in-Some.ensures.items)
+    record {
+      home = subst (λ (l : List (Option ℕ)). IsHome l c.in-Some.no) c.self.view_is (last_is_home e.bases.items e.home.items c.pop.new.self.items (vec_capacity e.home) c.in-Some.no c.self.invariant c.in-Some.ensures.items);
+      entry = search rules;
+    }

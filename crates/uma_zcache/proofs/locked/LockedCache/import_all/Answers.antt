@@ -1,10 +1,10 @@
-use Rattle.std.proofs.Common.{◌≡◌, ◌∷◌, [], length, length-append, List, ap, ◌∙◌, subst, sym, All, arith}
+use Rattle.std.proofs.Common.{◌≡◌, ◌<◌, ◌∷◌, [], length, length-append, List, ap, ◌∙◌, subst, sym, All, arith, rules}
 use Rattle.std.proofs.lemmas.Result.{err_from_is_err_and}
 use Rattle.uma_zcache.specs.declared.held.Held.{Held}
 use Rattle.uma_zcache.specs.Held.{held_book}
 use Rattle.uma_zcache.specs.Imports.{HasEntry, ImportsAll}
 use Rattle.uma_zcache.specs.Locked.{book_in}
-use Rattle.uma_zcache.specs.Stack.{stack_items}
+use Rattle.uma_zcache.specs.Stack.{stack_items, stack_size}
 use Rattle.uma_zcache.proofs.Rounds.{same_cache, nothing_counted, more_imports, more_entries, more_books, stops}
 use Rattle.uma_zcache.proofs.locked.LockedCache.import_all.Goals as goal
 
@@ -32,4 +32,8 @@ loop-preserved g c =
 pub returns-in_err-held-clause-stops : goal.returns-in_err-held-clause-stops
 returns-in_err-held-clause-stops g c =
     let passed = err_from_is_err_and c.from_residual.result c.from_residual.ensures.1 in
-    rw (passed.1, passed.2) (stops c.args.self.now c.loop.self c.import_one.new.self (stack_items c.loop.stack) c.in_err-held.field-0.0 c.loop.invariant.imports c.in_err-held.ensures.refused)
+    let fewer : length (stack_items c.loop.stack) < stack_size c.args.stack.now = search rules in
+    rw (passed.1, passed.2) (record {
+      stops = stops c.args.self.now c.loop.self c.import_one.new.self (stack_items c.loop.stack) c.in_err-held.field-0.0 c.loop.invariant.imports c.in_err-held.ensures.refused;
+      fewer = fewer;
+    })
