@@ -5,6 +5,7 @@ pub mod Linked
 pub mod Locking
 pub mod Opening
 pub mod Outs
+pub mod Passes
 pub mod Popped
 pub mod Rebinding
 pub mod Rooms

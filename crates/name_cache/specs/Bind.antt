@@ -8,11 +8,15 @@ use Rattle.uma_seat.specs.Seat.{usable_of, shelf_of, ledger_of, KeepsFreed}
 use Rattle.uma_zone.specs.declared.alloc_ask.AllocRefused.{AllocRefused}
 use Rattle.uma_zone.specs.declared.alloc_ask.AllocRefused.TheVariants.{Refused, Memory as NoMemory}
 use Rattle.uma_zone.specs.Flushed.{HasLastOf}
+use Rattle.uma_zone.specs.OwnDomain.{IsFlushed}
+use Rattle.uma_zone.specs.Ports.{sent_of}
+use Rattle.uma_zone.specs.Zone.{lists_of}
 use Rattle.name_rows.specs.declared.entry_state.EntryState.TheVariants.{Clean}
 use Rattle.name_rows.specs.declared.part.Part.{Part}
 use Rattle.name_rows.specs.declared.records.Record.{Record}
 use Rattle.name_rows.specs.Entries.{OnWords}
 use Rattle.name_rows.specs.Reading.{IsNewest}
+use Rattle.name_rows.specs.Records.{told}
 use Rattle.name_rows.specs.Ripening.{IsUnripe}
 use Rattle.name_cache.specs.declared.bind_refused.BindRefused.{BindRefused}
 use Rattle.name_cache.specs.declared.bind_refused.BindRefused.TheVariants.{Zone, Worn, Unripe, Memory}
@@ -90,6 +94,11 @@ pub record WantsMemory (old new : EntrySeat) : Type 0 where
   pub usable : usable_of new ≡ usable_of old
   pub freed : KeepsFreed old new
   pub shelf : HasLastOf (shelf_of old) (shelf_of new)
+
+-- The seat was flushed, as far as memory was there: each bucket of its shelf is in an inbox or a list, or on the shelf still. The pass knows nothing more.
+pub record IsOnlyFlushed (zone : ZoneOfEntries) (old new : EntrySeat) (v v' : View Part) : Type 0 where
+  pub flushed : IsFlushed (lists_of zone) told (shelf_of old) (shelf_of new) (sent_of old) (sent_of new) v
+  pub unheard : v'.host ≡ v.host
 
 -- Why the key isn't bound, in this order of tests: memory was wanting, or the zone's one fetch was refused, as the zone says; the entry isn't ripe; the row is worn.
 abbrev pub RefusesToBind : ZoneOfEntries → ℕ → ℕ → View Part → EntrySeat → View Part → EntrySeat → BindRefused → Type 0

@@ -1,6 +1,7 @@
 pub mod Bind
 pub mod Cache
 pub mod Deferred
+pub mod Frames
 pub mod Homes
 pub mod Hooked
 pub mod Known
@@ -8,6 +9,7 @@ pub mod LinkedItem
 pub mod LockedRow
 pub mod Locks
 pub mod Look
+pub mod Made
 pub mod Making
 pub mod Origins
 pub mod Parts

@@ -1,23 +1,27 @@
 -- Own: what contracts see of a row under its lock, and what becomes of it there.
-use Rattle.std.specs.Prelude.{◌≡◌, ◌≤◌, ◌<◌, ◌+◌, ◌^◌, ℕ, [], ◌∷◌, Option, Some, None}
+use Rattle.std.specs.Prelude.{◌≡◌, ◌≤◌, ◌<◌, ◌+◌, ◌^◌, ℕ, [], ◌∷◌, Option, Some, None, IfSome}
+use Rattle.smr_clock.specs.declared.clock.Clock.{Clock}
 use Rattle.smr_clock.specs.declared.setup.Setup.{Setup}
 use Rattle.smr_clock.specs.declared.view.View.{View}
-use Rattle.smr_clock.specs.Belongs.{TableId}
+use Rattle.smr_clock.specs.Belongs.{IsOf, TableId, clock_id, setup_of}
 use Rattle.uma_life.specs.Ticket.{ticket_no}
 use Rattle.uma_bucket.specs.Home.{Home, IsHome}
 use Rattle.name_rows.specs.declared.records.Bound.{Bound}
 use Rattle.name_rows.specs.declared.records.Record.{Record}
-use Rattle.name_rows.specs.declared.entry_state.EntryState.TheVariants.{Clean, Unlinked, Stamped}
+use Rattle.name_rows.specs.declared.entry_state.EntryState.TheVariants.{Clean, Written, Unlinked, Stamped}
 use Rattle.name_rows.specs.declared.guest.Guest.{Guest}
+use Rattle.name_rows.specs.declared.names.Names.{Names}
 use Rattle.name_rows.specs.declared.part.Part.{Part}
 use Rattle.name_rows.specs.declared.row.Row.{Row}
+use Rattle.name_rows.specs.Belongs.{IsNamesClock}
 use Rattle.name_rows.specs.Entries.{OnWords, entry_state, guest_of}
 use Rattle.name_rows.specs.Guests.{content_of}
+use Rattle.name_rows.specs.Linking.{row_record}
 use Rattle.name_rows.specs.Reading.{IsNewest, bound_to}
 use Rattle.name_rows.specs.Records.{owned_as}
 use Rattle.name_rows.specs.Ripening.{StampsAt, IsUnripe}
 use Rattle.name_rows.specs.Roots.{kept_in}
-use Rattle.name_rows.specs.Rows.{row_last}
+use Rattle.name_rows.specs.Rows.{IsKeyOf, pair_in, row_last}
 use Rattle.name_cache.specs.declared.bind_refused.BindRefused.{BindRefused}
 use Rattle.name_cache.specs.declared.bind_refused.BindRefused.TheVariants.{Zone, Worn, Unripe as Unripe', Memory}
 use Rattle.name_cache.specs.declared.locked_row.LockedRow.{LockedRow}
@@ -28,6 +32,7 @@ use Rattle.name_cache.specs.declared.receipt.Receipt.{Receipt}
 use Rattle.name_cache.specs.Known.{known_in, Meets, KnowsBound, KnowsTaken, StillKnows}
 use Rattle.name_cache.specs.Parts.{parts_clock, IsSameItem}
 use Rattle.name_cache.specs.RowKey.{Identity, key_identity}
+use Rattle.name_cache.specs.Types.{NamesPass}
 
 abbrev pub row_identity : LockedRow → Identity
 row_identity locked = key_identity locked.key.value
@@ -35,6 +40,17 @@ row_identity locked = key_identity locked.key.value
 -- the row of names
 abbrev pub names_row : LockedRow → Row
 names_row locked = locked.row
+
+-- the clock is the row's, and one of names
+pub record IsRowClock (locked : LockedRow) (clock : Clock Names Part) : Type 0 where
+  pub same_clock : clock_id clock ≡ (row_identity locked).clock
+  pub names : IsNamesClock clock
+
+-- and the pass is of it
+pub record IsRowPass (locked : LockedRow) (clock : Clock Names Part) (pass : NamesPass) : Type 0 where
+  pub same_clock : clock_id clock ≡ (row_identity locked).clock
+  pub names : IsNamesClock clock
+  pub of_clock : IsOf clock pass
 
 -- the row, its record and its entry are as they were
 pub record IsSameRow (was is : LockedRow) : Type 0 where
@@ -52,6 +68,12 @@ pub record MeetsRow (v : View Part) (locked : LockedRow) (v' : View Part) : Type
   pub meets : Meets v locked.row.number last v'
   pub newest : IsNewest (known_in v') last
   pub still : StillKnows v v'
+
+-- The pass has met the row, which is as it was.
+pub record LeavesMet (v : View Part) (old new : LockedRow) (v' : View Part) : Type 0 where
+  pub identity : row_identity new ≡ row_identity old
+  pub same : IsSameRow old new
+  pub meets : MeetsRow v old v'
 
 -- The row with this number, as it stood under its lock when a call got that, and as it was when the call gave the lock back: this was its last record, and it is the same.
 pub record StaysAs (row : ℕ) (last : Record) : Type 0 where
@@ -71,6 +93,29 @@ IsOut clock home None None = Unit {0}
 IsOut clock home None (Some parts) = ⊥
 IsOut clock home (Some g) None = ⊥
 IsOut clock home (Some g) (Some parts) = (guest_of parts.entry ≡ Some g) × (entry_state parts.entry ≡ Some Unlinked) × IsItemOf clock home parts
+
+-- The entry can go into the row, under a key of this row: it is written, of the row's clock and at home there. The row has two more versions.
+pub record CanLink (clock : Clock Names Part) (locked : LockedRow) (parts : EntryParts) : Type 0 where
+  pub item : IsItemOf (row_identity locked).clock (row_identity locked).home parts
+  pub written : entry_state parts.entry ≡ Some Written
+  pub of_row : IsKeyOf (setup_of clock).plan.0 locked.row.number (guest_of parts.entry)
+  pub low : locked.row.version + 2 < 2 ^ 44
+
+-- The row has the entry, and one record more, which says so. What it had before is out.
+pub record LinksInRow (old : LockedRow) (parts : EntryParts) (out : Option EntryParts) (new : LockedRow) : Type 0 where
+  pub identity : row_identity new ≡ row_identity old
+  pub version : new.row.version ≡ old.row.version + 1
+  pub guest : new.row.guest ≡ guest_of parts.entry
+  pub last : row_last new.row ≡ row_record old.row.number new.row.version (content_of (guest_of parts.entry)) None ∷ []
+  pub evicted : IsOut (row_identity old).clock (row_identity old).home old.row.guest out
+
+-- The row has no entry. Where one is out, the row has one record more, which is empty.
+pub record UnlinksInRow (old : LockedRow) (out : Option EntryParts) (new : LockedRow) : Type 0 where
+  pub identity : row_identity new ≡ row_identity old
+  pub guest : new.row.guest ≡ None
+  pub last : IfSome out (λ _. row_last new.row ≡ row_record old.row.number (old.row.version + 1) None (pair_in old.row.guest) ∷ [])
+  pub version : IfSome out (λ _. new.row.version ≡ old.row.version + 1)
+  pub evicted : IsOut (row_identity old).clock (row_identity old).home old.row.guest out
 
 -- The entry with this number, key and value, if there is one, is out with a stamp.
 abbrev pub IsOutStamped : Option Bound → Option EntryParts → Type 0
@@ -120,6 +165,11 @@ pub record UnbindsInRow (key value : ℕ) (v : View Part) (old : LockedRow) (rec
   pub is_last : row_last new.row ≡ knows.at ∷ []
   pub goal : ℕ
   pub stamped : kept_in out.entry.words ≡ Some (owned_as bound (Stamped goal))
+
+-- So it did, and that entry is of the row's clock, and at home there.
+pub record GivesOut (key value : ℕ) (v : View Part) (old : LockedRow) (receipt : Receipt) (out : EntryParts) (new : LockedRow) (v' : View Part) : Type 0 where
+  pub unbound : UnbindsInRow key value v old receipt out new v'
+  pub item : IsItemOf (row_identity old).clock (row_identity old).home out
 
 -- The row doesn't bind the key, and is as it was; the pass has met it.
 pub record HasNotKey (key : ℕ) (v : View Part) (old new : LockedRow) (v' : View Part) : Type 0 where

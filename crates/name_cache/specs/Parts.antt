@@ -1,13 +1,18 @@
 -- Own: what contracts see of an item of the zone of entries, whole and in its parts.
-use Rattle.std.specs.Prelude.{◌≡◌, Option}
+use Rattle.std.specs.Prelude.{◌≡◌, Option, Some}
 use Rattle.std.specs.Arc.{arc_value}
+use Rattle.smr_clock.specs.declared.clock.Clock.{Clock}
 use Rattle.smr_clock.specs.declared.setup.Setup.{Setup}
 use Rattle.smr_clock.specs.Belongs.{TableId, clock_id}
-use Rattle.uma_life.specs.Live.{live_body}
+use Rattle.uma_life.specs.Live.{live_body, live_ticket}
+use Rattle.name_rows.specs.declared.names.Names.{Names}
 use Rattle.name_rows.specs.declared.owned.Owned.{Owned}
+use Rattle.name_rows.specs.declared.part.Part.{Part}
 use Rattle.name_rows.specs.declared.words.Words.{Words}
+use Rattle.name_rows.specs.Belongs.{IsNamesClock}
 use Rattle.name_rows.specs.Entries.{entry_life, entry_state}
 use Rattle.name_rows.specs.declared.entry_state.EntryState.{EntryState}
+use Rattle.name_rows.specs.declared.entry_state.EntryState.TheVariants.{Clean, Unlinked}
 use Rattle.name_rows.specs.Roots.{kept_in}
 use Rattle.name_cache.specs.Homes.{home_clock}
 use Rattle.name_cache.specs.Raised.{raised_entry, raised_home}
@@ -27,6 +32,23 @@ kept_of live = kept_in (raised_entry (live_body live)).words
 
 abbrev pub words_of : LiveEntry → Option Words
 words_of live = (raised_entry (live_body live)).words
+
+-- these are the parts of the item
+pub record ArePartsOf (live : LiveEntry) (parts : EntryParts) : Type 0 where
+  pub entry : raised_entry (live_body live) ≡ parts.entry
+  pub home : raised_home (live_body live) ≡ arc_value parts.home
+  pub ticket : live_ticket live ≡ parts.ticket
+
+-- the entry is clean, so that its words may be written by this clock of names
+pub record CanWrite (clock : Clock Names Part) (parts : EntryParts) : Type 0 where
+  pub same_clock : parts_clock parts ≡ clock_id clock
+  pub names : IsNamesClock clock
+  pub clean : entry_state parts.entry ≡ Some Clean
+
+-- the entry is out of its row, so that it may get a stamp of this clock
+pub record CanStamp (clock : Clock Names Part) (parts : EntryParts) : Type 0 where
+  pub same_clock : parts_clock parts ≡ clock_id clock
+  pub unlinked : entry_state parts.entry ≡ Some Unlinked
 
 -- all but the words is as it was
 pub record IsSameItem (was is : EntryParts) : Type 0 where

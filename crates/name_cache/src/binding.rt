@@ -1,21 +1,17 @@
-ghost use Rattle.std.specs.Prelude.{◌≡◌, ◌≤◌, ◌<◌, ◌%◌, [], length, IfOk, IfErr, OnOk, IfSome, Err};
+ghost use Rattle.std.specs.Prelude.{◌≡◌, ◌<◌, ◌%◌, IfOk, IfErr, IfSome, Err};
 ghost use Rattle.keyed_lock.specs.KeyedGuard.{guard_key};
-ghost use Rattle.smr_clock.specs.Belongs.{IsOf, clock_id, view, holder};
-ghost use Rattle.zone_stats.specs.LedgerSteps.{HasRoom, CountsAlloc};
+ghost use Rattle.smr_clock.specs.Belongs.{view};
+ghost use Rattle.zone_stats.specs.LedgerSteps.{HasRoom};
 ghost use Rattle.uma_life.specs.Live.{live_ticket};
 ghost use Rattle.uma_bucket.specs.Home.{IsHome};
-ghost use Rattle.uma_seat.specs.Seat.{ledger_of, spares_of, shelf_of, IsSameSeat, KeepsFreed};
-ghost use Rattle.uma_zone.specs.Flushed.{HasLastOf};
-ghost use Rattle.uma_zone.specs.OwnDomain.{IsFlushed};
-ghost use Rattle.uma_zone.specs.Ports.{sent_of};
-ghost use Rattle.uma_zone.specs.Zone.{lists_of};
-ghost use Rattle.name_rows.specs.Records.{told};
-ghost use Rattle.name_cache.specs.Bind.{HasRoomToBind, Binds, RefusesToBind};
-ghost use Rattle.name_cache.specs.Cache.{cache_zone, cache_clock, cache_home, row_count, first_version, IsCacheSeat};
+ghost use Rattle.uma_seat.specs.Seat.{ledger_of};
+ghost use Rattle.uma_zone.specs.Frames.{GoesOn, KeepsPass};
+ghost use Rattle.name_cache.specs.Bind.{HasRoomToBind, Binds, RefusesToBind, IsOnlyFlushed};
+ghost use Rattle.name_cache.specs.Cache.{cache_zone, cache_clock, cache_home, row_count, first_version};
+ghost use Rattle.name_cache.specs.Frames.{IsWorkerOf, CanFree, KeepsKnown, KeepsSeat, KeepsDeferred};
 ghost use Rattle.name_cache.specs.Known.{IsAbove, StillKnows};
-ghost use Rattle.name_cache.specs.LockedRow.{row_identity, IsItemOf, HasItemOf};
-ghost use Rattle.name_cache.specs.Parts.{words_of};
-ghost use Rattle.name_cache.specs.Rebound.{HandsOut, HandsOutNone, HasRebound, IsBoundAbove, FreesParts, FreesEvicted};
+ghost use Rattle.name_cache.specs.LockedRow.{row_identity, IsItemOf};
+ghost use Rattle.name_cache.specs.Rebound.{HandsEntry, HandsOutNone, SendsNothing, TakesApart, Rebinds, FreesParts, FreesEvicted};
 ghost use Rattle.name_cache.specs.RowKey.{identity, key_identity};
 
 use crate::RaisedEntry;
@@ -65,22 +61,16 @@ impl NameCache {
         key: u64,
         value: u64,
     ) -> Result<Receipt, BindRefused>
-        requires clock { clock_id clock.now ≡ cache_clock self.now }
-        requires pass { IsOf clock.now pass.old }
-        requires seat { IsCacheSeat self.now seat.old }
+        requires worker { IsWorkerOf self.now clock.now pass.old seat.old }
         requires room { HasRoomToBind (ledger_of seat.old) }
         ensures bound { IfOk result (λ receipt. Binds (cache_zone self.now) (row_count self.now) key value (view pass.old) seat.old receipt (view pass.new) seat.new) }
         ensures above { IfOk result (λ receipt. IsAbove receipt.row receipt.version (view pass.old)) }
         ensures since { IfOk result (λ receipt. first_version self.now (key % row_count self.now) < receipt.version) }
         ensures refused { IfErr result (RefusesToBind (cache_zone self.now) (row_count self.now) key (view pass.old) seat.old (view pass.new) seat.new) }
-        ensures flushed { result ≡ Err BindRefused.Memory → IsFlushed (lists_of (cache_zone self.now)) told (shelf_of seat.old) (shelf_of seat.new) (sent_of seat.old) (sent_of seat.new) (view pass.old) }
-        ensures unheard { result ≡ Err BindRefused.Memory → (view pass.new).host ≡ (view pass.old).host }
+        ensures flushed { result ≡ Err BindRefused.Memory → IsOnlyFlushed (cache_zone self.now) seat.old seat.new (view pass.old) (view pass.new) }
         ensures still { StillKnows (view pass.old) (view pass.new) }
-        ensures pass { IsOf clock.now pass.new }
-        ensures phase { (holder pass.new).phase ≡ (holder pass.old).phase }
-        ensures seen { (holder pass.old).seen ≤ (holder pass.new).seen }
-        ensures seat { IsCacheSeat self.now seat.new }
-        ensures same { IsSameSeat seat.old seat.new }
+        ensures pass { GoesOn clock.now pass.old pass.new }
+        ensures seat { KeepsSeat self.now seat.old seat.new }
     {
         if self.zone.make_room(rt, alloc, clock, pass, seat).is_err() {
             return Err(BindRefused::Memory);
@@ -109,26 +99,13 @@ impl NameCache {
         key: u64,
         value: u64,
     ) -> Result<Rebound, BindRefused>
-        requires clock { clock_id clock.now ≡ cache_clock self.now }
-        requires pass { IsOf clock.now pass.old }
-        requires seat { IsCacheSeat self.now seat.old }
+        requires worker { IsWorkerOf self.now clock.now pass.old seat.old }
         requires room { HasRoom (ledger_of seat.old) }
-        ensures rebound { IfOk result (λ rebound. HasRebound (cache_zone self.now) (row_count self.now) key value (view pass.old) seat.old rebound (view pass.new) seat.new) }
-        ensures since { IfOk result (IsBoundAbove (first_version self.now (key % row_count self.now))) }
-        ensures items { IfOk result (HasItemOf (cache_clock self.now) (cache_home self.now)) }
-        ensures counted { OnOk result (CountsAlloc (ledger_of seat.old) (ledger_of seat.new)) }
+        ensures rebound { IfOk result (λ rebound. Rebinds self.now key value (view pass.old) seat.old rebound (view pass.new) seat.new) }
         ensures refused { IfErr result (HandsOutNone (cache_zone self.now) seat.old seat.new) }
-        ensures unsent { result ≡ Err BindRefused.Memory → shelf_of seat.old ≡ [] → sent_of seat.new ≡ sent_of seat.old }
-        ensures unheard { result ≡ Err BindRefused.Memory → (view pass.new).host ≡ (view pass.old).host }
-        ensures still { StillKnows (view pass.old) (view pass.new) }
-        ensures pass { IsOf clock.now pass.new }
-        ensures phase { (holder pass.new).phase ≡ (holder pass.old).phase }
-        ensures seen { (holder pass.old).seen ≤ (holder pass.new).seen }
-        ensures seat { IsCacheSeat self.now seat.new }
-        ensures spare { length (spares_of seat.old) ≤ length (spares_of seat.new) }
-        ensures shelf { HasLastOf (shelf_of seat.old) (shelf_of seat.new) }
-        ensures freed { KeepsFreed seat.old seat.new }
-        ensures same { IsSameSeat seat.old seat.new }
+        ensures memory { result ≡ Err BindRefused.Memory → SendsNothing seat.old seat.new (view pass.old) (view pass.new) }
+        ensures pass { KeepsKnown clock.now pass.old pass.new }
+        ensures seat { KeepsDeferred self.now seat.old seat.new }
     {
         let mut guard = self.lock_row(rt, key);
         let entry = self.take_entry(rt, alloc, clock, pass, seat)?;
@@ -157,25 +134,13 @@ impl NameCache {
         pass: &mut Pass<Names>,
         seat: &mut SeatCache<RaisedEntry, Names>,
     ) -> Result<EntryParts, BindRefused>
-        requires clock { clock_id clock.now ≡ cache_clock self.now }
-        requires pass { IsOf clock.now pass.old }
-        requires seat { IsCacheSeat self.now seat.old }
+        requires worker { IsWorkerOf self.now clock.now pass.old seat.old }
         requires room { HasRoom (ledger_of seat.old) }
-        ensures handed { IfOk result (λ parts. HandsOut (cache_zone self.now) seat.old parts seat.new) }
-        ensures item { IfOk result (IsItemOf (cache_clock self.now) (cache_home self.now)) }
-        ensures counted { OnOk result (CountsAlloc (ledger_of seat.old) (ledger_of seat.new)) }
+        ensures handed { IfOk result (λ parts. HandsEntry self.now seat.old parts seat.new) }
         ensures refused { IfErr result (HandsOutNone (cache_zone self.now) seat.old seat.new) }
-        ensures unsent { result ≡ Err BindRefused.Memory → shelf_of seat.old ≡ [] → sent_of seat.new ≡ sent_of seat.old }
-        ensures unheard { result ≡ Err BindRefused.Memory → (view pass.new).host ≡ (view pass.old).host }
-        ensures still { StillKnows (view pass.old) (view pass.new) }
-        ensures pass { IsOf clock.now pass.new }
-        ensures phase { (holder pass.new).phase ≡ (holder pass.old).phase }
-        ensures seen { (holder pass.old).seen ≤ (holder pass.new).seen }
-        ensures seat { IsCacheSeat self.now seat.new }
-        ensures spare { length (spares_of seat.old) ≤ length (spares_of seat.new) }
-        ensures shelf { HasLastOf (shelf_of seat.old) (shelf_of seat.new) }
-        ensures freed { KeepsFreed seat.old seat.new }
-        ensures same { IsSameSeat seat.old seat.new }
+        ensures memory { result ≡ Err BindRefused.Memory → SendsNothing seat.old seat.new (view pass.old) (view pass.new) }
+        ensures pass { KeepsKnown clock.now pass.old pass.new }
+        ensures seat { KeepsDeferred self.now seat.old seat.new }
     {
         let live = self.zone.alloc(rt, alloc, clock, pass, seat, ASK)?;
         Ok(self.parts_of(live))
@@ -184,9 +149,7 @@ impl NameCache {
     // The parts of an item that the zone handed out. Its words are of the cache's clock.
     fn parts_of(&self, live: Live<RaisedEntry>) -> EntryParts
         requires home { IsHome (cache_home self.now) (live_ticket live) }
-        ensures words { result.entry.words ≡ words_of live }
-        ensures ticket { result.ticket ≡ live_ticket live }
-        ensures item { IsItemOf (cache_clock self.now) (cache_home self.now) result }
+        ensures { TakesApart self.now live result }
     {
         EntryParts::of(live)
     }
@@ -199,19 +162,12 @@ impl NameCache {
         seat: &mut SeatCache<RaisedEntry, Names>,
         evicted: Option<EntryParts>,
     )
-        requires clock { clock_id clock.now ≡ cache_clock self.now }
-        requires pass { IsOf clock.now pass.old }
-        requires seat { IsCacheSeat self.now seat.old }
-        requires spare { 0 < length (spares_of seat.old) }
-        requires room { HasRoom (ledger_of seat.old) }
+        requires worker { IsWorkerOf self.now clock.now pass.old seat.old }
+        requires places { CanFree seat.old }
         requires item { IfSome evicted (IsItemOf (cache_clock self.now) (cache_home self.now)) }
         ensures frees { FreesEvicted (view pass.old) seat.old evicted (view pass.new) seat.new }
-        ensures host { (view pass.new).host ≡ (view pass.old).host }
-        ensures pass { IsOf clock.now pass.new }
-        ensures phase { (holder pass.new).phase ≡ (holder pass.old).phase }
-        ensures seen { (holder pass.old).seen ≤ (holder pass.new).seen }
-        ensures seat { IsCacheSeat self.now seat.new }
-        ensures same { IsSameSeat seat.old seat.new }
+        ensures pass { KeepsPass clock.now pass.old pass.new }
+        ensures seat { KeepsSeat self.now seat.old seat.new }
     {
         if let Some(evicted) = evicted {
             self.free(clock, pass, seat, evicted);
@@ -226,19 +182,12 @@ impl NameCache {
         seat: &mut SeatCache<RaisedEntry, Names>,
         entry: EntryParts,
     )
-        requires clock { clock_id clock.now ≡ cache_clock self.now }
-        requires pass { IsOf clock.now pass.old }
-        requires seat { IsCacheSeat self.now seat.old }
-        requires spare { 0 < length (spares_of seat.old) }
-        requires room { HasRoom (ledger_of seat.old) }
+        requires worker { IsWorkerOf self.now clock.now pass.old seat.old }
+        requires places { CanFree seat.old }
         requires item { IsItemOf (cache_clock self.now) (cache_home self.now) entry }
         ensures frees { FreesParts (view pass.old) seat.old entry (view pass.new) seat.new }
-        ensures host { (view pass.new).host ≡ (view pass.old).host }
-        ensures pass { IsOf clock.now pass.new }
-        ensures phase { (holder pass.new).phase ≡ (holder pass.old).phase }
-        ensures seen { (holder pass.old).seen ≤ (holder pass.new).seen }
-        ensures seat { IsCacheSeat self.now seat.new }
-        ensures same { IsSameSeat seat.old seat.new }
+        ensures pass { KeepsPass clock.now pass.old pass.new }
+        ensures seat { KeepsSeat self.now seat.old seat.new }
     {
         self.zone.free_smr(clock, pass, seat, entry.into_live());
     }

@@ -43,27 +43,20 @@ pub(crate) struct LockedRow {
 }
 
 impl LockedRow {
-    ghost use Rattle.smr_clock.specs.Belongs.{IsOf, view, holder, setup_of, clock_id};
+    ghost use Rattle.smr_clock.specs.Belongs.{view, setup_of};
     ghost use Rattle.uma_life.specs.Hook.{Hook};
     ghost use Rattle.uma_life.specs.Sum.{sum_of, AreBelow};
-    ghost use Rattle.name_rows.specs.Belongs.{IsNamesClock};
-    ghost use Rattle.name_rows.specs.Entries.{entry_state, guest_of};
-    ghost use Rattle.name_rows.specs.Guests.{content_of};
-    ghost use Rattle.name_rows.specs.Linking.{row_record};
-    ghost use Rattle.name_rows.specs.Rows.{IsKeyOf, pair_in};
-    ghost use Rattle.name_rows.specs.declared.entry_state.EntryState.{EntryState};
-    ghost use Rattle.name_cache.specs.Known.{StillKnows};
-    ghost use Rattle.name_cache.specs.LockedRow.{row_identity, names_row, IsSameRow, MeetsRow, IsItemOf, IsOut, IsStamped, HasItemOf, RebindsRow, UnbindsInRow, HasNotKey};
-    ghost use Rattle.name_cache.specs.Parts.{parts_clock};
+    ghost use Rattle.uma_zone.specs.Frames.{GoesOn};
+    ghost use Rattle.name_cache.specs.Frames.{KeepsKnown};
+    ghost use Rattle.name_cache.specs.LockedRow.{row_identity, names_row, IsRowClock, IsRowPass, LeavesMet, MeetsRow, IsItemOf, CanLink, LinksInRow, UnlinksInRow, IsStamped, HasItemOf, RebindsRow, GivesOut, HasNotKey};
+    ghost use Rattle.name_cache.specs.Making.{IsFreshRow};
+    ghost use Rattle.name_cache.specs.Parts.{CanStamp};
     ghost use Rattle.name_cache.specs.Sums.{AddsLinked};
 
     /// An empty row, which the key names.
     pub fn new(row: Row, key: &RowKey) -> LockedRow
-        requires here { IsRowOf key.now.clock.value row }
-        requires number { row.number ≡ key.now.number }
+        requires fresh { IsFreshRow key.now.clock.value key.now.number row }
         requires version { row.version ≡ key.now.version }
-        requires empty { row.guest ≡ None }
-        requires last { row_last row ≡ row_record row.number row.version None None ∷ [] }
         ensures identity { row_identity result ≡ key_identity key.now }
         ensures row { names_row result ≡ row }
     {
@@ -76,15 +69,9 @@ impl LockedRow {
 
     // The pass knows the row's last record then, and knew none of the row that is newer.
     fn meet(&mut self, clock: &Clock<Names>, pass: &mut Pass<Names>)
-        requires clock { clock_id clock.now ≡ (row_identity self.old).clock }
-        requires names { IsNamesClock clock.now }
-        requires pass { IsOf clock.now pass.old }
-        ensures identity { row_identity self.new ≡ row_identity self.old }
-        ensures same { IsSameRow self.old self.new }
-        ensures meets { MeetsRow (view pass.old) self.old (view pass.new) }
-        ensures pass { IsOf clock.now pass.new }
-        ensures phase { (holder pass.new).phase ≡ (holder pass.old).phase }
-        ensures seen { (holder pass.old).seen ≤ (holder pass.new).seen }
+        requires here { IsRowPass self.old clock.now pass.old }
+        ensures met { LeavesMet (view pass.old) self.old self.new (view pass.new) }
+        ensures pass { GoesOn clock.now pass.old pass.new }
     {
         meet(clock, &mut self.row, pass);
     }
@@ -100,18 +87,13 @@ impl LockedRow {
         key: u64,
         value: u64,
     ) -> Rebound
-        requires clock { clock_id clock.now ≡ (row_identity self.old).clock }
-        requires names { IsNamesClock clock.now }
-        requires pass { IsOf clock.now pass.old }
+        requires here { IsRowPass self.old clock.now pass.old }
         requires item { IsItemOf (row_identity self.old).clock (row_identity self.old).home parts }
         requires of_row { key % (setup_of clock.now).plan.0 ≡ (names_row self.old).number }
         ensures identity { row_identity self.new ≡ row_identity self.old }
         ensures ends { RebindsRow key value (view pass.old) self.old parts result self.new (view pass.new) }
         ensures out { HasItemOf (row_identity self.old).clock (row_identity self.old).home result }
-        ensures still { StillKnows (view pass.old) (view pass.new) }
-        ensures pass { IsOf clock.now pass.new }
-        ensures phase { (holder pass.new).phase ≡ (holder pass.old).phase }
-        ensures seen { (holder pass.old).seen ≤ (holder pass.new).seen }
+        ensures pass { KeepsKnown clock.now pass.old pass.new }
     {
         self.meet(clock, pass);
         if let Err(Unripe { read, stamp }) = parts.ripe(clock) {
@@ -148,17 +130,11 @@ impl LockedRow {
         pass: &mut Pass<Names>,
         key: u64,
     ) -> Option<(u64, Receipt, EntryParts)>
-        requires clock { clock_id clock.now ≡ (row_identity self.old).clock }
-        requires names { IsNamesClock clock.now }
-        requires pass { IsOf clock.now pass.old }
+        requires here { IsRowPass self.old clock.now pass.old }
         ensures identity { row_identity self.new ≡ row_identity self.old }
-        ensures unbound { IfSome result (λ (value, receipt, out). UnbindsInRow key value (view pass.old) self.old receipt out self.new (view pass.new)) }
-        ensures out { IfSome result (λ (value, receipt, out). IsItemOf (row_identity self.old).clock (row_identity self.old).home out) }
+        ensures unbound { IfSome result (λ (value, receipt, out). GivesOut key value (view pass.old) self.old receipt out self.new (view pass.new)) }
         ensures none { IfNone result (HasNotKey key (view pass.old) self.old self.new (view pass.new)) }
-        ensures still { StillKnows (view pass.old) (view pass.new) }
-        ensures pass { IsOf clock.now pass.new }
-        ensures phase { (holder pass.new).phase ≡ (holder pass.old).phase }
-        ensures seen { (holder pass.old).seen ≤ (holder pass.new).seen }
+        ensures pass { KeepsKnown clock.now pass.old pass.new }
     {
         self.meet(clock, pass);
         if self.row.key() != Some(key) {
@@ -174,8 +150,7 @@ impl LockedRow {
 
     // The entry that a row gave out, with a stamp.
     fn stamped(clock: &Clock<Names>, out: Option<EntryParts>) -> Option<EntryParts>
-        requires here { IfSome out (λ parts. parts_clock parts ≡ clock_id clock.now) }
-        requires unlinked { IfSome out (λ parts. entry_state parts.entry ≡ Some EntryState.Unlinked) }
+        requires { IfSome out (CanStamp clock.now) }
         ensures { IsStamped out result }
     {
         let mut out = out?;
@@ -185,17 +160,9 @@ impl LockedRow {
 
     // Links a written entry, with the next version. The entry that was there is out, unlinked and without a stamp.
     fn link(&mut self, clock: &Clock<Names>, parts: EntryParts) -> Option<EntryParts>
-        requires clock { clock_id clock.now ≡ (row_identity self.old).clock }
-        requires names { IsNamesClock clock.now }
-        requires item { IsItemOf (row_identity self.old).clock (row_identity self.old).home parts }
-        requires written { entry_state parts.entry ≡ Some EntryState.Written }
-        requires of_row { IsKeyOf (setup_of clock.now).plan.0 self.old.row.number (guest_of parts.entry) }
-        requires low { self.old.row.version + 2 < 2 ^ 44 }
-        ensures identity { row_identity self.new ≡ row_identity self.old }
-        ensures version { self.new.row.version ≡ self.old.row.version + 1 }
-        ensures guest { self.new.row.guest ≡ guest_of parts.entry }
-        ensures last { row_last self.new.row ≡ row_record self.old.row.number self.new.row.version (content_of (guest_of parts.entry)) None ∷ [] }
-        ensures out { IsOut (row_identity self.old).clock (row_identity self.old).home self.old.row.guest result }
+        requires here { IsRowClock self.old clock.now }
+        requires entry { CanLink clock.now self.old parts }
+        ensures { LinksInRow self.old parts result self.new }
     {
         let EntryParts {
             entry,
@@ -214,18 +181,10 @@ impl LockedRow {
 
     /// Unlinks the row's entry, and tells the pass. It is out, unlinked and without a stamp. An empty row stays as it is.
     pub fn take(&mut self, clock: &Clock<Names>, pass: &mut Pass<Names>) -> Option<EntryParts>
-        requires clock { clock_id clock.now ≡ (row_identity self.old).clock }
-        requires names { IsNamesClock clock.now }
-        requires pass { IsOf clock.now pass.old }
-        ensures identity { row_identity self.new ≡ row_identity self.old }
-        ensures guest { self.new.row.guest ≡ None }
-        ensures last { IfSome result (λ _. row_last self.new.row ≡ row_record self.old.row.number (self.old.row.version + 1) None (pair_in self.old.row.guest) ∷ []) }
-        ensures version { IfSome result (λ _. self.new.row.version ≡ self.old.row.version + 1) }
-        ensures out { IsOut (row_identity self.old).clock (row_identity self.old).home self.old.row.guest result }
+        requires here { IsRowPass self.old clock.now pass.old }
+        ensures unlinks { UnlinksInRow self.old result self.new }
         ensures told { MeetsRow (view pass.old) self.new (view pass.new) }
-        ensures pass { IsOf clock.now pass.new }
-        ensures phase { (holder pass.new).phase ≡ (holder pass.old).phase }
-        ensures seen { (holder pass.old).seen ≤ (holder pass.new).seen }
+        ensures pass { GoesOn clock.now pass.old pass.new }
     {
         let out = self.unlink(clock);
         self.meet(clock, pass);
@@ -234,13 +193,8 @@ impl LockedRow {
 
     // Unlinks the row's entry, with the next version. It is out, unlinked and without a stamp. An empty row stays as it is.
     fn unlink(&mut self, clock: &Clock<Names>) -> Option<EntryParts>
-        requires clock { clock_id clock.now ≡ (row_identity self.old).clock }
-        requires names { IsNamesClock clock.now }
-        ensures identity { row_identity self.new ≡ row_identity self.old }
-        ensures guest { self.new.row.guest ≡ None }
-        ensures last { IfSome result (λ _. row_last self.new.row ≡ row_record self.old.row.number (self.old.row.version + 1) None (pair_in self.old.row.guest) ∷ []) }
-        ensures version { IfSome result (λ _. self.new.row.version ≡ self.old.row.version + 1) }
-        ensures out { IsOut (row_identity self.old).clock (row_identity self.old).home self.old.row.guest result }
+        requires here { IsRowClock self.old clock.now }
+        ensures { UnlinksInRow self.old result self.new }
     {
         if self.linked.is_none() {
             return None;

@@ -1,13 +1,14 @@
-ghost use Rattle.std.specs.Prelude.{◌≡◌, ◌≤◌, ◌+◌, ◌/◌, ◌^◌, ℕ, IfOk, IfErr, min};
+ghost use Rattle.std.specs.Prelude.{◌≡◌, ◌≤◌, ◌+◌, ◌^◌, ℕ, IfOk, IfErr};
 ghost use Rattle.uma_bucket.specs.Sums.{AreOfAtMost};
 ghost use Rattle.keyed_lock.specs.KeyedLock.{lock_key};
 ghost use Rattle.smr_core.specs.declared.phase.Phase.{Phase};
-ghost use Rattle.smr_clock.specs.Belongs.{IsOf, clock_id, view, holder};
+ghost use Rattle.smr_clock.specs.Belongs.{view, holder};
 ghost use Rattle.smr_clock.specs.Sections.{Misses};
-ghost use Rattle.uma_keg.specs.Census.{census_counts, census_table};
-ghost use Rattle.uma_zone.specs.Zone.{zone_size, zone_cap, zone_reserve};
-ghost use Rattle.name_cache.specs.Cache.{cache_zone, cache_clock, cache_home, row_count};
+ghost use Rattle.uma_zone.specs.Frames.{GoesOn};
+ghost use Rattle.name_cache.specs.Cache.{row_count};
+ghost use Rattle.name_cache.specs.Frames.{IsCachePass};
 ghost use Rattle.name_cache.specs.Look.{Looks};
+ghost use Rattle.name_cache.specs.Made.{IsCensusOf};
 ghost use Rattle.name_cache.specs.RowKey.{key_identity};
 ghost use Rattle.name_cache.specs.Sums.{HasLinked};
 
@@ -34,14 +35,12 @@ impl NameCache {
         pass: &mut Pass<Names>,
         key: u64,
     ) -> Result<Option<u64>, Overtaken>
-        requires clock { clock_id clock.now ≡ cache_clock self.now }
-        requires pass { IsOf clock.now pass.old }
+        requires pass { IsCachePass self.now clock.now pass.old }
         requires outside { (holder pass.old).phase ≡ Phase.Outside }
         ensures looked { IfOk result (λ found. Looks key (view pass.old) found (view pass.new)) }
         ensures late { IfErr result (λ late. Misses (view pass.old) late (view pass.new)) }
-        ensures pass { IsOf clock.now pass.new }
+        ensures pass { GoesOn clock.now pass.old pass.new }
         ensures outside { (holder pass.new).phase ≡ Phase.Outside }
-        ensures seen { (holder pass.old).seen ≤ (holder pass.new).seen }
     {
         clock.enter(pass)?;
         let found = find(clock, pass, key);
@@ -69,10 +68,7 @@ impl NameCache {
     ///
     /// `Memory` where memory is wanting.
     pub fn census<R: Wait>(&self, rt: &R, alloc: Global) -> Result<Census, Memory>
-        ensures table { IfOk result (λ census. census_table census ≡ (cache_home self.now).book) }
-        ensures cap { IfOk result (λ census. (census_counts census).cap ≡ zone_cap (cache_zone self.now)) }
-        ensures reserve { IfOk result (λ census. (census_counts census).reserve ≡ zone_reserve (cache_zone self.now)) }
-        ensures per_slab { IfOk result (λ census. (census_counts census).per_slab ≡ min 256 (4096 / zone_size (cache_zone self.now))) }
+        ensures { IfOk result (IsCensusOf self.now) }
     {
         match self
             .zone

@@ -1,12 +1,12 @@
-ghost use Rattle.std.specs.Prelude.{◌≡◌, ◌<◌, ◌++◌, ◌∷◌, [], length, map, IfOk, IfErr, OnOk};
+ghost use Rattle.std.specs.Prelude.{◌≡◌, ◌<◌, ◌++◌, ◌∷◌, [], IfOk, IfErr, OnOk};
 ghost use Rattle.keyed_lock.specs.KeyedLock.{lock_key};
 ghost use Rattle.smr_clock.specs.Belongs.{clock_id};
 ghost use Rattle.uma_zone.specs.Making.{AcceptsSet};
 ghost use Rattle.uma_zone.specs.Seat.{IsFresh};
-ghost use Rattle.uma_zone.specs.Zone.{zone_home, zone_size, zone_bucket, zone_limit, zone_cap, zone_reserve};
-ghost use Rattle.name_cache.specs.Cache.{cache_zone, cache_clock, cache_domains, first_versions, IsCacheSeat};
-ghost use Rattle.name_cache.specs.Locks.{AreNamed, lock_version};
-ghost use Rattle.name_cache.specs.Making.{IsOpened, FitsOpened, RefusesCache, AreFreshRows, IsFreshRow, versions_of};
+ghost use Rattle.uma_zone.specs.Zone.{zone_home, zone_bucket};
+ghost use Rattle.name_cache.specs.Cache.{cache_zone, cache_domains, IsCacheSeat};
+ghost use Rattle.name_cache.specs.Made.{IsMadeOf, AreLocksOf};
+ghost use Rattle.name_cache.specs.Making.{IsOpened, FitsOpened, RefusesCache, AreFreshRows, IsFreshRow};
 ghost use Rattle.name_cache.specs.RowKey.{key_identity, identity};
 
 use crate::cache::{EntryZone, NameCache};
@@ -42,16 +42,7 @@ impl NameCache {
     ) -> Result<(NameCache, Clock<Names>, Vec<Pass<Names>>), ZoneRefused>
         requires opened { IsOpened opened }
         requires fits { FitsOpened opened set }
-        ensures clock { IfOk result (λ (cache, clock, passes). clock ≡ opened.clock) }
-        ensures passes { IfOk result (λ (cache, clock, passes). passes.items ≡ opened.passes) }
-        ensures of_clock { IfOk result (λ (cache, clock, passes). cache_clock cache ≡ clock_id opened.clock) }
-        ensures versions { IfOk result (λ (cache, clock, passes). first_versions cache ≡ versions_of opened.rows) }
-        ensures domains { IfOk result (λ (cache, clock, passes). cache_domains cache ≡ set.domains) }
-        ensures size { IfOk result (λ (cache, clock, passes). zone_size (cache_zone cache) ≡ 64) }
-        ensures bucket { IfOk result (λ (cache, clock, passes). zone_bucket (cache_zone cache) ≡ set.bucket) }
-        ensures cap { IfOk result (λ (cache, clock, passes). zone_cap (cache_zone cache) ≡ set.slabs) }
-        ensures limit { IfOk result (λ (cache, clock, passes). zone_limit (cache_zone cache) ≡ set.limit) }
-        ensures reserve { IfOk result (λ (cache, clock, passes). zone_reserve (cache_zone cache) ≡ set.reserve) }
+        ensures made { IfOk result (λ (cache, clock, passes). IsMadeOf opened set cache clock passes.items) }
         ensures accepted { OnOk result (AcceptsSet 64 set) }
         ensures refused { IfErr result (RefusesCache set) }
     {
@@ -91,9 +82,7 @@ fn lock_rows(
     rows: Vec<Row>,
 ) -> Result<Vec<RowLock>, Memory>
     requires rows { AreFreshRows clock.now rows.items }
-    ensures long { IfOk result (λ locks. length locks.items ≡ length rows.items) }
-    ensures named { IfOk result (λ locks. AreNamed (clock_id clock.now) (zone_home zone.now) locks.items) }
-    ensures versions { IfOk result (λ locks. map lock_version locks.items ≡ versions_of rows.items) }
+    ensures { IfOk result (λ locks. AreLocksOf (clock_id clock.now) (zone_home zone.now) rows.items locks.items) }
 {
     let mut locks = Vec::new(alloc);
     for row in rows {

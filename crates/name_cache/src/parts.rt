@@ -28,20 +28,15 @@ pub(crate) struct EntryParts {
 }
 
 impl EntryParts {
-    ghost use Rattle.uma_life.specs.Live.{live_body, live_ticket};
-    ghost use Rattle.name_rows.specs.Belongs.{IsNamesClock};
     ghost use Rattle.name_rows.specs.Entries.{OnWords, entry_state};
     ghost use Rattle.name_rows.specs.Ripening.{StampsAt, IsRipe, IsUnripe};
     ghost use Rattle.name_rows.specs.Writing.{Writes};
     ghost use Rattle.name_rows.specs.declared.entry_state.EntryState.{EntryState};
-    ghost use Rattle.name_cache.specs.Raised.{raised_entry, raised_home};
-    ghost use Rattle.name_cache.specs.Parts.{parts_clock, IsSameItem};
+    ghost use Rattle.name_cache.specs.Parts.{parts_clock, ArePartsOf, CanWrite, CanStamp, IsSameItem};
 
     /// The parts of an item.
     pub fn of(live: Live<RaisedEntry>) -> EntryParts
-        ensures entry { result.entry ≡ raised_entry (live_body live) }
-        ensures home { arc_value result.home ≡ raised_home (live_body live) }
-        ensures ticket { result.ticket ≡ live_ticket live }
+        ensures { ArePartsOf live result }
     {
         let (raised, ticket) = live.into_parts();
         let (entry, home) = raised.into_parts();
@@ -54,9 +49,7 @@ impl EntryParts {
 
     /// The item of these parts.
     pub fn into_live(self) -> Live<RaisedEntry>
-        ensures entry { raised_entry (live_body result) ≡ self.entry }
-        ensures home { raised_home (live_body result) ≡ arc_value self.home }
-        ensures ticket { live_ticket result ≡ self.ticket }
+        ensures { ArePartsOf result self }
     {
         let EntryParts {
             entry,
@@ -79,9 +72,7 @@ impl EntryParts {
 
     /// Writes the words of a clean entry.
     pub fn write(&mut self, clock: &Clock<Names>, key: u64, value: u64)
-        requires here { parts_clock self.old ≡ clock_id clock.now }
-        requires names { IsNamesClock clock.now }
-        requires clean { entry_state self.old.entry ≡ Some EntryState.Clean }
+        requires { CanWrite clock.now self.old }
         ensures written { OnWords (Writes key value) self.old.entry.words self.new.entry.words }
         ensures same { IsSameItem self.old self.new }
     {
@@ -90,8 +81,7 @@ impl EntryParts {
 
     /// Stamps an unlinked entry.
     pub fn stamp(&mut self, clock: &Clock<Names>)
-        requires here { parts_clock self.old ≡ clock_id clock.now }
-        requires unlinked { entry_state self.old.entry ≡ Some EntryState.Unlinked }
+        requires { CanStamp clock.now self.old }
         ensures stamped { OnWords StampsAt self.old.entry.words self.new.entry.words }
         ensures same { IsSameItem self.old self.new }
     {

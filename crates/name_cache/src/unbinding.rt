@@ -1,16 +1,13 @@
-ghost use Rattle.std.specs.Prelude.{◌≡◌, ◌≤◌, ◌%◌, ◌<◌, OnErr, IfOk, IfSome, IfNone};
-ghost use Rattle.smr_clock.specs.Belongs.{IsOf, clock_id, view, holder};
+ghost use Rattle.std.specs.Prelude.{◌%◌, ◌<◌, OnErr, IfOk, IfSome, IfNone};
+ghost use Rattle.smr_clock.specs.Belongs.{view};
 ghost use Rattle.zone_stats.specs.LedgerSteps.{HasRoom};
-ghost use Rattle.uma_seat.specs.Seat.{ledger_of, shelf_of, IsSameSeat};
-ghost use Rattle.uma_zone.specs.OwnDomain.{IsFlushed};
-ghost use Rattle.uma_zone.specs.Ports.{sent_of};
-ghost use Rattle.uma_zone.specs.Zone.{lists_of};
-ghost use Rattle.name_rows.specs.Records.{told};
-ghost use Rattle.name_cache.specs.Bind.{WantsMemory};
-ghost use Rattle.name_cache.specs.Cache.{cache_zone, cache_clock, cache_home, row_count, first_version, IsCacheSeat};
+ghost use Rattle.uma_seat.specs.Seat.{ledger_of};
+ghost use Rattle.uma_zone.specs.Frames.{GoesOn};
+ghost use Rattle.name_cache.specs.Bind.{WantsMemory, IsOnlyFlushed};
+ghost use Rattle.name_cache.specs.Cache.{cache_zone, row_count, first_version};
+ghost use Rattle.name_cache.specs.Frames.{IsCachePass, IsWorkerOf, KeepsKnown, KeepsSeat};
 ghost use Rattle.name_cache.specs.Known.{IsAbove, StillKnows};
-ghost use Rattle.name_cache.specs.LockedRow.{IsItemOf};
-ghost use Rattle.name_cache.specs.Rebound.{HasTakenOut, HasFoundNone};
+ghost use Rattle.name_cache.specs.Rebound.{TakesOut, HasFoundNone};
 ghost use Rattle.name_cache.specs.Unbind.{Unbinds, FindsUnbound};
 
 use crate::RaisedEntry;
@@ -40,23 +37,17 @@ impl NameCache {
         seat: &mut SeatCache<RaisedEntry, Names>,
         key: u64,
     ) -> Result<Option<(u64, Receipt)>, Memory>
-        requires clock { clock_id clock.now ≡ cache_clock self.now }
-        requires pass { IsOf clock.now pass.old }
-        requires seat { IsCacheSeat self.now seat.old }
+        requires worker { IsWorkerOf self.now clock.now pass.old seat.old }
         requires room { HasRoom (ledger_of seat.old) }
         ensures unbound { IfOk result (λ found. IfSome found (λ (value, receipt). Unbinds (row_count self.now) key value (view pass.old) seat.old receipt (view pass.new) seat.new)) }
         ensures above { IfOk result (λ found. IfSome found (λ (value, receipt). IsAbove receipt.row receipt.version (view pass.old))) }
         ensures since { IfOk result (λ found. IfSome found (λ (value, receipt). first_version self.now (key % row_count self.now) < receipt.version)) }
         ensures none { IfOk result (λ found. IfNone found (FindsUnbound (row_count self.now) key (view pass.old) seat.old (view pass.new) seat.new)) }
         ensures memory { OnErr result (WantsMemory seat.old seat.new) }
-        ensures flushed { OnErr result (IsFlushed (lists_of (cache_zone self.now)) told (shelf_of seat.old) (shelf_of seat.new) (sent_of seat.old) (sent_of seat.new) (view pass.old)) }
-        ensures unheard { OnErr result ((view pass.new).host ≡ (view pass.old).host) }
+        ensures flushed { OnErr result (IsOnlyFlushed (cache_zone self.now) seat.old seat.new (view pass.old) (view pass.new)) }
         ensures still { StillKnows (view pass.old) (view pass.new) }
-        ensures pass { IsOf clock.now pass.new }
-        ensures phase { (holder pass.new).phase ≡ (holder pass.old).phase }
-        ensures seen { (holder pass.old).seen ≤ (holder pass.new).seen }
-        ensures seat { IsCacheSeat self.now seat.new }
-        ensures same { IsSameSeat seat.old seat.new }
+        ensures pass { GoesOn clock.now pass.old pass.new }
+        ensures seat { KeepsSeat self.now seat.old seat.new }
     {
         self.zone.make_room(rt, alloc, clock, pass, seat)?;
         match self.take_out(rt, clock, pass, key) {
@@ -76,16 +67,10 @@ impl NameCache {
         pass: &mut Pass<Names>,
         key: u64,
     ) -> Option<(u64, Receipt, EntryParts)>
-        requires clock { clock_id clock.now ≡ cache_clock self.now }
-        requires pass { IsOf clock.now pass.old }
-        ensures unbound { IfSome result (λ (value, receipt, entry). HasTakenOut (row_count self.now) key value (view pass.old) receipt entry (view pass.new)) }
-        ensures since { IfSome result (λ (value, receipt, entry). first_version self.now (key % row_count self.now) < receipt.version) }
-        ensures item { IfSome result (λ (value, receipt, entry). IsItemOf (cache_clock self.now) (cache_home self.now) entry) }
+        requires pass { IsCachePass self.now clock.now pass.old }
+        ensures unbound { IfSome result (λ (value, receipt, entry). TakesOut self.now key value (view pass.old) receipt entry (view pass.new)) }
         ensures none { IfNone result (HasFoundNone (row_count self.now) key (view pass.old) (view pass.new)) }
-        ensures still { StillKnows (view pass.old) (view pass.new) }
-        ensures pass { IsOf clock.now pass.new }
-        ensures phase { (holder pass.new).phase ≡ (holder pass.old).phase }
-        ensures seen { (holder pass.old).seen ≤ (holder pass.new).seen }
+        ensures pass { KeepsKnown clock.now pass.old pass.new }
     {
         let mut guard = self.lock_row(rt, key);
         guard.value.unbind(clock, pass, key)

@@ -176,3 +176,7 @@ module _ {N H C S Part : Type 0} {h : Ghosts H Part} (names : NameGhosts N H C S
 pub both_ok : {T E : Type 0} (r : Result T E) (P Q W : Type 0) → OnOk r P → OnOk r Q → (P → Q → W) → OnOk r W
 both_ok (Ok x) P Q W p q both = both p q
 both_ok (Err e) P Q W p q both = p
+
+pub three_ok : {T E P Q R W : Type 0} (r : Result T E) → (P → Q → R → W) → OnOk r P → OnOk r Q → OnOk r R → OnOk r W
+three_ok (Ok x) all p q s = all p q s
+three_ok (Err e) all p q s = tt

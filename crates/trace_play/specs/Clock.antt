@@ -6,12 +6,28 @@ use Rattle.smr_clock.specs.declared.host.Host.{Ghosts}
 use Rattle.smr_clock.specs.Belongs.{IsOf, holder, setup_of}
 use Rattle.smr_clock.specs.Notes.{IsNoteOf, note_holder}
 use Rattle.trace_worker.specs.declared.worker.Worker.{Worker}
+use Rattle.trace_worker.specs.Clocks.{KnowsBeginning}
 use Rattle.trace_worker.specs.Worker.{phase_of, seen_of}
 
 module _ {H P : Type 0} {h : Ghosts H P} where
   -- where the read hand stands at least, as a worker's pass knows
   abbrev pub floor_of : Worker H P h → ℕ
   floor_of w = (holder w.pass).floor
+
+  -- each worker's pass is of this clock
+  abbrev pub AreHere : Clock H P → List (Worker H P h) → Type 0
+  AreHere clock workers = (n : ℕ) (w : Worker H P h) → slice_get workers n ≡ Some w → IsOf clock w.pass
+
+  -- There is a worker, each one's pass is of this clock, and the note knows where its hands began.
+  pub record CanGather (clock : Clock H P) (workers : List (Worker H P h)) (note : Note H P h) : Type 0 where
+    pub some : 0 < length workers
+    pub here : AreHere clock workers
+    pub begun : KnowsBeginning clock note
+
+  -- there is a worker `n`, and each one's pass is of this clock
+  pub record HasWorker (clock : Clock H P) (n : ℕ) (workers : List (Worker H P h)) : Type 0 where
+    pub at : n < length workers
+    pub here : AreHere clock workers
 
   -- Worker 0's pass took in what each other worker's knew, and then loaded both hands: `write` is the write hand, `read` its floor.
   pub record ReadsHands (clock : Clock H P) (workers : List (Worker H P h)) (read write : ℕ) : Type 0 where

@@ -11,6 +11,7 @@ pub mod Picking
 pub mod Plain
 pub mod Plays
 pub mod Rounds
+pub mod RoundsPlayed
 pub mod Setting
 pub mod Slots
 pub mod Summing

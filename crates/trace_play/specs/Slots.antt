@@ -1,5 +1,5 @@
 -- What is lent of slots, what is left in them, and how they are filled again (own). `of` says of a zone's place whether its items are lent.
-use Rattle.std.specs.Prelude.{◌≡◌, ◌≤◌, ◌==◌, ℕ, Bool, false, List, [], ◌∷◌, Option, Some, None, cond, length, map, option_to_list, slice_get}
+use Rattle.std.specs.Prelude.{◌≡◌, ◌≤◌, ◌==◌, ℕ, Bool, false, List, [], ◌∷◌, ◌++◌, Option, Some, None, cond, length, map, option_to_list, slice_get}
 use Rattle.std.specs.List.{flat_map, fold, sum_by}
 use Rattle.std.specs.Option.{option_map_or}
 use Rattle.smr_clock.specs.declared.host.Host.{Ghosts}
@@ -55,6 +55,25 @@ module _ {H P : Type 0} {h : Ghosts H P} where
   abbrev pub all_marks : (ℕ → Bool) → List (Worker H P h) → List (List (Option ℕ))
   all_marks of workers = map (λ w. marks_of of w.slots) workers
 
+-- These slots lent their items behind others, and these are their marks.
+pub record LendSlots (of : ℕ → Bool) (old : List (Option Held)) (before : List LiveItem) (new : List (Option Held)) (after : List LiveItem) (given : List (Option ℕ)) : Type 0 where
+  pub marks : given ≡ marks_of of old
+  pub lives : after ≡ before ++ lent_items of old
+  pub left : new ≡ left_in of old
+
+module _ {H P : Type 0} {h : Ghosts H P} where
+  -- the same of a worker's slots
+  pub record LendsItems (of : ℕ → Bool) (old : Worker H P h) (before : List LiveItem) (new : Worker H P h) (after : List LiveItem) (given : List (Option ℕ)) : Type 0 where
+    pub marks : given ≡ marks_of of old.slots
+    pub lives : after ≡ before ++ lent_items of old.slots
+    pub left : new ≡ lender of old
+
+  -- all workers lent these items, one worker after another, and these are the marks of each
+  pub record AllLend (of : ℕ → Bool) (old new : List (Worker H P h)) (given : List (List (Option ℕ))) (items : List LiveItem) : Type 0 where
+    pub marks : given ≡ all_marks of old
+    pub lives : items ≡ all_lent of old
+    pub left : new ≡ map (lender of) old
+
 -- how often live items passed a hook
 abbrev pub live_sum : Hook → List LiveItem → ℕ
 live_sum hook lives = sum_by (live_times hook) lives
@@ -78,6 +97,11 @@ abbrev pub threaded : {M L X : Type 0} → (M → L → X → X) → (M → L �
 threaded step next [] left places = places
 threaded step next (mark ∷ marks) left [] = []
 threaded step next (mark ∷ marks) left (place ∷ places) = step mark left place ∷ threaded step next marks (next mark left) places
+
+-- a mark for each slot, of which there are at most 65,536
+pub record MarksEach (marks : List (Option ℕ)) (slots : List (Option Held)) : Type 0 where
+  pub same : length marks ≡ length slots
+  pub few : length marks ≤ 65536
 
 -- the slots, with the items in the marked ones, in order
 abbrev pub refilled : List (Option ℕ) → List LiveItem → List (Option Held) → List (Option Held)

@@ -1,19 +1,23 @@
 -- The kegs that were taken so far: their censuses, and their hooks' sums (own).
-use Rattle.std.specs.Prelude.{◌≡◌, ◌+◌, ◌==◌, ℕ, Bool, List, length, Some, slice_get}
+use Rattle.std.specs.Prelude.{◌≡◌, ◌+◌, ◌^◌, ◌==◌, ℕ, Bool, List, length, Some, slice_get}
+use Rattle.smr_clock.specs.declared.clock.Clock.{Clock}
 use Rattle.smr_clock.specs.declared.host.Host.{Ghosts}
 use Rattle.trace_text.specs.declared.head.Head.{Head}
 use Rattle.trace_text.specs.declared.head.ZoneHead.{ZoneHead}
+use Rattle.trace_text.specs.Valid.{HeadFits}
 use Rattle.uma_keg.specs.declared.census.Census.{Census}
 use Rattle.uma_life.specs.declared.tally_sum.TallySum.{TallySum}
 use Rattle.uma_life.specs.Hook.{Hook}
 use Rattle.uma_life.specs.Sum.{sum_of}
 use Rattle.uma_bucket.specs.declared.sums.Sums.{Sums}
+use Rattle.uma_bucket.specs.Sums.{AreOfAtMost}
 use Rattle.trace_worker.specs.declared.worker.Worker.{Worker}
 use Rattle.trace_worker.specs.Items.{CountedZone}
 use Rattle.trace_play.specs.Kegs.{keg_place, primaries}
-use Rattle.trace_play.specs.Lending.{TakesCensusAt}
+use Rattle.trace_play.specs.Lending.{AllFit, AreFew, TakesCensusAt}
 use Rattle.trace_play.specs.Picking.{picked}
 use Rattle.trace_play.specs.Summing.{SumsUp}
+use Rattle.trace_play.specs.Zones.{AreZones}
 
 -- the line at place `z` is of the keg whose primary zone stands at place `p`
 abbrev pub is_of_keg : ℕ → ℕ → ZoneHead → Bool
@@ -23,7 +27,19 @@ is_of_keg p z line = keg_place z line == p
 abbrev pub keg_sums : Hook → ℕ → List ZoneHead → List Sums → ℕ
 keg_sums hook p lines sums = picked (is_of_keg p) (λ s. sum_of s.tally hook) 0 lines sums
 
+-- the sums of so many zones, none of which counts too much
+pub record AreZoneSums (zone_count : ℕ) (sums : List Sums) : Type 0 where
+  pub count : length sums ≡ zone_count
+  pub small : (n : ℕ) (s : Sums) → slice_get sums n ≡ Some s → AreOfAtMost (2 ^ 35) s
+
 module _ {H P : Type 0} {h : Ghosts H P} where
+  -- The zones are those of the lines of this head, which fits, over this clock; the workers fit them, and are few.
+  pub record CanTake (of : Head) (by : Clock H P) (all : List (CountedZone H P h)) (workers : List (Worker H P h)) : Type 0 where
+    pub head : HeadFits of
+    pub zones : AreZones of by all
+    pub fits : AllFit all by workers
+    pub few : AreFew workers
+
   -- the sums of each zone, in order
   pub record AllSumUp (zones : List (CountedZone H P h)) (workers : List (Worker H P h)) (sums : List Sums) : Type 0 where
     pub count : length sums ≡ length zones

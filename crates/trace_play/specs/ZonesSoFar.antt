@@ -1,15 +1,17 @@
 -- The zones of the first lines, while they are made one after another (own).
-use Rattle.std.specs.Prelude.{◌≡◌, ◌++◌, ℕ, List, [], ◌∷◌, take}
+use Rattle.std.specs.Prelude.{◌≡◌, ◌++◌, ℕ, List, [], ◌∷◌, Some, slice_get, take}
+use Rattle.smr_clock.specs.declared.clock.Clock.{Clock}
 use Rattle.smr_clock.specs.declared.host.Host.{Ghosts}
 use Rattle.smr_clock.specs.declared.setup.Setup.{Setup}
 use Rattle.smr_clock.specs.Belongs.{TableId}
 use Rattle.trace_text.specs.declared.head.Head.{Head}
 use Rattle.trace_text.specs.declared.head.ZoneHead.{ZoneHead}
+use Rattle.trace_text.specs.Valid.{HeadFits}
 use Rattle.uma_zone.specs.Making.{IsSameZone}
 use Rattle.uma_zone.specs.Zone.{zone_key, zone_index, zone_clock, zone_smr, zone_domains, zone_bucket, zone_limit, zone_rights}
 use Rattle.trace_worker.specs.Items.{CountedZone}
 use Rattle.trace_play.specs.Kegs.{rights_after}
-use Rattle.trace_play.specs.Zones.{HasNumbers, is_smr}
+use Rattle.trace_play.specs.Zones.{AreZones, HasNumbers, is_smr}
 
 -- the head with these zone lines
 abbrev pub with_lines : List ZoneHead → Head → Head
@@ -20,6 +22,12 @@ abbrev pub cut : ℕ → Head → Head
 cut count head = with_lines (take count head.zones) head
 
 module _ {H P : Type 0} {h : Ghosts H P} where
+  -- this is the line at a place of a head that fits, and the zones of the lines before it are made
+  pub record IsNextLine (head : Head) (clock : Clock H P) (place : ℕ) (next : ZoneHead) (zones : List (CountedZone H P h)) : Type 0 where
+    pub fits : HeadFits head
+    pub line : slice_get head.zones place ≡ Some next
+    pub so_far : AreZones (cut place head) clock zones
+
   -- the zone of a `zone` line: the first of its keg, of readers by this clock
   pub record IsFirst (clock : TableId × Setup) (domains : ℕ) (line : ZoneHead) (zone : CountedZone H P h) : Type 0 where
     pub same_clock : zone_clock zone ≡ clock

@@ -1,8 +1,7 @@
 //! The census of a keg.
 ghost use Rattle.std.specs.Prelude.{◌<◌, IfOk, OnOk, length};
-ghost use Rattle.trace_text.specs.Valid.{HeadFits};
-ghost use Rattle.trace_play.specs.Zones.{AreZones};
-ghost use Rattle.trace_play.specs.Lending.{AllFit, AreFew, KeepsWorkers, TakesCensusAt};
+ghost use Rattle.trace_play.specs.Lending.{KeepsWorkers, TakesCensusAt};
+ghost use Rattle.trace_play.specs.Taking.{CanTake};
 
 use crate::lending::lend_all;
 use crate::lives::with_lives;
@@ -27,11 +26,8 @@ pub(crate) fn take_census<H: Host, R: Wait>(
     place: usize,
     workers: &mut [Worker<H>],
 ) -> Result<(Census, TallySum), Memory>
-    requires head { HeadFits head.now }
-    requires zones { AreZones head.now clock.now zones.now }
+    requires can { CanTake head.now clock.now zones.now workers.old }
     requires place { place < length zones.now }
-    requires fits { AllFit zones.now clock.now workers.old }
-    requires few { AreFew workers.old }
     ensures census { IfOk result (λ (census, tally). TakesCensusAt head.now zones.now workers.old place census tally) }
     ensures workers { OnOk result (KeepsWorkers workers.old workers.new) }
 {

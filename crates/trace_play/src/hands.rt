@@ -1,8 +1,8 @@
-ghost use Rattle.std.specs.Prelude.{◌≡◌, ◌≤◌, ◌<◌, ℕ, Some, length, slice_get};
-ghost use Rattle.smr_clock.specs.Belongs.{IsOf, holder, setup_of};
-ghost use Rattle.smr_clock.specs.Notes.{IsNoteOf, note_holder};
-ghost use Rattle.trace_worker.specs.declared.worker.Worker.{Worker};
-ghost use Rattle.trace_play.specs.Clock.{AllLearn, Gathers, Knows, Learns, Looks, LooksAt, NotesAt, PassesOn, ReadsHands, TakesAt, Tells};
+ghost use Rattle.std.specs.Prelude.{◌≡◌, ◌<◌, length};
+ghost use Rattle.smr_clock.specs.Belongs.{IsOf, setup_of};
+ghost use Rattle.smr_clock.specs.Notes.{IsNoteOf};
+ghost use Rattle.trace_worker.specs.Clocks.{KnowsBeginning};
+ghost use Rattle.trace_play.specs.Clock.{AllLearn, AreHere, CanGather, Gathers, HasWorker, Knows, Learns, Looks, LooksAt, NotesAt, PassesOn, ReadsHands, TakesAt, Tells};
 
 use smr_clock::{Clock, Host, Note};
 use trace_worker::Worker;
@@ -17,9 +17,8 @@ pub fn read_hands<H: Host>(
     window: u64,
 ) -> (u64, u64)
     requires some { 0 < length workers.old }
-    requires here { (n : ℕ) (w : Worker H H.Part H.Host) → slice_get workers.old n ≡ Some w → IsOf clock.now w.pass }
-    requires begun_here { IsNoteOf clock.now begun }
-    requires begun { (setup_of clock.now).about.start ≤ (note_holder begun).floor }
+    requires here { AreHere clock.now workers.old }
+    requires begun { KnowsBeginning clock.now begun }
     requires window { window ≡ (setup_of clock.now).about.window }
     ensures reads { ReadsHands clock.now workers.new result.0 result.1 }
     ensures learn { AllLearn clock.now workers.old workers.new }
@@ -30,10 +29,7 @@ pub fn read_hands<H: Host>(
 
 /// Worker 0's pass takes in the note, and what each other worker's knows.
 fn gather<H: Host>(clock: &Clock<H>, workers: &mut [Worker<H>], begun: Note<H>)
-    requires some { 0 < length workers.old }
-    requires here { (n : ℕ) (w : Worker H H.Part H.Host) → slice_get workers.old n ≡ Some w → IsOf clock.now w.pass }
-    requires begun_here { IsNoteOf clock.now begun }
-    requires begun { (setup_of clock.now).about.start ≤ (note_holder begun).floor }
+    requires { CanGather clock.now workers.old begun }
     ensures { Gathers clock.now (length workers.old) workers.old workers.new }
 {
     take_at(clock, workers, 0, begun);
@@ -45,7 +41,7 @@ fn gather<H: Host>(clock: &Clock<H>, workers: &mut [Worker<H>], begun: Note<H>)
 /// Worker 0's pass takes in what another worker's knows.
 fn pass_on<H: Host>(clock: &Clock<H>, workers: &mut [Worker<H>], number: usize)
     requires at { number < length workers.old }
-    requires here { (n : ℕ) (w : Worker H H.Part H.Host) → slice_get workers.old n ≡ Some w → IsOf clock.now w.pass }
+    requires here { AreHere clock.now workers.old }
     ensures { PassesOn clock.now number workers.old workers.new }
 {
     let note = note_at(clock, workers, number);
@@ -54,8 +50,7 @@ fn pass_on<H: Host>(clock: &Clock<H>, workers: &mut [Worker<H>], number: usize)
 
 /// A note of what the pass of the worker with this number knows.
 fn note_at<H: Host>(clock: &Clock<H>, workers: &mut [Worker<H>], number: usize) -> Note<H>
-    requires at { number < length workers.old }
-    requires here { (n : ℕ) (w : Worker H H.Part H.Host) → slice_get workers.old n ≡ Some w → IsOf clock.now w.pass }
+    requires { HasWorker clock.now number workers.old }
     ensures { NotesAt clock.now number workers.old result workers.new }
 {
     note_of(clock, &mut workers[number])
@@ -63,8 +58,7 @@ fn note_at<H: Host>(clock: &Clock<H>, workers: &mut [Worker<H>], number: usize) 
 
 /// The pass of the worker with this number takes the note in.
 fn take_at<H: Host>(clock: &Clock<H>, workers: &mut [Worker<H>], number: usize, note: Note<H>)
-    requires at { number < length workers.old }
-    requires here { (n : ℕ) (w : Worker H H.Part H.Host) → slice_get workers.old n ≡ Some w → IsOf clock.now w.pass }
+    requires worker { HasWorker clock.now number workers.old }
     requires note_here { IsNoteOf clock.now note }
     ensures { TakesAt clock.now number workers.old note workers.new }
 {
@@ -74,7 +68,7 @@ fn take_at<H: Host>(clock: &Clock<H>, workers: &mut [Worker<H>], number: usize, 
 /// The hands, by worker 0's pass.
 fn look_at<H: Host>(clock: &Clock<H>, workers: &mut [Worker<H>], window: u64) -> (u64, u64)
     requires at { 0 < length workers.old }
-    requires here { (n : ℕ) (w : Worker H H.Part H.Host) → slice_get workers.old n ≡ Some w → IsOf clock.now w.pass }
+    requires here { AreHere clock.now workers.old }
     requires window { window ≡ (setup_of clock.now).about.window }
     ensures { LooksAt clock.now workers.old result.0 result.1 workers.new }
 {

@@ -1,14 +1,12 @@
 //! A keg when all lines are done.
 ghost use Rattle.std.specs.Prelude.{◌≡◌, ◌≤◌, ◌<◌, ◌+◌, ◌^◌, ℕ, Some, IfOk, OnOk, cond, length, slice_get};
-ghost use Rattle.trace_text.specs.Valid.{HeadFits};
 ghost use Rattle.uma_life.specs.Hook.{Hook};
 ghost use Rattle.uma_life.specs.Sum.{AreBelow, sum_of};
 ghost use Rattle.uma_bucket.specs.declared.sums.Sums.{Sums};
 ghost use Rattle.uma_bucket.specs.Sums.{AreOfAtMost};
 ghost use Rattle.trace_play.specs.Kegs.{keg_place};
-ghost use Rattle.trace_play.specs.Zones.{AreZones};
-ghost use Rattle.trace_play.specs.Lending.{AllFit, AreFew, KeepsWorkers};
-ghost use Rattle.trace_play.specs.Taking.{is_of_keg, keg_sums, TakesKeg};
+ghost use Rattle.trace_play.specs.Lending.{KeepsWorkers};
+ghost use Rattle.trace_play.specs.Taking.{is_of_keg, keg_sums, AreZoneSums, CanTake, TakesKeg};
 
 use crate::census::take_census;
 use smr_clock::{Clock, Host};
@@ -32,13 +30,9 @@ pub(crate) fn take_keg<H: Host, R: Wait>(
     sums: &[Sums],
     workers: &mut [Worker<H>],
 ) -> Result<(Census, TallySum), Memory>
-    requires head { HeadFits head.now }
-    requires zones { AreZones head.now clock.now zones.now }
+    requires can { CanTake head.now clock.now zones.now workers.old }
     requires place { place < length zones.now }
-    requires count { length sums.now ≡ length zones.now }
-    requires small { (n : ℕ) (s : Sums) → slice_get sums.now n ≡ Some s → AreOfAtMost (2 ^ 35) s }
-    requires fits { AllFit zones.now clock.now workers.old }
-    requires few { AreFew workers.old }
+    requires sums { AreZoneSums (length zones.now) sums.now }
     ensures keg { IfOk result (λ (census, tally). TakesKeg head.now zones.now workers.old sums.now place census tally) }
     ensures workers { OnOk result (KeepsWorkers workers.old workers.new) }
 {

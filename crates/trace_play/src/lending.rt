@@ -1,17 +1,14 @@
 //! All workers' slots lend the live items of a keg's zones.
-ghost use Rattle.std.specs.Prelude.{◌≡◌, ◌≤◌, ◌<◌, ◌++◌, IfOk, OnOk, length, map, option_to_list, slice_set};
+ghost use Rattle.std.specs.Prelude.{◌≡◌, ◌≤◌, ◌<◌, ◌++◌, IfOk, OnOk, length, option_to_list, slice_set};
 ghost use Rattle.trace_worker.specs.Slots.{slot_at};
 ghost use Rattle.trace_play.specs.Slots.{
   in_keg,
   mark_of,
   lent_item,
   left_of,
-  marks_of,
-  lent_items,
-  left_in,
-  lender,
-  all_marks,
-  all_lent,
+  AllLend,
+  LendSlots,
+  LendsItems,
 };
 ghost use Rattle.trace_play.specs.Lending.{AreFew};
 
@@ -34,9 +31,7 @@ pub(crate) fn lend_all<H: Host>(
     workers: &mut [Worker<H>],
 ) -> Result<(Vec<Marks>, Vec<Live<Counted>>), Memory>
     requires few { AreFew workers.old }
-    ensures marks { IfOk result (λ (marks, lives). marks.items ≡ all_marks (in_keg head.now.zones place) workers.old) }
-    ensures lives { IfOk result (λ (marks, lives). lives.items ≡ all_lent (in_keg head.now.zones place) workers.old) }
-    ensures left { OnOk result (workers.new ≡ map (lender (in_keg head.now.zones place)) workers.old) }
+    ensures { IfOk result (λ (marks, lives). AllLend (in_keg head.now.zones place) workers.old workers.new marks.items lives.items) }
 {
     let count = workers.len();
     let mut marks = Vec::with_capacity(alloc, count)?;
@@ -56,9 +51,7 @@ fn lend_by<H: Host>(
     lives: &mut Vec<Live<Counted>>,
 ) -> Result<Marks, Memory>
     requires few { length worker.old.slots ≤ 65536 }
-    ensures marks { IfOk result (λ marks. marks ≡ marks_of (in_keg head.now.zones place) worker.old.slots) }
-    ensures lives { OnOk result (lives.new.items ≡ lives.old.items ++ lent_items (in_keg head.now.zones place) worker.old.slots) }
-    ensures left { OnOk result (worker.new ≡ lender (in_keg head.now.zones place) worker.old) }
+    ensures { IfOk result (LendsItems (in_keg head.now.zones place) worker.old lives.old.items worker.new lives.new.items) }
 {
     lend(alloc, head, place, &mut worker.slots, lives)
 }
@@ -72,9 +65,7 @@ fn lend(
     lives: &mut Vec<Live<Counted>>,
 ) -> Result<Marks, Memory>
     requires few { length slots.old ≤ 65536 }
-    ensures marks { IfOk result (λ marks. marks ≡ marks_of (in_keg head.now.zones place) slots.old) }
-    ensures lives { OnOk result (lives.new.items ≡ lives.old.items ++ lent_items (in_keg head.now.zones place) slots.old) }
-    ensures left { OnOk result (slots.new ≡ left_in (in_keg head.now.zones place) slots.old) }
+    ensures { IfOk result (LendSlots (in_keg head.now.zones place) slots.old lives.old.items slots.new lives.new.items) }
 {
     let count = slots.len();
     let mut marks = Vec::with_capacity(alloc, count)?;

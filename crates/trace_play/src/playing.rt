@@ -1,12 +1,8 @@
-ghost use Rattle.std.specs.Prelude.{◌≡◌, ◌<◌, ◌+◌, ℕ, OnOk, length, reverse};
-ghost use Rattle.trace_play.specs.Asks.{AllAsk, AllAskRound};
-ghost use Rattle.trace_play.specs.Betweens.{DoRoundAt, DoRounds};
+ghost use Rattle.std.specs.Prelude.{◌≡◌, ◌<◌, OnOk, length};
+ghost use Rattle.trace_play.specs.RoundsPlayed.{IsPlayed, IsRoundPlayed};
 ghost use Rattle.trace_play.specs.Parts.{betweens_of as betweens_at};
-ghost use Rattle.trace_play.specs.Plays.{AllPlay, AllPlayRound};
-ghost use Rattle.trace_play.specs.Rounds.{AllAsked, AreAfter, GaveUpAsBefore, IsBegun, Suits};
-ghost use Rattle.trace_text.specs.Lines.{lines_of};
+ghost use Rattle.trace_play.specs.Rounds.{AreAfter, GaveUpAsBefore, IsBegun, Suits};
 ghost use Rattle.trace_worker.specs.OwnLines.{lines_before};
-ghost use Rattle.trace_worker.specs.Together.{AddsUp, AllNamed, AllStand, crew};
 
 use crate::betweens::do_betweens;
 use crate::round::{all_ended, work_round};
@@ -34,15 +30,9 @@ pub fn play<N: NameCalls + Sync, R: Threads + Wait + Sync, G: Gate + Sync, C: Re
 ) -> Result<(), Memory>
     requires suits { Suits N.NameCalls cache.now trace.now zones.now clock.now workers.old }
     requires begun { IsBegun N.NameCalls cache.now zones.now clock.now workers.old }
-    ensures stands { OnOk result (AllStand zones.now clock.now (reverse (lines_of trace.now.rounds)) (crew workers.new)) }
-    ensures named { OnOk result (AllNamed N.NameCalls cache.now (reverse (lines_of trace.now.rounds)) workers.new) }
-    ensures adds_up { OnOk result ((z : ℕ) → AddsUp z (crew workers.new)) }
-    ensures plays { OnOk result (AllPlay N.NameCalls cache.now zones.now trace.now.rounds workers.old workers.new) }
-    ensures rounds { OnOk result (DoRounds N.NameCalls cache.now zones.now trace.now.rounds workers.old workers.new) }
+    ensures played { OnOk result (IsPlayed N.NameCalls cache.now G.Gate gate.now trace.now zones.now clock.now workers.old workers.new) }
     ensures count { length workers.new ≡ length workers.old }
-    ensures asked { OnOk result (AllAsked (reverse (lines_of trace.now.rounds)) workers.new) }
     ensures free { G.is_free gate.now → OnOk result (GaveUpAsBefore workers.old workers.new) }
-    ensures asks { OnOk result (AllAsk G.Gate gate.now trace.now.rounds workers.old workers.new) }
 {
     for round in 0..trace.rounds.len() {
         play_round(
@@ -74,11 +64,8 @@ fn play_round<
     requires suits { Suits N.NameCalls cache.now trace.now zones.now clock.now workers.old }
     requires round { round < length trace.now.rounds }
     requires after { AreAfter N.NameCalls cache.now zones.now clock.now (lines_before trace.now.rounds round) workers.old }
-    ensures after { OnOk result (AreAfter N.NameCalls cache.now zones.now clock.now (lines_before trace.now.rounds (round + 1)) workers.new) }
-    ensures plays { OnOk result (AllPlayRound N.NameCalls cache.now zones.now trace.now.rounds round workers.old workers.new) }
-    ensures round { OnOk result (DoRoundAt N.NameCalls cache.now zones.now trace.now.rounds round workers.old workers.new) }
+    ensures played { OnOk result (IsRoundPlayed N.NameCalls cache.now G.Gate gate.now trace.now zones.now clock.now round workers.old workers.new) }
     ensures free { G.is_free gate.now → OnOk result (GaveUpAsBefore workers.old workers.new) }
-    ensures asks { OnOk result (AllAskRound G.Gate gate.now trace.now.rounds round workers.old workers.new) }
 {
     work_round(
         rt, alloc, trace, zones, clock, names, cache, gate, reclaim, round, workers,

@@ -1,7 +1,8 @@
 //! The slots get back what they lent.
-ghost use Rattle.std.specs.Prelude.{◌≡◌, ◌≤◌, ◌<◌, OnOk, length, reverse, slice_set};
+ghost use Rattle.std.specs.Prelude.{◌≡◌, ◌<◌, OnOk, length, reverse, slice_set};
 ghost use Rattle.trace_worker.specs.Slots.{slot_at};
 ghost use Rattle.trace_play.specs.Slots.{
+  MarksEach,
   MarksFit,
   next_held,
   next_lives,
@@ -40,8 +41,7 @@ fn put_back_by<H: Host>(
     lives: &mut Vec<Live<Counted>>,
     worker: &mut Worker<H>,
 ) -> Result<(), Memory>
-    requires same { length marks.now ≡ length worker.old.slots }
-    requires few { length marks.now ≤ 65536 }
+    requires { MarksEach marks.now worker.old.slots }
     ensures worker { OnOk result (worker.new ≡ refilled_worker marks.now (reverse lives.old.items) worker.old) }
     ensures lives { OnOk result (reverse lives.new.items ≡ over marks.now (reverse lives.old.items)) }
 {
@@ -55,8 +55,7 @@ fn put_back(
     lives: &mut Vec<Live<Counted>>,
     slots: &mut Slots,
 ) -> Result<(), Memory>
-    requires same { length marks.now ≡ length slots.old }
-    requires few { length marks.now ≤ 65536 }
+    requires { MarksEach marks.now slots.old }
     ensures slots { OnOk result (slots.new ≡ refilled marks.now (reverse lives.old.items) slots.old) }
     ensures lives { OnOk result (reverse lives.new.items ≡ over marks.now (reverse lives.old.items)) }
 {

@@ -1,14 +1,12 @@
-ghost use Rattle.std.specs.Prelude.{◌≡◌, ◌≤◌, ◌<◌, ◌^◌, ℕ, Some, IfOk, OnOk, length, map, slice_get};
+ghost use Rattle.std.specs.Prelude.{◌≡◌, ◌≤◌, ℕ, Some, IfOk, OnOk, length, map, slice_get};
 ghost use Rattle.trace_text.specs.Valid.{HeadFits};
-ghost use Rattle.uma_bucket.specs.declared.sums.Sums.{Sums};
-ghost use Rattle.uma_bucket.specs.Sums.{AreOfAtMost};
 ghost use Rattle.trace_worker.specs.declared.worker.Worker.{Worker};
 ghost use Rattle.trace_worker.specs.Items.{CountedZone};
 ghost use Rattle.trace_play.specs.Zones.{AreZones};
 ghost use Rattle.trace_play.specs.Lending.{AllFit, AreFew, KeepsWorkers};
 ghost use Rattle.trace_play.specs.Closes.{AllClose};
 ghost use Rattle.trace_play.specs.Summing.{HasSeat};
-ghost use Rattle.trace_play.specs.Taking.{AllSumUp, TakesKegs};
+ghost use Rattle.trace_play.specs.Taking.{AllSumUp, AreZoneSums, CanTake, TakesKegs};
 
 use crate::keg::take_keg;
 use crate::summing::zone_sums;
@@ -107,12 +105,8 @@ fn take_kegs<H: Host, R: Wait>(
     sums: &[Sums],
     workers: &mut [Worker<H>],
 ) -> Result<Kegs, Memory>
-    requires head { HeadFits head.now }
-    requires zones { AreZones head.now clock.now zones.now }
-    requires count { length sums.now ≡ length zones.now }
-    requires small { (n : ℕ) (s : Sums) → slice_get sums.now n ≡ Some s → AreOfAtMost (2 ^ 35) s }
-    requires fits { AllFit zones.now clock.now workers.old }
-    requires few { AreFew workers.old }
+    requires can { CanTake head.now clock.now zones.now workers.old }
+    requires sums { AreZoneSums (length zones.now) sums.now }
     ensures kegs { IfOk result (λ kegs. TakesKegs head.now zones.now workers.old sums.now head.now.zones kegs.censuses.items kegs.tallies.items) }
     ensures workers { OnOk result (KeepsWorkers workers.old workers.new) }
 {

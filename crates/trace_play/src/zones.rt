@@ -1,11 +1,11 @@
-ghost use Rattle.std.specs.Prelude.{◌≡◌, ◌≢◌, ◌<◌, ◌≤◌, ◌+◌, ◌==◌, ◌↔◌, [], false, length, IfOk, OnOk, IsTrue, None, Some, slice_get};
+ghost use Rattle.std.specs.Prelude.{◌≡◌, ◌≢◌, ◌<◌, ◌≤◌, ◌+◌, ◌==◌, ◌↔◌, [], false, length, IfOk, OnOk, IsTrue, None, Some};
 ghost use Rattle.std.specs.Option.{option_map_or};
 ghost use Rattle.smr_clock.specs.Belongs.{clock_id};
 ghost use Rattle.uma_zone.specs.Zone.{zone_index, zone_rights};
 ghost use Rattle.trace_text.specs.Limits.{IsWithin};
 ghost use Rattle.trace_text.specs.Valid.{HeadFits, PrimaryFits, sharer_count};
 ghost use Rattle.trace_play.specs.Zones.{AreZones, is_smr as is_smr_kind};
-ghost use Rattle.trace_play.specs.ZonesSoFar.{cut, IsFirst, IsFurther};
+ghost use Rattle.trace_play.specs.ZonesSoFar.{cut, IsFirst, IsFurther, IsNextLine};
 
 use crate::Memory;
 use smr_clock::{Clock, Host};
@@ -64,10 +64,8 @@ fn add_first<H: Host>(
     line: &ZoneHead,
     zones: &mut Vec<CountedZone<H>>,
 ) -> Result<(), Memory>
-    requires fits { HeadFits head.now }
-    requires line { slice_get head.now.zones place ≡ Some line.now }
+    requires next { IsNextLine head.now clock.now place line.now zones.old.items }
     requires primary { line.now.parent ≡ None }
-    requires so_far { AreZones (cut place head.now) clock.now zones.old.items }
     ensures { OnOk result (AreZones (cut (place + 1) head.now) clock.now zones.new.items) }
 {
     let zone = make_first(alloc, clock, head.domains, line)?;
@@ -86,10 +84,8 @@ fn add_further<H: Host, R: Wait>(
     parent: u32,
     zones: &mut Vec<CountedZone<H>>,
 ) -> Result<(), Memory>
-    requires fits { HeadFits head.now }
-    requires line { slice_get head.now.zones place ≡ Some line.now }
+    requires next { IsNextLine head.now clock.now place line.now zones.old.items }
     requires parent { line.now.parent ≡ Some parent }
-    requires so_far { AreZones (cut place head.now) clock.now zones.old.items }
     ensures { OnOk result (AreZones (cut (place + 1) head.now) clock.now zones.new.items) }
 {
     let zone = make_further(rt, alloc, &mut zones[parent as usize], line)?;

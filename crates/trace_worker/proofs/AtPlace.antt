@@ -14,6 +14,7 @@ use Rattle.uma_zone.specs.Zone.{zone_clock, zone_home, IsSeatOf}
 use Rattle.zone_stats.specs.LedgerSteps.{HasRoom}
 use Rattle.trace_worker.specs.declared.held.Held.{Held}
 use Rattle.trace_worker.specs.declared.worker.Worker.{Worker}
+use Rattle.trace_worker.specs.Calling.{CanCall}
 use Rattle.trace_worker.specs.Items.{CountedSeat, CountedZone, LiveItem}
 use Rattle.trace_worker.specs.Live.{holding}
 use Rattle.trace_worker.specs.Performs.{Allocs, BringsIn, EntersInTime, EntersLate, FreesSlot, KeepsHolds, KeepsSection, Reclaims}
@@ -43,6 +44,15 @@ module _ {H Part : Type 0} {h : Ghosts H Part} where
   room_at seats place seat rooms below is =
       let P : CountedSeat H Part h → Type 0 = λ x. HasRoom (ledger_of x) in
       subst P (sym is) (rooms place seat below)
+
+  -- what the calls of a zone need of the worker's pass and its seat there
+  pub can_call_at : (zones : List (CountedZone H Part h)) (clock : Clock H Part) (w : Worker H Part h) (place : ℕ) (zone : CountedZone H Part h) (seat : CountedSeat H Part h) → AreOfClock clock zones → Fits zones clock w → place < length zones
+      → zone ≡ get_or zones place zone → seat ≡ get_or w.seats.items place seat → CanCall zone clock w.pass seat
+  can_call_at zones clock w place zone seat of fits below is_zone is_seat = record {
+    seat = seat_at zones w.seats.items place zone seat fits.seats below is_zone is_seat;
+    clock = clock_at clock zones place zone of below is_zone;
+    pass = fits.pass;
+  }
 
   -- a worker after a request
   pub fits_alloc : (zones : List (CountedZone H Part h)) (clock : Clock H Part) (old new : Worker H Part h) (place slot : ℕ) (zone : CountedZone H Part h) (before after : CountedSeat H Part h) (ask : AllocAsk) (got : Option LiveItem)

@@ -4,7 +4,3 @@ use Rattle.std.specs.Prelude.{Result, Ok, Err, OnOk}
 pub both_ok : {T E P Q R : Type 0} (r : Result T E) → (P → Q → R) → OnOk r P → OnOk r Q → OnOk r R
 both_ok (Ok x) f p q = f p q
 both_ok (Err e) f p q = tt
-
-pub three_ok : {T E P Q R S : Type 0} (r : Result T E) → (P → Q → R → S) → OnOk r P → OnOk r Q → OnOk r R → OnOk r S
-three_ok (Ok x) f p q s = f p q s
-three_ok (Err e) f p q s = tt

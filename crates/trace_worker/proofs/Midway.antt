@@ -20,9 +20,10 @@ use Rattle.trace_worker.specs.declared.name_calls.NameCalls.{Ghosts as NameGhost
 use Rattle.trace_worker.specs.declared.naming.Naming.{Naming}
 use Rattle.trace_worker.specs.declared.running.Running.{Running}
 use Rattle.trace_worker.specs.declared.worker.Worker.{Worker}
+use Rattle.trace_worker.specs.Asking.{CanWait, KeepsWork}
 use Rattle.trace_worker.specs.Attendance.{is_out, worker_at, worker_in}
 use Rattle.trace_worker.specs.Items.{CountedZone}
-use Rattle.trace_worker.specs.NameLines.{CanDo, Doing, DoesAll, DoesLine, HasNameRooms, doing}
+use Rattle.trace_worker.specs.NameLines.{CanDo, CanGoOn, CanTurn, Doing, DoesAll, DoesLine, HasNameRooms, doing}
 use Rattle.trace_worker.specs.NamesStand.{NamesStand}
 use Rattle.trace_worker.specs.OwnLines.{worked, lines_before, own_ops}
 use Rattle.trace_worker.specs.Slots.{slot_at}
@@ -194,30 +195,29 @@ module _ {N H C S Part : Type 0} {h : Ghosts H Part} (names : NameGhosts N H C S
       (rooms_of zones clock n lines (worker_in now) few midway.fits midway.stands, name_rooms names cache n lines (worker_in now).late now.naming few midway.named)
 
   -- what a worker has for its next line, once the gate was asked, which leaves it as it is
-  pub record Waits (zones : List (CountedZone H Part h)) (clock : Clock H Part) (waited : Running N H C S Part h) : Type 0 where
-    pub fits : Fits zones clock (worker_in waited)
-    pub seat : names.IsSeat cache waited.naming.seat
-    pub rooms : HasRooms (worker_in waited)
-    pub name_rooms : HasNameRooms names waited.naming
-
   pub Midway-waits : (t : Trace) (zones : List (CountedZone H Part h)) (clock : Clock H Part) (k n i : ℕ) (ops : List Op) (old now waited : Running N H C S Part h) → IsReady names cache t zones clock k n old
-      → ops ≡ own_ops t.rounds k n → i < length ops → Midway names cache zones clock n (lines_before t.rounds k) ops i old now → waited.attendance ≡ now.attendance → waited.naming ≡ now.naming → Waits zones clock waited
-  Midway-waits t zones clock k n i ops old now waited ready is below midway same same_naming =
+      → ops ≡ own_ops t.rounds k n → i < length ops → Midway names cache zones clock n (lines_before t.rounds k) ops i old now → KeepsWork now waited → CanGoOn names cache zones clock (worker_in waited) waited.naming
+  Midway-waits t zones clock k n i ops old now waited ready is below midway keeps =
       let rooms = Midway-rooms t zones clock k n i ops old now ready is below midway in
       let F : Worker H Part h → Type 0 = λ w. Fits zones clock w in
       let I : Naming N H C S Part → Type 0 = λ x. names.IsSeat cache x.seat in
       record {
-        fits = subst F (sym (ap worker_at same)) midway.fits;
-        seat = subst I (sym same_naming) midway.named.seat;
-        rooms = subst HasRooms (sym (ap worker_at same)) rooms.0;
-        name_rooms = subst (HasNameRooms names) (sym same_naming) rooms.1;
+        clock = ready.of_clock;
+        of_clock = ready.names_of_clock;
+        fits = subst F (sym (ap worker_at keeps.attendance)) midway.fits;
+        seat = subst I (sym keeps.naming) midway.named.seat;
+        rooms = subst HasRooms (sym (ap worker_at keeps.attendance)) rooms.0;
+        name_rooms = subst (HasNameRooms names) (sym keeps.naming) rooms.1;
       }
 
-  pub Midway-can-waiting : (t : Trace) (zones : List (CountedZone H Part h)) (clock : Clock H Part) (k n i : ℕ) (ops : List Op) (d : Op) (old now waited : Running N H C S Part h) → IsReady names cache t zones clock k n old
-      → ops ≡ own_ops t.rounds k n → i < length ops → Midway names cache zones clock n (lines_before t.rounds k) ops i old now → waited.attendance ≡ now.attendance → CanDo names zones (worker_in waited) (get_or ops i d)
-  Midway-can-waiting t zones clock k n i ops d old now waited ready is below midway same =
+  pub Midway-turn : (t : Trace) (zones : List (CountedZone H Part h)) (clock : Clock H Part) (k n i : ℕ) (ops : List Op) (d : Op) (old now waited : Running N H C S Part h) → IsReady names cache t zones clock k n old
+      → ops ≡ own_ops t.rounds k n → i < length ops → Midway names cache zones clock n (lines_before t.rounds k) ops i old now → waited.attendance ≡ now.attendance → CanTurn names zones waited (get_or ops i d)
+  Midway-turn t zones clock k n i ops d old now waited ready is below midway same =
       let P : Worker H Part h → Type 0 = λ w. CanDo names zones w (get_or ops i d) in
-      subst P (sym (ap worker_at same)) (Midway-can t zones clock k n i ops d old now ready is below midway)
+      record {
+        can = subst P (sym (ap worker_at same)) (Midway-can t zones clock k n i ops d old now ready is below midway);
+        there = Midway-there t zones clock k n i ops d old now waited ready is below midway same;
+      }
 
   same_doing : (a b : Running N H C S Part h) → a.attendance ≡ b.attendance → a.naming ≡ b.naming → doing a ≡ doing b
   same_doing a b attendance naming =
@@ -263,7 +263,7 @@ module _ {N H C S Part : Type 0} {h : Ghosts H Part} (names : NameGhosts N H C S
 
   -- the counts of the gate have room for the next operation
   pub Midway-asks : (t : Trace) (zones : List (CountedZone H Part h)) (clock : Clock H Part) (k n i : ℕ) (ops : List Op) (old now : Running N H C S Part h) → IsReady names cache t zones clock k n old
-      → ops ≡ own_ops t.rounds k n → i < length ops → Midway names cache zones clock n (lines_before t.rounds k) ops i old now → (now.asked + most_asks < 2 ^ 64) × (now.gave_up + 1 < 2 ^ 64)
+      → ops ≡ own_ops t.rounds k n → i < length ops → Midway names cache zones clock n (lines_before t.rounds k) ops i old now → CanWait now
   Midway-asks t zones clock k n i ops old now ready is below midway =
       let within : i < length (own_ops t.rounds k n) = below_as below (sym (ap length is)) in
-      (asks_left old.asked within ready.asks midway.asked_few, gave_up_left old.gave_up within ready.gave_up midway.gave_up_few)
+      record { asks = asks_left old.asked within ready.asks midway.asked_few; giving_up = gave_up_left old.gave_up within ready.gave_up midway.gave_up_few }

@@ -1,5 +1,5 @@
 -- What a worker's turn tells its gate, by the gate's own meaning of a visit (own).
-use Rattle.std.specs.Prelude.{◌≡◌, ◌<◌, ◌+◌, ◌⊎◌, ℕ, zero, suc, List, [], ◌∷◌, ◌++◌, Option, Some, None}
+use Rattle.std.specs.Prelude.{◌≡◌, ◌<◌, ◌≤◌, ◌+◌, ◌^◌, ◌⊎◌, ℕ, zero, suc, List, [], ◌∷◌, ◌++◌, Option, Some, None}
 use Rattle.smr_clock.specs.declared.host.Host.{Ghosts}
 use Rattle.trace_worker.specs.declared.gate.Call.{Call}
 use Rattle.trace_worker.specs.declared.gate.Call.TheVariants.{Asked, Done}
@@ -57,6 +57,22 @@ HearsEach n was (suc i) is = (mid : Heard) × HearsEach n was i mid × HearsOne 
 module _ {N H C S P : Type 0} {h : Ghosts H P} where
   abbrev pub heard_by : List Call → Running N H C S P h → Heard
   heard_by calls r = record { calls = calls; asked = r.asked; gave_up = r.gave_up }
+
+  -- its counts of its gate have room for one more wait
+  pub record CanWait (r : Running N H C S P h) : Type 0 where
+    pub asks : r.asked + most_asks < 2 ^ 64
+    pub giving_up : r.gave_up + 1 < 2 ^ 64
+
+  -- a wait changes nothing of it but what it counted of its gate
+  pub record KeepsWork (old new : Running N H C S P h) : Type 0 where
+    pub attendance : new.attendance ≡ old.attendance
+    pub naming : new.naming ≡ old.naming
+
+  -- it was asked once at least and at most so often, and gave up once at most
+  pub record CountsWait (old new : Running N H C S P h) : Type 0 where
+    pub asked_some : old.asked + 1 ≤ new.asked
+    pub asked_few : new.asked ≤ old.asked + most_asks
+    pub gave_up : new.gave_up ≤ old.gave_up + 1
 
   module _ {G V : Type 0} (gates : GateGhosts G V) where
     -- In a visit of its gate the turn of worker `n` asked for so many operations, and told each as done. What the worker counted of its gate is what that visit heard.

@@ -1,6 +1,7 @@
 -- A worker that is there or away, and as which it comes back (own).
-use Rattle.std.specs.Prelude.{◌≢◌, Bool, true, false, List, Option}
+use Rattle.std.specs.Prelude.{◌≡◌, ◌≢◌, Bool, true, false, List, Option}
 use Rattle.std.proofs.Common.{refl, subst}
+use Rattle.smr_clock.specs.declared.clock.Clock.{Clock}
 use Rattle.smr_clock.specs.declared.host.Host.{Ghosts}
 use Rattle.smr_clock.specs.declared.pass.Pass.{Pass}
 use Rattle.smr_clock.specs.declared.vacancy.Vacancy.{Vacancy}
@@ -13,6 +14,7 @@ use Rattle.trace_worker.specs.declared.attendance.Attendance.TheVariants.{There,
 use Rattle.trace_worker.specs.declared.held.Held.{Held}
 use Rattle.trace_worker.specs.declared.running.Running.{Running}
 use Rattle.trace_worker.specs.declared.worker.Worker.{Worker}
+use Rattle.trace_worker.specs.Performs.{IsOutside, StaysWhole}
 
 -- a pass has any phase but that of a vacancy
 abbrev pub IsOfPass : Phase → Type 0
@@ -47,6 +49,16 @@ module _ {H P : Type 0} {h : Ghosts H P} where
   abbrev pub is_out : Attendance H P h → Bool
   is_out (There w) = false
   is_out (Away a) = true
+
+  -- it is there, with its pass outside a section
+  pub record MayLeave (by : Clock H P) (a : Attendance H P h) : Type 0 where
+    pub there : is_out a ≡ false
+    pub outside : IsOutside by (worker_at a)
+
+  -- it is away now, or there, and the same worker
+  pub record Attends (by : Clock H P) (away : Bool) (old new : Attendance H P h) : Type 0 where
+    pub out : is_out new ≡ away
+    pub stays : StaysWhole by (worker_at old) (worker_at new)
 
   -- there or away as it was, with other slots
   abbrev pub with_slots_at : Attendance H P h → List (Option Held) → Attendance H P h

@@ -1,6 +1,7 @@
 pub mod Asking
 pub mod Attendance
 pub mod Boxed
+pub mod Calling
 pub mod Clocks
 pub mod Counting
 pub mod EntriesStand

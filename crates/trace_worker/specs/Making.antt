@@ -4,8 +4,11 @@ use Rattle.smr_clock.specs.declared.pass.Pass.{Pass}
 use Rattle.smr_clock.specs.declared.host.Host.{Ghosts}
 use Rattle.uma_zone.specs.Seat.{IsFresh}
 use Rattle.uma_zone.specs.Zone.{zone_bucket, IsSeatOf}
+use Rattle.trace_worker.specs.declared.attendance.Attendance.TheVariants.{There}
+use Rattle.trace_worker.specs.declared.running.Running.{Running}
 use Rattle.trace_worker.specs.declared.worker.Worker.{Worker}
 use Rattle.trace_worker.specs.Items.{CountedSeat, CountedZone}
+use Rattle.trace_worker.specs.Naming.{no_counts}
 
 module _ {H P : Type 0} {h : Ghosts H P} where
   -- a new seat of a zone, in this domain
@@ -25,3 +28,12 @@ module _ {H P : Type 0} {h : Ghosts H P} where
     pub slots : w.slots ≡ []
     pub entered : w.entered ≡ 0
     pub late : w.late ≡ 0
+
+module _ {N H C S P : Type 0} {h : Ghosts H P} where
+  -- It is there, has this seat of the names, and its gate was asked nothing yet.
+  pub record IsIdle (w : Worker H P h) (s : S) (r : Running N H C S P h) : Type 0 where
+    pub worker : r.attendance ≡ There w
+    pub seat : r.naming.seat ≡ s
+    pub counts : r.naming.counts ≡ no_counts
+    pub asked : r.asked ≡ 0
+    pub gave_up : r.gave_up ≡ 0

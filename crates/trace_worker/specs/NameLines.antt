@@ -1,8 +1,9 @@
 -- What each kind of line does to its worker and to what the worker has of the names (own).
 use Rattle.std.specs.Prelude.{◌≡◌, ◌⊎◌, ◌≤◌, ◌+◌, ℕ, Bool, false, List, [], ◌∷◌, Option, IsTrue, IfSome}
+use Rattle.smr_clock.specs.declared.clock.Clock.{Clock}
 use Rattle.smr_clock.specs.declared.host.Host.{Ghosts}
 use Rattle.smr_clock.specs.declared.refused.Overtaken.{Overtaken}
-use Rattle.smr_clock.specs.Belongs.{view}
+use Rattle.smr_clock.specs.Belongs.{IsOf, clock_id, view}
 use Rattle.smr_clock.specs.Sections.{Misses}
 use Rattle.smr_core.specs.declared.phase.Phase.TheVariants.{Outside, Inside}
 use Rattle.trace_text.specs.declared.op.Op.{Op}
@@ -18,9 +19,10 @@ use Rattle.trace_worker.specs.Items.{CountedZone}
 use Rattle.trace_worker.specs.Knowing.{StillKnows, Finds, Loads}
 use Rattle.trace_worker.specs.NameCalls.{Bound, Unbound, CountedBind, CountedUnbind, MovesEntries}
 use Rattle.trace_worker.specs.NameLedger.{HasRoomToBind}
+use Rattle.trace_worker.specs.NamesStand.{NamesOfClock}
 use Rattle.trace_worker.specs.Naming.{CountsFew, CountsBind, CountsUnbind, CountsAnswer, CountsLate}
 use Rattle.trace_worker.specs.Performs.{CanPerform, IsBetween, KeepsAll, KeepsHolds, KeepsSection, Performs}
-use Rattle.trace_worker.specs.Worker.{phase_of, seen_of}
+use Rattle.trace_worker.specs.Worker.{AreOfClock, Fits, HasRooms, phase_of, seen_of}
 
 -- what a worker's lines change: itself, what it has of the names, and whether it is away; then the worker is that as which it comes back
 pub record Doing (N H C S P : Type 0) (h : Ghosts H P) : Type 0 where
@@ -53,6 +55,33 @@ module _ {N H C S P : Type 0} (names : NameGhosts N H C S P) where
     pub ledger : IfSome (names.counted naming.seat) HasRoomToBind
 
 module _ {N H C S P : Type 0} {h : Ghosts H P} (names : NameGhosts N H C S P) (cache : C) where
+  -- what a line of names needs: they are served, clock, pass and seat go with the cache, and each of the counts can be one more
+  pub record CanName (by : Clock H P) (w : Worker H P h) (naming : Naming N H C S P) : Type 0 where
+    pub serves : IsTrue names.serves
+    pub clock : clock_id by ≡ names.clock_of cache
+    pub pass : IsOf by w.pass
+    pub seat : names.IsSeat cache naming.seat
+    pub rooms : HasNameRooms names naming
+
+  -- what it leaves: the pass is the clock's, and the seat the cache's
+  pub record StaysNamed (by : Clock H P) (w : Worker H P h) (naming : Naming N H C S P) : Type 0 where
+    pub pass : IsOf by w.pass
+    pub seat : names.IsSeat cache naming.seat
+
+  -- what each line needs: the zones and the cache go by this clock, the worker fits the zones and its seat of the names the cache, and each of its counts can be one more
+  pub record CanGoOn (zones : List (CountedZone H P h)) (by : Clock H P) (w : Worker H P h) (naming : Naming N H C S P) : Type 0 where
+    pub clock : AreOfClock by zones
+    pub of_clock : NamesOfClock names cache by
+    pub fits : Fits zones by w
+    pub seat : names.IsSeat cache naming.seat
+    pub rooms : HasRooms w
+    pub name_rooms : HasNameRooms names naming
+
+  -- what it leaves: the worker fits the zones, and its seat of the names the cache
+  pub record StaysFit (zones : List (CountedZone H P h)) (by : Clock H P) (w : Worker H P h) (naming : Naming N H C S P) : Type 0 where
+    pub fits : Fits zones by w
+    pub seat : names.IsSeat cache naming.seat
+
   -- a `bind` line: one call, which bound the key or didn't; the seat stays in its memory domain, and what leaves it was usable there or came by this call
   pub record BindsLine (old : Doing N H C S P h) (key value : ℕ) (new : Doing N H C S P h) : Type 0 where
     pub done : Bool
@@ -162,3 +191,8 @@ module _ {N H C S P : Type 0} {h : Ghosts H P} (names : NameGhosts N H C S P) wh
   CanDo zones w Away = phase_of w ≡ Outside
   CanDo zones w Back = Unit {0}
   CanDo zones w op = CanAct zones w op
+
+  -- the line has what it needs, and its worker is away only where the line brings it back
+  pub record CanTurn (zones : List (CountedZone H P h)) (r : Running N H C S P h) (op : Op) : Type 0 where
+    pub can : CanDo zones (worker_in r) op
+    pub there : is_out r.attendance ≡ comes_back op

@@ -1,10 +1,11 @@
 -- What each kind of line does to its worker (own).
 use Rattle.std.specs.Prelude.{◌≡◌, ◌<◌, ◌≤◌, ◌+◌, ◌⊎◌, ℕ, Bool, List, length, Option, Some, None, option_map, slice_get, slice_set}
+use Rattle.smr_clock.specs.declared.clock.Clock.{Clock}
 use Rattle.smr_clock.specs.declared.host.Host.{Ghosts}
 use Rattle.smr_core.specs.declared.phase.Phase.TheVariants.{Outside, Inside}
 use Rattle.smr_clock.specs.declared.refused.Overtaken.{Overtaken}
 use Rattle.smr_clock.specs.declared.view.View.{View}
-use Rattle.smr_clock.specs.Belongs.{view}
+use Rattle.smr_clock.specs.Belongs.{IsOf, view}
 use Rattle.smr_clock.specs.Sections.{Enters, Misses}
 use Rattle.smr_clock.specs.Steps.{clearing}
 use Rattle.trace_text.specs.declared.op.Op.{Op}
@@ -36,6 +37,16 @@ module _ {H P : Type 0} {h : Ghosts H P} where
     pub slots : new.slots ≡ old.slots
     pub entered : new.entered ≡ old.entered
     pub late : new.late ≡ old.late
+
+  -- the same, and its pass is of this clock
+  pub record StaysWhole (by : Clock H P) (old new : Worker H P h) : Type 0 where
+    pub pass : IsOf by new.pass
+    pub keeps : KeepsAll old new
+
+  -- the pass is of this clock, and outside a section
+  pub record IsOutside (by : Clock H P) (w : Worker H P h) : Type 0 where
+    pub pass : IsOf by w.pass
+    pub outside : phase_of w ≡ Outside
 
   -- an `alloc` line: one request by the worker's seat of its zone, whose item, if there is one, its slot holds
   pub record Allocs (zones : List (CountedZone H P h)) (old : Worker H P h) (zone slot : ℕ) (ask : AllocAsk) (new : Worker H P h) : Type 0 where

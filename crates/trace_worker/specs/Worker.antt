@@ -49,3 +49,15 @@ module _ {H P : Type 0} {h : Ghosts H P} where
     pub ledgers : All (λ (seat : CountedSeat H P h). HasRoom (ledger_of seat)) w.seats.items
     pub entered : w.entered < 2 ^ 62
     pub late : w.late < 2 ^ 62
+
+  -- The zones go by this clock, the worker fits them, and each of its counts can be one more.
+  pub record CanWork (zones : List (CountedZone H P h)) (by : Clock H P) (w : Worker H P h) : Type 0 where
+    pub clock : AreOfClock by zones
+    pub fits : Fits zones by w
+    pub rooms : HasRooms w
+
+  -- The zones go by this clock, the worker fits them, and one of them stands at this place.
+  pub record CanReclaim (zones : List (CountedZone H P h)) (by : Clock H P) (w : Worker H P h) (place : ℕ) : Type 0 where
+    pub zone : place < length zones
+    pub clock : AreOfClock by zones
+    pub fits : Fits zones by w

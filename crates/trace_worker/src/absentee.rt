@@ -1,10 +1,7 @@
-ghost use Rattle.std.specs.Prelude.{◌≡◌, true};
 ghost use Rattle.smr_clock.specs.Belongs.{IsOf};
-ghost use Rattle.smr_core.specs.declared.phase.Phase.{Phase};
 ghost use Rattle.trace_worker.specs.declared.attendance.Attendance.TheVariants.{Away as gone};
 ghost use Rattle.trace_worker.specs.Attendance.{worker_at};
-ghost use Rattle.trace_worker.specs.Performs.{KeepsAll};
-ghost use Rattle.trace_worker.specs.Worker.{phase_of};
+ghost use Rattle.trace_worker.specs.Performs.{IsOutside, StaysWhole};
 
 use crate::items::CountedSeat;
 use crate::slots::Slots;
@@ -26,10 +23,8 @@ pub struct Absentee<H: Host> {
 impl<H: Host> Worker<H> {
     /// An `away` line: the pass leaves. Nothing is counted.
     pub fn leave(self, clock: &Clock<H>) -> Absentee<H>
-        requires pass { IsOf clock.now self.pass }
-        requires outside { phase_of self ≡ Phase.Outside }
-        ensures pass { IsOf clock.now (worker_at (gone result)).pass }
-        ensures keeps { KeepsAll self (worker_at (gone result)) }
+        requires { IsOutside clock.now self }
+        ensures { StaysWhole clock.now self (worker_at (gone result)) }
     {
         let Worker {
             pass,
@@ -53,8 +48,7 @@ impl<H: Host> Absentee<H> {
     /// A `back` line: the vacancy comes as the worker's pass. Nothing is counted.
     pub fn come(self, clock: &Clock<H>) -> Worker<H>
         requires pass { IsOf clock.now (worker_at (gone self)).pass }
-        ensures pass { IsOf clock.now result.pass }
-        ensures keeps { KeepsAll (worker_at (gone self)) result }
+        ensures { StaysWhole clock.now (worker_at (gone self)) result }
     {
         let Absentee {
             vacancy,

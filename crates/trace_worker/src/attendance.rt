@@ -1,10 +1,8 @@
 ghost use Rattle.std.specs.Prelude.{◌≡◌, true, false, OnOk};
 ghost use Rattle.smr_clock.specs.Belongs.{IsOf};
-ghost use Rattle.smr_core.specs.declared.phase.Phase.{Phase};
-ghost use Rattle.trace_worker.specs.Attendance.{is_out, with_slots_at, worker_at};
-ghost use Rattle.trace_worker.specs.Performs.{KeepsAll};
+ghost use Rattle.trace_worker.specs.Attendance.{Attends, MayLeave, with_slots_at, worker_at};
+ghost use Rattle.trace_worker.specs.Performs.{StaysWhole};
 ghost use Rattle.trace_worker.specs.Slots.{emptied, filled, slot_at};
-ghost use Rattle.trace_worker.specs.Worker.{phase_of};
 
 use crate::Memory;
 use crate::absentee::Absentee;
@@ -27,8 +25,7 @@ impl<H: Host> Attendance<H> {
     /// The worker, which comes back first where it is away.
     pub fn into_worker(self, clock: &Clock<H>) -> Worker<H>
         requires pass { IsOf clock.now (worker_at self).pass }
-        ensures pass { IsOf clock.now result.pass }
-        ensures keeps { KeepsAll (worker_at self) result }
+        ensures { StaysWhole clock.now (worker_at self) result }
     {
         match self {
             Attendance::There(worker) => worker,
@@ -38,22 +35,16 @@ impl<H: Host> Attendance<H> {
 
     /// The worker that is there leaves.
     pub(crate) fn leave(&mut self, clock: &Clock<H>)
-        requires there { is_out self.old ≡ false }
-        requires pass { IsOf clock.now (worker_at self.old).pass }
-        requires outside { phase_of (worker_at self.old) ≡ Phase.Outside }
-        ensures out { is_out self.new ≡ true }
-        ensures pass { IsOf clock.now (worker_at self.new).pass }
-        ensures keeps { KeepsAll (worker_at self.old) (worker_at self.new) }
+        requires { MayLeave clock.now self.old }
+        ensures { Attends clock.now true self.old self.new }
     {
         replace_with(self, clock, left)
     }
 
     /// The worker comes back, and is there.
     pub(crate) fn come(&mut self, clock: &Clock<H>)
-        requires pass { IsOf clock.now (worker_at self.old).pass }
-        ensures there { is_out self.new ≡ false }
-        ensures pass { IsOf clock.now (worker_at self.new).pass }
-        ensures keeps { KeepsAll (worker_at self.old) (worker_at self.new) }
+        requires { IsOf clock.now (worker_at self.old).pass }
+        ensures { Attends clock.now false self.old self.new }
     {
         replace_with(self, clock, back)
     }
@@ -82,12 +73,8 @@ impl<H: Host> Attendance<H> {
 
 /// The worker that was there, away.
 fn left<H: Host>(attendance: Attendance<H>, clock: &Clock<H>) -> (Attendance<H>, ())
-    requires there { is_out attendance ≡ false }
-    requires pass { IsOf clock.now (worker_at attendance).pass }
-    requires outside { phase_of (worker_at attendance) ≡ Phase.Outside }
-    ensures out { is_out result.0 ≡ true }
-    ensures pass { IsOf clock.now (worker_at result.0).pass }
-    ensures keeps { KeepsAll (worker_at attendance) (worker_at result.0) }
+    requires { MayLeave clock.now attendance }
+    ensures { Attends clock.now true attendance result.0 }
 {
     match attendance {
         Attendance::There(worker) => (Attendance::Away(worker.leave(clock)), ()),
@@ -97,10 +84,8 @@ fn left<H: Host>(attendance: Attendance<H>, clock: &Clock<H>) -> (Attendance<H>,
 
 /// The worker, back.
 fn back<H: Host>(attendance: Attendance<H>, clock: &Clock<H>) -> (Attendance<H>, ())
-    requires pass { IsOf clock.now (worker_at attendance).pass }
-    ensures there { is_out result.0 ≡ false }
-    ensures pass { IsOf clock.now (worker_at result.0).pass }
-    ensures keeps { KeepsAll (worker_at attendance) (worker_at result.0) }
+    requires { IsOf clock.now (worker_at attendance).pass }
+    ensures { Attends clock.now false attendance result.0 }
 {
     (Attendance::There(attendance.into_worker(clock)), ())
 }

@@ -1,13 +1,14 @@
-ghost use Rattle.std.specs.Prelude.{◌≡◌, ◌<◌, ◌≤◌, length, OnOk};
-ghost use Rattle.smr_clock.specs.Belongs.{IsOf, clock_id, holder, view};
+ghost use Rattle.std.specs.Prelude.{◌<◌, length, OnOk};
+ghost use Rattle.smr_clock.specs.Belongs.{view};
 ghost use Rattle.uma_bucket.specs.Home.{IsHome};
 ghost use Rattle.uma_life.specs.Live.{live_ticket};
 ghost use Rattle.uma_seat.specs.Seat.{ledger_of, spares_of};
-ghost use Rattle.uma_zone.specs.Zone.{zone_home, zone_clock, IsSeatOf};
+ghost use Rattle.uma_zone.specs.Zone.{zone_home};
 ghost use Rattle.zone_stats.specs.LedgerSteps.{HasRoom};
+ghost use Rattle.trace_worker.specs.Calling.{CanCall, StaysOf};
 ghost use Rattle.trace_worker.specs.Performs.{FreesSlot};
 ghost use Rattle.trace_worker.specs.Requests.{IsGivenBack, MakesReady, ReadiesSeat, Releases, ReleasesBy};
-ghost use Rattle.trace_worker.specs.Worker.{AreOfClock, Fits, HasRooms};
+ghost use Rattle.trace_worker.specs.Worker.{CanWork, Fits};
 
 use crate::Memory;
 use crate::counted::Counted;
@@ -32,9 +33,7 @@ impl<H: Host> Worker<H> {
         clock: &Clock<H>,
         slot: u32,
     ) -> Result<(), Memory>
-        requires clock { AreOfClock clock.now zones.now }
-        requires fits { Fits zones.now clock.now self.old }
-        requires rooms { HasRooms self.old }
+        requires { CanWork zones.now clock.now self.old }
         ensures fits { OnOk result (Fits zones.now clock.now self.new) }
         ensures frees { OnOk result (FreesSlot zones.now self.old slot self.new) }
     {
@@ -65,15 +64,10 @@ fn give_back<H: Host, R: Wait>(
     seat: &mut CountedSeat<H>,
     item: Live<Counted>,
 ) -> Result<(), Memory>
-    requires seat { IsSeatOf zone.now seat.old }
-    requires clock { clock_id clock.now ≡ zone_clock zone.now }
-    requires pass { IsOf clock.now pass.old }
+    requires can { CanCall zone.now clock.now pass.old seat.old }
     requires room { HasRoom (ledger_of seat.old) }
     requires home { IsHome (zone_home zone.now) (live_ticket item) }
-    ensures seat { OnOk result (IsSeatOf zone.now seat.new) }
-    ensures pass { OnOk result (IsOf clock.now pass.new) }
-    ensures phase { OnOk result ((holder pass.new).phase ≡ (holder pass.old).phase) }
-    ensures seen { OnOk result ((holder pass.old).seen ≤ (holder pass.new).seen) }
+    ensures stays { OnOk result (StaysOf zone.now clock.now pass.old pass.new seat.new) }
     ensures gives_back { OnOk result (IsGivenBack zone.now (view pass.old) seat.old item seat.new (view pass.new)) }
 {
     make_ready(rt, alloc, zone, clock, pass, seat)?;
@@ -90,13 +84,8 @@ fn make_ready<H: Host, R: Wait>(
     pass: &mut Pass<H>,
     seat: &mut CountedSeat<H>,
 ) -> Result<(), Memory>
-    requires seat { IsSeatOf zone.now seat.old }
-    requires clock { clock_id clock.now ≡ zone_clock zone.now }
-    requires pass { IsOf clock.now pass.old }
-    ensures seat { IsSeatOf zone.now seat.new }
-    ensures pass { IsOf clock.now pass.new }
-    ensures phase { (holder pass.new).phase ≡ (holder pass.old).phase }
-    ensures seen { (holder pass.old).seen ≤ (holder pass.new).seen }
+    requires { CanCall zone.now clock.now pass.old seat.old }
+    ensures stays { StaysOf zone.now clock.now pass.old pass.new seat.new }
     ensures ready { OnOk result (MakesReady seat.old seat.new) }
     ensures readies { OnOk result (ReadiesSeat zone.now (view pass.old) seat.old seat.new (view pass.new)) }
 {
@@ -117,16 +106,11 @@ fn release<H: Host>(
     seat: &mut CountedSeat<H>,
     item: Live<Counted>,
 )
-    requires seat { IsSeatOf zone.now seat.old }
-    requires clock { clock_id clock.now ≡ zone_clock zone.now }
-    requires pass { IsOf clock.now pass.old }
+    requires can { CanCall zone.now clock.now pass.old seat.old }
     requires spare { 0 < length (spares_of seat.old) }
     requires room { HasRoom (ledger_of seat.old) }
     requires home { IsHome (zone_home zone.now) (live_ticket item) }
-    ensures seat { IsSeatOf zone.now seat.new }
-    ensures pass { IsOf clock.now pass.new }
-    ensures phase { (holder pass.new).phase ≡ (holder pass.old).phase }
-    ensures seen { (holder pass.old).seen ≤ (holder pass.new).seen }
+    ensures stays { StaysOf zone.now clock.now pass.old pass.new seat.new }
     ensures released { Releases zone.now seat.old item seat.new }
     ensures by { ReleasesBy zone.now (view pass.old) seat.old item seat.new (view pass.new) }
 {

@@ -1,13 +1,14 @@
-ghost use Rattle.std.specs.Prelude.{◌≡◌, ◌≤◌, ◌<◌, ◌^◌, ℕ, Bool, Option, IsTrue, IfOk, IfErr, IfSome, OnOk, is_some, false, []};
-ghost use Rattle.smr_clock.specs.Belongs.{IsOf, clock_id, holder, setup_of, view};
+ghost use Rattle.std.specs.Prelude.{◌≡◌, ◌<◌, ◌^◌, ℕ, Bool, Option, IsTrue, IfOk, IfErr, IfSome, OnOk, is_some, false, []};
+ghost use Rattle.smr_clock.specs.Belongs.{clock_id, holder, setup_of, view};
 ghost use Rattle.smr_clock.specs.Sections.{Misses};
 ghost use Rattle.smr_core.specs.declared.phase.Phase.{Phase};
 ghost use Rattle.trace_text.specs.Valid.{IsValid};
 ghost use Rattle.uma_bucket.specs.Sums.{Adds, AreOfAtMost, Balance, nothing_held};
 ghost use Rattle.uma_keg.specs.Census.{census_counts};
 ghost use Rattle.zone_stats.specs.LedgerSteps.{HasRoom, IsNew};
+ghost use Rattle.trace_worker.specs.Calling.{IsBy, KnowsOn};
 ghost use Rattle.trace_worker.specs.Clocks.{ArePasses, IsClockOf};
-ghost use Rattle.trace_worker.specs.Knowing.{Finds, Loads, StillKnows};
+ghost use Rattle.trace_worker.specs.Knowing.{Finds, Loads};
 ghost use Rattle.trace_worker.specs.NameCalls.{Bound, CountedBind, CountedUnbind, MovesEntries, Unbound};
 ghost use Rattle.trace_worker.specs.NameLedger.{HasRoomToBind};
 ghost use Rattle.trace_worker.specs.NameSizes.{sizes_for};
@@ -135,16 +136,12 @@ pub trait NameCalls {
         key: u64,
         value: u64,
     ) -> Result<bool, Memory>
-        requires clock { clock_id clock.now ≡ clock_of cache.now }
-        requires pass { IsOf clock.now pass.old }
+        requires by { IsBy (clock_of cache.now) clock.now pass.old }
         requires seat { IsSeat cache.now seat.old }
         requires room { IfSome (counted seat.old) HasRoomToBind }
         ensures seat { IsSeat cache.now seat.new }
         ensures domain { domain_of seat.new ≡ domain_of seat.old }
-        ensures pass { IsOf clock.now pass.new }
-        ensures phase { (holder pass.new).phase ≡ (holder pass.old).phase }
-        ensures seen { (holder pass.old).seen ≤ (holder pass.new).seen }
-        ensures still { StillKnows knows (view pass.old) (view pass.new) }
+        ensures passes { KnowsOn knows clock.now pass.old pass.new }
         ensures binds { IfOk result (λ done. Bound knows (sizes_of cache.now).rows key value (view pass.old) done (view pass.new)) }
         ensures counts { IfOk result (λ done. CountedBind (sizes_of cache.now).slabs (IsFound cache.now) done (counted seat.old) (counted seat.new)) }
         ensures moves { OnOk result (MovesEntries (Came cache.now) (usable seat.old) (usable seat.new)) };
@@ -162,16 +159,12 @@ pub trait NameCalls {
         seat: &mut Self::Seat,
         key: u64,
     ) -> Result<bool, Memory>
-        requires clock { clock_id clock.now ≡ clock_of cache.now }
-        requires pass { IsOf clock.now pass.old }
+        requires by { IsBy (clock_of cache.now) clock.now pass.old }
         requires seat { IsSeat cache.now seat.old }
         requires room { IfSome (counted seat.old) HasRoom }
         ensures seat { IsSeat cache.now seat.new }
         ensures domain { domain_of seat.new ≡ domain_of seat.old }
-        ensures pass { IsOf clock.now pass.new }
-        ensures phase { (holder pass.new).phase ≡ (holder pass.old).phase }
-        ensures seen { (holder pass.old).seen ≤ (holder pass.new).seen }
-        ensures still { StillKnows knows (view pass.old) (view pass.new) }
+        ensures passes { KnowsOn knows clock.now pass.old pass.new }
         ensures unbinds { IfOk result (λ done. Unbound knows (sizes_of cache.now).rows key (view pass.old) done (view pass.new)) }
         ensures counts { IfOk result (λ done. CountedUnbind done (counted seat.old) (counted seat.new)) }
         ensures usable { OnOk result (usable seat.new ≡ usable seat.old) };
@@ -185,13 +178,9 @@ pub trait NameCalls {
         pass: &mut Pass<Self::H>,
         key: u64,
     ) -> Option<u64>
-        requires clock { clock_id clock.now ≡ clock_of cache.now }
-        requires pass { IsOf clock.now pass.old }
+        requires by { IsBy (clock_of cache.now) clock.now pass.old }
         requires inside { (holder pass.old).phase ≡ Phase.Inside }
-        ensures pass { IsOf clock.now pass.new }
-        ensures inside { (holder pass.new).phase ≡ Phase.Inside }
-        ensures seen { (holder pass.old).seen ≤ (holder pass.new).seen }
-        ensures still { StillKnows knows (view pass.old) (view pass.new) }
+        ensures passes { KnowsOn knows clock.now pass.old pass.new }
         ensures finds { Finds knows (sizes_of cache.now).rows key (view pass.old) result (view pass.new) }
         ensures loads { IsTrue serves → Loads knows told (sizes_of cache.now).rows key (view pass.old) result (view pass.new) };
 
@@ -208,13 +197,9 @@ pub trait NameCalls {
         pass: &mut Pass<Self::H>,
         key: u64,
     ) -> Result<Option<u64>, Overtaken>
-        requires clock { clock_id clock.now ≡ clock_of cache.now }
-        requires pass { IsOf clock.now pass.old }
+        requires by { IsBy (clock_of cache.now) clock.now pass.old }
         requires outside { (holder pass.old).phase ≡ Phase.Outside }
-        ensures pass { IsOf clock.now pass.new }
-        ensures outside { (holder pass.new).phase ≡ Phase.Outside }
-        ensures seen { (holder pass.old).seen ≤ (holder pass.new).seen }
-        ensures still { StillKnows knows (view pass.old) (view pass.new) }
+        ensures passes { KnowsOn knows clock.now pass.old pass.new }
         ensures finds { IfOk result (λ found. Finds knows (sizes_of cache.now).rows key (view pass.old) found (view pass.new)) }
         ensures loads { IsTrue serves → IfOk result (λ found. Loads knows told (sizes_of cache.now).rows key (view pass.old) found (view pass.new)) }
         ensures late { IfErr result (λ late. Misses (view pass.old) late (view pass.new)) };

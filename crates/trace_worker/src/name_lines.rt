@@ -1,11 +1,9 @@
-ghost use Rattle.std.specs.Prelude.{◌≡◌, ◌⊎◌, IsTrue, OnOk};
-ghost use Rattle.smr_clock.specs.Belongs.{IsOf, clock_id};
+ghost use Rattle.std.specs.Prelude.{◌≡◌, ◌⊎◌, OnOk};
 ghost use Rattle.smr_core.specs.declared.phase.Phase.{Phase};
-ghost use Rattle.trace_worker.specs.NameLines.{Acts, BindsLine, CanAct, FindsLine, HasNameRooms, LookEnds, LooksLine, UnbindsLine, doing_there};
+ghost use Rattle.trace_worker.specs.NameLines.{Acts, BindsLine, CanAct, CanGoOn, CanName, FindsLine, LookEnds, LooksLine, StaysFit, StaysNamed, UnbindsLine, doing_there};
 ghost use Rattle.trace_worker.specs.Naming.{CountsAnswer, CountsBind, CountsFew, CountsUnbind};
 ghost use Rattle.trace_worker.specs.Performs.{IsBetween};
-ghost use Rattle.trace_worker.specs.NamesStand.{NamesOfClock};
-ghost use Rattle.trace_worker.specs.Worker.{AreOfClock, Fits, HasRooms, phase_of};
+ghost use Rattle.trace_worker.specs.Worker.{HasRooms, phase_of};
 
 use crate::Memory;
 use crate::items::CountedZone;
@@ -36,14 +34,8 @@ impl<N: NameCalls> Naming<N> {
         op: Op,
     ) -> Result<(), Memory>
         requires can { CanAct N.NameCalls zones.now worker.old op }
-        requires clock { AreOfClock clock.now zones.now }
-        requires of_clock { NamesOfClock N.NameCalls cache.now clock.now }
-        requires fits { Fits zones.now clock.now worker.old }
-        requires seat { N.IsSeat cache.now self.old.seat }
-        requires rooms { HasRooms worker.old }
-        requires name_rooms { HasNameRooms N.NameCalls self.old }
-        ensures fits { OnOk result (Fits zones.now clock.now worker.new) }
-        ensures seat { OnOk result (N.IsSeat cache.now self.new.seat) }
+        requires able { CanGoOn N.NameCalls cache.now zones.now clock.now worker.old self.old }
+        ensures stays { OnOk result (StaysFit N.NameCalls cache.now zones.now clock.now worker.new self.new) }
         ensures acts { OnOk result (Acts N.NameCalls cache.now zones.now (doing_there worker.old self.old) op (doing_there worker.new self.new)) }
     {
         match op {
@@ -80,13 +72,8 @@ impl<N: NameCalls> Naming<N> {
         key: u64,
         value: u64,
     ) -> Result<(), Memory>
-        requires serves { IsTrue N.serves }
-        requires clock { clock_id clock.now ≡ N.clock_of cache.now }
-        requires pass { IsOf clock.now worker.old.pass }
-        requires seat { N.IsSeat cache.now self.old.seat }
-        requires rooms { HasNameRooms N.NameCalls self.old }
-        ensures pass { IsOf clock.now worker.new.pass }
-        ensures seat { N.IsSeat cache.now self.new.seat }
+        requires { CanName N.NameCalls cache.now clock.now worker.old self.old }
+        ensures stays { StaysNamed N.NameCalls cache.now clock.now worker.new self.new }
         ensures binds { OnOk result (BindsLine N.NameCalls cache.now (doing_there worker.old self.old) key value (doing_there worker.new self.new)) }
     {
         let pass = &mut worker.pass;
@@ -108,13 +95,8 @@ impl<N: NameCalls> Naming<N> {
         clock: &Clock<N::H>,
         key: u64,
     ) -> Result<(), Memory>
-        requires serves { IsTrue N.serves }
-        requires clock { clock_id clock.now ≡ N.clock_of cache.now }
-        requires pass { IsOf clock.now worker.old.pass }
-        requires seat { N.IsSeat cache.now self.old.seat }
-        requires rooms { HasNameRooms N.NameCalls self.old }
-        ensures pass { IsOf clock.now worker.new.pass }
-        ensures seat { N.IsSeat cache.now self.new.seat }
+        requires { CanName N.NameCalls cache.now clock.now worker.old self.old }
+        ensures stays { StaysNamed N.NameCalls cache.now clock.now worker.new self.new }
         ensures unbinds { OnOk result (UnbindsLine N.NameCalls cache.now (doing_there worker.old self.old) key (doing_there worker.new self.new)) }
     {
         let pass = &mut worker.pass;
@@ -134,15 +116,10 @@ impl<N: NameCalls> Naming<N> {
         clock: &Clock<N::H>,
         key: u64,
     )
-        requires serves { IsTrue N.serves }
-        requires clock { clock_id clock.now ≡ N.clock_of cache.now }
-        requires pass { IsOf clock.now worker.old.pass }
-        requires seat { N.IsSeat cache.now self.old.seat }
+        requires can { CanName N.NameCalls cache.now clock.now worker.old self.old }
         requires between { IsBetween worker.old }
         requires rooms { HasRooms worker.old }
-        requires name_rooms { HasNameRooms N.NameCalls self.old }
-        ensures pass { IsOf clock.now worker.new.pass }
-        ensures seat { N.IsSeat cache.now self.new.seat }
+        ensures stays { StaysNamed N.NameCalls cache.now clock.now worker.new self.new }
         ensures looks { LooksLine N.NameCalls cache.now (doing_there worker.old self.old) key (doing_there worker.new self.new) }
     {
         if worker.pass.phase() == Phase::Inside {
@@ -161,14 +138,9 @@ impl<N: NameCalls> Naming<N> {
         clock: &Clock<N::H>,
         key: u64,
     )
-        requires serves { IsTrue N.serves }
-        requires clock { clock_id clock.now ≡ N.clock_of cache.now }
-        requires pass { IsOf clock.now worker.old.pass }
-        requires seat { N.IsSeat cache.now self.old.seat }
+        requires can { CanName N.NameCalls cache.now clock.now worker.old self.old }
         requires inside { phase_of worker.old ≡ Phase.Inside }
-        requires name_rooms { HasNameRooms N.NameCalls self.old }
-        ensures pass { IsOf clock.now worker.new.pass }
-        ensures seat { N.IsSeat cache.now self.new.seat }
+        ensures stays { StaysNamed N.NameCalls cache.now clock.now worker.new self.new }
         ensures finds { FindsLine N.NameCalls cache.now (doing_there worker.old self.old) key (doing_there worker.new self.new) }
     {
         let found = names.find(cache, clock, &mut worker.pass, key);
@@ -184,15 +156,10 @@ impl<N: NameCalls> Naming<N> {
         clock: &Clock<N::H>,
         key: u64,
     )
-        requires serves { IsTrue N.serves }
-        requires clock { clock_id clock.now ≡ N.clock_of cache.now }
-        requires pass { IsOf clock.now worker.old.pass }
-        requires seat { N.IsSeat cache.now self.old.seat }
+        requires can { CanName N.NameCalls cache.now clock.now worker.old self.old }
         requires outside { phase_of worker.old ≡ Phase.Outside }
         requires rooms { HasRooms worker.old }
-        requires name_rooms { HasNameRooms N.NameCalls self.old }
-        ensures pass { IsOf clock.now worker.new.pass }
-        ensures seat { N.IsSeat cache.now self.new.seat }
+        ensures stays { StaysNamed N.NameCalls cache.now clock.now worker.new self.new }
         ensures looks { LookEnds N.NameCalls cache.now (doing_there worker.old self.old) key (doing_there worker.new self.new) }
     {
         match names.look(cache, clock, &mut worker.pass, key) {

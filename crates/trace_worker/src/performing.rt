@@ -1,7 +1,7 @@
-ghost use Rattle.std.specs.Prelude.{◌≡◌, ◌<◌, ◌≤◌, length, OnOk};
+ghost use Rattle.std.specs.Prelude.{◌<◌, ◌≤◌, length, OnOk};
 ghost use Rattle.trace_worker.specs.Performs.{BringsIn, CanPerform, Performs};
 ghost use Rattle.trace_worker.specs.Requests.{BringsItems};
-ghost use Rattle.trace_worker.specs.Worker.{AreOfClock, Fits, HasRooms, HasSeats};
+ghost use Rattle.trace_worker.specs.Worker.{CanWork, Fits, HasSeats};
 ghost use Rattle.uma_seat.specs.Seat.{seat_domain};
 ghost use Rattle.uma_zone.specs.Zone.{IsSeatOf};
 
@@ -30,9 +30,7 @@ impl<H: Host> Worker<H> {
         op: Op,
     ) -> Result<(), Memory>
         requires can { CanPerform zones.now self.old op }
-        requires clock { AreOfClock clock.now zones.now }
-        requires fits { Fits zones.now clock.now self.old }
-        requires rooms { HasRooms self.old }
+        requires able { CanWork zones.now clock.now self.old }
         ensures fits { OnOk result (Fits zones.now clock.now self.new) }
         ensures performs { OnOk result (Performs zones.now self.old op self.new) }
     {

@@ -1,6 +1,6 @@
-ghost use Rattle.std.specs.Prelude.{◌≡◌, ◌≤◌, OnOk};
-ghost use Rattle.smr_clock.specs.Belongs.{IsOf, clock_id, holder, view};
-ghost use Rattle.uma_zone.specs.Zone.{zone_clock, IsSeatOf};
+ghost use Rattle.std.specs.Prelude.{OnOk};
+ghost use Rattle.smr_clock.specs.Belongs.{view};
+ghost use Rattle.trace_worker.specs.Calling.{CanCall, StaysOf};
 ghost use Rattle.trace_worker.specs.Reclaims.{HasDrained, HasDrainedSeat, HasTrimmed, KeepsSeat};
 
 use crate::Memory;
@@ -27,13 +27,8 @@ pub trait ReclaimCalls {
         pass: &mut Pass<H>,
         seat: &mut SeatCache<Counted, H>,
     ) -> Result<(), Memory>
-        requires seat { IsSeatOf zone.now seat.old }
-        requires clock { clock_id clock.now ≡ zone_clock zone.now }
-        requires pass { IsOf clock.now pass.old }
-        ensures seat { IsSeatOf zone.now seat.new }
-        ensures pass { IsOf clock.now pass.new }
-        ensures phase { (holder pass.new).phase ≡ (holder pass.old).phase }
-        ensures seen { (holder pass.old).seen ≤ (holder pass.new).seen }
+        requires { CanCall zone.now clock.now pass.old seat.old }
+        ensures stays { StaysOf zone.now clock.now pass.old pass.new seat.new }
         ensures keeps { KeepsSeat seat.old seat.new }
         ensures trimmed { OnOk result (HasTrimmed zone.now (view pass.old) seat.old seat.new) };
 
@@ -48,13 +43,8 @@ pub trait ReclaimCalls {
         pass: &mut Pass<H>,
         seat: &mut SeatCache<Counted, H>,
     ) -> Result<(), Memory>
-        requires seat { IsSeatOf zone.now seat.old }
-        requires clock { clock_id clock.now ≡ zone_clock zone.now }
-        requires pass { IsOf clock.now pass.old }
-        ensures seat { IsSeatOf zone.now seat.new }
-        ensures pass { IsOf clock.now pass.new }
-        ensures phase { (holder pass.new).phase ≡ (holder pass.old).phase }
-        ensures seen { (holder pass.old).seen ≤ (holder pass.new).seen }
+        requires { CanCall zone.now clock.now pass.old seat.old }
+        ensures stays { StaysOf zone.now clock.now pass.old pass.new seat.new }
         ensures keeps { KeepsSeat seat.old seat.new }
         ensures drained { OnOk result (HasDrained zone.now (view pass.old) seat.old seat.new) };
 
@@ -68,13 +58,8 @@ pub trait ReclaimCalls {
         pass: &mut Pass<H>,
         seat: &mut SeatCache<Counted, H>,
     ) -> Result<(), Memory>
-        requires seat { IsSeatOf zone.now seat.old }
-        requires clock { clock_id clock.now ≡ zone_clock zone.now }
-        requires pass { IsOf clock.now pass.old }
-        ensures seat { IsSeatOf zone.now seat.new }
-        ensures pass { IsOf clock.now pass.new }
-        ensures phase { (holder pass.new).phase ≡ (holder pass.old).phase }
-        ensures seen { (holder pass.old).seen ≤ (holder pass.new).seen }
+        requires { CanCall zone.now clock.now pass.old seat.old }
+        ensures stays { StaysOf zone.now clock.now pass.old pass.new seat.new }
         ensures keeps { KeepsSeat seat.old seat.new }
         ensures drained { OnOk result (HasDrainedSeat zone.now (view pass.old) seat.old seat.new) };
 }

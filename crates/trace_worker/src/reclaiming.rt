@@ -1,7 +1,7 @@
-ghost use Rattle.std.specs.Prelude.{◌<◌, length, OnOk};
+ghost use Rattle.std.specs.Prelude.{OnOk};
 ghost use Rattle.trace_worker.specs.Performs.{Reclaims};
 ghost use Rattle.trace_worker.specs.Reclaims.{HasDrained, HasDrainedSeat, HasTrimmed};
-ghost use Rattle.trace_worker.specs.Worker.{AreOfClock, Fits};
+ghost use Rattle.trace_worker.specs.Worker.{CanReclaim, Fits};
 
 use crate::Memory;
 use crate::items::CountedZone;
@@ -24,9 +24,7 @@ impl<H: Host> Worker<H> {
         reclaim: &C,
         zone: u32,
     ) -> Result<(), Memory>
-        requires zone { zone < length zones.now }
-        requires clock { AreOfClock clock.now zones.now }
-        requires fits { Fits zones.now clock.now self.old }
+        requires { CanReclaim zones.now clock.now self.old zone }
         ensures fits { OnOk result (Fits zones.now clock.now self.new) }
         ensures reclaims { OnOk result (Reclaims zones.now HasTrimmed self.old zone self.new) }
     {
@@ -47,9 +45,7 @@ impl<H: Host> Worker<H> {
         reclaim: &C,
         zone: u32,
     ) -> Result<(), Memory>
-        requires zone { zone < length zones.now }
-        requires clock { AreOfClock clock.now zones.now }
-        requires fits { Fits zones.now clock.now self.old }
+        requires { CanReclaim zones.now clock.now self.old zone }
         ensures fits { OnOk result (Fits zones.now clock.now self.new) }
         ensures reclaims { OnOk result (Reclaims zones.now HasDrained self.old zone self.new) }
     {
@@ -71,9 +67,7 @@ impl<H: Host> Worker<H> {
         reclaim: &C,
         zone: u32,
     ) -> Result<(), Memory>
-        requires zone { zone < length zones.now }
-        requires clock { AreOfClock clock.now zones.now }
-        requires fits { Fits zones.now clock.now self.old }
+        requires { CanReclaim zones.now clock.now self.old zone }
         ensures fits { OnOk result (Fits zones.now clock.now self.new) }
         ensures reclaims { OnOk result (Reclaims zones.now HasDrainedSeat self.old zone self.new) }
     {

@@ -1,13 +1,13 @@
-ghost use Rattle.std.specs.Prelude.{◌≡◌, ◌<◌, ◌≤◌, None, IfOk, OnOk, length, option_map};
-ghost use Rattle.smr_clock.specs.Belongs.{IsOf, clock_id, holder, view};
+ghost use Rattle.std.specs.Prelude.{◌≡◌, ◌<◌, None, IfOk, OnOk, length, option_map};
+ghost use Rattle.smr_clock.specs.Belongs.{view};
 ghost use Rattle.uma_seat.specs.Seat.{ledger_of};
-ghost use Rattle.uma_zone.specs.Zone.{zone_clock, IsSeatOf};
 ghost use Rattle.zone_stats.specs.LedgerSteps.{HasRoom};
+ghost use Rattle.trace_worker.specs.Calling.{CanCall, StaysOf};
 ghost use Rattle.trace_worker.specs.Performs.{Allocs};
 ghost use Rattle.trace_worker.specs.Requests.{Reaches, Requests};
 ghost use Rattle.trace_worker.specs.Live.{holding};
 ghost use Rattle.trace_worker.specs.Slots.{slot_at, filled};
-ghost use Rattle.trace_worker.specs.Worker.{AreOfClock, Fits, HasRooms};
+ghost use Rattle.trace_worker.specs.Worker.{CanWork, Fits};
 
 use crate::Memory;
 use crate::counted::Counted;
@@ -38,9 +38,7 @@ impl<H: Host> Worker<H> {
     ) -> Result<(), Memory>
         requires zone { zone < length zones.now }
         requires empty { slot_at self.old.slots slot ≡ None }
-        requires clock { AreOfClock clock.now zones.now }
-        requires fits { Fits zones.now clock.now self.old }
-        requires rooms { HasRooms self.old }
+        requires can { CanWork zones.now clock.now self.old }
         ensures fits { OnOk result (Fits zones.now clock.now self.new) }
         ensures allocs { OnOk result (Allocs zones.now self.old zone slot ask self.new) }
     {
@@ -61,14 +59,9 @@ pub(crate) fn request<H: Host, R: Wait>(
     seat: &mut CountedSeat<H>,
     ask: AllocAsk,
 ) -> Result<Option<Live<Counted>>, Memory>
-    requires seat { IsSeatOf zone.now seat.old }
-    requires clock { clock_id clock.now ≡ zone_clock zone.now }
-    requires pass { IsOf clock.now pass.old }
+    requires can { CanCall zone.now clock.now pass.old seat.old }
     requires room { HasRoom (ledger_of seat.old) }
-    ensures seat { IsSeatOf zone.now seat.new }
-    ensures pass { IsOf clock.now pass.new }
-    ensures phase { (holder pass.new).phase ≡ (holder pass.old).phase }
-    ensures seen { (holder pass.old).seen ≤ (holder pass.new).seen }
+    ensures stays { StaysOf zone.now clock.now pass.old pass.new seat.new }
     ensures requests { IfOk result (λ got. Requests zone.now ask seat.old got seat.new) }
     ensures reaches { OnOk result (Reaches zone.now (view pass.old) seat.old seat.new (view pass.new)) }
 {

@@ -1,14 +1,10 @@
-ghost use Rattle.std.specs.Prelude.{◌≡◌, ◌<◌, ◌≤◌, ◌+◌, ◌^◌, Some, length, IfOk, IfSome, OnOk, slice_get};
-ghost use Rattle.trace_text.specs.Valid.{comes_back};
-ghost use Rattle.trace_worker.specs.Asking.{Answers, AsksGate, IsAskedLast, Waits, heard_by};
-ghost use Rattle.trace_worker.specs.declared.attendance.Attendance.TheVariants.{There};
-ghost use Rattle.trace_worker.specs.Attendance.{is_out, worker_in};
-ghost use Rattle.trace_worker.specs.NameLines.{CanDo, DoesLine, HasNameRooms, KeepsGate, doing};
-ghost use Rattle.trace_worker.specs.NamesStand.{NamesOfClock};
-ghost use Rattle.trace_worker.specs.Naming.{no_counts};
+ghost use Rattle.std.specs.Prelude.{◌≡◌, ◌<◌, ◌≤◌, Some, length, IfSome, OnOk, slice_get};
+ghost use Rattle.trace_worker.specs.Asking.{Answers, AsksGate, CanWait, CountsWait, IsAskedLast, KeepsWork, Waits, heard_by};
+ghost use Rattle.trace_worker.specs.Attendance.{worker_in};
+ghost use Rattle.trace_worker.specs.Making.{IsIdle};
+ghost use Rattle.trace_worker.specs.NameLines.{CanGoOn, CanTurn, DoesLine, KeepsGate, StaysFit, doing};
 ghost use Rattle.trace_worker.specs.OwnLines.{own_ops as ops_at};
 ghost use Rattle.trace_worker.specs.Turn.{IsReady, HasWorked, most_asks};
-ghost use Rattle.trace_worker.specs.Worker.{AreOfClock, Fits, HasRooms};
 
 use crate::Memory;
 use crate::attendance::Attendance;
@@ -43,14 +39,19 @@ pub struct Running<N: NameCalls> {
     apart: CachePadded<()>,
 }
 
+/// An operation that the gate was asked for last, by the calls of a visit, and that isn't yet told as done.
+#[derive(Drop)]
+struct LastAsked<'a, G: Gate> {
+    visit: &'a G::Visit,
+    worker: u32,
+    number: u64,
+    ghost asked: { ∥ IsAskedLast worker number (G.heard visit.now) ∥₁ },
+}
+
 impl<N: NameCalls> Running<N> {
     /// A worker before its first turn.
     pub fn new(worker: Worker<N::H>, seat: N::Seat) -> Running<N>
-        ensures worker { result.attendance ≡ There worker }
-        ensures seat { result.naming.seat ≡ seat }
-        ensures counts { result.naming.counts ≡ no_counts }
-        ensures asked { result.asked ≡ 0 }
-        ensures gave_up { result.gave_up ≡ 0 }
+        ensures { IsIdle worker seat result }
     {
         Running {
             attendance: Attendance::There(worker),
@@ -114,17 +115,20 @@ impl<N: NameCalls> Running<N> {
         for place in 0..ops.len() {
             let op = place as u64 + 1;
             self.await_gate(gate, &mut visit, worker, op);
+            let go: LastAsked<'_, G> = LastAsked {
+                visit: &visit,
+                worker,
+                number: op,
+            };
             self.perform(
-                rt, alloc, zones, clock, names, cache, reclaim, gate, &visit, worker, op,
-                ops[place],
+                rt, alloc, zones, clock, names, cache, reclaim, go, ops[place],
             )?;
             gate.done(&mut visit, worker, op);
         }
         Ok(())
     }
 
-    /// Does one line of the worker, by its kind: its operation of this number, which the gate was asked for last, and not yet
-    /// told as done. Waits where the zones' calls do, and those of the names.
+    /// Does one line of the worker, by its kind: the operation which the gate was asked for last. Waits where the zones' calls do, and those of the names.
     ///
     /// After the Err, which is want of memory, the replay is over.
     fn perform<R: Wait, G: Gate, C: ReclaimCalls>(
@@ -136,23 +140,12 @@ impl<N: NameCalls> Running<N> {
         names: &N,
         cache: &N::Cache,
         reclaim: &C,
-        _gate: &G,
-        visit: &G::Visit,
-        worker: u32,
-        number: u64,
+        _go: LastAsked<'_, G>,
         op: Op,
     ) -> Result<(), Memory>
-        requires asked { IsAskedLast worker number (G.heard visit.now) }
-        requires can { CanDo N.NameCalls zones.now (worker_in self.old) op }
-        requires there { is_out self.old.attendance ≡ comes_back op }
-        requires clock { AreOfClock clock.now zones.now }
-        requires of_clock { NamesOfClock N.NameCalls cache.now clock.now }
-        requires fits { Fits zones.now clock.now (worker_in self.old) }
-        requires seat { N.IsSeat cache.now self.old.naming.seat }
-        requires rooms { HasRooms (worker_in self.old) }
-        requires name_rooms { HasNameRooms N.NameCalls self.old.naming }
-        ensures fits { OnOk result (Fits zones.now clock.now (worker_in self.new)) }
-        ensures seat { OnOk result (N.IsSeat cache.now self.new.naming.seat) }
+        requires turn { CanTurn N.NameCalls zones.now self.old op }
+        requires able { CanGoOn N.NameCalls cache.now zones.now clock.now (worker_in self.old) self.old.naming }
+        ensures stays { OnOk result (StaysFit N.NameCalls cache.now zones.now clock.now (worker_in self.new) self.new.naming) }
         ensures does { OnOk result (DoesLine N.NameCalls cache.now zones.now (doing self.old) op (doing self.new)) }
         ensures gate { KeepsGate self.old self.new }
     {
@@ -179,16 +172,12 @@ impl<N: NameCalls> Running<N> {
     /// Asks the gate before an operation, and counts it.
     fn await_gate<G: Gate>(&mut self, gate: &G, visit: &mut G::Visit, worker: u32, op: u64)
         requires of_gate { G.is_of gate.now visit.old }
-        requires asks { self.old.asked + most_asks < 2 ^ 64 }
-        requires gave_up { self.old.gave_up + 1 < 2 ^ 64 }
+        requires room { CanWait self.old }
         ensures of_gate { G.is_of gate.now visit.new }
         ensures waits { Waits worker op (heard_by (G.heard visit.old) self.old) (heard_by (G.heard visit.new) self.new) }
         ensures asked { IsAskedLast worker op (G.heard visit.new) }
-        ensures attendance { self.new.attendance ≡ self.old.attendance }
-        ensures naming { self.new.naming ≡ self.old.naming }
-        ensures asked_some { self.old.asked + 1 ≤ self.new.asked }
-        ensures asked_few { self.new.asked ≤ self.old.asked + most_asks }
-        ensures gave_up { self.new.gave_up ≤ self.old.gave_up + 1 }
+        ensures keeps { KeepsWork self.old self.new }
+        ensures counts { CountsWait self.old self.new }
         ensures free { G.is_free gate.now → self.new.gave_up ≡ self.old.gave_up }
     {
         match ask(gate, visit, worker, op) {
@@ -206,8 +195,7 @@ fn ask<G: Gate>(gate: &G, visit: &mut G::Visit, worker: u32, op: u64) -> Option<
     requires { G.is_of gate.now visit.old }
     ensures of_gate { G.is_of gate.now visit.new }
     ensures heard { Answers worker op (G.heard visit.old) result (G.heard visit.new) }
-    ensures some { IfSome result (λ times. 1 ≤ times) }
-    ensures few { IfSome result (λ times. times ≤ most_asks) }
+    ensures times { IfSome result (λ times. (1 ≤ times) × (times ≤ most_asks)) }
     ensures free { G.is_free gate.now → result ≡ Some 1 }
 {
     for asked in 0..MOST_ASKS {

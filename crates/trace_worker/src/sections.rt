@@ -1,8 +1,6 @@
-ghost use Rattle.std.specs.Prelude.{◌≡◌, ◌⊎◌, ◌<◌, ◌^◌};
-ghost use Rattle.smr_core.specs.declared.phase.Phase.{Phase};
+ghost use Rattle.std.specs.Prelude.{◌⊎◌, ◌<◌, ◌^◌};
 ghost use Rattle.trace_worker.specs.Items.{CountedZone};
-ghost use Rattle.trace_worker.specs.Performs.{EntersInTime, EntersLate, IsBetween, Leaves};
-ghost use Rattle.trace_worker.specs.Worker.{phase_of};
+ghost use Rattle.trace_worker.specs.Performs.{EntersInTime, EntersLate, IsBetween, IsOutside, Leaves};
 ghost use Rattle.smr_clock.specs.Belongs.{IsOf};
 
 use crate::worker::Worker;
@@ -12,8 +10,7 @@ use smr_core::Phase;
 impl<H: Host> Worker<H> {
     /// An `enter` line: enters a section, which is counted as entered, or as late where it was overtaken.
     pub fn enter(&mut self, clock: &Clock<H>)
-        requires outside { phase_of self.old ≡ Phase.Outside }
-        requires pass { IsOf clock.now self.old.pass }
+        requires outside { IsOutside clock.now self.old }
         requires entered { self.old.entered < 2 ^ 62 }
         requires late { self.old.late < 2 ^ 62 }
         ensures pass { IsOf clock.now self.new.pass }

@@ -1,5 +1,6 @@
 pub mod Asked
 pub mod Counting
+pub mod Ending
 pub mod Headline
 pub mod Limits
 pub mod Names

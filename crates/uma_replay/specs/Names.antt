@@ -1,5 +1,5 @@
 -- What a report has of the zone of the names, and what it is made of (own).
-use Rattle.std.specs.Prelude.{◌≡◌, ◌≤◌, ◌<◌, ◌+◌, ◌*◌, ◌^◌, ℕ, All, Bool, true, false, List, [], ◌∷◌, ◌++◌, Option, Some, None, is_some, map, slice_get, take}
+use Rattle.std.specs.Prelude.{◌≡◌, ◌≤◌, ◌<◌, ◌+◌, ◌*◌, ◌^◌, ℕ, All, Bool, true, false, List, [], ◌∷◌, ◌++◌, Option, Some, None, is_some, length, map, slice_get, take}
 use Rattle.std.specs.List.{sum_by}
 use Rattle.std.specs.Option.{option_map_or}
 use Rattle.smr_clock.specs.declared.host.Host.{Ghosts}
@@ -74,6 +74,11 @@ module _ {N H C S P : Type 0} (names : NameGhosts N H C S P) where
   -- each has a seat of the zone of the names
   abbrev pub AreSeats : C → List (Naming N H C S P) → Type 0
   AreSeats cache namings = All (λ (naming : Naming N H C S P). names.IsSeat cache naming.seat) namings
+
+  -- there are at most 16 of them, and each has
+  pub record SeatsFit (cache : C) (namings : List (Naming N H C S P)) : Type 0 where
+    pub few : length namings ≤ 16
+    pub seats : AreSeats cache namings
 
   -- the ledgers of the seats of the names, from worker 0 on
   abbrev pub AreNameLedgers : List (Naming N H C S P) → List SeatLedger → Type 0

@@ -1,6 +1,6 @@
 -- What a report is made of (own): its lines of the ledgers, of the kegs' censuses and of the sums of the hooks.
 use Rattle.std.specs.Option.{option_map_or}
-use Rattle.std.specs.Prelude.{ℕ, ◌≡◌, ◌<◌, Bool, List, Some, None, cond, count_by, is_none, is_some, length, map, option_map, slice_get, take}
+use Rattle.std.specs.Prelude.{ℕ, ◌≡◌, ◌<◌, ◌^◌, Bool, List, Some, None, cond, count_by, is_none, is_some, length, map, option_map, slice_get, take}
 use Rattle.std.specs.List.{sum_by}
 use Rattle.smr_clock.specs.declared.host.Host.{Ghosts}
 use Rattle.trace_text.specs.declared.head.ClockHead.{ClockHead}
@@ -134,7 +134,30 @@ pub record HasKeg (heads : List ZoneHead) (kegs z : ℕ) (head : ZoneHead) : Typ
 abbrev pub HaveKegs : List ZoneHead → ℕ → Type 0
 HaveKegs heads kegs = (z : ℕ) (head : ZoneHead) → slice_get heads z ≡ Some head → HasKeg heads kegs z head
 
+-- each zone has a keg of these censuses, and a list of ledgers
+pub record LinesFit (heads : List ZoneHead) (ledger_count : ℕ) (censuses : List Census) : Type 0 where
+  pub kegs : HaveKegs heads (length censuses)
+  pub ledgers : ledger_count ≡ length heads
+
+-- there is a census and a sum of hooks for each keg
+pub record KegsFit (heads : List ZoneHead) (counted : List Census) (summed : List TallySum) : Type 0 where
+  pub censuses : length counted ≡ length (primaries heads 0)
+  pub tallies : length summed ≡ length (primaries heads 0)
+
 module _ {H P : Type 0} {h : Ghosts H P} where
+  -- all workers' counts of sections, taken together, are those of a report
+  pub record SectionsFit (workers : List (Worker H P h)) : Type 0 where
+    pub entered : sum_by (λ (w : Worker H P h). w.entered) workers < 2 ^ 64
+    pub late : sum_by (λ (w : Worker H P h). w.late) workers < 2 ^ 64
+
+  -- What a report is made of: a keg for each zone, a census and a sum of hooks for each keg, a count of deferred items for each zone, and workers with a seat of each zone.
+  pub record CanReport (t : Trace) (workers : List (Worker H P h)) (counted : List Census) (summed : List TallySum) (waiting : List ℕ) : Type 0 where
+    pub kegs : HaveKegs t.head.zones (length (primaries t.head.zones 0))
+    pub each : KegsFit t.head.zones counted summed
+    pub deferred : length waiting ≡ length t.head.zones
+    pub seats : (n : ℕ) (w : Worker H P h) → slice_get workers n ≡ Some w → length w.seats.items ≡ length t.head.zones
+    pub sections : SectionsFit workers
+
   -- The report of these workers, censuses, sums, counts of deferred items and hands.
   pub record IsReportOf (t : Trace) (workers : List (Worker H P h)) (censuses : List Census) (tallies : List TallySum) (deferred : List ℕ) (read write gave_up : ℕ) (report : Report) : Type 0 where
     pub ledgers : AreLedgers (length t.head.zones) workers report.ledgers

@@ -1,17 +1,16 @@
 //! The end of a replay, when all lines are done.
-ghost use Rattle.std.specs.Prelude.{◌≡◌, ◌≤◌, ◌<◌, ◌^◌, ℕ, IfOk, OnOk, Some, length, slice_get, sum};
-ghost use Rattle.smr_clock.specs.Belongs.{IsOf, setup_of};
-ghost use Rattle.smr_clock.specs.Notes.{IsNoteOf, note_holder};
-ghost use Rattle.trace_worker.specs.Clocks.{window_of as window_for};
-ghost use Rattle.trace_text.specs.Lines.{lines_of};
+ghost use Rattle.std.specs.Prelude.{◌≡◌, ◌<◌, ◌^◌, ℕ, IfOk, Some, slice_get, sum};
+ghost use Rattle.smr_clock.specs.Belongs.{IsOf};
+ghost use Rattle.trace_worker.specs.Clocks.{window_of as window_for, KnowsBeginning};
 ghost use Rattle.trace_text.specs.Valid.{IsValid};
 ghost use Rattle.trace_worker.specs.declared.running.Running.{Running};
 ghost use Rattle.trace_worker.specs.Attendance.{worker_in};
 ghost use Rattle.trace_worker.specs.Together.{crew};
 ghost use Rattle.trace_play.specs.Clock.{ReadsHands};
 ghost use Rattle.trace_play.specs.Closes.{AllClose};
-ghost use Rattle.uma_replay.specs.Hall.{AreDone, HallStands, NamesDone};
-ghost use Rattle.uma_replay.specs.Playing.{AllBack, AllStay, HaveEnded, gave_ups_of, namings_of};
+ghost use Rattle.uma_replay.specs.Ending.{CanEnd, HasLooked, IsEndOf, TakesStock};
+ghost use Rattle.uma_replay.specs.Hall.{AreDone};
+ghost use Rattle.uma_replay.specs.Playing.{AllBack, gave_ups_of, namings_of};
 
 use crate::Memory;
 use crate::hall::{GaveUps, Hall, Namings, Played, Workers, ZoneList};
@@ -47,17 +46,9 @@ pub(crate) fn close<N: NameCalls, R: Wait>(
     gave_ups: Vec<u64>,
     begun: Note<N::H>,
 ) -> Result<Played<N>, Memory>
-    requires valid { IsValid trace.now }
-    requires few { length (lines_of trace.now.rounds) ≤ 16777216 }
-    requires done { AreDone trace.now zones.items clock workers.items }
-    requires named { NamesDone N.NameCalls trace.now cache zones.items clock workers.items namings.items }
-    requires ended { HaveEnded trace.now clock workers.items namings.items gave_ups.items }
-    requires begun_here { IsNoteOf clock begun }
-    requires begun { (setup_of clock).about.start ≤ (note_holder begun).floor }
-    ensures hall { IfOk result (λ played. HallStands N.NameCalls trace.now played.report played.hall) }
-    ensures clock { IfOk result (λ played. played.hall.clock ≡ clock) }
-    ensures gave_up { IfOk result (λ played. played.report.gave_up ≡ sum gave_ups.items) }
-    ensures gave_ups { IfOk result (λ played. played.hall.gave_ups ≡ gave_ups.items) }
+    requires can { CanEnd N.NameCalls trace.now cache zones.items clock workers.items namings.items gave_ups.items }
+    requires begun { KnowsBeginning clock begun }
+    ensures { IfOk result (IsEndOf N.NameCalls trace.now clock gave_ups.items) }
 {
     let ended = take_stock(
         rt,
@@ -89,12 +80,8 @@ fn take_stock<H: Host, R: Wait>(
 ) -> Result<Ended, Memory>
     requires valid { IsValid trace.now }
     requires done { AreDone trace.now zones.now clock.now workers.old }
-    requires begun_here { IsNoteOf clock.now begun }
-    requires begun { (setup_of clock.now).about.start ≤ (note_holder begun).floor }
-    ensures done { OnOk result (AreDone trace.now zones.now clock.now workers.new) }
-    ensures stay { OnOk result (AllStay clock.now workers.old workers.new) }
-    ensures hands { IfOk result (λ e. ReadsHands clock.now workers.new e.read e.write) }
-    ensures closes { IfOk result (λ e. AllClose trace.now.head zones.now workers.new e.totals.censuses.items e.totals.tallies.items e.totals.deferred.items) }
+    requires begun { KnowsBeginning clock.now begun }
+    ensures { IfOk result (TakesStock trace.now zones.now clock.now workers.old workers.new) }
 {
     let (read, write) = look(trace, clock, zones, workers, begun);
     let totals = take_totals(rt, alloc, &trace.head, zones, clock, workers)?;
@@ -115,11 +102,8 @@ fn look<H: Host>(
 ) -> (u64, u64)
     requires valid { IsValid trace.now }
     requires done { AreDone trace.now zones.now clock.now workers.old }
-    requires begun_here { IsNoteOf clock.now begun }
-    requires begun { (setup_of clock.now).about.start ≤ (note_holder begun).floor }
-    ensures done { AreDone trace.now zones.now clock.now workers.new }
-    ensures stay { AllStay clock.now workers.old workers.new }
-    ensures hands { ReadsHands clock.now workers.new result.0 result.1 }
+    requires begun { KnowsBeginning clock.now begun }
+    ensures { HasLooked trace.now zones.now clock.now workers.old workers.new result.0 result.1 }
 {
     let window = window_of(trace.head.clock);
     read_hands(clock, workers, begun, window)
@@ -139,17 +123,10 @@ fn reported<N: NameCalls, R: Wait>(
     gave_ups: GaveUps,
     ended: Ended,
 ) -> Result<Played<N>, Memory>
-    requires valid { IsValid trace.now }
-    requires few { length (lines_of trace.now.rounds) ≤ 16777216 }
-    requires done { AreDone trace.now zones clock workers }
-    requires named { NamesDone N.NameCalls trace.now cache zones clock workers namings }
-    requires ended { HaveEnded trace.now clock workers namings gave_ups }
+    requires can { CanEnd N.NameCalls trace.now cache zones clock workers namings gave_ups }
     requires hands { ReadsHands clock workers ended.read ended.write }
     requires closes { AllClose trace.now.head zones workers ended.totals.censuses.items ended.totals.tallies.items ended.totals.deferred.items }
-    ensures hall { IfOk result (λ played. HallStands N.NameCalls trace.now played.report played.hall) }
-    ensures clock { IfOk result (λ played. played.hall.clock ≡ clock) }
-    ensures gave_up { IfOk result (λ played. played.report.gave_up ≡ sum gave_ups) }
-    ensures gave_ups { IfOk result (λ played. played.hall.gave_ups ≡ gave_ups) }
+    ensures { IfOk result (IsEndOf N.NameCalls trace.now clock gave_ups) }
 {
     let Ended {
         read,

@@ -4,7 +4,7 @@ ghost use Rattle.std.specs.List.{sum_by};
 ghost use Rattle.trace_text.specs.declared.head.ClockHead.{ClockHead};
 ghost use Rattle.trace_worker.specs.declared.worker.Worker.{Worker};
 ghost use Rattle.uma_keg.specs.Census.{census_outs};
-ghost use Rattle.uma_replay.specs.Reporting.{line_by, hook_line as hooks_of, keg_line as keg_of, clock_line as clock_of, shown_free as shown};
+ghost use Rattle.uma_replay.specs.Reporting.{SectionsFit, line_by, hook_line as hooks_of, keg_line as keg_of, clock_line as clock_of, shown_free as shown};
 
 use smr_clock::Host;
 use trace_text::{ClockHead, ZoneHead};
@@ -91,8 +91,7 @@ pub(crate) fn clock_line<H: Host>(
     write: u64,
     workers: &[Worker<H>],
 ) -> Option<ClockLine>
-    requires entered { sum_by (λ (w : Worker H H.Part H.Host). w.entered) workers.now < 2 ^ 64 }
-    requires late { sum_by (λ (w : Worker H H.Part H.Host). w.late) workers.now < 2 ^ 64 }
+    requires { SectionsFit workers.now }
     ensures { result ≡ option_map (λ (c : ClockHead). clock_of read write workers.now) head }
 {
     match head {

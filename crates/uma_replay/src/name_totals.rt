@@ -4,7 +4,7 @@ ghost use Rattle.uma_bucket.specs.Sums.{AreOfAtMost};
 ghost use Rattle.uma_keg.specs.Census.{census_tally};
 ghost use Rattle.uma_life.specs.Hook.{Hook};
 ghost use Rattle.uma_life.specs.Sum.{sum_of};
-ghost use Rattle.uma_replay.specs.Names.{AreNameSums, AreSeatSums, AreSeats, NamesClose};
+ghost use Rattle.uma_replay.specs.Names.{AreNameSums, AreSeatSums, NamesClose, SeatsFit};
 
 use crate::Memory;
 use std::alloc::Global;
@@ -33,8 +33,7 @@ pub(crate) fn take_names<N: NameCalls, R: Wait>(
     namings: &[Naming<N>],
 ) -> Result<NameTotals, Memory>
     requires serves { IsTrue N.serves }
-    requires few { length namings.now ≤ 16 }
-    requires seats { AreSeats N.NameCalls cache.now namings.now }
+    requires fit { SeatsFit N.NameCalls cache.now namings.now }
     ensures { IfOk result (λ t. NamesClose N.NameCalls cache.now namings.now t.census t.tally t.deferred) }
 {
     let census = names.census(cache, rt, alloc)?;
@@ -55,8 +54,7 @@ fn name_sums<N: NameCalls, R: Wait>(
     namings: &[Naming<N>],
 ) -> Result<Sums, Memory>
     requires serves { IsTrue N.serves }
-    requires few { length namings.now ≤ 16 }
-    requires seats { AreSeats N.NameCalls cache.now namings.now }
+    requires fit { SeatsFit N.NameCalls cache.now namings.now }
     ensures { IfOk result (AreNameSums N.NameCalls cache.now namings.now) }
 {
     let seats = seat_sums(namings);

@@ -7,6 +7,7 @@ ghost use Rattle.trace_text.specs.Lines.{lines_of};
 ghost use Rattle.trace_text.specs.Valid.{IsValid};
 ghost use Rattle.trace_worker.specs.NameSizes.{sizes_for};
 ghost use Rattle.uma_replay.specs.Asked.{AreGivenUp};
+ghost use Rattle.uma_replay.specs.Ending.{IsReplayOf};
 ghost use Rattle.uma_replay.specs.Hall.{HallStands};
 ghost use Rattle.uma_replay.specs.Headline.{Headline};
 ghost use Rattle.uma_replay.specs.Playing.{AreEnded};
@@ -81,11 +82,8 @@ fn replay_from<
     requires set_up { IsSetUp trace.now setting }
     requires of_clock { IsTrue N.serves → N.clock_of cache ≡ clock_id setting.clock }
     requires sizes { IfSome trace.now.head.names (λ line. N.sizes_of cache ≡ sizes_for trace.now.head line) }
-    ensures stands { IfOk result (λ played. StandsFor trace.now played.report) }
-    ensures hall { IfOk result (λ played. HallStands N.NameCalls trace.now played.report played.hall) }
-    ensures clock { IfOk result (λ played. played.hall.clock ≡ setting.clock) }
+    ensures replays { IfOk result (IsReplayOf N.NameCalls G.Gate gate.now trace.now setting.clock) }
     ensures free { G.is_free gate.now → IfOk result (λ played. played.report.gave_up ≡ 0) }
-    ensures asks { IfOk result (λ played. AreGivenUp G.Gate gate.now trace.now.rounds played.hall.gave_ups) }
 {
     let Setting {
         clock,

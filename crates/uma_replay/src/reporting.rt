@@ -2,9 +2,8 @@
 ghost use Rattle.std.specs.Prelude.{◌≡◌, ◌<◌, ◌+◌, IfOk, OnOk, length, slice_index};
 ghost use Rattle.uma_keg.specs.Census.{census_outs};
 ghost use Rattle.trace_text.specs.Lines.{lines_of};
-ghost use Rattle.trace_play.specs.Kegs.{primaries};
 ghost use Rattle.uma_replay.specs.Limits.{KeepLimits, last_limit};
-ghost use Rattle.uma_replay.specs.Reporting.{AreLines, AreHooks, AreKegs, AreKegsTo, HaveKegs, IsLineAt, IsHookWith, keg_line as keg_by};
+ghost use Rattle.uma_replay.specs.Reporting.{AreLines, AreHooks, AreKegs, AreKegsTo, HaveKegs, IsLineAt, IsHookWith, KegsFit, LinesFit, keg_line as keg_by};
 
 use crate::Memory;
 use crate::limits::last_limits;
@@ -26,8 +25,7 @@ pub(crate) fn tested_lines(
     ledgers: &[ZoneLedgers],
     censuses: &[Census],
 ) -> Result<Lines, Memory>
-    requires kegs { HaveKegs heads.now (length censuses.now) }
-    requires ledgers { length ledgers.now ≡ length heads.now }
+    requires fit { LinesFit heads.now (length ledgers.now) censuses.now }
     ensures lines { IfOk result (AreLines heads.now (last_limit (lines_of rounds.now)) ledgers.now censuses.now) }
     ensures limits { OnOk result (KeepLimits (lines_of rounds.now) heads.now ledgers.now) }
 {
@@ -43,9 +41,8 @@ fn zone_lines(
     ledgers: &[ZoneLedgers],
     censuses: &[Census],
 ) -> Result<Lines, Memory>
-    requires kegs { HaveKegs heads.now (length censuses.now) }
+    requires fit { LinesFit heads.now (length ledgers.now) censuses.now }
     requires limits { length limits.now ≡ length heads.now }
-    requires ledgers { length ledgers.now ≡ length heads.now }
     ensures { IfOk result (AreLines heads.now (λ z head. slice_index limits.now z) ledgers.now censuses.now) }
 {
     let mut lines = Vec::with_capacity(alloc, heads.len())?;
@@ -64,8 +61,7 @@ fn line_at(
     censuses: &[Census],
 ) -> ZoneLine
     requires place { place < length heads.now }
-    requires kegs { HaveKegs heads.now (length censuses.now) }
-    requires ledgers { length ledgers.now ≡ length heads.now }
+    requires fit { LinesFit heads.now (length ledgers.now) censuses.now }
     ensures { IsLineAt heads.now (λ z head. limit) ledgers.now censuses.now place result }
 {
     let head = &heads[place];
@@ -111,8 +107,7 @@ pub(crate) fn keg_lines(
     censuses: &[Census],
     tallies: &[TallySum],
 ) -> Result<KegLines, Memory>
-    requires censuses { length censuses.now ≡ length (primaries heads.now 0) }
-    requires tallies { length tallies.now ≡ length (primaries heads.now 0) }
+    requires each { KegsFit heads.now censuses.now tallies.now }
     ensures { IfOk result (AreKegs heads.now censuses.now tallies.now) }
 {
     let mut lines = Vec::with_capacity(alloc, heads.len())?;
@@ -131,8 +126,7 @@ fn add_keg(
     lines: &mut Vec<KegLine>,
 ) -> Result<(), Memory>
     requires place { place < length heads.now }
-    requires censuses { length censuses.now ≡ length (primaries heads.now 0) }
-    requires tallies { length tallies.now ≡ length (primaries heads.now 0) }
+    requires each { KegsFit heads.now censuses.now tallies.now }
     requires so_far { AreKegsTo heads.now censuses.now tallies.now place lines.old.items }
     ensures { OnOk result (AreKegsTo heads.now censuses.now tallies.now (place + 1) lines.new.items) }
 {

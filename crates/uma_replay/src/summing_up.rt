@@ -1,9 +1,6 @@
 //! The report as a whole.
-ghost use Rattle.std.specs.Prelude.{◌≡◌, ◌<◌, ◌^◌, ℕ, IfOk, Some, length, slice_get};
-ghost use Rattle.std.specs.List.{sum_by};
-ghost use Rattle.trace_play.specs.Kegs.{primaries};
-ghost use Rattle.trace_worker.specs.declared.worker.Worker.{Worker};
-ghost use Rattle.uma_replay.specs.Reporting.{HaveKegs, IsReportOf};
+ghost use Rattle.std.specs.Prelude.{IfOk};
+ghost use Rattle.uma_replay.specs.Reporting.{CanReport, IsReportOf};
 
 use crate::Memory;
 use crate::collecting::collect_zones;
@@ -30,13 +27,7 @@ pub(crate) fn report_of<H: Host>(
     write: u64,
     gave_up: u64,
 ) -> Result<Report, Memory>
-    requires kegs { HaveKegs trace.now.head.zones (length (primaries trace.now.head.zones 0)) }
-    requires censuses { length censuses.now ≡ length (primaries trace.now.head.zones 0) }
-    requires tallies { length tallies.now ≡ length (primaries trace.now.head.zones 0) }
-    requires deferred { length deferred.now ≡ length trace.now.head.zones }
-    requires seats { (n : ℕ) (w : Worker H H.Part H.Host) → slice_get workers.now n ≡ Some w → length w.seats.items ≡ length trace.now.head.zones }
-    requires entered { sum_by (λ (w : Worker H H.Part H.Host). w.entered) workers.now < 2 ^ 64 }
-    requires late { sum_by (λ (w : Worker H H.Part H.Host). w.late) workers.now < 2 ^ 64 }
+    requires { CanReport trace.now workers.now censuses.now tallies.now deferred.now }
     ensures { IfOk result (IsReportOf trace.now workers.now censuses.now tallies.now deferred.now read write gave_up) }
 {
     let head = &trace.head;

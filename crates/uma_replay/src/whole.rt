@@ -1,7 +1,7 @@
 //! The whole report: behind the zones of the zone lines that of the names, where a trace has names.
-ghost use Rattle.std.specs.Prelude.{◌≡◌, ◌≤◌, IfOk, IsTrue, is_some, length};
+ghost use Rattle.std.specs.Prelude.{◌≡◌, IfOk, IsTrue, is_some};
 ghost use Rattle.uma_replay.specs.Counting.{entry_zone as zone_of};
-ghost use Rattle.uma_replay.specs.Names.{AreSeats, CountsFit, HasNames, IsNamesPart, IsWhole};
+ghost use Rattle.uma_replay.specs.Names.{CountsFit, HasNames, IsNamesPart, IsWhole, SeatsFit};
 
 use crate::Memory;
 use crate::limits::check_ledgers;
@@ -26,8 +26,7 @@ pub(crate) fn whole_report<N: NameCalls, R: Wait>(
     first: Report,
 ) -> Result<Report, Memory>
     requires serves { N.serves ≡ is_some line.now }
-    requires few { length namings.now ≤ 16 }
-    requires seats { AreSeats N.NameCalls cache.now namings.now }
+    requires fit { SeatsFit N.NameCalls cache.now namings.now }
     requires counts { CountsFit namings.now }
     ensures { IfOk result (IsWhole N.NameCalls cache.now line.now namings.now first) }
 {
@@ -49,8 +48,7 @@ fn named_report<N: NameCalls, R: Wait>(
     first: Report,
 ) -> Result<Report, Memory>
     requires serves { IsTrue N.serves }
-    requires few { length namings.now ≤ 16 }
-    requires seats { AreSeats N.NameCalls cache.now namings.now }
+    requires fit { SeatsFit N.NameCalls cache.now namings.now }
     requires counts { CountsFit namings.now }
     ensures { IfOk result (HasNames N.NameCalls cache.now line.now namings.now first) }
 {

@@ -24,14 +24,14 @@ census-requires g c =
     let at : slice_get zones c.args.place ≡ Some primary = slice_get_read zones (length zones) c.args.place primary refl c.requires.place c.index-zones-place.is in
     let P : LiveItem → Type 0 = λ item. live_table item ≡ (zone_home primary).book in
     let Q : List LiveItem → Type 0 = λ lives. All P lives in
-    subst Q (sym (c.from_vec.ensures ∙ c.in_ok-marks.ensures.lives)) (all_are P (in_keg head.zones c.args.place) workers (lent_books head c.args.clock.now zones workers c.args.place primary c.requires.zones c.requires.fits at))
+    subst Q (sym (c.from_vec.ensures ∙ c.in_ok-marks.ensures.lives)) (all_are P (in_keg head.zones c.args.place) workers (lent_books head c.args.clock.now zones workers c.args.place primary c.requires.can.zones c.requires.can.fits at))
 
 pub with_lives-tally-requires-clause-few : goal.with_lives-tally-requires-clause-few
 with_lives-tally-requires-clause-few g c =
     let workers : List (Worker _ _ _) = c.args.workers.now in
     let back : List LiveItem = c.in-Ok.lives in
     let lives : List LiveItem = c.from_vec.result in
-    let few = sixteen (length (all_lent (in_keg c.args.head.now.zones c.args.place) workers)) (length workers) (all_few (in_keg c.args.head.now.zones c.args.place) workers c.requires.few.slots) c.requires.few.few in
+    let few = sixteen (length (all_lent (in_keg c.args.head.now.zones c.args.place) workers)) (length workers) (all_few (in_keg c.args.head.now.zones c.args.place) workers c.requires.can.few.slots) c.requires.can.few.few in
     let size = ap length c.as_slice.ensures ∙ same_length back lives c.in-Ok.ensures.items ∙ ap length (c.from_vec.ensures ∙ c.in_ok-marks.ensures.lives) in
     let P : ℕ → Type 0 = λ n. n ≤ 1048576 in
     subst P (sym size) few
@@ -42,7 +42,7 @@ put_all_back-requires g c =
     let workers : List (Worker _ _ _) = c.args.workers.now in
     let P : List (List (Option ℕ)) → Type 0 = λ marks. MarksFit marks c.lend_all.new.workers in
     let Q : List (Worker _ _ _) → Type 0 = λ now. MarksFit (all_marks of workers) now in
-    subst P (sym (c.deref.ensures.value ∙ c.in_ok-marks.ensures.marks)) (subst Q (sym c.in_ok-marks.ensures.left) (marks_fit of workers c.requires.few.slots))
+    subst P (sym (c.deref.ensures.value ∙ c.in_ok-marks.ensures.marks)) (subst Q (sym c.in_ok-marks.ensures.left) (marks_fit of workers c.requires.can.few.slots))
 
 pub returns-clause-census : goal.returns-clause-census
 returns-clause-census g c primary at =
@@ -52,7 +52,7 @@ returns-clause-census g c primary at =
     let lives : List LiveItem = c.from_vec.result in
     let back : List LiveItem = c.in-Ok.lives in
     let says = c.in-Ok.ensures in
-    let lends : Lends c.args.head.now c.args.clock.now zones c.args.workers.now c.args.place lives = record { head_fits = c.requires.head; are = c.requires.zones; fits = c.requires.fits; lent = c.from_vec.ensures ∙ c.in_ok-marks.ensures.lives } in
+    let lends : Lends c.args.head.now c.args.clock.now zones c.args.workers.now c.args.place lives = record { head_fits = c.requires.can.head; are = c.requires.can.zones; fits = c.requires.can.fits; lent = c.from_vec.ensures ∙ c.in_ok-marks.ensures.lives } in
     let own : Says found lives c.in-Ok.census = record { counts = record { table = says.table; cap = says.cap; reserve = says.reserve; per_slab = says.per_slab; absent = says.absent }; lent = says.lent } in
     let P : CountedZone _ _ _ → Type 0 = λ zone. Says zone lives c.in-Ok.census in
     takes_census c.args.head.now c.args.clock.now zones c.args.workers.now c.args.place primary c.in-Ok.census c.with_lives-tally.result lives back lends (subst P (same_Some found primary (sym here ∙ at)) own) says.items

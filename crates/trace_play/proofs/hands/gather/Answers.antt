@@ -3,7 +3,7 @@ use Rattle.trace_play.proofs.Gathering.{gathers_all, gathers_one, gathers_more, 
 use Rattle.trace_play.proofs.hands.gather.Goals as goal
 
 pub loop-number-init : goal.loop-number-init
-loop-number-init g c = gathers_one c.args.clock.now c.args.begun c.args.workers.now c.take_at.new.workers c.requires.here c.requires.begun c.take_at.ensures
+loop-number-init g c = gathers_one c.args.clock.now c.args.begun c.args.workers.now c.take_at.new.workers c.requires.here c.requires.begun.low c.take_at.ensures
 
 pub loop-number-preserved : goal.loop-number-preserved
 loop-number-preserved g c = gathers_more c.args.clock.now c.loop-number.number c.args.workers.now c.loop-number.workers c.pass_on.new.workers c.loop-number.invariant c.pass_on.ensures

@@ -19,40 +19,24 @@ loop-round-preserved g c =
     let below : c.loop-round.round < length c.args.trace.now.rounds = search rules in
     let size : length c.play_round.new.workers ≡ length c.loop-round.workers = search rules in
     record {
-      after = c.in_ok-play_round.ensures.after;
+      after = c.in_ok-play_round.ensures.played.after;
       plays = play_more g.N.NameCalls c.args.cache.now c.args.zones.now c.args.trace.now.rounds c.loop-round.round c.args.workers.now c.loop-round.workers c.play_round.new.workers below size c.loop-round.invariant.plays
-          c.in_ok-play_round.ensures.plays;
-      rounds = rounds_more g.N.NameCalls c.args.cache.now c.args.zones.now c.args.trace.now.rounds c.loop-round.round c.args.workers.now c.loop-round.workers c.play_round.new.workers below c.loop-round.invariant.rounds c.in_ok-play_round.ensures.round;
-      asks = ask_more g.G.Gate c.args.gate.now c.args.trace.now.rounds c.loop-round.round c.args.workers.now c.loop-round.workers c.play_round.new.workers below size c.loop-round.invariant.asks c.in_ok-play_round.ensures.asks;
+          c.in_ok-play_round.ensures.played.plays;
+      rounds = rounds_more g.N.NameCalls c.args.cache.now c.args.zones.now c.args.trace.now.rounds c.loop-round.round c.args.workers.now c.loop-round.workers c.play_round.new.workers below c.loop-round.invariant.rounds c.in_ok-play_round.ensures.played.round;
+      asks = ask_more g.G.Gate c.args.gate.now c.args.trace.now.rounds c.loop-round.round c.args.workers.now c.loop-round.workers c.play_round.new.workers below size c.loop-round.invariant.asks c.in_ok-play_round.ensures.played.asks;
       free = λ free. c.in_ok-play_round.ensures.free free ∙ c.loop-round.invariant.free free;
     }
 
-pub returns-clause-plays : goal.returns-clause-plays
-returns-clause-plays g c =
+pub returns-clause-played : goal.returns-clause-played
+returns-clause-played g c =
     let past : length c.args.trace.now.rounds ≤ c.loop-round.round = search rules in
-    play_all g.N.NameCalls c.args.cache.now c.args.zones.now c.args.trace.now.rounds c.loop-round.round c.args.workers.now c.loop-round.workers past c.loop-round.invariant.plays
-
-pub returns-clause-rounds : goal.returns-clause-rounds
-returns-clause-rounds g c =
-    let past : length c.args.trace.now.rounds ≤ c.loop-round.round = search rules in
-    rounds_ended g.N.NameCalls c.args.cache.now c.args.zones.now c.args.trace.now.rounds c.loop-round.round c.args.workers.now c.loop-round.workers past c.loop-round.invariant.rounds
-
-pub returns-clause-stands : goal.returns-clause-stands
-returns-clause-stands g c =
-    let past : length c.args.trace.now.rounds ≤ c.loop-round.round = search rules in
-    (ended g.N.NameCalls c.args.cache.now c.args.trace.now c.args.zones.now c.args.clock.now c.loop-round.round c.loop-round.workers past c.loop-round.invariant.after).stand
-
-pub returns-clause-asked : goal.returns-clause-asked
-returns-clause-asked g c =
-    let past : length c.args.trace.now.rounds ≤ c.loop-round.round = search rules in
-    (ended g.N.NameCalls c.args.cache.now c.args.trace.now c.args.zones.now c.args.clock.now c.loop-round.round c.loop-round.workers past c.loop-round.invariant.after).asked
-
-pub returns-clause-named : goal.returns-clause-named
-returns-clause-named g c =
-    let past : length c.args.trace.now.rounds ≤ c.loop-round.round = search rules in
-    (ended g.N.NameCalls c.args.cache.now c.args.trace.now c.args.zones.now c.args.clock.now c.loop-round.round c.loop-round.workers past c.loop-round.invariant.after).named
-
-pub returns-clause-asks : goal.returns-clause-asks
-returns-clause-asks g c =
-    let past : length c.args.trace.now.rounds ≤ c.loop-round.round = search rules in
-    ask_all g.G.Gate c.args.gate.now c.args.trace.now.rounds c.loop-round.round c.args.workers.now c.loop-round.workers past c.loop-round.invariant.asks
+    let after = ended g.N.NameCalls c.args.cache.now c.args.trace.now c.args.zones.now c.args.clock.now c.loop-round.round c.loop-round.workers past c.loop-round.invariant.after in
+    record {
+      stands = after.stand;
+      named = after.named;
+      adds_up = after.adds_up;
+      plays = play_all g.N.NameCalls c.args.cache.now c.args.zones.now c.args.trace.now.rounds c.loop-round.round c.args.workers.now c.loop-round.workers past c.loop-round.invariant.plays;
+      rounds = rounds_ended g.N.NameCalls c.args.cache.now c.args.zones.now c.args.trace.now.rounds c.loop-round.round c.args.workers.now c.loop-round.workers past c.loop-round.invariant.rounds;
+      asked = after.asked;
+      asks = ask_all g.G.Gate c.args.gate.now c.args.trace.now.rounds c.loop-round.round c.args.workers.now c.loop-round.workers past c.loop-round.invariant.asks;
+    }

@@ -5,7 +5,7 @@ use Rattle.trace_play.specs.Rounds.{AllMoved}
 use Rattle.trace_play.proofs.AfterRound.{all_ready, gave_up_same}
 use Rattle.trace_play.proofs.Asks.{asks_round}
 use Rattle.trace_play.proofs.Done.{round_done}
-use Rattle.trace_play.proofs.Played.{after_round, both_ok, some_workers, still_free}
+use Rattle.trace_play.proofs.Played.{after_round, both_ok, some_workers, still_free, three_ok}
 use Rattle.trace_play.proofs.Plays.{plays_round}
 use Rattle.trace_play.proofs.playing.play_round.Goals as goal
 
@@ -16,28 +16,20 @@ pub work_round-requires-clause-ready : goal.work_round-requires-clause-ready
 work_round-requires-clause-ready g c κs within =
     all_ready g.N.NameCalls c.args.cache.now c.args.trace.now c.args.zones.now c.args.clock.now c.args.round c.args.workers.now c.requires.suits c.requires.after c.requires.round
 
-pub returns-clause-after : goal.returns-clause-after
-returns-clause-after g c =
+pub returns-clause-played : goal.returns-clause-played
+returns-clause-played g c =
     let size : length c.work_round.new.workers ≡ length c.args.workers.now = search rules in
-    let P : List Between → Type 0 = λ list. AllMoved list c.work_round.new.workers c.do_betweens.new.workers in
-    both_ok c.do_betweens.result _ _ _ c.do_betweens.ensures.rest c.do_betweens.ensures.moved (λ keeps moved.
-    after_round g.N.NameCalls c.args.cache.now c.args.trace.now c.args.zones.now c.args.clock.now c.args.round c.args.workers.now c.work_round.new.workers c.do_betweens.new.workers c.requires.suits c.requires.after
-    size c.in_ok-all_ended.ensures c.work_round.ensures.worked keeps (subst P c.betweens_of.ensures moved))
-
-pub returns-clause-plays : goal.returns-clause-plays
-returns-clause-plays g c =
-    let size : length c.work_round.new.workers ≡ length c.args.workers.now = search rules in
-    both_ok c.do_betweens.result _ _ _ c.do_betweens.ensures.rest c.do_betweens.ensures.rest (λ keeps again.
-    plays_round g.N.NameCalls c.args.cache.now c.args.trace.now c.args.zones.now c.args.clock.now c.args.round c.args.workers.now c.work_round.new.workers c.do_betweens.new.workers
-    size c.in_ok-all_ended.ensures c.work_round.ensures.worked keeps)
-
-pub returns-clause-round : goal.returns-clause-round
-returns-clause-round g c =
-    let size : length c.work_round.new.workers ≡ length c.args.workers.now = search rules in
-    let P : List Between → Type 0 = λ list. DoBetweens c.args.zones.now list c.work_round.new.workers c.do_betweens.new.workers in
-    both_ok c.do_betweens.result _ _ _ c.do_betweens.ensures.rest c.do_betweens.ensures.does (λ keeps does.
-    round_done g.N.NameCalls c.args.cache.now c.args.trace.now c.args.zones.now c.args.clock.now c.args.round c.args.workers.now c.work_round.new.workers c.do_betweens.new.workers
-    size c.in_ok-all_ended.ensures c.work_round.ensures.worked (subst P c.betweens_of.ensures does))
+    let M : List Between → Type 0 = λ list. AllMoved list c.work_round.new.workers c.do_betweens.new.workers in
+    let D : List Between → Type 0 = λ list. DoBetweens c.args.zones.now list c.work_round.new.workers c.do_betweens.new.workers in
+    three_ok c.do_betweens.result (λ keeps moved does. record {
+      after = after_round g.N.NameCalls c.args.cache.now c.args.trace.now c.args.zones.now c.args.clock.now c.args.round c.args.workers.now c.work_round.new.workers c.do_betweens.new.workers c.requires.suits c.requires.after
+          size c.in_ok-all_ended.ensures c.work_round.ensures.worked keeps (subst M c.betweens_of.ensures moved);
+      plays = plays_round g.N.NameCalls c.args.cache.now c.args.trace.now c.args.zones.now c.args.clock.now c.args.round c.args.workers.now c.work_round.new.workers c.do_betweens.new.workers
+          size c.in_ok-all_ended.ensures c.work_round.ensures.worked keeps;
+      round = round_done g.N.NameCalls c.args.cache.now c.args.trace.now c.args.zones.now c.args.clock.now c.args.round c.args.workers.now c.work_round.new.workers c.do_betweens.new.workers
+          size c.in_ok-all_ended.ensures c.work_round.ensures.worked (subst D c.betweens_of.ensures does);
+      asks = asks_round g.G.Gate c.args.gate.now c.args.trace.now.rounds c.args.round c.args.workers.now c.work_round.new.workers c.do_betweens.new.workers size c.in_ok-all_ended.ensures c.work_round.ensures.asks keeps;
+    }) c.do_betweens.ensures.rest c.do_betweens.ensures.moved c.do_betweens.ensures.does
 
 pub returns-clause-free : goal.returns-clause-free
 returns-clause-free g c free =
@@ -46,9 +38,3 @@ returns-clause-free g c free =
     both_ok c.do_betweens.result _ _ _ c.do_betweens.ensures.rest c.do_betweens.ensures.rest (λ keeps again.
     still_free c.args.workers.now c.work_round.new.workers c.do_betweens.new.workers more keeps
     (gave_up_same c.args.workers.now c.work_round.new.workers size (c.work_round.ensures.free free)))
-
-pub returns-clause-asks : goal.returns-clause-asks
-returns-clause-asks g c =
-    let size : length c.work_round.new.workers ≡ length c.args.workers.now = search rules in
-    both_ok c.do_betweens.result _ _ _ c.do_betweens.ensures.rest c.do_betweens.ensures.rest (λ keeps again.
-    asks_round g.G.Gate c.args.gate.now c.args.trace.now.rounds c.args.round c.args.workers.now c.work_round.new.workers c.do_betweens.new.workers size c.in_ok-all_ended.ensures c.work_round.ensures.asks keeps)

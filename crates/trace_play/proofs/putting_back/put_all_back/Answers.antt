@@ -5,18 +5,18 @@ use Rattle.trace_play.proofs.Loops.{remains-next, threaded-entry, threaded-next}
 use Rattle.trace_play.proofs.Seen.{few_at, marks_at, worker_within}
 use Rattle.trace_play.proofs.putting_back.put_all_back.Goals as goal
 
-pub put_back_by-requires-clause-same : goal.put_back_by-requires-clause-same
-put_back_by-requires-clause-same g c =
+pub put_back_by-requires : goal.put_back_by-requires
+put_back_by-requires g c =
     let i = c.loop-number.number in
     let marks : List (List (Option ℕ)) = c.args.marks.now in
     let w : Worker _ _ _ = c.index-workers-number.result in
-    ap length (c.as_slice.ensures ∙ c.index-marks-number.is) ∙ marks_at marks c.args.workers.now i _ w c.requires c.loop-number-test.true
-    ∙ ap (λ (w : Worker _ _ _). length w.slots) (sym (threaded-entry refilled_worker over marks (reverse c.args.lives.now.items) c.args.workers.now c.loop-number.workers i w c.loop-number-test.true c.loop-number.invariant.workers))
-
-pub put_back_by-requires-clause-few : goal.put_back_by-requires-clause-few
-put_back_by-requires-clause-few g c =
+    let read = c.as_slice.ensures ∙ c.index-marks-number.is in
     let P : ℕ → Type 0 = λ n. n ≤ 65536 in
-    subst P (sym (ap length (c.as_slice.ensures ∙ c.index-marks-number.is))) (few_at c.args.marks.now c.args.workers.now c.loop-number.number _ c.requires c.loop-number-test.true)
+    record {
+      same = ap length read ∙ marks_at marks c.args.workers.now i _ w c.requires c.loop-number-test.true
+          ∙ ap (λ (w : Worker _ _ _). length w.slots) (sym (threaded-entry refilled_worker over marks (reverse c.args.lives.now.items) c.args.workers.now c.loop-number.workers i w c.loop-number-test.true c.loop-number.invariant.workers));
+      few = subst P (sym (ap length read)) (few_at marks c.args.workers.now i _ c.requires c.loop-number-test.true);
+    }
 
 pub loop-number-preserved : goal.loop-number-preserved
 loop-number-preserved g c =

@@ -23,13 +23,15 @@ loop-place-preserved-then-is_some g c =
     }
 
 pub take_keg-requires-clause-place : goal.take_keg-requires-clause-place
-take_keg-requires-clause-place g c = let P : ℕ → Type 0 = λ n. c.loop-place.place < n in subst P (ap length c.as_slice-lines.ensures ∙ sym c.requires.zones.count) c.loop-place-test.true
+take_keg-requires-clause-place g c = let P : ℕ → Type 0 = λ n. c.loop-place.place < n in subst P (ap length c.as_slice-lines.ensures ∙ sym c.requires.can.zones.count) c.loop-place-test.true
 
-pub take_keg-requires-clause-fits : goal.take_keg-requires-clause-fits
-take_keg-requires-clause-fits g c = fits_kept c.args.zones.now c.args.clock.now c.args.workers.now c.loop-place.workers c.loop-place.invariant.keeps c.requires.fits
-
-pub take_keg-requires-clause-few : goal.take_keg-requires-clause-few
-take_keg-requires-clause-few g c = few_kept c.args.workers.now c.loop-place.workers c.loop-place.invariant.keeps c.requires.few
+pub take_keg-requires-clause-can : goal.take_keg-requires-clause-can
+take_keg-requires-clause-can g c = record {
+  head = c.requires.can.head;
+  zones = c.requires.can.zones;
+  fits = fits_kept c.args.zones.now c.args.clock.now c.args.workers.now c.loop-place.workers c.loop-place.invariant.keeps c.requires.can.fits;
+  few = few_kept c.args.workers.now c.loop-place.workers c.loop-place.invariant.keeps c.requires.can.few;
+}
 
 pub loop-place-preserved : goal.loop-place-preserved
 loop-place-preserved g c =

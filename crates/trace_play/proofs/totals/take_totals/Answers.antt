@@ -10,13 +10,13 @@ use Rattle.trace_play.proofs.totals.take_totals.Goals as goal
 pub all_sums-requires-clause-seats : goal.all_sums-requires-clause-seats
 all_sums-requires-clause-seats g c = has_seats c.args.zones.now c.args.clock.now c.args.workers.now c.requires.fits
 
-pub take_kegs-requires-clause-small : goal.take_kegs-requires-clause-small
-take_kegs-requires-clause-small g c =
+pub take_kegs-requires-clause-sums : goal.take_kegs-requires-clause-sums
+take_kegs-requires-clause-sums g c =
     let P : List Sums → Type 0 = λ l. (n : ℕ) (s : Sums) → slice_get l n ≡ Some s → AreOfAtMost (2 ^ 35) s in
-    subst P (sym c.as_slice.ensures.value) (all_small c.args.zones.now c.args.workers.now c.in_ok-sums.sums.items c.in_ok-sums.ensures)
-
-pub take_kegs-requires-clause-count : goal.take_kegs-requires-clause-count
-take_kegs-requires-clause-count g c = ap length c.as_slice.ensures.value ∙ c.in_ok-sums.ensures.count
+    record {
+      count = ap length c.as_slice.ensures.value ∙ c.in_ok-sums.ensures.count;
+      small = subst P (sym c.as_slice.ensures.value) (all_small c.args.zones.now c.args.workers.now c.in_ok-sums.sums.items c.in_ok-sums.ensures);
+    }
 
 pub returns-clause-closes : goal.returns-clause-closes
 returns-clause-closes g c =

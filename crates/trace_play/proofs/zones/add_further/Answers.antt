@@ -3,15 +3,15 @@ use Rattle.trace_play.proofs.zones.add_further.Goals as goal
 
 pub make_further-requires-clause-index : goal.make_further-requires-clause-index
 make_further-requires-clause-index g c =
-    parent_index c.args.head.now c.args.clock.now c.args.place c.args.parent c.args.line.now c.args.zones.now.items c.index_mut.result.now c.requires.fits c.requires.line c.requires.parent
-    c.requires.so_far c.index_mut.ensures.value
+    parent_index c.args.head.now c.args.clock.now c.args.place c.args.parent c.args.line.now c.args.zones.now.items c.index_mut.result.now c.requires.next.fits c.requires.next.line c.requires.parent
+    c.requires.next.so_far c.index_mut.ensures.value
 
 pub make_further-requires-clause-right : goal.make_further-requires-clause-right
 make_further-requires-clause-right g c =
-    parent_right c.args.head.now c.args.clock.now c.args.place c.args.parent c.args.line.now c.args.zones.now.items c.index_mut.result.now c.requires.fits c.requires.line c.requires.parent
-    c.requires.so_far c.index_mut.ensures.value
+    parent_right c.args.head.now c.args.clock.now c.args.place c.args.parent c.args.line.now c.args.zones.now.items c.index_mut.result.now c.requires.next.fits c.requires.next.line c.requires.parent
+    c.requires.next.so_far c.index_mut.ensures.value
 
 pub returns : goal.returns
 returns g c =
     further_more c.args.head.now c.args.clock.now c.args.place c.args.parent c.args.line.now c.args.zones.now.items c.push.new.self.items c.index_mut.result.now c.make_further.new.primary c.in_ok-zone.zone
-    c.requires.fits c.requires.line c.requires.parent c.requires.so_far c.index_mut.ensures.value c.in_ok-zone.ensures c.in_ok-push.ensures.items
+    c.requires.next.fits c.requires.next.line c.requires.parent c.requires.next.so_far c.index_mut.ensures.value c.in_ok-zone.ensures c.in_ok-push.ensures.items

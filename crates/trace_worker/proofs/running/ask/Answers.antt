@@ -1,4 +1,4 @@
-use Rattle.std.proofs.Common.{sym, ap, ◌∙◌, List, [], ◌∷◌, ◌++◌, refl}
+use Rattle.std.proofs.Common.{ap, ◌∙◌, [], ◌∷◌, ◌++◌, refl}
 use Rattle.trace_worker.specs.declared.gate.Call.TheVariants.{Asked}
 use Rattle.trace_worker.specs.declared.gate.Go.{Go}
 use Rattle.trace_worker.proofs.Asked.{held-none, held-more, never-both}

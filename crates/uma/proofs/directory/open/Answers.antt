@@ -33,4 +33,4 @@ new-requires-clause-fits c = fits c.in-Ok.opened _ c.args.plan c.set.ensures c.i
 pub returns-in-Ok-new-clause-ready : goal.returns-in-Ok-new-clause-ready
 returns-in-Ok-new-clause-ready c =
     let opened = c.in-Ok.opened in
-    ready_still opened.clock _ opened.passes _ c.in-Ok-new.ensures.clock c.in-Ok-new.ensures.passes (all_ready opened.clock told _ opened.passes c.in-Ok.ensures.passes)
+    ready_still opened.clock _ opened.passes _ c.in-Ok-new.ensures.made.same_clock c.in-Ok-new.ensures.made.same_passes (all_ready opened.clock told _ opened.passes c.in-Ok.ensures.passes)

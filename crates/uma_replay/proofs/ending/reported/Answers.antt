@@ -1,9 +1,9 @@
-use Rattle.std.proofs.Common.{◌≡◌, ◌<◌, ◌^◌, ◌≤◌, ℕ, List, length, sum, sym, ap, ◌∙◌, subst}
+use Rattle.std.proofs.Common.{◌≡◌, ◌<◌, ◌^◌, ℕ, List, length, refl, sum, sym, ap, ◌∙◌, subst}
 use Rattle.uma_keg.specs.declared.census.Census.{Census}
 use Rattle.uma_life.specs.declared.tally_sum.TallySum.{TallySum}
 use Rattle.trace_worker.specs.declared.naming.Naming.{Naming}
 use Rattle.trace_play.specs.Closes.{AllClose}
-use Rattle.uma_replay.specs.Names.{AreSeats, CountsFit, IsWhole}
+use Rattle.uma_replay.specs.Names.{CountsFit, IsWhole, SeatsFit}
 use Rattle.uma_replay.specs.Reporting.{IsReportOf}
 use Rattle.uma_replay.proofs.Beginning.{gave_ups_few}
 use Rattle.uma_replay.proofs.HallOf.{are_seats, entries_few, few_namings, fit_counts, have_kegs, seat_counts, whole_waits}
@@ -12,37 +12,37 @@ use Rattle.uma_replay.proofs.ending.reported.Goals as goal
 pub all_gave_up-gave_up-requires : goal.all_gave_up-gave_up-requires
 all_gave_up-gave_up-requires g c =
     let P : List ℕ → Type 0 = λ list. sum list < 2 ^ 64 in
-    subst P (sym c.as_slice.ensures) (gave_ups_few c.args.trace.now c.args.clock c.args.workers c.args.namings c.args.gave_ups c.requires.valid c.requires.few c.requires.done.worker_count c.requires.ended)
+    subst P (sym c.as_slice.ensures) (gave_ups_few c.args.trace.now c.args.clock c.args.workers c.args.namings c.args.gave_ups c.requires.can.valid c.requires.can.few c.requires.can.done.worker_count c.requires.can.ended)
 
-pub report_of-requires-clause-kegs : goal.report_of-requires-clause-kegs
-report_of-requires-clause-kegs g c = have_kegs c.args.trace.now.head c.requires.valid.head
+pub report_of-requires : goal.report_of-requires
+report_of-requires g c =
+    let few = entries_few c.args.trace.now c.args.zones c.args.clock c.args.workers c.requires.can.valid c.requires.can.few c.requires.can.done in
+    record {
+      kegs = have_kegs c.args.trace.now.head c.requires.can.valid.head;
+      each = record {
+        censuses = ap length c.as_slice-2.ensures.value ∙ c.requires.closes.censuses_count;
+        tallies = ap length c.as_slice-3.ensures.value ∙ c.requires.closes.tallies_count;
+      };
+      deferred = ap length c.as_slice-4.ensures.value ∙ c.requires.closes.deferred_count;
+      seats = seat_counts c.args.trace.now c.args.zones c.args.clock c.args.workers c.requires.can.done;
+      sections = record { entered = few.0; late = few.1 };
+    }
 
-pub report_of-requires-clause-seats : goal.report_of-requires-clause-seats
-report_of-requires-clause-seats g c = seat_counts c.args.trace.now c.args.zones c.args.clock c.args.workers c.requires.done
-
-pub report_of-requires-clause-entered : goal.report_of-requires-clause-entered
-report_of-requires-clause-entered g c = (entries_few c.args.trace.now c.args.zones c.args.clock c.args.workers c.requires.valid c.requires.few c.requires.done).0
-
-pub report_of-requires-clause-late : goal.report_of-requires-clause-late
-report_of-requires-clause-late g c = (entries_few c.args.trace.now c.args.zones c.args.clock c.args.workers c.requires.valid c.requires.few c.requires.done).1
-
-pub whole_report-requires-clause-few : goal.whole_report-requires-clause-few
-whole_report-requires-clause-few g c κs within =
-    let P : List (Naming _ _ _ _ _) → Type 0 = λ list. length list ≤ 16 in
-    subst P (sym c.as_slice-5.ensures) (few_namings g.N.NameCalls c.args.trace.now c.args.cache c.args.zones c.args.clock c.args.workers c.args.namings c.requires.valid c.requires.named)
-
-pub whole_report-requires-clause-seats : goal.whole_report-requires-clause-seats
-whole_report-requires-clause-seats g c κs within =
-    let P : List (Naming _ _ _ _ _) → Type 0 = λ list. AreSeats g.N.NameCalls c.args.cache list in
-    subst P (sym c.as_slice-5.ensures) (are_seats g.N.NameCalls c.args.trace.now c.args.cache c.args.zones c.args.clock c.args.workers c.args.namings c.requires.done c.requires.named)
+pub whole_report-requires-clause-fit : goal.whole_report-requires-clause-fit
+whole_report-requires-clause-fit g c κs within =
+    let P : List (Naming _ _ _ _ _) → Type 0 = λ list. SeatsFit g.N.NameCalls c.args.cache list in
+    subst P (sym c.as_slice-5.ensures) (record {
+      few = few_namings g.N.NameCalls c.args.trace.now c.args.cache c.args.zones c.args.clock c.args.workers c.args.namings c.requires.can.valid c.requires.can.named;
+      seats = are_seats g.N.NameCalls c.args.trace.now c.args.cache c.args.zones c.args.clock c.args.workers c.args.namings c.requires.can.done c.requires.can.named;
+    })
 
 pub whole_report-requires-clause-counts : goal.whole_report-requires-clause-counts
 whole_report-requires-clause-counts g c κs within =
     let P : List (Naming _ _ _ _ _) → Type 0 = λ list. CountsFit list in
-    subst P (sym c.as_slice-5.ensures) (fit_counts g.N.NameCalls c.args.trace.now c.args.cache c.args.zones c.args.clock c.args.workers c.args.namings c.requires.valid c.requires.few c.requires.done c.requires.named)
+    subst P (sym c.as_slice-5.ensures) (fit_counts g.N.NameCalls c.args.trace.now c.args.cache c.args.zones c.args.clock c.args.workers c.args.namings c.requires.can.valid c.requires.can.few c.requires.can.done c.requires.can.named)
 
-pub returns-clause-hall : goal.returns-clause-hall
-returns-clause-hall g c =
+pub returns : goal.returns
+returns g c =
     let names = g.N.NameCalls in
     let head = c.args.trace.now.head in
     let ended = c.args.ended in
@@ -58,22 +58,22 @@ returns-clause-hall g c =
     let F : List Census → Type 0 = λ censuses. IsReportOf c.args.trace.now c.args.workers censuses ended.totals.tallies.items ended.totals.deferred.items ended.read ended.write first.gave_up first in
     let G : List (Naming _ _ _ _ _) → Type 0 = λ namings. IsWhole names c.args.cache head.names namings first c.in_ok-report.report in
     record {
-      done = c.requires.done;
-      named = c.requires.named;
-      ended = c.requires.ended;
+      hall = record {
+        done = c.requires.can.done;
+        named = c.requires.can.named;
+        ended = c.requires.can.ended;
+        gave_up = shown;
+        tallies = ended.totals.tallies.items;
+        deferred = ended.totals.deferred.items;
+        closes = subst A (sym c.from_vec.ensures) c.requires.closes;
+        read = ended.read;
+        write = ended.write;
+        hands = c.requires.hands;
+        first = first;
+        made_of = subst F (c.as_slice-2.ensures.value ∙ sym c.from_vec.ensures) (subst E c.as_slice-3.ensures.value (subst D c.as_slice-4.ensures.value (subst B (sym made.waits) made)));
+        whole = subst G c.as_slice-5.ensures whole;
+      };
+      clock = refl;
       gave_up = shown;
-      tallies = ended.totals.tallies.items;
-      deferred = ended.totals.deferred.items;
-      closes = subst A (sym c.from_vec.ensures) c.requires.closes;
-      read = ended.read;
-      write = ended.write;
-      hands = c.requires.hands;
-      first = first;
-      made_of = subst F (c.as_slice-2.ensures.value ∙ sym c.from_vec.ensures) (subst E c.as_slice-3.ensures.value (subst D c.as_slice-4.ensures.value (subst B (sym made.waits) made)));
-      whole = subst G c.as_slice-5.ensures whole;
+      gave_ups = refl;
     }
-
-pub returns-clause-gave_up : goal.returns-clause-gave_up
-returns-clause-gave_up g c =
-    whole_waits g.N.NameCalls c.args.cache _ c.in_ok-first.first c.in_ok-report.report c.args.trace.now.head.names c.in_ok-report.ensures
-    ∙ (c.in_ok-first.ensures.waits ∙ (c.all_gave_up-gave_up.ensures ∙ ap sum c.as_slice.ensures))

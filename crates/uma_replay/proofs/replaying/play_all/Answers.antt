@@ -30,12 +30,12 @@ returns-clause-ended g c =
     let P : List (Running _ _ _ _ _ _) → Type 0 = λ list. AreEnded names cache t zones c.args.clock.now old.items list in
     subst P (sym same) (record {
       count = count;
-      stand = c.in_ok-play.ensures.stands;
-      adds_up = c.in_ok-play.ensures.adds_up;
-      named = c.in_ok-play.ensures.named;
-      plays = play_as names cache t.rounds zones zones old.items _ new refl c.as_mut_slice-workers.ensures.value c.in_ok-play.ensures.plays;
-      rounds = rounds_as names cache t.rounds zones old.items _ new c.as_mut_slice-workers.ensures.value c.in_ok-play.ensures.rounds;
-      asked = c.in_ok-play.ensures.asked;
+      stand = c.in_ok-play.ensures.played.stands;
+      adds_up = c.in_ok-play.ensures.played.adds_up;
+      named = c.in_ok-play.ensures.played.named;
+      plays = play_as names cache t.rounds zones zones old.items _ new refl c.as_mut_slice-workers.ensures.value c.in_ok-play.ensures.played.plays;
+      rounds = rounds_as names cache t.rounds zones old.items _ new c.as_mut_slice-workers.ensures.value c.in_ok-play.ensures.played.rounds;
+      asked = c.in_ok-play.ensures.played.asked;
     })
 
 pub returns-clause-free : goal.returns-clause-free
@@ -53,4 +53,4 @@ returns-clause-asks g c =
     let same = written_back new old.items old.len old.ok.0 (c.play.ensures.count ∙ ap length c.as_mut_slice-workers.ensures.value) in
     let P : List (Running _ _ _ _ _ _) → Type 0 = λ list. AllAsk g.G.Gate c.args.gate.now c.args.trace.now.rounds old.items list in
     let Q : List (Running _ _ _ _ _ _) → Type 0 = λ list. AllAsk g.G.Gate c.args.gate.now c.args.trace.now.rounds list new in
-    subst P (sym same) (subst Q c.as_mut_slice-workers.ensures.value c.in_ok-play.ensures.asks)
+    subst P (sym same) (subst Q c.as_mut_slice-workers.ensures.value c.in_ok-play.ensures.played.asks)

@@ -6,9 +6,8 @@ use Rattle.trace_play.specs.Rounds.{IsBegun, Suits}
 use Rattle.trace_play.proofs.AfterRound.{in_crew}
 use Rattle.trace_worker.specs.Together.{crew}
 use Rattle.uma_replay.specs.Asked.{AreGivenUp}
-use Rattle.uma_replay.specs.Hall.{HallStands}
+use Rattle.uma_replay.specs.Ending.{IsEndOf, IsReplayOf}
 use Rattle.uma_replay.specs.Playing.{AreEnded, gave_ups_of}
-use Rattle.uma_replay.specs.Report.{StandsFor}
 use Rattle.uma_replay.proofs.Asked.{given_up}
 use Rattle.uma_replay.proofs.Beginning.{begun_of, done_of, few_workers, named_of, none_gave_up, served_domains, suits_of}
 use Rattle.uma_replay.proofs.ComingBack.{back_stay}
@@ -40,39 +39,36 @@ play_all-requires-clause-begun g c κs within =
 pub dismiss-requires-clause-here : goal.dismiss-requires-clause-here
 dismiss-requires-clause-here g c κs within = λ n r at. (c.in_ok-runnings.ensures.ended.stand.fits n (worker_in r) (in_crew n c.in_ok-runnings.runnings.items r at)).pass
 
-pub close-requires-clause-done : goal.close-requires-clause-done
-close-requires-clause-done g c κs within =
+pub close-requires-clause-can : goal.close-requires-clause-can
+close-requires-clause-can g c κs within =
     let t = c.args.trace.now in
     let s = c.args.setting in
     let first = c.in_ok-first.first.items in
     let all = c.in_ok-runnings.runnings.items in
     let P : List (CountedZone _ _ _) → Type 0 = λ zones. AreEnded g.N.NameCalls c.args.cache t zones s.clock first all in
     let ended = subst P c.as_slice-zone_list.ensures.value c.in_ok-runnings.ensures.ended in
-    done_stay t s.zones.items s.clock (crew all) c.in_ok-workers.workers.items (back_stay s.clock (crew all) c.in_ok-workers.workers.items c.in_ok-workers.ensures.workers)
-    (done_of g.N.NameCalls c.args.cache t s first all c.requires.set_up c.in_ok-first.ensures ended.count ended.stand ended.adds_up)
+    record {
+      valid = c.requires.valid;
+      few = c.requires.few;
+      done = done_stay t s.zones.items s.clock (crew all) c.in_ok-workers.workers.items (back_stay s.clock (crew all) c.in_ok-workers.workers.items c.in_ok-workers.ensures.workers)
+          (done_of g.N.NameCalls c.args.cache t s first all c.requires.set_up c.in_ok-first.ensures ended.count ended.stand ended.adds_up);
+      named = named_of g.N.NameCalls c.args.cache t s first all c.in_ok-workers.workers.items c.in_ok-workers.namings.items c.requires.set_up c.in_ok-first.ensures ended.count
+          c.requires.serves c.requires.of_clock c.requires.sizes ended.stand ended.named ended.plays ended.rounds c.in_ok-workers.ensures.workers c.in_ok-workers.ensures.namings;
+      ended = ended_of t s.clock all c.in_ok-workers.workers.items c.in_ok-workers.namings.items c.in_ok-workers.gave_ups.items
+          ended.asked c.in_ok-workers.ensures.workers c.in_ok-workers.ensures.namings c.in_ok-workers.ensures.gave_ups;
+    }
 
-pub close-requires-clause-named : goal.close-requires-clause-named
-close-requires-clause-named g c κs within =
+pub returns-clause-replays : goal.returns-clause-replays
+returns-clause-replays g c =
     let t = c.args.trace.now in
-    let s = c.args.setting in
     let first = c.in_ok-first.first.items in
     let all = c.in_ok-runnings.runnings.items in
-    let P : List (CountedZone _ _ _) → Type 0 = λ zones. AreEnded g.N.NameCalls c.args.cache t zones s.clock first all in
-    let ended = subst P c.as_slice-zone_list.ensures.value c.in_ok-runnings.ensures.ended in
-    named_of g.N.NameCalls c.args.cache t s first all c.in_ok-workers.workers.items c.in_ok-workers.namings.items c.requires.set_up c.in_ok-first.ensures ended.count
-    c.requires.serves c.requires.of_clock c.requires.sizes ended.stand ended.named ended.plays ended.rounds c.in_ok-workers.ensures.workers c.in_ok-workers.ensures.namings
-
-pub close-requires-clause-ended : goal.close-requires-clause-ended
-close-requires-clause-ended g c κs within =
-    let ended = c.in_ok-runnings.ensures.ended in
-    ended_of c.args.trace.now c.args.setting.clock c.in_ok-runnings.runnings.items c.in_ok-workers.workers.items c.in_ok-workers.namings.items c.in_ok-workers.gave_ups.items
-    ended.asked c.in_ok-workers.ensures.workers c.in_ok-workers.ensures.namings c.in_ok-workers.ensures.gave_ups
-
-pub returns-clause-stands : goal.returns-clause-stands
-returns-clause-stands g c =
-    let t = c.args.trace.now in
-    IfOk-weaker c.close.result (λ played. HallStands g.N.NameCalls t played.report played.hall) (λ played. StandsFor t played.report)
-    (λ played stands. stands_of_hall g.N.NameCalls t played.report played.hall c.requires.valid stands) c.close.ensures.hall
+    let counts = c.in_ok-workers.gave_ups.items in
+    let given = given_up g.G.Gate c.args.gate.now t.rounds first all counts c.in_ok-runnings.ensures.ended.count (λ n r at. ((c.in_ok-first.ensures.each n r at).asked, (c.in_ok-first.ensures.each n r at).gave_up)) c.in_ok-runnings.ensures.asks
+    c.in_ok-workers.ensures.gave_ups in
+    let P : List ℕ → Type 0 = λ list. AreGivenUp g.G.Gate c.args.gate.now t.rounds list in
+    IfOk-weaker c.close.result (λ played. IsEndOf g.N.NameCalls t c.args.setting.clock counts played) (λ played. IsReplayOf g.N.NameCalls g.G.Gate c.args.gate.now t c.args.setting.clock played)
+    (λ played end. record { stands = stands_of_hall g.N.NameCalls t played.report played.hall c.requires.valid end.hall; hall = end.hall; clock = end.clock; asks = subst P (sym end.gave_ups) given }) c.close.ensures
 
 pub returns-clause-free : goal.returns-clause-free
 returns-clause-free g c = λ free.
@@ -81,15 +77,4 @@ returns-clause-free g c = λ free.
     let counts = c.in_ok-workers.gave_ups.items in
     let none : sum (gave_ups_of all) ≡ 0 = none_gave_up first all (λ n r at. (c.in_ok-first.ensures.each n r at).gave_up) (c.in_ok-runnings.ensures.free free) in
     let shown : sum counts ≡ 0 = ap sum c.in_ok-workers.ensures.gave_ups ∙ none in
-    IfOk-weaker c.close.result (λ played. played.report.gave_up ≡ sum counts) (λ played. played.report.gave_up ≡ 0) (λ played is. is ∙ shown) c.close.ensures.gave_up
-
-pub returns-clause-asks : goal.returns-clause-asks
-returns-clause-asks g c =
-    let first = c.in_ok-first.first.items in
-    let all = c.in_ok-runnings.runnings.items in
-    let counts = c.in_ok-workers.gave_ups.items in
-    let rounds = c.args.trace.now.rounds in
-    let given = given_up g.G.Gate c.args.gate.now rounds first all counts c.in_ok-runnings.ensures.ended.count (λ n r at. ((c.in_ok-first.ensures.each n r at).asked, (c.in_ok-first.ensures.each n r at).gave_up)) c.in_ok-runnings.ensures.asks
-    c.in_ok-workers.ensures.gave_ups in
-    let P : List ℕ → Type 0 = λ list. AreGivenUp g.G.Gate c.args.gate.now rounds list in
-    IfOk-weaker c.close.result (λ played. played.hall.gave_ups ≡ counts) (λ played. AreGivenUp g.G.Gate c.args.gate.now rounds played.hall.gave_ups) (λ played is. subst P (sym is) given) c.close.ensures.gave_ups
+    IfOk-weaker c.close.result (λ played. IsEndOf g.N.NameCalls c.args.trace.now c.args.setting.clock counts played) (λ played. played.report.gave_up ≡ 0) (λ played end. end.gave_up ∙ shown) c.close.ensures

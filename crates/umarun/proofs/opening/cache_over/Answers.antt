@@ -14,7 +14,7 @@ new-requires-clause-fits c = record {
 
 pub returns-in-Ok-clause-sizes : goal.returns-in-Ok-clause-sizes
 returns-in-Ok-clause-sizes c =
-    let made = c.in-Ok.ensures in
+    let made = c.in-Ok.ensures.made in
     let rows = ap (λ (id : TableId × Setup). id.1.plan.0) made.of_clock ∙ ap (λ (s : Setup). s.plan.0) c.requires.clock in
     sizes_are c.in-Ok.cache c.args.head.now c.args.line.now rows made.cap made.bucket made.domains
 

@@ -49,18 +49,23 @@ returns-in_err-receipt-clause-refused g c =
     let p = err_from_is_err_and c.from_residual.result c.from_residual.ensures.1 in
     rw (p.1, p.2)
     (refuses_none (cache_zone cache) (row_count cache) c.args.key c.args.value v v1 v2 v2 c.args.seat.now one left left made (still_host v v1 room.pass.host) c.in_err-receipt.field-0.0
-    room.kept.same c.rebind.ensures.freed c.rebind.ensures.shelf c.in_err-receipt.ensures.refused)
+    room.kept.same c.rebind.ensures.seat.freed c.rebind.ensures.seat.shelf c.in_err-receipt.ensures.refused)
 
-pub free_evicted-requires-clause-room : goal.free_evicted-requires-clause-room
-free_evicted-requires-clause-room g c =
-    let two = c.rebind.new.seat in
-    room_left (ledger_of c.args.seat.now) (ledger_of two) c.requires.room (subst (λ (l : SeatLedger). CountsAlloc l (ledger_of two)) (ap ledger_in c.make_room.ensures.kept.counts) c.in_ok-receipt.ensures.counted)
+pub free_evicted-requires-clause-places : goal.free_evicted-requires-clause-places
+free_evicted-requires-clause-places g c =
+    let left = c.rebind.new.seat in
+    let two : length (spares_of c.make_room.new.seat) ≡ 2 = search rules in
+    let more = c.rebind.ensures.seat.spare in
+    record {
+      spare = omega (arith, two, more);
+      room = room_left (ledger_of c.args.seat.now) (ledger_of left) c.requires.room (subst (λ (l : SeatLedger). CountsAlloc l (ledger_of left)) (ap ledger_in c.make_room.ensures.kept.counts) c.in_ok-receipt.ensures.rebound.counted);
+    }
 
 pub free_evicted-requires-clause-item : goal.free_evicted-requires-clause-item
 free_evicted-requires-clause-item g c =
     let clock = cache_clock c.args.self.now in
     let home = cache_home c.args.self.now in
-    done_item clock home c.in-Done.receipt c.in-Done.evicted (subst (λ (r : Rebound). HasItemOf clock home r) c.in-Done.is c.in_ok-receipt.ensures.items)
+    done_item clock home c.in-Done.receipt c.in-Done.evicted (subst (λ (r : Rebound). HasItemOf clock home r) c.in-Done.is c.in_ok-receipt.ensures.rebound.items)
 
 binds_so : (g : _) (c : goal.After-free_evicted g) → Binds (cache_zone c.args.self.now) (row_count c.args.self.now) c.args.key c.args.value (view c.args.pass.now) c.args.seat.now c.in-Done.receipt (view c.free_evicted.new.pass) c.free_evicted.new.seat
 binds_so g c =
@@ -71,13 +76,14 @@ binds_so g c =
     let shelf : shelf_of one ≡ [] = search rules in
     let spares : length (spares_of one) ≡ 2 = search rules in
     let made : MakesRoom c.args.seat.now one = record { shelf = shelf; spares = spares; same = room.kept.same; top = room.kept.top; plain = room.kept.plain; freed = room.kept.freed; counts = room.kept.counts; misses = room.kept.misses } in
-    let done = c.in_ok-receipt.ensures in
+    let done = c.in_ok-receipt.ensures.rebound in
+    let kept = c.rebind.ensures.seat in
     let v = view c.args.pass.now in
     let v1 = view c.make_room.new.pass in
     let v2 = view c.rebind.new.pass in
-    let h = subst (λ (r : Rebound). HasRebound (cache_zone cache) (row_count cache) c.args.key c.args.value v1 one r v2 two) c.in-Done.is done.rebound in
+    let h = subst (λ (r : Rebound). HasRebound (cache_zone cache) (row_count cache) c.args.key c.args.value v1 one r v2 two) c.in-Done.is done.in_row in
     binds (cache_zone cache) (row_count cache) c.args.key c.args.value v v1 v2 (view c.free_evicted.new.pass) c.args.seat.now one two c.free_evicted.new.seat made (still_host v v1 room.pass.host)
-    c.in-Done.receipt c.in-Done.evicted h done.counted done.freed done.shelf c.free_evicted.ensures.frees c.free_evicted.ensures.host
+    c.in-Done.receipt c.in-Done.evicted h done.counted kept.freed kept.shelf c.free_evicted.ensures.frees c.free_evicted.ensures.pass.host
 
 pub returns-in-Done-clause-bound : goal.returns-in-Done-clause-bound
 returns-in-Done-clause-bound g c = binds_so g c
@@ -87,13 +93,18 @@ returns-in-Done-clause-above g c =
     let b = binds_so g c in
     above_next (view c.args.pass.now) (view c.free_evicted.new.pass) c.in-Done.receipt b.before b.met b.next
 
-pub free-requires-clause-room : goal.free-requires-clause-room
-free-requires-clause-room g c =
-    let two = c.rebind.new.seat in
-    room_left (ledger_of c.args.seat.now) (ledger_of two) c.requires.room (subst (λ (l : SeatLedger). CountsAlloc l (ledger_of two)) (ap ledger_in c.make_room.ensures.kept.counts) c.in_ok-receipt.ensures.counted)
+pub free-requires-clause-places : goal.free-requires-clause-places
+free-requires-clause-places g c =
+    let left = c.rebind.new.seat in
+    let two : length (spares_of c.make_room.new.seat) ≡ 2 = search rules in
+    let more = c.rebind.ensures.seat.spare in
+    record {
+      spare = omega (arith, two, more);
+      room = room_left (ledger_of c.args.seat.now) (ledger_of left) c.requires.room (subst (λ (l : SeatLedger). CountsAlloc l (ledger_of left)) (ap ledger_in c.make_room.ensures.kept.counts) c.in_ok-receipt.ensures.rebound.counted);
+    }
 
 pub returns-in-Done-clause-since : goal.returns-in-Done-clause-since
-returns-in-Done-clause-since g c = subst (λ (r : Rebound). IsBoundAbove (first_version c.args.self.now (c.args.key % row_count c.args.self.now)) r) c.in-Done.is c.in_ok-receipt.ensures.since
+returns-in-Done-clause-since g c = subst (λ (r : Rebound). IsBoundAbove (first_version c.args.self.now (c.args.key % row_count c.args.self.now)) r) c.in-Done.is c.in_ok-receipt.ensures.rebound.since
 
 pub returns-in-Refused-clause-refused : goal.returns-in-Refused-clause-refused
 returns-in-Refused-clause-refused g c =
@@ -104,31 +115,20 @@ returns-in-Refused-clause-refused g c =
     let shelf : shelf_of one ≡ [] = search rules in
     let spares : length (spares_of one) ≡ 2 = search rules in
     let made : MakesRoom c.args.seat.now one = record { shelf = shelf; spares = spares; same = room.kept.same; top = room.kept.top; plain = room.kept.plain; freed = room.kept.freed; counts = room.kept.counts; misses = room.kept.misses } in
-    let done = c.in_ok-receipt.ensures in
+    let done = c.in_ok-receipt.ensures.rebound in
+    let kept = c.rebind.ensures.seat in
     let v = view c.args.pass.now in
     let v1 = view c.make_room.new.pass in
     let v2 = view c.rebind.new.pass in
-    let h = subst (λ (r : Rebound). HasRebound (cache_zone cache) (row_count cache) c.args.key c.args.value v1 one r v2 two) c.in-Refused.is done.rebound in
+    let h = subst (λ (r : Rebound). HasRebound (cache_zone cache) (row_count cache) c.args.key c.args.value v1 one r v2 two) c.in-Refused.is done.in_row in
     refuses (cache_zone cache) (row_count cache) c.args.key c.args.value v v1 v2 (view c.free.new.pass) c.args.seat.now one two c.free.new.seat made (still_host v v1 room.pass.host)
-    c.in-Refused.entry c.free.ensures.frees done.counted done.freed done.shelf c.free.ensures.host c.in-Refused.refused h
-
-pub free_evicted-requires-clause-spare : goal.free_evicted-requires-clause-spare
-free_evicted-requires-clause-spare g c =
-    let two : length (spares_of c.make_room.new.seat) ≡ 2 = search rules in
-    let more = c.rebind.ensures.spare in
-    omega (arith, two, more)
-
-pub free-requires-clause-spare : goal.free-requires-clause-spare
-free-requires-clause-spare g c =
-    let two : length (spares_of c.make_room.new.seat) ≡ 2 = search rules in
-    let more = c.rebind.ensures.spare in
-    omega (arith, two, more)
+    c.in-Refused.entry c.free.ensures.frees done.counted kept.freed kept.shelf c.free.ensures.pass.host c.in-Refused.refused h
 
 pub free-requires-clause-item : goal.free-requires-clause-item
 free-requires-clause-item g c =
     let clock = cache_clock c.args.self.now in
     let home = cache_home c.args.self.now in
-    subst (λ (r : Rebound). HasItemOf clock home r) c.in-Refused.is c.in_ok-receipt.ensures.items
+    subst (λ (r : Rebound). HasItemOf clock home r) c.in-Refused.is c.in_ok-receipt.ensures.rebound.items
 
 -- ---- what the pass still knows
 
@@ -139,7 +139,7 @@ pub returns-in_err-receipt-clause-still : goal.returns-in_err-receipt-clause-sti
 returns-in_err-receipt-clause-still g c =
     let v = view c.args.pass.now in
     let v1 = view c.make_room.new.pass in
-    still_then v v1 (view c.rebind.new.pass) (still_host v v1 c.make_room.ensures.pass.host) c.rebind.ensures.still
+    still_then v v1 (view c.rebind.new.pass) (still_host v v1 c.make_room.ensures.pass.host) c.rebind.ensures.pass.still
 
 pub returns-in-Done-clause-still : goal.returns-in-Done-clause-still
 returns-in-Done-clause-still g c =
@@ -147,7 +147,7 @@ returns-in-Done-clause-still g c =
     let v1 = view c.make_room.new.pass in
     let v2 = view c.rebind.new.pass in
     let v3 = view c.free_evicted.new.pass in
-    still_then v v2 v3 (still_then v v1 v2 (still_host v v1 c.make_room.ensures.pass.host) c.rebind.ensures.still) (still_host v2 v3 c.free_evicted.ensures.host)
+    still_then v v2 v3 (still_then v v1 v2 (still_host v v1 c.make_room.ensures.pass.host) c.rebind.ensures.pass.still) (still_host v2 v3 c.free_evicted.ensures.pass.host)
 
 pub returns-in-Refused-clause-still : goal.returns-in-Refused-clause-still
 returns-in-Refused-clause-still g c =
@@ -155,15 +155,12 @@ returns-in-Refused-clause-still g c =
     let v1 = view c.make_room.new.pass in
     let v2 = view c.rebind.new.pass in
     let v3 = view c.free.new.pass in
-    still_then v v2 v3 (still_then v v1 v2 (still_host v v1 c.make_room.ensures.pass.host) c.rebind.ensures.still) (still_host v2 v3 c.free.ensures.host)
+    still_then v v2 v3 (still_then v v1 v2 (still_host v v1 c.make_room.ensures.pass.host) c.rebind.ensures.pass.still) (still_host v2 v3 c.free.ensures.pass.host)
 
 -- ---- where memory was wanting
 
 pub returns-then-is_err-clause-flushed : goal.returns-then-is_err-clause-flushed
-returns-then-is_err-clause-flushed g c _ = record { left = view c.make_room.new.pass; flushes = c.make_room.ensures.flushes }
-
-pub returns-then-is_err-clause-unheard : goal.returns-then-is_err-clause-unheard
-returns-then-is_err-clause-unheard g c _ = c.make_room.ensures.pass.host
+returns-then-is_err-clause-flushed g c _ = record { flushed = record { left = view c.make_room.new.pass; flushes = c.make_room.ensures.flushes }; unheard = c.make_room.ensures.pass.host }
 
 pub returns-in_err-receipt-clause-flushed : goal.returns-in_err-receipt-clause-flushed
 returns-in_err-receipt-clause-flushed g c memory =
@@ -171,27 +168,20 @@ returns-in_err-receipt-clause-flushed g c memory =
     let two = c.rebind.new.seat in
     let shelf : shelf_of one ≡ [] = search rules in
     let p = err_from_is_err_and c.from_residual.result c.from_residual.ensures.1 in
-    let none = flushed_still (shelf_of one) (shelf_of two) shelf c.rebind.ensures.shelf in
-    still_flushed (lists_of (cache_zone c.args.self.now)) told (shelf_of c.args.seat.now) (shelf_of one) (shelf_of two) (sent_of c.args.seat.now) (sent_of one) (sent_of two) (view c.args.pass.now) (none ∙ sym shelf)
-    (c.in_err-receipt.ensures.unsent (same_err c.from_residual.result p.0 _ _ p.1 p.2 memory) shelf) (record { left = view c.make_room.new.pass; flushes = c.make_room.ensures.flushes })
-
-pub returns-in_err-receipt-clause-unheard : goal.returns-in_err-receipt-clause-unheard
-returns-in_err-receipt-clause-unheard g c memory =
-    let p = err_from_is_err_and c.from_residual.result c.from_residual.ensures.1 in
-    c.in_err-receipt.ensures.unheard (same_err c.from_residual.result p.0 _ _ p.1 p.2 memory) ∙ c.make_room.ensures.pass.host
+    let none = flushed_still (shelf_of one) (shelf_of two) shelf c.rebind.ensures.seat.shelf in
+    let wants = c.in_err-receipt.ensures.memory (same_err c.from_residual.result p.0 _ _ p.1 p.2 memory) in
+    record {
+      flushed = still_flushed (lists_of (cache_zone c.args.self.now)) told (shelf_of c.args.seat.now) (shelf_of one) (shelf_of two) (sent_of c.args.seat.now) (sent_of one) (sent_of two) (view c.args.pass.now) (none ∙ sym shelf)
+          (wants.unsent shelf) (record { left = view c.make_room.new.pass; flushes = c.make_room.ensures.flushes });
+      unheard = wants.unheard ∙ c.make_room.ensures.pass.host;
+    }
 
 pub returns-in-Done-clause-flushed : goal.returns-in-Done-clause-flushed
 returns-in-Done-clause-flushed g c memory = absurd (not_err _ _ memory)
 
-pub returns-in-Done-clause-unheard : goal.returns-in-Done-clause-unheard
-returns-in-Done-clause-unheard g c memory = absurd (not_err _ _ memory)
-
 refused_so : (g : _) (c : goal.After-free g) → HasRebound (cache_zone c.args.self.now) (row_count c.args.self.now) c.args.key c.args.value (view c.make_room.new.pass) c.make_room.new.seat (Refused c.in-Refused.entry c.in-Refused.refused) (view c.rebind.new.pass) c.rebind.new.seat
 refused_so g c =
-    subst (λ (r : Rebound). HasRebound (cache_zone c.args.self.now) (row_count c.args.self.now) c.args.key c.args.value (view c.make_room.new.pass) c.make_room.new.seat r (view c.rebind.new.pass) c.rebind.new.seat) c.in-Refused.is c.in_ok-receipt.ensures.rebound
+    subst (λ (r : Rebound). HasRebound (cache_zone c.args.self.now) (row_count c.args.self.now) c.args.key c.args.value (view c.make_room.new.pass) c.make_room.new.seat r (view c.rebind.new.pass) c.rebind.new.seat) c.in-Refused.is c.in_ok-receipt.ensures.rebound.in_row
 
 pub returns-in-Refused-clause-flushed : goal.returns-in-Refused-clause-flushed
 returns-in-Refused-clause-flushed g c memory = absurd (row_not_memory _ _ _ _ _ _ _ _ _ _ (refused_so g c) memory)
-
-pub returns-in-Refused-clause-unheard : goal.returns-in-Refused-clause-unheard
-returns-in-Refused-clause-unheard g c memory = absurd (row_not_memory _ _ _ _ _ _ _ _ _ _ (refused_so g c) memory)

@@ -16,7 +16,7 @@ returns-clause-frees c =
       entry = c.into_live.ensures.entry;
       ticket = c.into_live.ensures.ticket;
       frees = record {
-        within = within_freed seat (cache_home cache) live c.requires.seat.of_domains.same_home (c.requires.seat.of_domains.same_smr ∙ cache.smr)
+        within = within_freed seat (cache_home cache) live c.requires.worker.of_zone.of_domains.same_home (c.requires.worker.of_zone.of_domains.same_smr ∙ cache.smr)
             (subst (λ (t : Ticket). IsHome (cache_home cache) t) (sym c.into_live.ensures.ticket) c.requires.item.1);
         put = freed.put;
         rack = freed.rack;

@@ -10,26 +10,34 @@ use Rattle.name_cache.proofs.Wanting.{memory_of, not_err, nothing_sent, none_usa
 use Rattle.name_cache.proofs.Telling.{still_taken}
 use Rattle.name_cache.proofs.cache.NameCache.take_entry.Goals as goal
 
-pub returns-in_err-live-clause-still : goal.returns-in_err-live-clause-still
-returns-in_err-live-clause-still g c = still_taken (view c.args.pass.now) (view c.alloc.new.pass) c.alloc.ensures.host
+pub returns-in_err-live-clause-pass : goal.returns-in_err-live-clause-pass
+returns-in_err-live-clause-pass g c = record {
+  goes_on = record { own = c.alloc.ensures.pass; phase = c.alloc.ensures.phase; seen = c.alloc.ensures.seen };
+  still = still_taken (view c.args.pass.now) (view c.alloc.new.pass) c.alloc.ensures.host;
+}
 
-pub returns-clause-still : goal.returns-clause-still
-returns-clause-still g c = still_taken (view c.args.pass.now) (view c.alloc.new.pass) c.alloc.ensures.host
+pub returns-clause-pass : goal.returns-clause-pass
+returns-clause-pass g c = record {
+  goes_on = record { own = c.alloc.ensures.pass; phase = c.alloc.ensures.phase; seen = c.alloc.ensures.seen };
+  still = still_taken (view c.args.pass.now) (view c.alloc.new.pass) c.alloc.ensures.host;
+}
 
-pub returns-in_err-live-clause-unsent : goal.returns-in_err-live-clause-unsent
-returns-in_err-live-clause-unsent g c memory none =
+pub returns-clause-handed : goal.returns-clause-handed
+returns-clause-handed g c = record {
+  out = record { handed = c.in_ok-live.live; served = c.in_ok-live.ensures.served; words = c.parts_of.ensures.words; ticket = c.parts_of.ensures.ticket };
+  item = c.parts_of.ensures.item;
+  counted = c.in_ok-live.ensures.served.counted;
+}
+
+pub returns-in_err-live-clause-memory : goal.returns-in_err-live-clause-memory
+returns-in_err-live-clause-memory g c memory =
     let p = err_from_is_err_and c.from_residual.result c.from_residual.ensures.1 in
     let why = memory_of c.from_residual.result p.0 c.in_err-live.field-0.0 p.1 p.2 memory in
     let wants = none_usable (cache_zone c.args.self.now) c.args.seat.now c.alloc.new.seat c.in_err-live.field-0.0 why c.in_err-live.ensures.refused in
-    nothing_sent (lists_of (cache_zone c.args.self.now)) told (shelf_of c.args.seat.now) (shelf_of c.alloc.new.seat) (sent_of c.args.seat.now) (sent_of c.alloc.new.seat) (view c.args.pass.now) none (c.alloc.ensures.flushed wants.empty)
+    record {
+      unsent = λ none. nothing_sent (lists_of (cache_zone c.args.self.now)) told (shelf_of c.args.seat.now) (shelf_of c.alloc.new.seat) (sent_of c.args.seat.now) (sent_of c.alloc.new.seat) (view c.args.pass.now) none (c.alloc.ensures.flushed wants.empty);
+      unheard = c.in_err-live.ensures.unheard (ap Err why);
+    }
 
-pub returns-in_err-live-clause-unheard : goal.returns-in_err-live-clause-unheard
-returns-in_err-live-clause-unheard g c memory =
-    let p = err_from_is_err_and c.from_residual.result c.from_residual.ensures.1 in
-    c.in_err-live.ensures.unheard (ap Err (memory_of c.from_residual.result p.0 c.in_err-live.field-0.0 p.1 p.2 memory))
-
-pub returns-clause-unsent : goal.returns-clause-unsent
-returns-clause-unsent g c memory none = absurd (not_err _ _ memory)
-
-pub returns-clause-unheard : goal.returns-clause-unheard
-returns-clause-unheard g c memory = absurd (not_err _ _ memory)
+pub returns-clause-memory : goal.returns-clause-memory
+returns-clause-memory g c memory = absurd (not_err _ _ memory)

@@ -3,10 +3,7 @@ use Rattle.std.proofs.lemmas.Result.{err_from_is_err_and}
 use Rattle.smr_clock.specs.Belongs.{view}
 use Rattle.uma_seat.specs.Seat.{spares_of, shelf_of}
 use Rattle.uma_zone.specs.Flushed.{HasLastOf}
-use Rattle.uma_zone.specs.OwnDomain.{IsFlushed}
-use Rattle.uma_zone.specs.Ports.{sent_of}
-use Rattle.uma_zone.specs.Zone.{lists_of}
-use Rattle.name_rows.specs.Records.{told}
+use Rattle.name_cache.specs.Bind.{IsOnlyFlushed}
 use Rattle.name_cache.specs.Cache.{cache_zone, row_count}
 use Rattle.name_cache.specs.Room.{MakesRoom}
 use Rattle.name_cache.specs.Unbind.{Unbinds}
@@ -26,7 +23,7 @@ unbinds_so g c =
     let v = view c.args.pass.now in
     let v1 = view c.make_room.new.pass in
     unbinds (row_count c.args.self.now) c.args.key c.in-Some.value v v1 (view c.take_out.new.pass) (view c.free.new.pass) c.args.seat.now one c.free.new.seat made (still_host v v1 room.pass.host)
-    c.in-Some.receipt c.in-Some.entry c.in-Some.ensures.unbound c.free.ensures.frees c.free.ensures.host
+    c.in-Some.receipt c.in-Some.entry c.in-Some.ensures.unbound.in_row c.free.ensures.frees c.free.ensures.pass.host
 
 pub returns-in-Some-clause-unbound : goal.returns-in-Some-clause-unbound
 returns-in-Some-clause-unbound g c = unbinds_so g c
@@ -65,13 +62,13 @@ returns-in-Some-clause-still g c =
     let v1 = view c.make_room.new.pass in
     let v2 = view c.take_out.new.pass in
     let v3 = view c.free.new.pass in
-    still_then v v2 v3 (still_then v v1 v2 (still_host v v1 c.make_room.ensures.pass.host) c.take_out.ensures.still) (still_host v2 v3 c.free.ensures.host)
+    still_then v v2 v3 (still_then v v1 v2 (still_host v v1 c.make_room.ensures.pass.host) c.take_out.ensures.pass.still) (still_host v2 v3 c.free.ensures.pass.host)
 
 pub returns-in-None-clause-still : goal.returns-in-None-clause-still
 returns-in-None-clause-still g c =
     let v = view c.args.pass.now in
     let v1 = view c.make_room.new.pass in
-    still_then v v1 (view c.take_out.new.pass) (still_host v v1 c.make_room.ensures.pass.host) c.take_out.ensures.still
+    still_then v v1 (view c.take_out.new.pass) (still_host v v1 c.make_room.ensures.pass.host) c.take_out.ensures.pass.still
 
 -- ---- where memory was wanting
 
@@ -79,8 +76,7 @@ pub returns-in_err-make_room-clause-flushed : goal.returns-in_err-make_room-clau
 returns-in_err-make_room-clause-flushed g c =
     let old = c.args.seat.now in
     let new = c.make_room.new.seat in
-    let flushed : IsFlushed (lists_of (cache_zone c.args.self.now)) told (shelf_of old) (shelf_of new) (sent_of old) (sent_of new) (view c.args.pass.now) = record { left = view c.make_room.new.pass; flushes = c.make_room.ensures.flushes } in
+    let v = view c.args.pass.now in
+    let v1 = view c.make_room.new.pass in
+    let flushed : IsOnlyFlushed (cache_zone c.args.self.now) old new v v1 = record { flushed = record { left = v1; flushes = c.make_room.ensures.flushes }; unheard = c.make_room.ensures.pass.host } in
     at_err _ flushed
-
-pub returns-in_err-make_room-clause-unheard : goal.returns-in_err-make_room-clause-unheard
-returns-in_err-make_room-clause-unheard g c = at_err _ c.make_room.ensures.pass.host

@@ -7,6 +7,6 @@ pub rejoined-requires-clause-fits : goal.rejoined-requires-clause-fits
 rejoined-requires-clause-fits c =
     let was = c.args.self.now in
     let id = row_identity was in
-    fits_out c.args.clock.now id.clock id.home was.row.guest c.unlink-out.result c.take.result c.requires.clock
+    fits_out c.args.clock.now id.clock id.home was.row.guest c.unlink-out.result c.take.result c.requires.here.same_clock
     (λ guest item is kept. was.fits guest item is (sym c.take.ensures.value ∙ kept))
     c.unlink-out.ensures.other_here c.unlink-out.ensures.evicted

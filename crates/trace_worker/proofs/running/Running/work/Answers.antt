@@ -3,7 +3,7 @@ use Rattle.trace_worker.specs.declared.running.Running.{Running}
 use Rattle.trace_worker.specs.Asking.{heard_by}
 use Rattle.trace_worker.specs.OwnLines.{own_ops}
 use Rattle.trace_worker.proofs.Asked.{hears-all, hears-begun, hears-more, told_so}
-use Rattle.trace_worker.proofs.Midway.{Midway-new, Midway-can-waiting, Midway-there, Midway-waits, Midway-step, Midway-asks}
+use Rattle.trace_worker.proofs.Midway.{Midway-new, Midway-turn, Midway-waits, Midway-step, Midway-asks}
 use Rattle.trace_worker.proofs.Numbers.{few_as, some_as}
 use Rattle.trace_worker.proofs.running.Running.work.Goals as goal
 
@@ -15,51 +15,20 @@ loop-place-init g c = record {
   free = λ _. refl;
 }
 
-pub await_gate-requires-clause-asks : goal.await_gate-requires-clause-asks
-await_gate-requires-clause-asks g c κs within =
-    (Midway-asks g.N.NameCalls c.args.cache.now c.args.trace.now c.args.zones.now c.args.clock.now c.args.round c.args.number c.loop-place.place c.own_list-ops.result.now c.args.self.now c.loop-place.self
-    c.requires.ready c.own_list-ops.ensures c.loop-place-test.true c.loop-place.invariant.midway).0
+pub await_gate-requires-clause-room : goal.await_gate-requires-clause-room
+await_gate-requires-clause-room g c κs within =
+    Midway-asks g.N.NameCalls c.args.cache.now c.args.trace.now c.args.zones.now c.args.clock.now c.args.round c.args.number c.loop-place.place c.own_list-ops.result.now c.args.self.now c.loop-place.self
+    c.requires.ready c.own_list-ops.ensures c.loop-place-test.true c.loop-place.invariant.midway
 
-pub await_gate-requires-clause-gave_up : goal.await_gate-requires-clause-gave_up
-await_gate-requires-clause-gave_up g c κs within =
-    (Midway-asks g.N.NameCalls c.args.cache.now c.args.trace.now c.args.zones.now c.args.clock.now c.args.round c.args.number c.loop-place.place c.own_list-ops.result.now c.args.self.now c.loop-place.self
-    c.requires.ready c.own_list-ops.ensures c.loop-place-test.true c.loop-place.invariant.midway).1
+pub perform-requires-clause-turn : goal.perform-requires-clause-turn
+perform-requires-clause-turn g c κs within =
+    Midway-turn g.N.NameCalls c.args.cache.now c.args.trace.now c.args.zones.now c.args.clock.now c.args.round c.args.number c.loop-place.place c.own_list-ops.result.now _ c.args.self.now c.loop-place.self c.await_gate.new.self
+    c.requires.ready c.own_list-ops.ensures c.loop-place-test.true c.loop-place.invariant.midway c.await_gate.ensures.keeps.attendance
 
-pub perform-requires-clause-clock : goal.perform-requires-clause-clock
-perform-requires-clause-clock g c κs within = c.requires.ready.of_clock
-
-pub perform-requires-clause-of_clock : goal.perform-requires-clause-of_clock
-perform-requires-clause-of_clock g c κs within = c.requires.ready.names_of_clock
-
-pub perform-requires-clause-can : goal.perform-requires-clause-can
-perform-requires-clause-can g c κs within =
-    Midway-can-waiting g.N.NameCalls c.args.cache.now c.args.trace.now c.args.zones.now c.args.clock.now c.args.round c.args.number c.loop-place.place c.own_list-ops.result.now _ c.args.self.now c.loop-place.self c.await_gate.new.self
-    c.requires.ready c.own_list-ops.ensures c.loop-place-test.true c.loop-place.invariant.midway c.await_gate.ensures.attendance
-
-pub perform-requires-clause-there : goal.perform-requires-clause-there
-perform-requires-clause-there g c κs within =
-    Midway-there g.N.NameCalls c.args.cache.now c.args.trace.now c.args.zones.now c.args.clock.now c.args.round c.args.number c.loop-place.place c.own_list-ops.result.now _ c.args.self.now c.loop-place.self c.await_gate.new.self
-    c.requires.ready c.own_list-ops.ensures c.loop-place-test.true c.loop-place.invariant.midway c.await_gate.ensures.attendance
-
-pub perform-requires-clause-fits : goal.perform-requires-clause-fits
-perform-requires-clause-fits g c κs within =
-    (Midway-waits g.N.NameCalls c.args.cache.now c.args.trace.now c.args.zones.now c.args.clock.now c.args.round c.args.number c.loop-place.place c.own_list-ops.result.now c.args.self.now c.loop-place.self c.await_gate.new.self
-    c.requires.ready c.own_list-ops.ensures c.loop-place-test.true c.loop-place.invariant.midway c.await_gate.ensures.attendance c.await_gate.ensures.naming).fits
-
-pub perform-requires-clause-seat : goal.perform-requires-clause-seat
-perform-requires-clause-seat g c κs within =
-    (Midway-waits g.N.NameCalls c.args.cache.now c.args.trace.now c.args.zones.now c.args.clock.now c.args.round c.args.number c.loop-place.place c.own_list-ops.result.now c.args.self.now c.loop-place.self c.await_gate.new.self
-    c.requires.ready c.own_list-ops.ensures c.loop-place-test.true c.loop-place.invariant.midway c.await_gate.ensures.attendance c.await_gate.ensures.naming).seat
-
-pub perform-requires-clause-rooms : goal.perform-requires-clause-rooms
-perform-requires-clause-rooms g c κs within =
-    (Midway-waits g.N.NameCalls c.args.cache.now c.args.trace.now c.args.zones.now c.args.clock.now c.args.round c.args.number c.loop-place.place c.own_list-ops.result.now c.args.self.now c.loop-place.self c.await_gate.new.self
-    c.requires.ready c.own_list-ops.ensures c.loop-place-test.true c.loop-place.invariant.midway c.await_gate.ensures.attendance c.await_gate.ensures.naming).rooms
-
-pub perform-requires-clause-name_rooms : goal.perform-requires-clause-name_rooms
-perform-requires-clause-name_rooms g c κs within =
-    (Midway-waits g.N.NameCalls c.args.cache.now c.args.trace.now c.args.zones.now c.args.clock.now c.args.round c.args.number c.loop-place.place c.own_list-ops.result.now c.args.self.now c.loop-place.self c.await_gate.new.self
-    c.requires.ready c.own_list-ops.ensures c.loop-place-test.true c.loop-place.invariant.midway c.await_gate.ensures.attendance c.await_gate.ensures.naming).name_rooms
+pub perform-requires-clause-able : goal.perform-requires-clause-able
+perform-requires-clause-able g c κs within =
+    Midway-waits g.N.NameCalls c.args.cache.now c.args.trace.now c.args.zones.now c.args.clock.now c.args.round c.args.number c.loop-place.place c.own_list-ops.result.now c.args.self.now c.loop-place.self c.await_gate.new.self
+    c.requires.ready c.own_list-ops.ensures c.loop-place-test.true c.loop-place.invariant.midway c.await_gate.ensures.keeps
 
 pub loop-place-preserved : goal.loop-place-preserved
 loop-place-preserved g c =
@@ -67,8 +36,8 @@ loop-place-preserved g c =
     let next : Running _ _ _ _ _ _ = c.perform.new.self in
     record {
       midway = Midway-step g.N.NameCalls c.args.cache.now c.args.trace.now c.args.zones.now c.args.clock.now c.args.round c.args.number c.loop-place.place c.own_list-ops.result.now _ c.args.self.now c.loop-place.self waited next
-          c.requires.ready c.own_list-ops.ensures c.loop-place-test.true c.loop-place.invariant.midway c.await_gate.ensures.attendance c.await_gate.ensures.naming c.in_ok-perform.ensures.does c.in_ok-perform.ensures.fits c.in_ok-perform.ensures.seat
-          (some_as c.perform.ensures.gate.asked c.await_gate.ensures.asked_some) (few_as c.perform.ensures.gate.asked c.await_gate.ensures.asked_few) (few_as c.perform.ensures.gate.gave_up c.await_gate.ensures.gave_up);
+          c.requires.ready c.own_list-ops.ensures c.loop-place-test.true c.loop-place.invariant.midway c.await_gate.ensures.keeps.attendance c.await_gate.ensures.keeps.naming c.in_ok-perform.ensures.does c.in_ok-perform.ensures.stays.fits c.in_ok-perform.ensures.stays.seat
+          (some_as c.perform.ensures.gate.asked c.await_gate.ensures.counts.asked_some) (few_as c.perform.ensures.gate.asked c.await_gate.ensures.counts.asked_few) (few_as c.perform.ensures.gate.gave_up c.await_gate.ensures.counts.gave_up);
       of_gate = c.done.ensures.of_gate;
       hears = hears-more c.args.number c.loop-place.place (heard_by [] c.args.self.now) (heard_by (g.G.Gate.heard c.loop-place.visit) c.loop-place.self) (heard_by (g.G.Gate.heard c.await_gate.new.visit) waited) (heard_by (g.G.Gate.heard c.done.new.visit) next)
           c.loop-place.invariant.hears c.await_gate.ensures.waits

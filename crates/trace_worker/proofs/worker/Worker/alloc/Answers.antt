@@ -3,12 +3,12 @@ use Rattle.std.proofs.lemmas.Result.{on_ok_weaker}
 use Rattle.std.specs.Vec.{with_item}
 use Rattle.trace_worker.specs.declared.worker.Worker.{Worker}
 use Rattle.trace_worker.specs.Slots.{filled}
-use Rattle.trace_worker.proofs.AtPlace.{seat_at, fits_alloc, allocs_at}
+use Rattle.trace_worker.proofs.AtPlace.{can_call_at, fits_alloc, allocs_at}
 use Rattle.trace_worker.proofs.worker.Worker.alloc.Goals as goal
 
-pub request-requires-clause-seat : goal.request-requires-clause-seat
-request-requires-clause-seat g c =
-    seat_at c.args.zones.now c.args.self.now.seats.items c.args.zone c.index-zones-place.result c.index_mut-seat.result.now c.requires.fits.seats c.requires.zone c.index-zones-place.is c.index_mut-seat.ensures.value
+pub request-requires-clause-can : goal.request-requires-clause-can
+request-requires-clause-can g c =
+    can_call_at c.args.zones.now c.args.clock.now c.args.self.now c.args.zone c.index-zones-place.result c.index_mut-seat.result.now c.requires.can.clock c.requires.can.fits c.requires.zone c.index-zones-place.is c.index_mut-seat.ensures.value
 
 pub returns-clause-fits : goal.returns-clause-fits
 returns-clause-fits g c =
@@ -17,7 +17,7 @@ returns-clause-fits g c =
     on_ok_weaker c.fill.result
     (λ (slots : c.fill.new.slots ≡ filled old.slots c.args.slot c.held_of.result).
     fits_alloc c.args.zones.now c.args.clock.now old new c.args.zone c.args.slot c.index-zones-place.result c.index_mut-seat.result.now c.request.new.seat c.args.ask c.in_ok-got.got
-    c.requires.fits c.requires.zone c.index-zones-place.is c.index_mut-seat.ensures.value c.request.ensures.seat c.request.ensures.pass c.in_ok-got.ensures.requests.ends
+    c.requires.can.fits c.requires.zone c.index-zones-place.is c.index_mut-seat.ensures.value c.request.ensures.stays.seat c.request.ensures.stays.pass.own c.in_ok-got.ensures.requests.ends
     refl (slots ∙ ap (filled old.slots c.args.slot) c.held_of.ensures))
     c.fill.ensures
 
@@ -28,7 +28,7 @@ returns-clause-allocs g c =
     on_ok_weaker c.fill.result
     (λ (slots : c.fill.new.slots ≡ filled old.slots c.args.slot c.held_of.result).
     allocs_at c.args.zones.now c.args.clock.now old new c.args.zone c.args.slot c.index-zones-place.result c.index_mut-seat.result.now c.request.new.seat c.args.ask c.in_ok-got.got
-    c.requires.fits c.requires.zone c.index-zones-place.is c.index_mut-seat.ensures.value c.in_ok-got.ensures.requests c.in_ok-got.ensures.reaches
+    c.requires.can.fits c.requires.zone c.index-zones-place.is c.index_mut-seat.ensures.value c.in_ok-got.ensures.requests c.in_ok-got.ensures.reaches
     refl (slots ∙ ap (filled old.slots c.args.slot) c.held_of.ensures)
-    (record { phase = c.request.ensures.phase; seen = c.request.ensures.seen; entered = refl; late = refl }))
+    (record { phase = c.request.ensures.stays.pass.phase; seen = c.request.ensures.stays.pass.seen; entered = refl; late = refl }))
     c.fill.ensures

@@ -4,12 +4,12 @@ use Rattle.std.specs.Vec.{with_item}
 use Rattle.smr_clock.specs.Belongs.{view}
 use Rattle.trace_worker.specs.declared.worker.Worker.{Worker}
 use Rattle.trace_worker.specs.Reclaims.{HasDrained}
-use Rattle.trace_worker.proofs.AtPlace.{seat_at, fits_reclaim, reclaims_at}
+use Rattle.trace_worker.proofs.AtPlace.{can_call_at, fits_reclaim, reclaims_at}
 use Rattle.trace_worker.proofs.worker.Worker.drain.Goals as goal
 
-pub drain-requires-clause-seat : goal.drain-requires-clause-seat
-drain-requires-clause-seat g c =
-    seat_at c.args.zones.now c.args.self.now.seats.items c.args.zone c.index-zones-place.result c.index_mut-seat.result.now c.requires.fits.seats c.requires.zone c.index-zones-place.is c.index_mut-seat.ensures.value
+pub drain-requires : goal.drain-requires
+drain-requires g c =
+    can_call_at c.args.zones.now c.args.clock.now c.args.self.now c.args.zone c.index-zones-place.result c.index_mut-seat.result.now c.requires.clock c.requires.fits c.requires.zone c.index-zones-place.is c.index_mut-seat.ensures.value
 
 pub returns-clause-fits : goal.returns-clause-fits
 returns-clause-fits g c =
@@ -18,7 +18,7 @@ returns-clause-fits g c =
     on_ok_weaker c.drain.result
     (λ (left : HasDrained c.index-zones-place.result (view c.args.self.now.pass) c.index_mut-seat.result.now c.drain.new.seat).
     fits_reclaim c.args.zones.now c.args.clock.now old new c.args.zone c.index-zones-place.result c.index_mut-seat.result.now c.drain.new.seat
-    c.requires.fits c.requires.zone c.index-zones-place.is c.index_mut-seat.ensures.value c.drain.ensures.seat c.drain.ensures.pass refl refl)
+    c.requires.fits c.requires.zone c.index-zones-place.is c.index_mut-seat.ensures.value c.drain.ensures.stays.seat c.drain.ensures.stays.pass.own refl refl)
     c.drain.ensures.drained
 
 pub returns-clause-reclaims : goal.returns-clause-reclaims
@@ -29,5 +29,5 @@ returns-clause-reclaims g c =
     (λ (left : HasDrained c.index-zones-place.result (view c.args.self.now.pass) c.index_mut-seat.result.now c.drain.new.seat).
     reclaims_at c.args.zones.now c.args.clock.now HasDrained old new c.args.zone c.index-zones-place.result c.index_mut-seat.result.now c.drain.new.seat
     c.requires.fits c.requires.zone c.index-zones-place.is c.index_mut-seat.ensures.value left refl refl
-    (record { phase = c.drain.ensures.phase; seen = c.drain.ensures.seen; entered = refl; late = refl }))
+    (record { phase = c.drain.ensures.stays.pass.phase; seen = c.drain.ensures.stays.pass.seen; entered = refl; late = refl }))
     c.drain.ensures.drained

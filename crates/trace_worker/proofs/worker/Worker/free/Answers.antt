@@ -1,12 +1,13 @@
-use Rattle.std.proofs.Common.{◌≡◌, ◌≤◌, ◌<◌, Some, refl, sym, ◌∙◌, length}
+use Rattle.std.proofs.Common.{◌≡◌, ◌<◌, Some, refl, sym, ◌∙◌, length}
+use Rattle.std.proofs.lemmas.Result.{on_ok_weaker}
 use Rattle.std.specs.Vec.{with_item}
-use Rattle.smr_clock.specs.Belongs.{IsOf, holder, view}
-use Rattle.uma_zone.specs.Zone.{IsSeatOf}
+use Rattle.smr_clock.specs.Belongs.{view}
 use Rattle.trace_worker.specs.declared.worker.Worker.{Worker}
+use Rattle.trace_worker.specs.Calling.{StaysOf}
 use Rattle.trace_worker.specs.Requests.{IsGivenBack}
 use Rattle.trace_worker.specs.Slots.{slot_at}
-use Rattle.trace_worker.proofs.AtPlace.{seat_at, clock_at, room_at, fits_free, fits_none, held_below, home_at, frees_at, frees_none}
-use Rattle.trace_worker.proofs.Ends.{both_ok, three_ok}
+use Rattle.trace_worker.proofs.AtPlace.{can_call_at, room_at, fits_free, fits_none, held_below, home_at, frees_at, frees_none}
+use Rattle.trace_worker.proofs.Ends.{both_ok}
 use Rattle.trace_worker.proofs.Numbers.{below_as}
 use Rattle.trace_worker.proofs.worker.Worker.free.Goals as goal
 
@@ -29,19 +30,12 @@ bounds-zones-place g c =
     let holds : slot_at c.args.self.now.slots c.args.slot ≡ Some it = sym c.take.ensures.taken ∙ c.in-Some.is in
     held_below c.args.zones.now it (c.requires.fits.slots c.args.slot it holds)
 
-pub give_back-requires-clause-seat : goal.give_back-requires-clause-seat
-give_back-requires-clause-seat g c =
+pub give_back-requires-clause-can : goal.give_back-requires-clause-can
+give_back-requires-clause-can g c =
     let it = c.in-Some.held in
     let holds : slot_at c.args.self.now.slots c.args.slot ≡ Some it = sym c.take.ensures.taken ∙ c.in-Some.is in
     let below : it.zone < length c.args.zones.now = held_below c.args.zones.now it (c.requires.fits.slots c.args.slot it holds) in
-    seat_at c.args.zones.now c.args.self.now.seats.items c.in-Some.held.zone c.index-zones-place.result c.index_mut-seat.result.now c.requires.fits.seats below c.index-zones-place.is c.index_mut-seat.ensures.value
-
-pub give_back-requires-clause-clock : goal.give_back-requires-clause-clock
-give_back-requires-clause-clock g c =
-    let it = c.in-Some.held in
-    let holds : slot_at c.args.self.now.slots c.args.slot ≡ Some it = sym c.take.ensures.taken ∙ c.in-Some.is in
-    let below : it.zone < length c.args.zones.now = held_below c.args.zones.now it (c.requires.fits.slots c.args.slot it holds) in
-    clock_at c.args.clock.now c.args.zones.now c.in-Some.held.zone c.index-zones-place.result c.requires.clock below c.index-zones-place.is
+    can_call_at c.args.zones.now c.args.clock.now c.args.self.now it.zone c.index-zones-place.result c.index_mut-seat.result.now c.requires.clock c.requires.fits below c.index-zones-place.is c.index_mut-seat.ensures.value
 
 pub give_back-requires-clause-room : goal.give_back-requires-clause-room
 give_back-requires-clause-room g c =
@@ -63,11 +57,11 @@ returns-clause-fits g c =
     let new : Worker _ _ _ = record { pass = c.give_back.new.pass; seats = with_item old.seats it.zone c.give_back.new.seat; slots = c.take.new.self; entered = old.entered; late = old.late } in
     let holds : slot_at old.slots c.args.slot ≡ Some it = sym c.take.ensures.taken ∙ c.in-Some.is in
     let below : it.zone < length c.args.zones.now = held_below c.args.zones.now it (c.requires.fits.slots c.args.slot it holds) in
-    both_ok c.give_back.result
-    (λ (is_seat : IsSeatOf c.index-zones-place.result c.give_back.new.seat) (pass : IsOf c.args.clock.now c.give_back.new.pass).
+    on_ok_weaker c.give_back.result
+    (λ (stays : StaysOf c.index-zones-place.result c.args.clock.now old.pass c.give_back.new.pass c.give_back.new.seat).
     fits_free c.args.zones.now c.args.clock.now old new it.zone c.args.slot c.index-zones-place.result c.index_mut-seat.result.now c.give_back.new.seat
-    c.requires.fits below c.index-zones-place.is c.index_mut-seat.ensures.value is_seat pass refl c.take.ensures.left)
-    c.give_back.ensures.seat c.give_back.ensures.pass
+    c.requires.fits below c.index-zones-place.is c.index_mut-seat.ensures.value stays.seat stays.pass.own refl c.take.ensures.left)
+    c.give_back.ensures.stays
 
 pub returns-clause-frees : goal.returns-clause-frees
 returns-clause-frees g c =
@@ -75,10 +69,10 @@ returns-clause-frees g c =
     let it = c.in-Some.held in
     let new : Worker _ _ _ = record { pass = c.give_back.new.pass; seats = with_item old.seats it.zone c.give_back.new.seat; slots = c.take.new.self; entered = old.entered; late = old.late } in
     let holds : slot_at old.slots c.args.slot ≡ Some it = sym c.take.ensures.taken ∙ c.in-Some.is in
-    three_ok c.give_back.result
-    (λ (phase : (holder c.give_back.new.pass).phase ≡ (holder old.pass).phase) (seen : (holder old.pass).seen ≤ (holder c.give_back.new.pass).seen)
+    both_ok c.give_back.result
+    (λ (stays : StaysOf c.index-zones-place.result c.args.clock.now old.pass c.give_back.new.pass c.give_back.new.seat)
     (gives : IsGivenBack c.index-zones-place.result (view old.pass) c.index_mut-seat.result.now it.item c.give_back.new.seat (view c.give_back.new.pass)).
     frees_at c.args.zones.now c.args.clock.now old new c.args.slot it c.index-zones-place.result c.index_mut-seat.result.now c.give_back.new.seat
     c.requires.fits holds c.index-zones-place.is c.index_mut-seat.ensures.value gives refl c.take.ensures.left
-    (record { phase = phase; seen = seen; entered = refl; late = refl }))
-    c.give_back.ensures.phase c.give_back.ensures.seen c.give_back.ensures.gives_back
+    (record { phase = stays.pass.phase; seen = stays.pass.seen; entered = refl; late = refl }))
+    c.give_back.ensures.stays c.give_back.ensures.gives_back

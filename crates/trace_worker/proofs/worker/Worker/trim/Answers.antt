@@ -4,12 +4,12 @@ use Rattle.std.specs.Vec.{with_item}
 use Rattle.smr_clock.specs.Belongs.{view}
 use Rattle.trace_worker.specs.declared.worker.Worker.{Worker}
 use Rattle.trace_worker.specs.Reclaims.{HasTrimmed}
-use Rattle.trace_worker.proofs.AtPlace.{seat_at, fits_reclaim, reclaims_at}
+use Rattle.trace_worker.proofs.AtPlace.{can_call_at, fits_reclaim, reclaims_at}
 use Rattle.trace_worker.proofs.worker.Worker.trim.Goals as goal
 
-pub trim-requires-clause-seat : goal.trim-requires-clause-seat
-trim-requires-clause-seat g c =
-    seat_at c.args.zones.now c.args.self.now.seats.items c.args.zone c.index-zones-place.result c.index_mut-seat.result.now c.requires.fits.seats c.requires.zone c.index-zones-place.is c.index_mut-seat.ensures.value
+pub trim-requires : goal.trim-requires
+trim-requires g c =
+    can_call_at c.args.zones.now c.args.clock.now c.args.self.now c.args.zone c.index-zones-place.result c.index_mut-seat.result.now c.requires.clock c.requires.fits c.requires.zone c.index-zones-place.is c.index_mut-seat.ensures.value
 
 pub returns-clause-fits : goal.returns-clause-fits
 returns-clause-fits g c =
@@ -18,7 +18,7 @@ returns-clause-fits g c =
     on_ok_weaker c.trim.result
     (λ (left : HasTrimmed c.index-zones-place.result (view c.args.self.now.pass) c.index_mut-seat.result.now c.trim.new.seat).
     fits_reclaim c.args.zones.now c.args.clock.now old new c.args.zone c.index-zones-place.result c.index_mut-seat.result.now c.trim.new.seat
-    c.requires.fits c.requires.zone c.index-zones-place.is c.index_mut-seat.ensures.value c.trim.ensures.seat c.trim.ensures.pass refl refl)
+    c.requires.fits c.requires.zone c.index-zones-place.is c.index_mut-seat.ensures.value c.trim.ensures.stays.seat c.trim.ensures.stays.pass.own refl refl)
     c.trim.ensures.trimmed
 
 pub returns-clause-reclaims : goal.returns-clause-reclaims
@@ -29,5 +29,5 @@ returns-clause-reclaims g c =
     (λ (left : HasTrimmed c.index-zones-place.result (view c.args.self.now.pass) c.index_mut-seat.result.now c.trim.new.seat).
     reclaims_at c.args.zones.now c.args.clock.now HasTrimmed old new c.args.zone c.index-zones-place.result c.index_mut-seat.result.now c.trim.new.seat
     c.requires.fits c.requires.zone c.index-zones-place.is c.index_mut-seat.ensures.value left refl refl
-    (record { phase = c.trim.ensures.phase; seen = c.trim.ensures.seen; entered = refl; late = refl }))
+    (record { phase = c.trim.ensures.stays.pass.phase; seen = c.trim.ensures.stays.pass.seen; entered = refl; late = refl }))
     c.trim.ensures.trimmed

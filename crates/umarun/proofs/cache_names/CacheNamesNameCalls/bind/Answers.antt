@@ -14,11 +14,17 @@ use Rattle.umarun.proofs.cache_names.CacheNamesNameCalls.bind.Goals as goal
 pub bind-requires-clause-room : goal.bind-requires-clause-room
 bind-requires-clause-room g c = room_in_cache (ledger_of c.args.seat.now) c.requires.room
 
-pub returns-in-Ok-clause-still : goal.returns-in-Ok-clause-still
-returns-in-Ok-clause-still g c = still_known (view c.args.pass.now) (view c.bind.new.pass) c.bind.ensures.still
+pub returns-in-Ok-clause-passes : goal.returns-in-Ok-clause-passes
+returns-in-Ok-clause-passes g c = record {
+  pass = c.bind.ensures.pass;
+  still = still_known (view c.args.pass.now) (view c.bind.new.pass) c.bind.ensures.still;
+}
 
-pub returns-in-Err-clause-still : goal.returns-in-Err-clause-still
-returns-in-Err-clause-still g c = still_known (view c.args.pass.now) (view c.bind.new.pass) c.bind.ensures.still
+pub returns-in-Err-clause-passes : goal.returns-in-Err-clause-passes
+returns-in-Err-clause-passes g c = record {
+  pass = c.bind.ensures.pass;
+  still = still_known (view c.args.pass.now) (view c.bind.new.pass) c.bind.ensures.still;
+}
 
 pub returns-in-Ok-clause-binds : goal.returns-in-Ok-clause-binds
 returns-in-Ok-clause-binds g c =

@@ -8,29 +8,24 @@ use Rattle.umarun.proofs.Knowing.{find_holder, find_keeps, finds_of, loads_of, s
 use Rattle.umarun.proofs.cache_names.CacheNamesNameCalls.find.Goals as goal
 
 pub find-requires-clause-names : goal.find-requires-clause-names
-find-requires-clause-names c = subst (λ (id : TableId × Setup). FitsNames id.1 id.0.words) (sym c.requires.clock) c.args._cache.now.cache.names
+find-requires-clause-names c = subst (λ (id : TableId × Setup). FitsNames id.1 id.0.words) (sym c.requires.by.clock) c.args._cache.now.cache.names
 
-pub returns-clause-inside : goal.returns-clause-inside
-returns-clause-inside c = ap (λ (h : Holder). h.phase) (find_holder c.args.key (view c.args.pass.now) (view c.find.new.pass) c.find.result c.find.ensures.finds) ∙ c.requires.inside
-
-pub returns-clause-seen : goal.returns-clause-seen
-returns-clause-seen c =
+pub returns-clause-passes : goal.returns-clause-passes
+returns-clause-passes c =
     let v = view c.args.pass.now in
     let v' = view c.find.new.pass in
-    same_seen v v' (find_holder c.args.key v v' c.find.result c.find.ensures.finds)
-
-pub returns-clause-still : goal.returns-clause-still
-returns-clause-still c =
-    let v = view c.args.pass.now in
-    let v' = view c.find.new.pass in
-    still_known v v' (find_keeps c.args.key v v' c.find.result c.find.ensures.finds)
+    let same = find_holder c.args.key v v' c.find.result c.find.ensures.finds in
+    record {
+      pass = record { own = c.find.ensures.here; phase = ap (λ (h : Holder). h.phase) same; seen = same_seen v v' same };
+      still = still_known v v' (find_keeps c.args.key v v' c.find.result c.find.ensures.finds);
+    }
 
 pub returns-clause-finds : goal.returns-clause-finds
 returns-clause-finds c =
-    let plan = ap (λ (id : TableId × Setup). id.1.plan.0) (c.requires.pass ∙ c.requires.clock) in
+    let plan = ap (λ (id : TableId × Setup). id.1.plan.0) (c.requires.by.pass ∙ c.requires.by.clock) in
     finds_of c.args.key (view c.args.pass.now) (view c.find.new.pass) c.find.result c.find.ensures.finds (row_count c.args._cache.now.cache) plan
 
 pub returns-clause-loads : goal.returns-clause-loads
 returns-clause-loads c = λ serves.
-    let plan = ap (λ (id : TableId × Setup). id.1.plan.0) (c.requires.pass ∙ c.requires.clock) in
+    let plan = ap (λ (id : TableId × Setup). id.1.plan.0) (c.requires.by.pass ∙ c.requires.by.clock) in
     loads_of c.args.key (view c.args.pass.now) (view c.find.new.pass) c.find.result c.find.ensures.finds (row_count c.args._cache.now.cache) plan

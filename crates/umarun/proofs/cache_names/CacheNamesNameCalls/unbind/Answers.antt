@@ -13,11 +13,17 @@ pub returns-in-Ok-clause-counts : goal.returns-in-Ok-clause-counts
 returns-in-Ok-clause-counts g c =
     unbind_counts (row_count c.args.cache.now.cache) c.args.key (view c.args.pass.now) (view c.unbind.new.pass) c.args.seat.now c.unbind.new.seat c.in-Ok.found c.is_some.result c.is_some.ensures c.in-Ok.ensures.unbound c.in-Ok.ensures.none
 
-pub returns-in-Ok-clause-still : goal.returns-in-Ok-clause-still
-returns-in-Ok-clause-still g c = still_known (view c.args.pass.now) (view c.unbind.new.pass) c.unbind.ensures.still
+pub returns-in-Ok-clause-passes : goal.returns-in-Ok-clause-passes
+returns-in-Ok-clause-passes g c = record {
+  pass = c.unbind.ensures.pass;
+  still = still_known (view c.args.pass.now) (view c.unbind.new.pass) c.unbind.ensures.still;
+}
 
-pub returns-in-Err-clause-still : goal.returns-in-Err-clause-still
-returns-in-Err-clause-still g c = still_known (view c.args.pass.now) (view c.unbind.new.pass) c.unbind.ensures.still
+pub returns-in-Err-clause-passes : goal.returns-in-Err-clause-passes
+returns-in-Err-clause-passes g c = record {
+  pass = c.unbind.ensures.pass;
+  still = still_known (view c.args.pass.now) (view c.unbind.new.pass) c.unbind.ensures.still;
+}
 
 pub returns-in-Ok-clause-usable : goal.returns-in-Ok-clause-usable
 returns-in-Ok-clause-usable g c =
