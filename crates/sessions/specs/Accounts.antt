@@ -1,15 +1,15 @@
 -- Own: what a user of the server wants of each worker.
 use Rattle.std.specs.Prelude.{◌≡◌, ◌+◌, ℕ, Bool, true, false, List, All, count_by, length}
-use Rattle.name_rows.specs.declared.records.Record.{Record}
+use Rattle.uma.specs.Directory.{WasBound, known_to}
+use Rattle.uma.specs.declared.directory_local.DirectoryLocal.{DirectoryLocal}
+use Rattle.uma.specs.declared.refused.Refused.TheVariants.{Turned}
 use Rattle.sessions.specs.declared.answer.Answer.{Answer}
 use Rattle.sessions.specs.declared.answer.Answer.TheVariants.{Opened, Unnamed, Refused, Closed, Found}
 use Rattle.sessions.specs.declared.answer.Done.{Done}
 use Rattle.sessions.specs.declared.desk.Desk.{Desk}
 use Rattle.sessions.specs.declared.request.Request.{Request}
 use Rattle.sessions.specs.declared.request.Request.TheVariants.{Look}
-use Rattle.sessions.specs.Directory.{WasBound, known_to}
-use Rattle.sessions.specs.Pool.{held_in, ledger_in}
-use Rattle.sessions.specs.Answers.{is_turned_away}
+use Rattle.sessions.specs.Connections.{counts_in, held_in}
 
 -- a connection was opened
 abbrev pub opens : Answer → Bool
@@ -24,7 +24,7 @@ closes _ = false
 
 -- the pool turned the request away
 abbrev pub turns : Answer → Bool
-turns (Refused why) = is_turned_away why
+turns (Refused (Turned refusal)) = true
 turns _ = false
 
 -- how many of these requests opened a connection, closed one, or were turned away by the pool
@@ -39,14 +39,14 @@ abbrev pub turned_in : List Done → ℕ
 turned_in log = count_by (λ done. turns done.answer) log
 
 -- what was found was bound to the session that was asked for
-abbrev pub IsBound : List Record → Request → Answer → Type 0
-IsBound known (Look session) (Found connection) = WasBound session connection known
-IsBound known request (Found connection) = ⊥
-IsBound known request answer = Unit {0}
+abbrev pub IsBound : DirectoryLocal → Request → Answer → Type 0
+IsBound names (Look session) (Found connection) = WasBound session connection (known_to names)
+IsBound names request (Found connection) = ⊥
+IsBound names request answer = Unit {0}
 
 -- the same as a fact that a type can keep, which has at most one proof
-abbrev pub IsTold : List Record → Request → Answer → Type 0
-IsTold known request answer = ∥ IsBound known request answer ∥₁
+abbrev pub IsTold : DirectoryLocal → Request → Answer → Type 0
+IsTold names request answer = ∥ IsBound names request answer ∥₁
 
 -- The accounts of a worker:
 -- 1. Each connection that was opened is closed or still held.
@@ -54,7 +54,7 @@ IsTold known request answer = ∥ IsBound known request answer ∥₁
 -- 3. What was found was bound.
 pub record Balances (desk : Desk) (log : List Done) : Type 0 where
   pub held : opened_in log ≡ closed_in log + length (held_in desk.connections)
-  pub allocs : (ledger_in desk.connections).allocs ≡ opened_in log
-  pub frees : (ledger_in desk.connections).frees ≡ closed_in log
-  pub fails : (ledger_in desk.connections).fails ≡ turned_in log
-  pub told : All (λ done. IsTold (known_to desk.registrar) done.request done.answer) log
+  pub allocs : (counts_in desk.connections).allocs ≡ opened_in log
+  pub frees : (counts_in desk.connections).frees ≡ closed_in log
+  pub fails : (counts_in desk.connections).fails ≡ turned_in log
+  pub told : All (λ done. IsTold desk.names done.request done.answer) log

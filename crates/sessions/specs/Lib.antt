@@ -1,11 +1,7 @@
 pub mod Accounts
 pub mod Answers
 pub mod Connection
-pub mod Directory
-pub mod DirectoryOpening
+pub mod Connections
 pub mod Held
-pub mod Looked
-pub mod Pool
-pub mod Refused
 pub mod Serving
 pub mod Staff

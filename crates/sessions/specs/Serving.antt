@@ -1,5 +1,5 @@
 -- Own: what the workers of a server do in its rounds.
-use Rattle.std.specs.Prelude.{◌≡◌, ◌<◌, ◌≤◌, ◌++◌, ◌∷◌, ℕ, List, [], Ok, All, map, flat_map, length, slice_get, slice_index_or}
+use Rattle.std.specs.Prelude.{◌≡◌, ◌<◌, ◌≤◌, ◌++◌, ◌∷◌, ℕ, List, [], true, All, map, flat_map, length, slice_get, slice_index_or}
 use Rattle.std.specs.Option.{option_map_or}
 use Rattle.sessions.specs.declared.answer.Done.{Done}
 use Rattle.sessions.specs.declared.desk.Desk.{Desk}
@@ -7,7 +7,7 @@ use Rattle.sessions.specs.declared.request.Request.{Request}
 use Rattle.sessions.specs.declared.round.Round.{Round}
 use Rattle.sessions.specs.declared.worker.Worker.{Worker}
 use Rattle.sessions.specs.Accounts.{Balances}
-use Rattle.sessions.specs.Answers.{Ends}
+use Rattle.sessions.specs.Answers.{Ends, Stays}
 
 -- the requests that were answered, in order
 abbrev pub requests_in : List Done → List Request
@@ -37,22 +37,27 @@ pub record HasServed (requests : List Request) (old new : Worker) : Type 0 where
   pub log : new.log.items ≡ old.log.items ++ done
   pub ran : Ran old.desk done new.desk
 
+-- there was memory for the worker's log so far
+abbrev pub HasMemory : Worker → Type 0
+HasMemory worker = worker.logs ≡ true
+
+-- What a worker did of these requests: where there was memory for its log, it had been so before too, and the worker answered each, in order.
+pub record Works (requests : List Request) (old new : Worker) : Type 0 where
+  pub stays : Stays old.desk new.desk
+  pub served : HasMemory new → HasMemory old × HasServed requests old new
+
 -- each worker's accounts balance
 abbrev pub AllBalance : List Worker → Type 0
 AllBalance workers = All (λ worker. Balances worker.desk worker.log.items) workers
 
--- each worker answered each of its requests of this round, in order
+-- each worker worked on its requests of this round
 abbrev pub AllWorked : Round → List Worker → List Worker → Type 0
-AllWorked round old new = (n : ℕ) (d : Worker) → n < length old → HasServed (asked_of round n) (slice_index_or old n d) (slice_index_or new n d)
+AllWorked round old new = (n : ℕ) (d : Worker) → n < length old → Works (asked_of round n) (slice_index_or old n d) (slice_index_or new n d)
 
 -- what worker `n` is asked in these rounds, one after another
 abbrev pub asked_in : List Round → ℕ → List Request
 asked_in rounds n = flat_map (λ round. asked_of round n) rounds
 
--- each worker answered each of its requests of these rounds, in order
+-- each worker worked on its requests of these rounds
 abbrev pub AllServed : List Round → List Worker → List Worker → Type 0
-AllServed rounds old new = (n : ℕ) (d : Worker) → n < length old → HasServed (asked_in rounds n) (slice_index_or old n d) (slice_index_or new n d)
-
--- the worker's last round ended without want of memory
-abbrev pub HasEnded : Worker → Type 0
-HasEnded worker = worker.ended ≡ Ok tt
+AllServed rounds old new = (n : ℕ) (d : Worker) → n < length old → Works (asked_in rounds n) (slice_index_or old n d) (slice_index_or new n d)

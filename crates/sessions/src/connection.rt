@@ -3,8 +3,15 @@ ghost use Rattle.sessions.specs.Connection.{bars};
 
 use std::alloc::Global;
 use std::sync::Wait;
-use uma_item::ItemHooks;
-use uma_life::Memory;
+use uma::{DataLocal, DataPool, ItemHooks, Memory};
+
+/// The pool of connections, which all workers share by reference, and what one of them has of it.
+pub type ConnectionPool = DataPool<Connection, ConnectionHooks>;
+
+pub type ConnectionLocal<'a> = DataLocal<'a, Connection, ConnectionHooks>;
+
+/// How many bytes a connection is said to have: 16 fit a slab.
+pub const CONNECTION_SIZE: u32 = 256;
 
 /// The code with which a connection refuses peer 0, who is nobody.
 pub const NOBODY: u8 = 1;
@@ -17,9 +24,9 @@ pub struct Connection {
 
 /// What happens to a connection as it comes and goes. The argument of a request is the peer.
 ///
-/// This is all that a user of a zone writes: no count, and no lock. Each `ghost` line says what a hook refuses or leaves; where none
+/// This is all that a user of a pool writes of it: no count, and no lock. Each `ghost` line says what a hook refuses or leaves; where none
 /// is written it refuses nothing, and leaves the data as it was.
-#[derive(Drop)]
+#[derive(Clone, Copy)]
 pub struct ConnectionHooks;
 
 impl ItemHooks<Connection> for ConnectionHooks {

@@ -55,10 +55,9 @@ fn request(round: u32, worker: u32, place: u32) -> Request
         (1, 0..=2) => open(session_of(worker, place + 8)),
         (3, 0..=1) => open(session_of(worker, place + 9)),
         (2, 0..=5) => Request::Close { session },
-        _ => {
-            let session = session_of(worker.wrapping_add(round) % WORKERS, place);
-            Request::Look { session }
-        }
+        _ => Request::Look {
+            session: session_of(worker.wrapping_add(round) % WORKERS, place),
+        },
     }
 }
 

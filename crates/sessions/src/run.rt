@@ -1,6 +1,5 @@
-use crate::opening::open_directory;
+use crate::connection::{CONNECTION_SIZE, ConnectionHooks};
 use crate::plan::{ROWS, WORKERS, plan};
-use crate::pool::open_pool;
 use crate::report::print_report;
 use crate::serving::serve;
 use crate::staff::{Shared, hire_all};
@@ -8,32 +7,25 @@ use anyhow::Result;
 use std::alloc::Global;
 use std::sync::Wait;
 use std::thread::Threads;
-use uma_zone::ZoneSet;
-
-/// Names are bound by entries of an SMR zone: one slab of 64.
-const ENTRIES: ZoneSet = ZoneSet {
-    slabs: 1,
-    bucket: 4,
-    limit: 0,
-    reserve: 0,
-    domains: 1,
-    smr: true,
-};
+use uma::{Directory, NamePlan, Plan, Pool};
 
 /// Makes the pool, the directory and the workers, serves all rounds, and prints what became of it.
 pub fn run<R: Threads + Wait + Print + Sync>(rt: &R, alloc: Global) -> Result<()> {
-    let (pool, pool_clock, pool_passes) = open_pool(alloc)?;
-    let (directory, directory_clock, directory_passes) = open_directory(
-        alloc, WORKERS, ROWS, ENTRIES,
-    )?;
+    // Two slabs of connections, all of which may be out.
+    let connections = Plan::new(WORKERS, CONNECTION_SIZE)
+        .with_slabs(2)
+        .with_bucket(4)
+        .with_limit(32);
+    let pool = Pool::new(alloc, connections, ConnectionHooks)?;
+    // One slab of names.
+    let names = NamePlan::new(WORKERS, ROWS).with_slabs(1).with_bucket(4);
+    let directory = Directory::new(alloc, names)?;
     let shared = Shared {
         pool: &pool,
-        pool_clock: &pool_clock,
         directory: &directory,
-        directory_clock: &directory_clock,
     };
-    let mut workers = hire_all(rt, alloc, &shared, pool_passes, directory_passes)?;
+    let mut workers = hire_all(rt, alloc, &shared, WORKERS)?;
     let rounds = plan(alloc)?;
-    serve(rt, alloc, rounds.as_slice(), workers.as_mut_slice())?;
+    serve(rt, alloc, rounds.as_slice(), workers.as_mut_slice());
     print_report(rt, alloc, &shared, workers.as_slice())
 }

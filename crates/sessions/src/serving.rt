@@ -1,9 +1,9 @@
-ghost use Rattle.std.specs.Prelude.{◌≡◌, All, OnOk, length};
-ghost use Rattle.sessions.specs.Serving.{AllBalance, AllServed, AllWorked, AsksNoOther, HasEnded, HasServed, asked_of};
+ghost use Rattle.std.specs.Prelude.{◌≡◌, All, length};
+ghost use Rattle.sessions.specs.Serving.{AllBalance, AllServed, AllWorked, AsksNoOther, Works, asked_of};
 
 use crate::round::Round;
 use crate::worker::Worker;
-use std::alloc::{AllocError, Global};
+use std::alloc::Global;
 use std::sync::Wait;
 use std::thread::{self, Threads};
 
@@ -16,16 +16,15 @@ pub fn serve<R: Threads + Wait + Sync>(
     alloc: Global,
     rounds: &[Round],
     workers: &mut [Worker<'_>],
-) -> Result<(), AllocError>
+)
     requires { All (AsksNoOther (length workers.old)) rounds.now }
     ensures accounts { AllBalance workers.new }
     ensures count { length workers.new ≡ length workers.old }
-    ensures served { OnOk result (AllServed rounds.now workers.old workers.new) }
+    ensures served { AllServed rounds.now workers.old workers.new }
 {
     for round in rounds {
-        serve_round(rt, alloc, round, workers)?;
+        serve_round(rt, alloc, round, workers);
     }
-    Ok(())
 }
 
 // One round.
@@ -34,9 +33,9 @@ fn serve_round<R: Threads + Wait + Sync>(
     alloc: Global,
     round: &Round,
     workers: &mut [Worker<'_>],
-) -> Result<(), AllocError>
+)
     ensures count { length workers.new ≡ length workers.old }
-    ensures served { OnOk result (AllWorked round.now workers.old workers.new) }
+    ensures served { AllWorked round.now workers.old workers.new }
 {
     let threads = workers.len().max(1);
     thread::for_each_mut(
@@ -44,18 +43,7 @@ fn serve_round<R: Threads + Wait + Sync>(
         workers,
         threads,
         &|number, worker: &mut Worker<'_>|
-            ensures { OnOk worker.new.ended (HasServed (asked_of round.entry.now number) worker.old worker.new) }
+            ensures { Works (asked_of round.entry.now number) worker.old worker.new }
         { worker.work(rt, alloc, round.list(number)) },
     );
-    all_ended(workers)
-}
-
-// Whether each worker's last round ended without want of memory.
-fn all_ended(workers: &[Worker<'_>]) -> Result<(), AllocError>
-    ensures { OnOk result (All HasEnded workers.now) }
-{
-    for worker in workers {
-        worker.ended?;
-    }
-    Ok(())
 }

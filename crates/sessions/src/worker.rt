@@ -4,7 +4,7 @@ ghost use Rattle.sessions.specs.Accounts.{Balances};
 use crate::answer::Done;
 use crate::desk::Desk;
 use crate::request::Request;
-use std::alloc::{AllocError, Global};
+use std::alloc::Global;
 use std::sync::Wait;
 
 /// A worker, with what became of each of its requests, in order.
@@ -15,43 +15,36 @@ use std::sync::Wait;
 pub struct Worker<'a> {
     pub desk: Desk<'a>,
     pub log: Vec<Done>,
-    /// How its last round ended. Without memory for its log a worker does nothing.
-    pub ended: Result<(), AllocError>,
+    /// Whether there was memory for its log so far.
+    pub logs: bool,
     pub ghost accounts: { Balances desk log.items },
 }
 
 impl Worker<'_> {
-    ghost use Rattle.std.specs.Prelude.{◌∷◌, [], OnOk};
-    ghost use Rattle.sessions.specs.Serving.{HasServed};
+    ghost use Rattle.std.specs.Prelude.{◌∷◌, []};
+    ghost use Rattle.sessions.specs.Serving.{Works};
 
-    /// Does what these requests ask, one after another.
+    /// Does what these requests ask, one after another. A worker for whose log there was no memory does nothing more.
     pub fn work<R: Wait>(&mut self, rt: &R, alloc: Global, requests: &[Request])
-        ensures { OnOk self.new.ended (HasServed requests.now self.old self.new) }
-    {
-        self.ended = self.serve_all(rt, alloc, requests);
-    }
-
-    fn serve_all<R: Wait>(
-        &mut self,
-        rt: &R,
-        alloc: Global,
-        requests: &[Request],
-    ) -> Result<(), AllocError>
-        ensures { OnOk result (HasServed requests.now self.old self.new) }
+        ensures { Works requests.now self.old self.new }
     {
         for request in requests {
-            self.serve(rt, alloc, *request)?;
+            self.serve(rt, alloc, *request);
         }
-        Ok(())
     }
 
     // Does what a request asks, and logs it. The log has room before anything is done.
-    fn serve<R: Wait>(&mut self, rt: &R, alloc: Global, request: Request) -> Result<(), AllocError>
-        ensures { OnOk result (HasServed (request ∷ []) self.old self.new) }
+    fn serve<R: Wait>(&mut self, rt: &R, alloc: Global, request: Request)
+        ensures { Works (request ∷ []) self.old self.new }
     {
-        self.log.reserve(1)?;
+        if !self.logs {
+            return;
+        }
+        let Ok(()) = self.log.reserve(1) else {
+            self.logs = false;
+            return;
+        };
         let answer = self.desk.serve(rt, alloc, request);
         self.log.push_reserved(Done { request, answer });
-        Ok(())
     }
 }

@@ -9,7 +9,7 @@ loop-round-preserved g c =
     let mid = c.loop-round.workers in
     let new = c.serve_round.new.workers in
     let before = c.loop-round.invariant in
-    let done = c.in_ok-serve_round.ensures in
+    let done = c.serve_round.ensures in
     record {
       count = done.count ∙ before.count;
       served =

@@ -1,25 +1,23 @@
-use Rattle.std.proofs.Common.{List, subst}
-use Rattle.uma_bucket.specs.Home.{IsHome}
-use Rattle.uma_life.specs.Live.{live_ticket}
-use Rattle.uma_zone.specs.Zone.{zone_home}
+use Rattle.std.proofs.Common.{refl, subst, sym}
+use Rattle.uma.specs.Local.{pool_of}
+use Rattle.uma.specs.Pool.{IsItemOf}
 use Rattle.sessions.specs.declared.held.Held.{Held}
-use Rattle.sessions.specs.Held.{IsOpen, IsFirstOf}
-use Rattle.sessions.specs.Pool.{held_in}
-use Rattle.sessions.proofs.Places.{all_left, closes}
+use Rattle.sessions.specs.Connections.{held_in}
+use Rattle.sessions.specs.Held.{IsOpen}
+use Rattle.sessions.proofs.Holding.{all_left, moved}
 use Rattle.sessions.proofs.connections.Connections.close.Goals as goal
 
-pub invariant_of-self-clause-home : goal.invariant_of-self-clause-home
-invariant_of-self-clause-home g c =
-    let ready = c.make_ready.new.self in
-    all_left (λ (held : Held). IsHome (zone_home ready.pool.now) (live_ticket held.live)) (held_in ready) c.remove-peer.new.self.items c.in-Some.place c.remove-peer.ensures.by_index.2 ready.home
+pub put-requires-clause-home : goal.put-requires-clause-home
+put-requires-clause-home c = subst (λ (held : Held). IsItemOf (pool_of c.args.self.now.local) held.item) (sym c.remove-item.ensures.value) (c.args.self.now.home c.args.place c.remove-item.result c.requires.place)
 
-pub invariant_of-self-clause-open : goal.invariant_of-self-clause-open
-invariant_of-self-clause-open g c =
-    let ready = c.make_ready.new.self in
-    all_left IsOpen (held_in ready) c.remove-peer.new.self.items c.in-Some.place c.remove-peer.ensures.by_index.2 ready.«open»
+pub invariant_of-self-clause-home : goal.invariant_of-self-clause-home
+invariant_of-self-clause-home c =
+    let was = c.args.self.now in
+    let left = all_left (λ (held : Held). IsItemOf (pool_of was.local) held.item) (held_in was) c.remove-item.new.self.items c.args.place c.remove-item.ensures.by_index.2 was.home in
+    moved (λ pool (held : Held). IsItemOf pool held.item) (pool_of was.local) (pool_of c.put.new.self) c.remove-item.new.self.items c.remove-item.new.self.items c.put.ensures.pool refl left
+
+pub invariant_of-self-clause-opened : goal.invariant_of-self-clause-opened
+invariant_of-self-clause-opened c = all_left IsOpen (held_in c.args.self.now) c.remove-item.new.self.items c.args.place c.remove-item.ensures.by_index.2 c.args.self.now.opened
 
 pub returns-clause-closed : goal.returns-clause-closed
-returns-clause-closed g c =
-    let ready = c.make_ready.new.self in
-    let first : IsFirstOf c.args.session c.in-Some.place (held_in ready) = subst (λ (l : List Held). IsFirstOf c.args.session c.in-Some.place l) c.as_slice.ensures.value c.in-Some.ensures.there in
-    closes c.args.session _ c.args.self.now ready _ c.in-Some.place c.remove-peer.result c.in_ok-make_ready.ensures.kept first c.remove-peer.ensures.value c.remove-peer.ensures.by_index.2 c.free.ensures.ledger
+returns-clause-closed c = record { left = c.remove-item.ensures.by_index.2; crossed = _; counted = c.put.ensures.counted }

@@ -1,19 +1,20 @@
-use Rattle.sessions.specs.declared.desk.Desk.{Desk}
-use Rattle.sessions.proofs.Closing.{close_ends, found_held, refused_ends, unnames}
+use Rattle.std.proofs.Common.{◌<◌, List, inl, inr, length, refl, subst, sym}
+use Rattle.sessions.specs.declared.held.Held.{Held}
+use Rattle.sessions.specs.Connections.{held_in}
+use Rattle.sessions.proofs.Holding.{closed_from, is_below}
 use Rattle.sessions.proofs.desk.Desk.close.Goals as goal
 
-pub returns-in-Ok-close-clause-ends : goal.returns-in-Ok-close-clause-ends
-returns-in-Ok-close-clause-ends g c =
-    let old = c.args.self.now in
-    let new : Desk = record { connections = c.close.new.self; registrar = c.unbind.new.self } in
-    let held = c.holds.ensures.there c.if-not-holds.false in
-    let closed = c.in-Ok-close.ensures in
-    let named = unnames c.args.session c.in-Ok.found c.is_some-named.result old.registrar new.registrar c.is_some-named.ensures c.in-Ok.ensures.unbound c.in-Ok.ensures.none in
-    close_ends c.args.session c.in-Ok-close.found c.is_some-named.result c.closed.result old new c.closed.ensures closed.closed (found_held c.args.session held.0 c.in-Ok-close.found old.connections new.connections held.1 closed.none) named
+pub close-requires-clause-place : goal.close-requires-clause-place
+close-requires-clause-place g c =
+    subst (λ (l : List Held). c.in-Some.place < length l) (sym c.make_ready.ensures.kept.held) (is_below c.args.session c.in-Some.place (held_in c.args.self.now.connections) (sym c.in-Some.ensures))
 
-pub returns-in-Err-close-clause-ends : goal.returns-in-Err-close-clause-ends
-returns-in-Err-close-clause-ends g c =
-    let old = c.args.self.now in
-    let new : Desk = record { connections = c.close.new.self; registrar = c.unbind.new.self } in
-    let named = unnames c.args.session c.in-Ok.found c.is_some-named.result old.registrar new.registrar c.is_some-named.ensures c.in-Ok.ensures.unbound c.in-Ok.ensures.none in
-    refused_ends c.args.session c.in-Err-close.refused c.is_some-named.result c.refused_by_pool.result old new c.refused_by_pool.ensures c.in-Err-close.ensures.refused named
+pub returns-in-Err-clause-ends : goal.returns-in-Err-clause-ends
+returns-in-Err-clause-ends g c = (c.make_ready.ensures.kept, inl (c.in-Err.ensures.refused, refl))
+
+pub returns-in-Err-unbind-clause-ends : goal.returns-in-Err-unbind-clause-ends
+returns-in-Err-unbind-clause-ends g c = (c.make_ready.ensures.kept, inr c.in-Err-unbind.ensures.refused)
+
+pub returns-clause-ends : goal.returns-clause-ends
+returns-clause-ends g c =
+    let closed = closed_from c.in-Some.place c.args.self.now.connections c.make_ready.new.self c.close.new.self c.make_ready.ensures.kept c.close.ensures.closed in
+    ((c.in-Some.place, sym c.in-Some.ensures, closed), c.in-Ok.ensures.unbound, c.in-Ok.ensures.none)
