@@ -110,3 +110,30 @@ WorkerKeeps =
 abbrev pub JoinKeeps : Type 0
 JoinKeeps =
     (a : About) (id : ℕ) (h : Holder) (at : ℕ) (other : Holder) → (at ≡ id → ⊥) → other.phase ≡ phase.Note → KeepsJoin a id h at other (clock.joined h other)
+
+-- ---- all of these
+
+-- the law holds where a clock begins, and each kind of step keeps it
+pub record StepsKeepTheLaw : Type 0 where
+  pub begins : BeginsLawful
+  pub other_word : OtherWordKeeps
+  pub write_look : WriteLookKeeps
+  pub read_look : ReadLookKeeps
+  pub enter_load : EnterLoadKeeps
+  pub enter_store : EnterStoreKeeps
+  pub enter_check : EnterCheckKeeps
+  pub clear : ClearKeeps
+  pub leave : LeaveKeeps
+  pub come : ComeKeeps
+  pub advance_read : AdvanceReadKeeps
+  pub advance_load : AdvanceLoadKeeps
+  pub advance_swap : AdvanceSwapKeeps
+  pub poll_read : PollReadKeeps
+  pub poll_load : PollLoadKeeps
+  pub poll_end : PollEndKeeps
+  pub poll_present : PollPresentKeeps
+  pub poll_scan : PollScanKeeps
+  pub poll_swap : PollSwapKeeps
+  pub note : NoteKeeps
+  pub worker : WorkerKeeps
+  pub join : JoinKeeps

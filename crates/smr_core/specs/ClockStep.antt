@@ -1,6 +1,6 @@
 -- What each step of the clock does to the word that it acts on and to the holder that takes it, as functions of the value that the step finds in that word.
 -- Enter, exit, advance and poll are those of FreeBSD's smr(9). The second load of an enter, the window, the one exchange of an advance, and that seats leave and come are own.
-use Rattle.std.specs.Prelude.{ℕ, ◌+◌, ◌-◌, ◌^◌, ◌==◌, nat_lt, nat_le, min, max, if◌then◌else◌, Bool, Option, Some, None}
+use Rattle.std.specs.Prelude.{◌<◌, ◌≤◌, ℕ, ◌+◌, ◌-◌, ◌^◌, ◌==◌, nat_lt, nat_le, min, max, if◌then◌else◌, Bool, Option, Some, None}
 use Rattle.smr_seq.specs.Reading.{low, reading}
 use Rattle.std.specs.Int.Bits.{bit_and, bit_or}
 use Rattle.smr_core.specs.declared.about.About.{About}
@@ -109,6 +109,11 @@ advance_loaded a h found =
 abbrev pub goal_of : Holder → ℕ
 goal_of h = h.write + 2
 
+-- there is room for the goal, and for one advance more
+pub record MaySwap (h : Holder) : Type 0 where
+  pub write : h.write < 2 ^ 63
+  pub advances : h.advances < 2 ^ 63
+
 abbrev pub advance_swapped : Holder → ℕ → Holder
 advance_swapped h found =
     record h {
@@ -143,6 +148,11 @@ least_with read least (Some entered) = min least (max entered read)
 -- The least mark after a seat's word was loaded. A word of 0, and one without a reading near the write hand loaded, count for nothing.
 abbrev pub least_after : ℕ → ℕ → ℕ → ℕ → ℕ
 least_after read write least word = if word == 0 then least else least_with read least (reading word write)
+
+-- the seats are few, and the next number fits
+pub record MayScan (a : About) (h : Holder) : Type 0 where
+  pub few : a.seats ≤ 64
+  pub within : h.scanned < 2 ^ 31
 
 -- a load of the word of the seat that is next in the set
 abbrev pub poll_scanned : About → Holder → ℕ → Holder

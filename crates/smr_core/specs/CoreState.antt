@@ -8,7 +8,7 @@ use Rattle.smr_core.specs.declared.actor.Actor.{Actor}
 use Rattle.smr_core.specs.declared.holder.Holder.{Holder}
 use Rattle.smr_core.specs.declared.phase.Phase.TheVariants as phase
 use Rattle.smr_core.specs.declared.task.Task.TheVariants as task
-use Rattle.smr_core.specs.ClockState.{place_after_seats, opening_words}
+use Rattle.smr_core.specs.ClockState.{IsInRange, place_after_seats, opening_words}
 use Rattle.smr_core.specs.ClockLaw.{ClockLaw}
 
 pub record State : Type 0 where
@@ -83,3 +83,9 @@ pub record CoreLaw (s : State) : Type 0 where
   pub few : length s.actors ≤ most_holders
   pub seats : (n : ℕ) (actor : Actor) → IsActor s n actor → actor.holder.seat ≡ seat_at s.about n
   pub aims : (n : ℕ) (actor : Actor) → IsActor s n actor → AimFits actor
+
+-- a core opens with these numbers, which are in range
+pub record Opens (a : About) (s : State) : Type 0 where
+  pub in_range : IsInRange a
+  pub opened : s ≡ opening a
+  pub law : CoreLaw s

@@ -1,5 +1,5 @@
 -- The steps of the core, each with what it needs, does and sees, and its refusals.
-use Rattle.std.specs.Prelude.{◌≡◌, ◌≢◌, ℕ, ◌<◌, ◌≤◌, ◌⊎◌, ◌==◌, List, [], ◌∷◌, ◌++◌, length, slice_index, slice_get, slice_set, take, Option, Some, None, IsSome, if◌then◌else◌, nat_le}
+use Rattle.std.specs.Prelude.{◌≡◌, ◌≢◌, ℕ, ◌<◌, ◌≤◌, ◌⊎◌, ◌==◌, List, [], ◌∷◌, ◌++◌, length, slice_index, slice_get, slice_set, take, Option, Some, None, IsSome, if◌then◌else◌, nat_le, Result, IfOk, IfErr, OnOk, OnErr}
 use Rattle.smr_seq.specs.Reading.{reading}
 use Rattle.smr_core.specs.declared.about.About.{About}
 use Rattle.smr_core.specs.declared.actor.Actor.{Actor}
@@ -225,3 +225,17 @@ pub record StopsAt (s : State) (steps : List Step) (n : ℕ) (refused : StepRefu
   pub sees : List Seen
   pub run : Run s (take n steps) sees s'
   pub cause : ((step : Step) × (slice_get steps n ≡ Some step) × Refuses s' step refused) ⊎ ((n ≡ 0) × (refused ≡ Memory))
+
+-- ---- what calls answer
+
+-- the actor of a number, or there is none of it
+pub record FindsActor (s : State) (number : ℕ) (answer : Result Actor StepRefused) : Type 0 where
+  pub there : IfOk answer (λ actor. IsActor s number actor)
+  pub within : OnOk answer (number < length s.actors)
+  pub missing : IfErr answer (λ why. (why ≡ NoSeat number (length s.actors)) × (length s.actors ≤ number))
+
+-- The step saw this and led to this state, or it is refused so, and the state is as it was.
+pub record TakesStep (s : State) (step : Step) (answer : Result Seen StepRefused) (s' : State) : Type 0 where
+  pub stepped : IfOk answer (λ saw. IsStep s step saw s')
+  pub refused : IfErr answer (λ why. Refuses s step why)
+  pub unchanged : OnErr answer (s' ≡ s)

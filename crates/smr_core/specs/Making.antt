@@ -16,3 +16,8 @@ RefusesNumbers a (High start) = (start ≡ a.start) × IsSeatCount a.seats × Is
 RefusesNumbers a (Window window) =
     (window ≡ a.window) × IsSeatCount a.seats × IsOdd a.start × (a.start < 2 ^ 63) × ((a.window % 2 ≡ 1) ⊎ (a.window < 4) ⊎ (2 ^ 30 < a.window))
 RefusesNumbers a Memory = IsInRange a
+
+-- made of these numbers, which are in range
+pub record IsMadeWith (a about : About) : Type 0 where
+  pub made : about ≡ a
+  pub in_range : IsInRange about

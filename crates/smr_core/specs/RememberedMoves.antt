@@ -116,3 +116,28 @@ abbrev pub JoinRemembers : Type 0
 JoinRemembers =
     (a : About) (id : ℕ) (v : View) (at : ℕ) (other : View) → (at ≡ id → ⊥) → other.0.phase ≡ phase.Note
     → KeepsMemoryJoin a id v at other (clock.joined v.0 other.0, v.1)
+
+-- ---- all of these
+
+-- what views remember is so where a clock begins, and each kind of step keeps it so
+pub record StepsKeepWhatIsRemembered : Type 0 where
+  pub begins : BeginsRemembering
+  pub write_look : WriteLookRemembers
+  pub read_look : ReadLookRemembers
+  pub enter_load : EnterLoadRemembers
+  pub enter_store : EnterStoreRemembers
+  pub enter_check : EnterCheckRemembers
+  pub clear : ClearRemembers
+  pub leave : LeaveRemembers
+  pub come : ComeRemembers
+  pub advance_read : AdvanceReadRemembers
+  pub advance_load : AdvanceLoadRemembers
+  pub advance_swap : AdvanceSwapRemembers
+  pub poll_read : PollReadRemembers
+  pub poll_load : PollLoadRemembers
+  pub poll_present : PollPresentRemembers
+  pub poll_scan : PollScanRemembers
+  pub poll_swap : PollSwapRemembers
+  pub note : NoteRemembers
+  pub worker : WorkerRemembers
+  pub join : JoinRemembers

@@ -1,6 +1,8 @@
 -- Turns: a step, or a whole operation, which is several steps until it ends (own). How many they are depends on what they see.
-use Rattle.std.specs.Prelude.{◌≡◌, ℕ, ◌+◌, List, [], ◌∷◌, ◌++◌, map, slice_get, Bool, true, false, if◌then◌else◌}
+use Rattle.std.specs.Prelude.{◌≡◌, ◌≤◌, ℕ, ◌+◌, List, [], ◌∷◌, ◌++◌, map, slice_get, Bool, true, false, if◌then◌else◌, Result, IfOk, IfErr, OnErr, Vec, vec_len}
+use Rattle.std.specs.declared.alloc.Global.{Global}
 use Rattle.std.specs.Option.{option_map_or}
+use Rattle.std.specs.Vec.{vec_capacity}
 use Rattle.smr_core.specs.declared.about.About.{About}
 use Rattle.smr_core.specs.declared.actor.Actor.{Actor}
 use Rattle.smr_core.specs.declared.task.Task.TheVariants as task
@@ -13,7 +15,7 @@ use Rattle.smr_core.specs.declared.step_refused.StepRefused.TheVariants.{Memory}
 use Rattle.smr_core.specs.declared.turn.Turn.{Turn}
 use Rattle.smr_core.specs.declared.turn.Turn.TheVariants.{One, Enter, Advance, PollLoads, Poll}
 use Rattle.smr_core.specs.ClockState.{seats_below}
-use Rattle.smr_core.specs.CoreState.{State, IsActor}
+use Rattle.smr_core.specs.CoreState.{State, IsActor, CoreLaw}
 use Rattle.smr_core.specs.CoreStep.{Refuses, Run}
 
 -- the check of an enter saw that it is late
@@ -94,3 +96,18 @@ pub record Scans (s : State) (n set k : ℕ) : Type 0 where
   pub scanning : actor.holder.task ≡ task.Scanning
   pub of_set : actor.holder.present ≡ set
   pub scanned : actor.holder.scanned ≡ k
+
+-- what the steps of a turn see has room here, and nothing is in it yet
+pub record IsRoomFor (a : About) (turn : Turn) (sees : Vec Seen Global) : Type 0 where
+  pub empty : sees.items ≡ []
+  pub len : vec_len sees ≡ 0
+  pub room : most_steps a turn ≤ vec_capacity sees
+
+-- ---- what a call answers that takes a turn
+
+-- The turn saw this and led to this state, or it is refused so, and the state is as it was. The law holds after it.
+pub record TakesTurn (s : State) (turn : Turn) (answer : Result (List Seen) StepRefused) (s' : State) : Type 0 where
+  pub taken : IfOk answer (λ sees. IsTurn s turn sees s')
+  pub refused : IfErr answer (λ why. RefusesTurn s turn why)
+  pub unchanged : OnErr answer (s' ≡ s)
+  pub law : CoreLaw s'

@@ -123,3 +123,18 @@ EntryIsTheThirdStep =
     (s after later : State) (n loaded found : ℕ) (steps : List Step) (saw : List Seen) → IsReached s → IsStep s (EnterCheck n) (seen.Inside loaded found) after
     → Run after steps saw later → (Contains steps (Clear n) → ⊥)
     → (found ≡ write_hand s.words) × ((actor : Actor) × IsActor later n actor × IsInSection actor.holder found × (actor.holder.loaded ≡ loaded))
+
+-- ---- all of these
+
+-- what a yes says from its poll on, for ever
+pub record YesOverRuns : Type 0 where
+  pub expired : YesIsExpired
+  pub goals : GoalIsExpired
+  pub tag : PollKeepsItsTag
+
+-- how hands and marks stand over every run
+pub record HandsAndMarksOverRuns : Type 0 where
+  pub hands : HandsNeverFall
+  pub window : WindowIsKept
+  pub marks : MarksAreKept
+  pub entry : EntryIsTheThirdStep

@@ -1,6 +1,5 @@
-ghost use Rattle.std.specs.Prelude.{◌≡◌, IfOk, IfErr};
-ghost use Rattle.smr_core.specs.ClockState.{IsInRange};
-ghost use Rattle.smr_core.specs.Making.{RefusesNumbers};
+ghost use Rattle.std.specs.Prelude.{IfOk, IfErr};
+ghost use Rattle.smr_core.specs.Making.{IsMadeWith, RefusesNumbers};
 
 use crate::core_refused::CoreRefused;
 
@@ -28,8 +27,7 @@ const GREATEST_WINDOW: u64 = 1 << 30;
 impl About {
     /// The numbers, where each is in its range: seats, start and window are tested in this order.
     pub fn checked(seats: u32, start: u64, window: u64) -> Result<Self, CoreRefused>
-        ensures made { IfOk result (λ about. about ≡ record { start = start; window = window; seats = seats }) }
-        ensures in_range { IfOk result IsInRange }
+        ensures made { IfOk result (IsMadeWith (record { start = start; window = window; seats = seats })) }
         ensures refused { IfErr result (RefusesNumbers (record { start = start; window = window; seats = seats })) }
     {
         if seats < 1 || seats > MOST_SEATS {

@@ -1,6 +1,6 @@
-ghost use Rattle.std.specs.Prelude.{◌≡◌, ◌+◌, ◌^◌, ◌<◌, ◌≤◌, length, IfOk, IfErr, OnErr};
+ghost use Rattle.std.specs.Prelude.{◌≡◌, ◌+◌, ◌^◌, ◌<◌, ◌≤◌, length};
 ghost use Rattle.smr_core.specs.CoreState.{CoreLaw};
-ghost use Rattle.smr_core.specs.CoreStep.{IsStep, Refuses};
+ghost use Rattle.smr_core.specs.CoreStep.{TakesStep};
 ghost use Rattle.smr_core.specs.Works.{state_of};
 ghost use Rattle.smr_core.specs.declared.step.Step.{Step};
 
@@ -16,9 +16,7 @@ impl Works {
     /// The load of the read hand.
     pub fn advance_read(&mut self, seat: u32) -> Result<Seen, StepRefused>
         requires { CoreLaw (state_of self.old) }
-        ensures stepped { IfOk result (λ seen. IsStep (state_of self.old) (Step.AdvanceRead seat) seen (state_of self.new)) }
-        ensures refused { IfErr result (λ refused. Refuses (state_of self.old) (Step.AdvanceRead seat) refused) }
-        ensures unchanged { OnErr result (state_of self.new ≡ state_of self.old) }
+        ensures { TakesStep (state_of self.old) (Step.AdvanceRead seat) result (state_of self.new) }
     {
         let actor = self.actor(seat)?;
         if !actor.holder.is_idle_worker() {
@@ -32,9 +30,7 @@ impl Works {
     /// The load of the write hand, which ends the advance where there is no room for two more.
     pub fn advance_load(&mut self, seat: u32) -> Result<Seen, StepRefused>
         requires { CoreLaw (state_of self.old) }
-        ensures stepped { IfOk result (λ seen. IsStep (state_of self.old) (Step.AdvanceLoad seat) seen (state_of self.new)) }
-        ensures refused { IfErr result (λ refused. Refuses (state_of self.old) (Step.AdvanceLoad seat) refused) }
-        ensures unchanged { OnErr result (state_of self.new ≡ state_of self.old) }
+        ensures { TakesStep (state_of self.old) (Step.AdvanceLoad seat) result (state_of self.new) }
     {
         let actor = self.actor(seat)?;
         if actor.holder.task != Task::AdvRead {
@@ -57,9 +53,7 @@ impl Works {
     /// The exchange of the write hand.
     pub fn advance_swap(&mut self, seat: u32) -> Result<Seen, StepRefused>
         requires { CoreLaw (state_of self.old) }
-        ensures stepped { IfOk result (λ seen. IsStep (state_of self.old) (Step.AdvanceSwap seat) seen (state_of self.new)) }
-        ensures refused { IfErr result (λ refused. Refuses (state_of self.old) (Step.AdvanceSwap seat) refused) }
-        ensures unchanged { OnErr result (state_of self.new ≡ state_of self.old) }
+        ensures { TakesStep (state_of self.old) (Step.AdvanceSwap seat) result (state_of self.new) }
     {
         let actor = self.actor(seat)?;
         if actor.holder.task != Task::AdvLoaded {

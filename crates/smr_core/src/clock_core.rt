@@ -1,7 +1,7 @@
-ghost use Rattle.std.specs.Prelude.{◌≡◌, nat_lt, if◌then◌else◌, IfOk, IfErr, OnErr};
-ghost use Rattle.smr_core.specs.ClockState.{IsInRange, read_hand, write_hand, seat_word};
-ghost use Rattle.smr_core.specs.CoreState.{CoreLaw, opening};
-ghost use Rattle.smr_core.specs.CoreStep.{IsStep, Refuses};
+ghost use Rattle.std.specs.Prelude.{◌≡◌, nat_lt, if◌then◌else◌, IfOk, IfErr};
+ghost use Rattle.smr_core.specs.ClockState.{read_hand, write_hand, seat_word};
+ghost use Rattle.smr_core.specs.CoreState.{CoreLaw, Opens};
+ghost use Rattle.smr_core.specs.CoreStep.{TakesStep};
 ghost use Rattle.smr_core.specs.Making.{RefusesNumbers};
 
 use crate::about::About;
@@ -35,9 +35,7 @@ impl Model for Core {
 impl Core {
     /// Both hands at `start`, every seat's word 0, and a worker for each seat.
     pub fn new(alloc: Global, seats: u32, start: u64, window: u64) -> Result<Self, CoreRefused>
-        ensures in_range { IfOk result (λ core. IsInRange (record { start = start; window = window; seats = seats })) }
-        ensures opened { IfOk result (λ core. core ≡ opening (record { start = start; window = window; seats = seats })) }
-        ensures law { IfOk result (λ core. CoreLaw core) }
+        ensures opened { IfOk result (Opens (record { start = start; window = window; seats = seats })) }
         ensures refused { IfErr result (RefusesNumbers (record { start = start; window = window; seats = seats })) }
     {
         let about = About::checked(seats, start, window)?;
@@ -47,9 +45,7 @@ impl Core {
 
     /// Takes one step, or refuses it. Only a note takes memory.
     pub fn apply(&mut self, _alloc: Global, step: Step) -> Result<Seen, StepRefused>
-        ensures stepped { IfOk result (λ seen. IsStep self.old step seen self.new) }
-        ensures refused { IfErr result (λ refused. Refuses self.old step refused) }
-        ensures unchanged { OnErr result (self.new ≡ self.old) }
+        ensures step { TakesStep self.old step result self.new }
         ensures law { CoreLaw self.new }
     {
         self.works.apply(step)

@@ -243,8 +243,7 @@ impl Holder {
 
     /// After an advance's exchange, whether or not it moved the write hand.
     pub fn advance_swapped(self, found: u64) -> Self
-        requires write { self.write < 2 ^ 63 }
-        requires advances { self.advances < 2 ^ 63 }
+        requires { clock.MaySwap self }
         ensures { result ≡ clock.advance_swapped self found }
     {
         let goal = self.write + 2;
@@ -312,8 +311,7 @@ impl Holder {
 
     /// After a poll's load of a seat's word.
     pub fn poll_scanned(self, about: About, word: u32) -> Self
-        requires few { about.seats ≤ 64 }
-        requires within { self.scanned < 2 ^ 31 }
+        requires { clock.MayScan about self }
         ensures { result ≡ clock.poll_scanned about self word }
     {
         Holder {

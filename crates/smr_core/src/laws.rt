@@ -1,62 +1,22 @@
 //! The laws of the clock, each for all states and all runs. A call here does nothing: its contract is
 //! the law. The definitions are those that the contract of `Core::apply` cites.
 
-ghost use Rattle.smr_core.specs.ClockMoves.{BeginsLawful, OtherWordKeeps, WriteLookKeeps, ReadLookKeeps, EnterLoadKeeps, EnterStoreKeeps, EnterCheckKeeps, ClearKeeps, LeaveKeeps, ComeKeeps, AdvanceReadKeeps, AdvanceLoadKeeps, AdvanceSwapKeeps, PollReadKeeps, PollLoadKeeps, PollEndKeeps, PollPresentKeeps, PollScanKeeps, PollSwapKeeps, NoteKeeps, WorkerKeeps, JoinKeeps};
+ghost use Rattle.smr_core.specs.ClockMoves.{StepsKeepTheLaw};
 ghost use Rattle.smr_core.specs.TurnLaws.{TurnIsDetermined, TakenIsNotRefused};
-ghost use Rattle.smr_core.specs.RememberedMoves.{BeginsRemembering, WriteLookRemembers, ReadLookRemembers, EnterLoadRemembers, EnterStoreRemembers, EnterCheckRemembers, ClearRemembers, LeaveRemembers, ComeRemembers, AdvanceReadRemembers, AdvanceLoadRemembers, AdvanceSwapRemembers, PollReadRemembers, PollLoadRemembers, PollPresentRemembers, PollScanRemembers, PollSwapRemembers, NoteRemembers, WorkerRemembers, JoinRemembers};
-ghost use Rattle.smr_core.specs.YesMeans.{YesIsKnown, YesMeansExpired, YesIsExpired, GoalIsExpired, PollKeepsItsTag, HandsNeverFall, WindowIsKept, MarksAreKept, EntryIsTheThirdStep};
+ghost use Rattle.smr_core.specs.RememberedMoves.{StepsKeepWhatIsRemembered};
+ghost use Rattle.smr_core.specs.YesMeans.{YesIsKnown, YesMeansExpired, YesOverRuns, HandsAndMarksOverRuns};
 
 /// The clock's law holds where a clock begins, and each kind of step keeps it from every state in
 /// which it holds, whoever takes the step. Neither hand is lower after any.
 pub fn steps_keep_the_law()
-    ensures begins { BeginsLawful }
-    ensures other_word { OtherWordKeeps }
-    ensures write_look { WriteLookKeeps }
-    ensures read_look { ReadLookKeeps }
-    ensures enter_load { EnterLoadKeeps }
-    ensures enter_store { EnterStoreKeeps }
-    ensures enter_check { EnterCheckKeeps }
-    ensures clear { ClearKeeps }
-    ensures leave { LeaveKeeps }
-    ensures come { ComeKeeps }
-    ensures advance_read { AdvanceReadKeeps }
-    ensures advance_load { AdvanceLoadKeeps }
-    ensures advance_swap { AdvanceSwapKeeps }
-    ensures poll_read { PollReadKeeps }
-    ensures poll_load { PollLoadKeeps }
-    ensures poll_end { PollEndKeeps }
-    ensures poll_present { PollPresentKeeps }
-    ensures poll_scan { PollScanKeeps }
-    ensures poll_swap { PollSwapKeeps }
-    ensures note { NoteKeeps }
-    ensures worker { WorkerKeeps }
-    ensures join { JoinKeeps }
+    ensures { StepsKeepTheLaw }
 {}
 
 /// What the views of a running clock remember beside their holders is so where a clock begins, and
 /// stays so by each kind of step: a poll's words were stored by the workers of their seats, they are
 /// those of the seats of its set that were scanned, and the least mark follows from them.
 pub fn steps_keep_what_is_remembered()
-    ensures begins { BeginsRemembering }
-    ensures write_look { WriteLookRemembers }
-    ensures read_look { ReadLookRemembers }
-    ensures enter_load { EnterLoadRemembers }
-    ensures enter_store { EnterStoreRemembers }
-    ensures enter_check { EnterCheckRemembers }
-    ensures clear { ClearRemembers }
-    ensures leave { LeaveRemembers }
-    ensures come { ComeRemembers }
-    ensures advance_read { AdvanceReadRemembers }
-    ensures advance_load { AdvanceLoadRemembers }
-    ensures advance_swap { AdvanceSwapRemembers }
-    ensures poll_read { PollReadRemembers }
-    ensures poll_load { PollLoadRemembers }
-    ensures poll_present { PollPresentRemembers }
-    ensures poll_scan { PollScanRemembers }
-    ensures poll_swap { PollSwapRemembers }
-    ensures note { NoteRemembers }
-    ensures worker { WorkerRemembers }
-    ensures join { JoinRemembers }
+    ensures { StepsKeepWhatIsRemembered }
 {}
 
 /// What a poll's yes says, of one step: each number up to the write hand that the poll loaded, whose
@@ -71,19 +31,14 @@ pub fn yes_of_one_step()
 /// and no open section is before it; so it is with each goal that an advance answered before that
 /// load. Of a number above `l`, and by a no, nothing is said: a tag is only the low half of a goal.
 pub fn yes_over_runs()
-    ensures expired { YesIsExpired }
-    ensures goals { GoalIsExpired }
-    ensures tag { PollKeepsItsTag }
+    ensures { YesOverRuns }
 {}
 
 /// Over every run from a new core: neither hand falls, the window is never exceeded, each open
 /// section's entry mark is at least the read hand, and it is the write hand that the third step of
 /// its enter found.
 pub fn hands_and_marks_over_runs()
-    ensures hands { HandsNeverFall }
-    ensures window { WindowIsKept }
-    ensures marks { MarksAreKept }
-    ensures entry { EntryIsTheThirdStep }
+    ensures { HandsAndMarksOverRuns }
 {}
 
 /// From a state a turn sees one thing and leads to one state, and where it may be taken it is refused

@@ -1,6 +1,6 @@
-ghost use Rattle.std.specs.Prelude.{◌≡◌, ◌+◌, ◌^◌, ◌<◌, ◌≤◌, length, IfOk, IfErr, OnErr};
+ghost use Rattle.std.specs.Prelude.{◌≡◌, ◌+◌, ◌^◌, ◌<◌, ◌≤◌, length};
 ghost use Rattle.smr_core.specs.CoreState.{CoreLaw};
-ghost use Rattle.smr_core.specs.CoreStep.{IsStep, Refuses};
+ghost use Rattle.smr_core.specs.CoreStep.{TakesStep};
 ghost use Rattle.smr_core.specs.Works.{state_of};
 ghost use Rattle.smr_core.specs.declared.step.Step.{Step};
 
@@ -20,9 +20,7 @@ impl Works {
     #[tactic(auto, using(crate::proofs::PlaceLemmas::set_push))]
     pub fn note(&mut self, seat: u32) -> Result<Seen, StepRefused>
         requires { CoreLaw (state_of self.old) }
-        ensures stepped { IfOk result (λ seen. IsStep (state_of self.old) (Step.Note seat) seen (state_of self.new)) }
-        ensures refused { IfErr result (λ refused. Refuses (state_of self.old) (Step.Note seat) refused) }
-        ensures unchanged { OnErr result (state_of self.new ≡ state_of self.old) }
+        ensures { TakesStep (state_of self.old) (Step.Note seat) result (state_of self.new) }
     {
         let actor = self.actor(seat)?;
         if !actor.holder.is_idle_worker() {
@@ -54,9 +52,7 @@ impl Works {
     /// A note is taken in, and is spent.
     pub fn absorb(&mut self, seat: u32, note: u32) -> Result<Seen, StepRefused>
         requires { CoreLaw (state_of self.old) }
-        ensures stepped { IfOk result (λ seen. IsStep (state_of self.old) (Step.Absorb seat note) seen (state_of self.new)) }
-        ensures refused { IfErr result (λ refused. Refuses (state_of self.old) (Step.Absorb seat note) refused) }
-        ensures unchanged { OnErr result (state_of self.new ≡ state_of self.old) }
+        ensures { TakesStep (state_of self.old) (Step.Absorb seat note) result (state_of self.new) }
     {
         let actor = self.actor(seat)?;
         let other = self.actor(note)?;

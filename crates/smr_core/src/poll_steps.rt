@@ -1,6 +1,6 @@
-ghost use Rattle.std.specs.Prelude.{◌≡◌, ◌+◌, ◌^◌, ◌<◌, ◌≤◌, length, IfOk, IfErr, OnErr};
+ghost use Rattle.std.specs.Prelude.{◌≡◌, ◌+◌, ◌^◌, ◌<◌, ◌≤◌, length};
 ghost use Rattle.smr_core.specs.CoreState.{CoreLaw};
-ghost use Rattle.smr_core.specs.CoreStep.{IsStep, Refuses};
+ghost use Rattle.smr_core.specs.CoreStep.{TakesStep};
 ghost use Rattle.smr_core.specs.Works.{state_of};
 ghost use Rattle.smr_core.specs.declared.step.Step.{Step};
 
@@ -17,9 +17,7 @@ impl Works {
     /// The load of the read hand, by a worker or a note.
     pub fn poll_read(&mut self, seat: u32, tag: u32) -> Result<Seen, StepRefused>
         requires { CoreLaw (state_of self.old) }
-        ensures stepped { IfOk result (λ seen. IsStep (state_of self.old) (Step.PollRead seat tag) seen (state_of self.new)) }
-        ensures refused { IfErr result (λ refused. Refuses (state_of self.old) (Step.PollRead seat tag) refused) }
-        ensures unchanged { OnErr result (state_of self.new ≡ state_of self.old) }
+        ensures { TakesStep (state_of self.old) (Step.PollRead seat tag) result (state_of self.new) }
     {
         let actor = self.actor(seat)?;
         if !actor.holder.may_poll() {
@@ -38,9 +36,7 @@ impl Works {
     /// The load of the write hand, which ends the poll where its tag is known to be expired.
     pub fn poll_load(&mut self, seat: u32) -> Result<Seen, StepRefused>
         requires { CoreLaw (state_of self.old) }
-        ensures stepped { IfOk result (λ seen. IsStep (state_of self.old) (Step.PollLoad seat) seen (state_of self.new)) }
-        ensures refused { IfErr result (λ refused. Refuses (state_of self.old) (Step.PollLoad seat) refused) }
-        ensures unchanged { OnErr result (state_of self.new ≡ state_of self.old) }
+        ensures { TakesStep (state_of self.old) (Step.PollLoad seat) result (state_of self.new) }
     {
         let actor = self.actor(seat)?;
         if actor.holder.task != Task::PollRead {
@@ -69,9 +65,7 @@ impl Works {
     /// The load of the presence word, which is the poll's set of seats.
     pub fn poll_present(&mut self, seat: u32) -> Result<Seen, StepRefused>
         requires { CoreLaw (state_of self.old) }
-        ensures stepped { IfOk result (λ seen. IsStep (state_of self.old) (Step.PollPresent seat) seen (state_of self.new)) }
-        ensures refused { IfErr result (λ refused. Refuses (state_of self.old) (Step.PollPresent seat) refused) }
-        ensures unchanged { OnErr result (state_of self.new ≡ state_of self.old) }
+        ensures { TakesStep (state_of self.old) (Step.PollPresent seat) result (state_of self.new) }
     {
         let actor = self.actor(seat)?;
         if actor.holder.task != Task::PollLoaded {
@@ -86,9 +80,7 @@ impl Works {
     /// The load of the word of the next seat of the poll's set.
     pub fn poll_scan(&mut self, seat: u32) -> Result<Seen, StepRefused>
         requires { CoreLaw (state_of self.old) }
-        ensures stepped { IfOk result (λ seen. IsStep (state_of self.old) (Step.PollScan seat) seen (state_of self.new)) }
-        ensures refused { IfErr result (λ refused. Refuses (state_of self.old) (Step.PollScan seat) refused) }
-        ensures unchanged { OnErr result (state_of self.new ≡ state_of self.old) }
+        ensures { TakesStep (state_of self.old) (Step.PollScan seat) result (state_of self.new) }
     {
         let actor = self.actor(seat)?;
         let scanned = actor.holder.scanned;
@@ -108,9 +100,7 @@ impl Works {
     /// The exchange of the read hand, and the answer.
     pub fn poll_swap(&mut self, seat: u32) -> Result<Seen, StepRefused>
         requires { CoreLaw (state_of self.old) }
-        ensures stepped { IfOk result (λ seen. IsStep (state_of self.old) (Step.PollSwap seat) seen (state_of self.new)) }
-        ensures refused { IfErr result (λ refused. Refuses (state_of self.old) (Step.PollSwap seat) refused) }
-        ensures unchanged { OnErr result (state_of self.new ≡ state_of self.old) }
+        ensures { TakesStep (state_of self.old) (Step.PollSwap seat) result (state_of self.new) }
     {
         let actor = self.actor(seat)?;
         if actor.holder.task != Task::Scanning || actor.holder.scanned != self.about.seats {

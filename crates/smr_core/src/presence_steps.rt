@@ -1,6 +1,6 @@
-ghost use Rattle.std.specs.Prelude.{◌≡◌, ◌+◌, ◌^◌, ◌<◌, ◌≤◌, length, IfOk, IfErr, OnErr};
+ghost use Rattle.std.specs.Prelude.{◌≡◌, ◌+◌, ◌^◌, ◌<◌, ◌≤◌, length};
 ghost use Rattle.smr_core.specs.CoreState.{CoreLaw};
-ghost use Rattle.smr_core.specs.CoreStep.{IsStep, Refuses};
+ghost use Rattle.smr_core.specs.CoreStep.{TakesStep};
 ghost use Rattle.smr_core.specs.Works.{state_of};
 ghost use Rattle.smr_core.specs.declared.step.Step.{Step};
 
@@ -16,9 +16,7 @@ impl Works {
     /// The worker leaves its seat, which is vacant then.
     pub fn leave(&mut self, seat: u32) -> Result<Seen, StepRefused>
         requires { CoreLaw (state_of self.old) }
-        ensures stepped { IfOk result (λ seen. IsStep (state_of self.old) (Step.Leave seat) seen (state_of self.new)) }
-        ensures refused { IfErr result (λ refused. Refuses (state_of self.old) (Step.Leave seat) refused) }
-        ensures unchanged { OnErr result (state_of self.new ≡ state_of self.old) }
+        ensures { TakesStep (state_of self.old) (Step.Leave seat) result (state_of self.new) }
     {
         let actor = self.actor(seat)?;
         if !actor.holder.may_leave() {
@@ -33,9 +31,7 @@ impl Works {
     /// A worker comes to a vacant seat.
     pub fn come(&mut self, seat: u32) -> Result<Seen, StepRefused>
         requires { CoreLaw (state_of self.old) }
-        ensures stepped { IfOk result (λ seen. IsStep (state_of self.old) (Step.Come seat) seen (state_of self.new)) }
-        ensures refused { IfErr result (λ refused. Refuses (state_of self.old) (Step.Come seat) refused) }
-        ensures unchanged { OnErr result (state_of self.new ≡ state_of self.old) }
+        ensures { TakesStep (state_of self.old) (Step.Come seat) result (state_of self.new) }
     {
         let actor = self.actor(seat)?;
         if actor.holder.phase != Phase::Vacant {

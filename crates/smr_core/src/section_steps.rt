@@ -1,6 +1,6 @@
-ghost use Rattle.std.specs.Prelude.{◌≡◌, ◌+◌, ◌^◌, ◌<◌, ◌≤◌, length, IfOk, IfErr, OnErr};
+ghost use Rattle.std.specs.Prelude.{◌≡◌, ◌+◌, ◌^◌, ◌<◌, ◌≤◌, length};
 ghost use Rattle.smr_core.specs.CoreState.{CoreLaw};
-ghost use Rattle.smr_core.specs.CoreStep.{IsStep, Refuses};
+ghost use Rattle.smr_core.specs.CoreStep.{TakesStep};
 ghost use Rattle.smr_core.specs.Works.{state_of};
 ghost use Rattle.smr_core.specs.declared.step.Step.{Step};
 
@@ -15,9 +15,7 @@ impl Works {
     /// The first step of an enter.
     pub fn enter_load(&mut self, seat: u32) -> Result<Seen, StepRefused>
         requires { CoreLaw (state_of self.old) }
-        ensures stepped { IfOk result (λ seen. IsStep (state_of self.old) (Step.EnterLoad seat) seen (state_of self.new)) }
-        ensures refused { IfErr result (λ refused. Refuses (state_of self.old) (Step.EnterLoad seat) refused) }
-        ensures unchanged { OnErr result (state_of self.new ≡ state_of self.old) }
+        ensures { TakesStep (state_of self.old) (Step.EnterLoad seat) result (state_of self.new) }
     {
         let actor = self.actor(seat)?;
         if actor.holder.phase != Phase::Outside {
@@ -32,9 +30,7 @@ impl Works {
     /// The second step of an enter.
     pub fn enter_store(&mut self, seat: u32) -> Result<Seen, StepRefused>
         requires { CoreLaw (state_of self.old) }
-        ensures stepped { IfOk result (λ seen. IsStep (state_of self.old) (Step.EnterStore seat) seen (state_of self.new)) }
-        ensures refused { IfErr result (λ refused. Refuses (state_of self.old) (Step.EnterStore seat) refused) }
-        ensures unchanged { OnErr result (state_of self.new ≡ state_of self.old) }
+        ensures { TakesStep (state_of self.old) (Step.EnterStore seat) result (state_of self.new) }
     {
         let actor = self.actor(seat)?;
         if actor.holder.phase != Phase::Loaded {
@@ -48,9 +44,7 @@ impl Works {
     /// The third step of an enter, the entry.
     pub fn enter_check(&mut self, seat: u32) -> Result<Seen, StepRefused>
         requires { CoreLaw (state_of self.old) }
-        ensures stepped { IfOk result (λ seen. IsStep (state_of self.old) (Step.EnterCheck seat) seen (state_of self.new)) }
-        ensures refused { IfErr result (λ refused. Refuses (state_of self.old) (Step.EnterCheck seat) refused) }
-        ensures unchanged { OnErr result (state_of self.new ≡ state_of self.old) }
+        ensures { TakesStep (state_of self.old) (Step.EnterCheck seat) result (state_of self.new) }
     {
         let actor = self.actor(seat)?;
         if actor.holder.phase != Phase::Stored {
@@ -71,9 +65,7 @@ impl Works {
     /// Exit.
     pub fn clear(&mut self, seat: u32) -> Result<Seen, StepRefused>
         requires { CoreLaw (state_of self.old) }
-        ensures stepped { IfOk result (λ seen. IsStep (state_of self.old) (Step.Clear seat) seen (state_of self.new)) }
-        ensures refused { IfErr result (λ refused. Refuses (state_of self.old) (Step.Clear seat) refused) }
-        ensures unchanged { OnErr result (state_of self.new ≡ state_of self.old) }
+        ensures { TakesStep (state_of self.old) (Step.Clear seat) result (state_of self.new) }
     {
         let actor = self.actor(seat)?;
         if !matches!(actor.holder.phase, Phase::Inside | Phase::Late) {

@@ -1,7 +1,7 @@
-ghost use Rattle.std.specs.Prelude.{◌≡◌, ◌+◌, ◌≤◌, [], IfOk, IfErr, OnErr, vec_len, vec_capacity};
+ghost use Rattle.std.specs.Prelude.{◌≡◌, IfOk, IfErr};
 ghost use Rattle.smr_core.specs.CoreState.{CoreLaw};
 ghost use Rattle.smr_core.specs.CoreStep.{IsStep};
-ghost use Rattle.smr_core.specs.Turns.{IsSure, IsTurn, RefusesTurn, most_steps};
+ghost use Rattle.smr_core.specs.Turns.{IsRoomFor, IsSure, TakesTurn};
 ghost use Rattle.smr_core.specs.declared.step_refused.StepRefused.{StepRefused};
 ghost use Rattle.smr_core.specs.declared.turn.Turn.{Turn};
 
@@ -19,10 +19,7 @@ use std::alloc::Global;
 impl Core {
     /// Takes the steps of a turn, or refuses its first one. What each step saw stands in order.
     pub fn turn(&mut self, alloc: Global, turn: Turn) -> Result<Seens, StepRefused>
-        ensures taken { IfOk result (λ sees. IsTurn self.old turn sees self.new) }
-        ensures refused { IfErr result (λ refused. RefusesTurn self.old turn refused) }
-        ensures unchanged { OnErr result (self.new ≡ self.old) }
-        ensures law { CoreLaw self.new }
+        ensures { TakesTurn self.old turn result self.new }
     {
         match turn {
             Turn::One { step } => self.one(alloc, step),
@@ -35,9 +32,7 @@ impl Core {
 
     /// The room for what the steps of a turn see, however it ends.
     fn room(&self, alloc: Global, turn: Turn) -> Result<Vec<Seen>, StepRefused>
-        ensures empty { IfOk result (λ sees. sees.items ≡ []) }
-        ensures len { IfOk result (λ sees. vec_len sees ≡ 0) }
-        ensures room { IfOk result (λ sees. most_steps self.now.about turn ≤ vec_capacity sees) }
+        ensures room { IfOk result (IsRoomFor self.now.about turn) }
         ensures refused { IfErr result (λ refused. refused ≡ StepRefused.Memory) }
         ensures law { CoreLaw self.now }
     {
@@ -68,10 +63,7 @@ impl Core {
     }
 
     fn one(&mut self, alloc: Global, step: Step) -> Result<Seens, StepRefused>
-        ensures taken { IfOk result (λ sees. IsTurn self.old (Turn.One step) sees self.new) }
-        ensures refused { IfErr result (λ refused. RefusesTurn self.old (Turn.One step) refused) }
-        ensures unchanged { OnErr result (self.new ≡ self.old) }
-        ensures law { CoreLaw self.new }
+        ensures { TakesTurn self.old (Turn.One step) result self.new }
     {
         let mut sees = self.room(alloc, Turn::One { step })?;
         let seen = self.apply(alloc, step)?;
@@ -80,10 +72,7 @@ impl Core {
     }
 
     fn enter(&mut self, alloc: Global, seat: u32) -> Result<Seens, StepRefused>
-        ensures taken { IfOk result (λ sees. IsTurn self.old (Turn.Enter seat) sees self.new) }
-        ensures refused { IfErr result (λ refused. RefusesTurn self.old (Turn.Enter seat) refused) }
-        ensures unchanged { OnErr result (self.new ≡ self.old) }
-        ensures law { CoreLaw self.new }
+        ensures { TakesTurn self.old (Turn.Enter seat) result self.new }
     {
         let mut sees = self.room(alloc, Turn::Enter { seat })?;
         let loaded = self.apply(alloc, Step::EnterLoad { seat })?;
@@ -101,10 +90,7 @@ impl Core {
     }
 
     fn advance(&mut self, alloc: Global, seat: u32) -> Result<Seens, StepRefused>
-        ensures taken { IfOk result (λ sees. IsTurn self.old (Turn.Advance seat) sees self.new) }
-        ensures refused { IfErr result (λ refused. RefusesTurn self.old (Turn.Advance seat) refused) }
-        ensures unchanged { OnErr result (self.new ≡ self.old) }
-        ensures law { CoreLaw self.new }
+        ensures { TakesTurn self.old (Turn.Advance seat) result self.new }
     {
         let mut sees = self.room(alloc, Turn::Advance { seat })?;
         let read = self.apply(alloc, Step::AdvanceRead { seat })?;
@@ -120,10 +106,7 @@ impl Core {
     }
 
     fn poll_loads(&mut self, alloc: Global, seat: u32) -> Result<Seens, StepRefused>
-        ensures taken { IfOk result (λ sees. IsTurn self.old (Turn.PollLoads seat) sees self.new) }
-        ensures refused { IfErr result (λ refused. RefusesTurn self.old (Turn.PollLoads seat) refused) }
-        ensures unchanged { OnErr result (self.new ≡ self.old) }
-        ensures law { CoreLaw self.new }
+        ensures { TakesTurn self.old (Turn.PollLoads seat) result self.new }
     {
         let mut sees = self.room(alloc, Turn::PollLoads { seat })?;
         let loaded = self.apply(alloc, Step::PollLoad { seat })?;
@@ -137,10 +120,7 @@ impl Core {
     }
 
     fn poll(&mut self, alloc: Global, seat: u32, tag: u32) -> Result<Seens, StepRefused>
-        ensures taken { IfOk result (λ sees. IsTurn self.old (Turn.Poll seat tag) sees self.new) }
-        ensures refused { IfErr result (λ refused. RefusesTurn self.old (Turn.Poll seat tag) refused) }
-        ensures unchanged { OnErr result (self.new ≡ self.old) }
-        ensures law { CoreLaw self.new }
+        ensures { TakesTurn self.old (Turn.Poll seat tag) result self.new }
     {
         let seats = self.seats();
         let mut sees = self.room(alloc, Turn::Poll { seat, tag })?;

@@ -1,6 +1,6 @@
-ghost use Rattle.std.specs.Prelude.{◌≡◌, ◌+◌, ◌<◌, ◌≤◌, length, ◌∷◌, replicate, IfOk, IfErr, OnOk, OnErr};
-ghost use Rattle.smr_core.specs.CoreState.{CoreLaw, IsActor, first_workers, opening};
-ghost use Rattle.smr_core.specs.CoreStep.{IsStep, Refuses};
+ghost use Rattle.std.specs.Prelude.{◌≡◌, ◌+◌, ◌<◌, ◌≤◌, length, ◌∷◌, replicate, IfOk};
+ghost use Rattle.smr_core.specs.CoreState.{CoreLaw, first_workers, opening};
+ghost use Rattle.smr_core.specs.CoreStep.{FindsActor, TakesStep};
 ghost use Rattle.smr_core.specs.Works.{state_of};
 
 use crate::about::About;
@@ -48,9 +48,7 @@ impl Works {
     /// Takes one step, or refuses it.
     pub fn apply(&mut self, step: Step) -> Result<Seen, StepRefused>
         requires { CoreLaw (state_of self.old) }
-        ensures stepped { IfOk result (λ seen. IsStep (state_of self.old) step seen (state_of self.new)) }
-        ensures refused { IfErr result (λ refused. Refuses (state_of self.old) step refused) }
-        ensures unchanged { OnErr result (state_of self.new ≡ state_of self.old) }
+        ensures { TakesStep (state_of self.old) step result (state_of self.new) }
     {
         match step {
             Step::EnterLoad { seat } => self.enter_load(seat),
@@ -76,10 +74,7 @@ impl Works {
     #[tactic(auto, using(crate::proofs::PlaceLemmas::at_index))]
     pub fn actor(&self, number: u32) -> Result<Actor, StepRefused>
         requires { CoreLaw (state_of self.now) }
-        ensures there { IfOk result (λ actor. IsActor (state_of self.now) number actor) }
-        ensures within { OnOk result (number < length self.now.actors.items) }
-        ensures missing { IfErr result (λ refused.
-            (refused ≡ StepRefused.NoSeat number (length self.now.actors.items)) × (length self.now.actors.items ≤ number)) }
+        ensures { FindsActor (state_of self.now) number result }
     {
         let seats = self.actors.len() as u32;
         if number < seats {

@@ -14,7 +14,7 @@ use Rattle.smr_core.proofs.clock_core.Core.poll.Goals as goal
 use Rattle.smr_core.proofs.clock_core.Core.poll.Goals.{then-is_present, else-is_present}
 
 pub take-loaded-requires : goal.take-loaded-requires
-take-loaded-requires c = poll_load-sure c.args.self.now c.args.seat c.args.tag c.in_ok-read.read c.apply.new.self c.in_ok-read.ensures.stepped
+take-loaded-requires c = poll_load-sure c.args.self.now c.args.seat c.args.tag c.in_ok-read.read c.apply.new.self c.in_ok-read.ensures.step.stepped
 
 pub take-found-requires : goal.take-found-requires
 take-found-requires c =
@@ -27,7 +27,7 @@ pub loop-number-init : goal.loop-number-init
 unfolding after
 loop-number-init c =
     let hand : is_hand c.take-loaded.result ≡ true = search rules in
-    let one = c.push_reserved.ensures.items ∙ ap (λ (l : List Seen). after l c.in_ok-read.read) c.in_ok-sees.ensures.empty in
+    let one = c.push_reserved.ensures.items ∙ ap (λ (l : List Seen). after l c.in_ok-read.read) c.in_ok-sees.ensures.room.empty in
     let two = c.push_reserved-2.ensures.items ∙ ap (λ (l : List Seen). after l c.take-loaded.result) one in
     let three = c.push_reserved-3.ensures.items ∙ ap (λ (l : List Seen). after l c.take-found.result) two in
     let about : c.take-found.new.self.about ≡ c.take-loaded.new.self.about = ap (λ (t : State). t.about) c.take-found.ensures.stepped.after in
@@ -36,13 +36,13 @@ loop-number-init c =
       run =
           subst (λ (l : List Seen). Run c.args.self.now (PollRead c.args.seat c.args.tag ∷ PollLoad c.args.seat ∷ PollPresent c.args.seat ∷ []) l c.take-found.new.self) (sym three)
           (run-three c.args.self.now c.apply.new.self c.take-loaded.new.self c.take-found.new.self (PollRead c.args.seat c.args.tag) (PollLoad c.args.seat) (PollPresent c.args.seat)
-          c.in_ok-read.read c.take-loaded.result c.take-found.result c.in_ok-read.ensures.stepped c.take-loaded.ensures.stepped c.take-found.ensures.stepped);
+          c.in_ok-read.read c.take-loaded.result c.take-found.result c.in_ok-read.ensures.step.stepped c.take-loaded.ensures.stepped c.take-found.ensures.stepped);
       scans =
           subst₂ (λ (a : About) (set : ℕ). Scans c.take-found.new.self c.args.seat set (next_present a set 0)) (sym about) (sym c.set-set.ensures) first;
-      about = about ∙ ap (λ (t : State). t.about) c.take-loaded.ensures.stepped.after ∙ ap (λ (t : State). t.about) c.in_ok-read.ensures.stepped.after;
+      about = about ∙ ap (λ (t : State). t.about) c.take-loaded.ensures.stepped.after ∙ ap (λ (t : State). t.about) c.in_ok-read.ensures.step.stepped.after;
       begun = subst (λ (l : List Seen). HasBegun c.set-set.result l) (sym three) (hand, sym c.set-set.ensures);
-      count = omega (arith, c.push_reserved-3.ensures.len, c.push_reserved-2.ensures.len, c.push_reserved.ensures.len, c.in_ok-sees.ensures.len);
-      room = omega (arith, c.push_reserved-3.ensures.capacity, c.push_reserved-2.ensures.capacity, c.push_reserved.ensures.capacity, c.in_ok-sees.ensures.room, c.seats-seats.ensures.value);
+      count = omega (arith, c.push_reserved-3.ensures.len, c.push_reserved-2.ensures.len, c.push_reserved.ensures.len, c.in_ok-sees.ensures.room.len);
+      room = omega (arith, c.push_reserved-3.ensures.capacity, c.push_reserved-2.ensures.capacity, c.push_reserved.ensures.capacity, c.in_ok-sees.ensures.room.room, c.seats-seats.ensures.value);
     }
 
 pub take-word-requires : goal.take-word-requires
@@ -102,10 +102,16 @@ take-swapped-requires c =
     swap-sure c.loop-number.self c.args.seat c.set-set.result (next_present c.loop-number.self.about c.set-set.result c.loop-number.number) at.scans
     (next-at-end c.loop-number.self.about c.set-set.result c.loop-number.number (omega arith) ∙ end)
 
-pub returns-clause-taken : goal.returns-clause-taken
-returns-clause-taken c =
+pub returns : goal.returns
+returns c =
     let at = c.loop-number.invariant in
     let end : c.loop-number.number ≡ c.args.self.now.about.seats = omega (arith, c.seats-seats.ensures.value, c.loop-number-test.false, c.loop-number.auto.number-end) in
-    subst (λ (l : List Seen). IsTurn c.args.self.now (Poll c.args.seat c.args.tag) l c.take-swapped.new.self) (sym (c.from_vec-2.ensures ∙ c.push_reserved-4.ensures.items))
-    (poll-whole c.args.self.now c.loop-number.self c.take-swapped.new.self c.args.seat c.args.tag c.set-set.result c.loop-number.number c.loop-number.sees.items c.take-swapped.result
-    at.run end at.begun c.take-swapped.ensures.stepped)
+    record {
+      taken =
+          subst (λ (l : List Seen). IsTurn c.args.self.now (Poll c.args.seat c.args.tag) l c.take-swapped.new.self) (sym (c.from_vec-2.ensures ∙ c.push_reserved-4.ensures.items))
+          (poll-whole c.args.self.now c.loop-number.self c.take-swapped.new.self c.args.seat c.args.tag c.set-set.result c.loop-number.number c.loop-number.sees.items c.take-swapped.result
+          at.run end at.begun c.take-swapped.ensures.stepped);
+      refused = search rules;
+      unchanged = search rules;
+      law = search rules;
+    }

@@ -11,11 +11,11 @@ overflow_add-goal c =
     let room : c.in_ok-actor.actor.holder.write + 2 < 2 ^ 63 = goal_fits (state_of c.args.self.now) c.args.seat c.in_ok-actor.actor c.requires c.in_ok-actor.ensures.there loaded in
     omega arith
 
-pub advance_swapped-requires-clause-write : goal.advance_swapped-requires-clause-write
-advance_swapped-requires-clause-write c =
+pub advance_swapped-requires : goal.advance_swapped-requires
+advance_swapped-requires c =
     let loaded : c.in_ok-actor.actor.holder.task ≡ task.AdvLoaded = search rules in
     let room : c.in_ok-actor.actor.holder.write + 2 < 2 ^ 63 = goal_fits (state_of c.args.self.now) c.args.seat c.in_ok-actor.actor c.requires c.in_ok-actor.ensures.there loaded in
-    omega arith
-
-pub advance_swapped-requires-clause-advances : goal.advance_swapped-requires-clause-advances
-advance_swapped-requires-clause-advances c = advances_fit (state_of c.args.self.now) c.args.seat c.in_ok-actor.actor c.requires c.in_ok-actor.ensures.there
+    record {
+      write = omega arith;
+      advances = advances_fit (state_of c.args.self.now) c.args.seat c.in_ok-actor.actor c.requires c.in_ok-actor.ensures.there;
+    }

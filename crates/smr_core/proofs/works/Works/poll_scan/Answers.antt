@@ -12,9 +12,9 @@ use Rattle.smr_core.proofs.works.Works.poll_scan.Goals as goal
 word_seen : Holder → ℕ → ℕ → Seen
 word_seen h word least = seen.Word h.scanned word least
 
-pub returns-clause-stepped : goal.returns-clause-stepped
+pub returns : goal.returns
 unfolding word_seen
-returns-clause-stepped c =
+returns c =
     let scanning : c.in_ok-actor.actor.holder.task ≡ task.Scanning = search rules in
     let long : length c.args.self.now.words.items ≡ place_after_seats c.args.self.now.about = c.requires.words in
     let below : c.in_ok-actor.actor.holder.scanned < c.args.self.now.about.seats = c.if-scanned-self.false in
@@ -25,13 +25,18 @@ returns-clause-stepped c =
     c.poll_scanned-holder.ensures ∙ ap (λ (n : ℕ). clock.poll_scanned c.args.self.now.about c.in_ok-actor.actor.holder n) found in
     let still = set-get_or c.args.self.now.words.items (seat_place c.in_ok-actor.actor.holder.scanned) 0 in
     record {
-      actor = c.in_ok-actor.actor;
-      there = c.in_ok-actor.ensures.there;
-      needs = (scanning, c.if-scanned-self.false);
-      saw_it = λ i. word_seen c.in_ok-actor.actor.holder (found i) (after i).least;
-      after = λ i. record {
-        about = c.args.self.now.about;
-        words = sym still i;
-        actors = set c.args.self.now.actors.items c.args.seat ((c.with.ensures ∙ ap (λ (x : Holder). record c.in_ok-actor.actor { holder = x }) after) i);
-      };
+      stepped =
+          record {
+            actor = c.in_ok-actor.actor;
+            there = c.in_ok-actor.ensures.there;
+            needs = (scanning, c.if-scanned-self.false);
+            saw_it = λ i. word_seen c.in_ok-actor.actor.holder (found i) (after i).least;
+            after = λ i. record {
+              about = c.args.self.now.about;
+              words = sym still i;
+              actors = set c.args.self.now.actors.items c.args.seat ((c.with.ensures ∙ ap (λ (x : Holder). record c.in_ok-actor.actor { holder = x }) after) i);
+            };
+          };
+      refused = search rules;
+      unchanged = search rules;
     }
