@@ -1,15 +1,29 @@
 -- The workers of a clock are split off in order.
-use Rattle.std.proofs.Common.{◌≡◌, ℕ, zero, suc, ◌<◌, List, [], ◌∷◌, ◌++◌, length, sym, refl, ap, ◌∙◌, subst, ⊎_elim, arith, Some}
+use Rattle.std.proofs.Common.{◌≡◌, ℕ, zero, suc, ◌+◌, ◌<◌, List, [], ◌∷◌, ◌++◌, length, length-set, replicate, set, sym, refl, ap, ◌∙◌, subst, ⊎_elim, arith, Some}
+use Rattle.std.proofs.Math.ListN.{length-append, length-replicate}
 use mathlib.Core.Option.{some, some-ne-none}
 use lib.ListN.{get_elem?}
 use Rattle.atomic_table.specs.Seated.{TableId}
+use Rattle.smr_core.specs.ClockState.{all_seats, opening_words, place_after_seats, presence_place, read_place, write_place}
 use Rattle.smr_core.proofs.PlaceLemmas.{at_push, at_end, at_longer, place_within}
 use Rattle.smr_clock.specs.declared.setup.Setup.{Setup}
 use Rattle.smr_clock.specs.declared.view.View.{View}
 use Rattle.smr_clock.specs.declared.host.Host.{Ghosts}
 use Rattle.smr_clock.specs.declared.pass.Pass.{Pass}
 use Rattle.smr_clock.specs.Belongs.{view, holder}
-use Rattle.smr_clock.specs.Making.{fresh_view, AreSplitOff, OneForEachSeat}
+use Rattle.smr_clock.specs.Making.{first_words, fresh_view, AreSplitOff, OneForEachSeat}
+
+-- as many words as the clock's own and the host's
+pub words_made : (a b : Setup) (more given made : List ℕ) (count : ℕ) → made ≡ first_words b given → b ≡ a → given ≡ more → count ≡ length made
+    → count ≡ place_after_seats a.about + length more
+words_made a b more given made count is same whole all =
+    let blank : List ℕ = replicate (place_after_seats b.about) 0 in
+    let write : List ℕ = set blank write_place b.about.start in
+    let hands : List ℕ = set write read_place b.about.start in
+    let own : length (opening_words b.about) ≡ place_after_seats b.about =
+    length-set hands (presence_place b.about) (all_seats b.about) ∙ length-set write read_place b.about.start ∙ length-set blank write_place b.about.start
+    ∙ length-replicate (place_after_seats b.about) 0 in
+    all ∙ ap (λ (l : List ℕ). length l) is ∙ length-append (opening_words b.about) given ∙ (λ i. own i + length (whole i)) ∙ (λ i. place_after_seats (same i).about + length more)
 
 module _ {H P : Type 0} {g : Ghosts H P} (table : TableId) (copied : P → P) (a : Setup) (first : P) where
   pub none_yet : AreSplitOff {H = H} {P = P} {g = g} table copied a first []

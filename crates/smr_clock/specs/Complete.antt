@@ -33,3 +33,9 @@ abbrev pub SaysYesOfNoSection : Type 0 → Type 0
 SaysYesOfNoSection P =
     (v v' : View P) (tag : ℕ) → SaysNo v tag v' → NoneEntered v'.memory.last.found
     → (v'.memory.last.value ≡ v'.memory.last.least) ⊎ (v'.memory.last.value ≡ v'.memory.last.write) → ⊥
+
+-- all of these
+pub record RefusalsHaveTheirCause (P : Type 0) : Type 0 where
+  pub advances : AdvancesWithRoom P
+  pub known : SaysYesOfKnown P
+  pub no_section : SaysYesOfNoSection P

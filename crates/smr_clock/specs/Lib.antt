@@ -14,4 +14,5 @@ pub mod Moments
 pub mod SafeReuse
 pub mod Complete
 pub mod HostSteps
+pub mod Calls
 pub mod CountingHost

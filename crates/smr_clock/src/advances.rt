@@ -1,10 +1,7 @@
-ghost use Rattle.std.specs.Prelude.{◌≡◌, ◌≢◌, ◌^◌, ◌<◌, ◌+◌, IsSome, IfOk, IfErr};
-ghost use Rattle.smr_core.specs.declared.phase.Phase.{Phase};
 ghost use Rattle.smr_core.specs.declared.task.Task.{Task};
-ghost use Rattle.smr_clock.specs.Belongs.{IsOf, clock_id, knows, seat_clock, view, holder};
-ghost use Rattle.smr_clock.specs.Goals.{number_of};
-ghost use Rattle.smr_clock.specs.Advances.{Advances, Refuses, SameWorker};
-ghost use Rattle.smr_clock.specs.Steps.{IsReadFound, IsWriteFound, advance_reading, advance_loading, advance_swapping};
+ghost use Rattle.smr_clock.specs.Belongs.{IsOf, clock_id, knows};
+ghost use Rattle.smr_clock.specs.Calls.{IsInTask, FindsWrite, FindsRead, IsWorkerOf, LoadsWrite, MayExchangeWrite, TakesAdvance};
+ghost use Rattle.smr_clock.specs.Steps.{advance_reading, advance_swapping};
 
 use crate::clock::Clock;
 use crate::goal::Goal;
@@ -23,10 +20,7 @@ impl<H: Host> Clock<H> {
     /// there; where another pass has moved it first, the hand is there all the same.
     pub fn advance(&self, pass: &mut Pass<H>) -> Result<Goal, AdvanceRefused>
         requires here { IsOf self.now pass.old }
-        ensures here { IsOf self.now pass.new }
-        ensures phase { (holder pass.new).phase ≡ (holder pass.old).phase }
-        ensures advanced { IfOk result (λ goal. Advances (view pass.old) (number_of goal) (view pass.new)) }
-        ensures refused { IfErr result (λ refused. Refuses (view pass.old) refused (view pass.new)) }
+        ensures { TakesAdvance self.now pass.old result pass.new }
     {
         let read = self.load_read_hand(&mut pass.seat);
         let write = self.load_write_hand(&mut pass.seat);
@@ -41,33 +35,22 @@ impl<H: Host> Clock<H> {
     }
 
     fn load_read_hand(&self, seat: &mut Seat<(), View<H::Part>>) -> u64
-        requires here { seat_clock seat.old ≡ clock_id self.now }
-        requires worker { IsSome (knows seat.old).holder.seat × ((knows seat.old).holder.phase ≢ Phase.Vacant) }
-        ensures here { seat_clock seat.new ≡ clock_id self.now }
-        ensures found { IsReadFound (knows seat.old).holder result }
-        ensures view { knows seat.new ≡ advance_reading (knows seat.old) result }
+        requires { IsWorkerOf (clock_id self.now) seat.old }
+        ensures { FindsRead (clock_id self.now) (knows seat.old).holder result (advance_reading (knows seat.old) result) seat.new }
     {
         self.table.shared.load::<AdvanceReads>(seat, READ_PLACE)
     }
 
     fn load_write_hand(&self, seat: &mut Seat<(), View<H::Part>>) -> u64
-        requires here { seat_clock seat.old ≡ clock_id self.now }
-        requires reading { (knows seat.old).holder.task ≡ Task.AdvRead }
-        ensures here { seat_clock seat.new ≡ clock_id self.now }
-        ensures found { IsWriteFound (knows seat.old).holder result }
-        ensures kept { SameWorker (knows seat.old).holder (knows seat.new).holder }
-        ensures view { knows seat.new ≡ advance_loading (knows seat.old) result }
+        requires { IsInTask (clock_id self.now) Task.AdvRead seat.old }
+        ensures { LoadsWrite (clock_id self.now) (knows seat.old) result seat.new }
     {
         self.table.shared.load::<AdvanceLoads>(seat, WRITE_PLACE)
     }
 
     fn exchange_write_hand(&self, seat: &mut Seat<(), View<H::Part>>, write: u64) -> u64
-        requires here { seat_clock seat.old ≡ clock_id self.now }
-        requires loaded { (knows seat.old).holder.task ≡ Task.AdvLoaded }
-        requires write { (write ≡ (knows seat.old).holder.write) × (write + 2 < 2 ^ 63) }
-        ensures here { seat_clock seat.new ≡ clock_id self.now }
-        ensures found { IsWriteFound (knows seat.old).holder result }
-        ensures view { knows seat.new ≡ advance_swapping (knows seat.old) result }
+        requires { MayExchangeWrite (clock_id self.now) write seat.old }
+        ensures { FindsWrite (clock_id self.now) (knows seat.old).holder result (advance_swapping (knows seat.old) result) seat.new }
     {
         self.table
             .shared

@@ -1,6 +1,6 @@
-ghost use Rattle.std.specs.Prelude.{◌≡◌, ◌≤◌, ◌-◌, max};
-ghost use Rattle.smr_clock.specs.Belongs.{IsOf, view, holder};
-ghost use Rattle.smr_clock.specs.Steps.{IsReadFound, IsWriteFound, read_looking, write_looking};
+ghost use Rattle.smr_clock.specs.Belongs.{clock_id, IsOf, view, holder};
+ghost use Rattle.smr_clock.specs.Calls.{FindsRead, LooksAtWrite, FindsHands};
+ghost use Rattle.smr_clock.specs.Steps.{read_looking};
 
 use crate::clock::Clock;
 use crate::host::Host;
@@ -14,13 +14,7 @@ impl<H: Host> Clock<H> {
     /// write hand.
     pub fn hands(&self, pass: &mut Pass<H>) -> (u64, u64)
         requires here { IsOf self.now pass.old }
-        ensures here { IsOf self.now pass.new }
-        ensures read { IsReadFound (holder pass.old) result.0 }
-        ensures write { IsWriteFound (read_looking (view pass.old) result.0).holder result.1 }
-        ensures in_order { result.0 ≤ result.1 }
-        ensures seen { (holder pass.new).seen ≡ result.1 }
-        ensures floor { (holder pass.new).floor ≡ max result.0 (result.1 - (view pass.old).setup.about.window) }
-        ensures view { view pass.new ≡ write_looking (read_looking (view pass.old) result.0) result.1 }
+        ensures { FindsHands self.now pass.old result pass.new }
     {
         let read = self.look_at_read_hand(pass);
         let write = self.look_at_write_hand(pass);
@@ -29,9 +23,7 @@ impl<H: Host> Clock<H> {
 
     fn look_at_read_hand(&self, pass: &mut Pass<H>) -> u64
         requires here { IsOf self.now pass.old }
-        ensures here { IsOf self.now pass.new }
-        ensures found { IsReadFound (holder pass.old) result }
-        ensures view { view pass.new ≡ read_looking (view pass.old) result }
+        ensures { FindsRead (clock_id self.now) (holder pass.old) result (read_looking (view pass.old) result) pass.new.seat }
     {
         self.table
             .shared
@@ -40,10 +32,7 @@ impl<H: Host> Clock<H> {
 
     pub(crate) fn look_at_write_hand(&self, pass: &mut Pass<H>) -> u64
         requires here { IsOf self.now pass.old }
-        ensures here { IsOf self.now pass.new }
-        ensures found { IsWriteFound (holder pass.old) result }
-        ensures above_read { (holder pass.old).floor ≤ result }
-        ensures view { view pass.new ≡ write_looking (view pass.old) result }
+        ensures { LooksAtWrite (clock_id self.now) (view pass.old) result pass.new.seat }
     {
         self.table
             .shared

@@ -15,12 +15,12 @@ pub struct HostSeat<H: Host> {
 }
 
 impl<H: Host> Note<H> {
-    ghost use Rattle.smr_clock.specs.Notes.{note_knows, seat_knows, note_table, seat_table};
+    ghost use Rattle.smr_clock.specs.Calls.{IsHostSeatOf, IsNoteOfSeat};
+    ghost use Rattle.smr_clock.specs.Notes.{seat_knows};
 
     /// The same seat of the table, as a seat of the host's.
     pub fn into_host(self) -> HostSeat<H>
-        ensures view { seat_knows result ≡ note_knows self }
-        ensures table { seat_table result ≡ note_table self }
+        ensures { IsHostSeatOf self result }
     {
         let Note { seat } = self;
         HostSeat { seat }
@@ -29,8 +29,7 @@ impl<H: Host> Note<H> {
     /// The same seat of the table, as a note. Its host part is one that a note may have.
     pub fn of_host(seat: HostSeat<H>) -> Self
         requires may { H.may_note (seat_knows seat).host ≡ true }
-        ensures view { note_knows result ≡ seat_knows seat }
-        ensures table { note_table result ≡ seat_table seat }
+        ensures { IsNoteOfSeat seat result }
     {
         let HostSeat { seat } = seat;
         Note { seat }

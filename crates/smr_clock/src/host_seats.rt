@@ -1,8 +1,8 @@
-ghost use Rattle.std.specs.Prelude.{◌≡◌};
-ghost use Rattle.smr_clock.specs.Belongs.{table_of, setup_of};
-ghost use Rattle.smr_clock.specs.HostSteps.{SplitKeeps, JoinKeeps, HostSplits};
+ghost use Rattle.smr_clock.specs.Belongs.{setup_of};
+ghost use Rattle.smr_clock.specs.Calls.{LooksFromSeat, SplitsSeat, BecomesSeat};
+ghost use Rattle.smr_clock.specs.HostSteps.{SplitKeeps, JoinKeeps};
 ghost use Rattle.smr_clock.specs.Notes.{IsSeatOf, seat_knows};
-ghost use Rattle.smr_clock.specs.Steps.{IsWriteFound, write_looking, joined_view};
+ghost use Rattle.smr_clock.specs.Steps.{joined_view};
 
 use crate::clock::Clock;
 use crate::host::Host;
@@ -17,9 +17,7 @@ impl<H: Host> Clock<H> {
     pub fn seat_split<M: HostSplit<H>>(&self, seat: &mut HostSeat<H>) -> HostSeat<H>
         requires here { IsSeatOf self.now seat.old }
         requires keeps { SplitKeeps H.holds (setup_of self.now) seat.old.seat.id (seat_knows seat.old) M.left M.right }
-        ensures here { IsSeatOf self.now seat.new }
-        ensures other_here { IsSeatOf self.now result }
-        ensures splits { HostSplits M.left M.right (seat_knows seat.old) (seat_knows seat.new) (seat_knows result) }
+        ensures { SplitsSeat self.now M.left M.right seat.old seat.new result }
     {
         self.load_from_seat(seat);
         let other = self
@@ -34,8 +32,7 @@ impl<H: Host> Clock<H> {
         requires here { IsSeatOf self.now seat.old }
         requires other_here { IsSeatOf self.now other }
         requires keeps { JoinKeeps H.holds (setup_of self.now) seat.old.seat.id (seat_knows seat.old) other.seat.id (seat_knows other) M.both H.blank }
-        ensures here { IsSeatOf self.now seat.new }
-        ensures view { seat_knows seat.new ≡ joined_view M.both (seat_knows seat.old) (seat_knows other) }
+        ensures { BecomesSeat self.now (joined_view M.both (seat_knows seat.old) (seat_knows other)) seat.new }
     {
         let HostSeat { seat: other } = other;
         self.table
@@ -45,10 +42,7 @@ impl<H: Host> Clock<H> {
 
     fn load_from_seat(&self, seat: &mut HostSeat<H>) -> u64
         requires here { IsSeatOf self.now seat.old }
-        ensures here { IsSeatOf self.now seat.new }
-        ensures same { seat.new.seat.id ≡ seat.old.seat.id }
-        ensures found { IsWriteFound (seat_knows seat.old).holder result }
-        ensures view { seat_knows seat.new ≡ write_looking (seat_knows seat.old) result }
+        ensures { LooksFromSeat self.now seat.old result seat.new }
     {
         self.table
             .shared

@@ -2,8 +2,9 @@ ghost use Rattle.std.specs.Prelude.{◌≡◌, ◌<◌, ◌≤◌};
 ghost use Rattle.smr_core.specs.ClockState.{place_after_seats};
 ghost use Rattle.smr_clock.specs.declared.host_act.HostAct.{HostAct};
 ghost use Rattle.smr_clock.specs.Belongs.{IsOf, view, table_of, setup_of};
+ghost use Rattle.smr_clock.specs.Calls.{TakesHostStep, TakesSeatStep, StepsOnWord};
 ghost use Rattle.smr_clock.specs.Notes.{IsSeatOf, seat_knows};
-ghost use Rattle.smr_clock.specs.HostSteps.{HostKeeps, HostStepped, IsHand, MaySeatStep, SeatKeeps, SeatStepped};
+ghost use Rattle.smr_clock.specs.HostSteps.{HostKeeps, IsHand, MaySeatStep, SeatKeeps};
 
 use crate::clock::Clock;
 use crate::host::Host;
@@ -23,8 +24,7 @@ impl<H: Host> Clock<H> {
         requires here { IsOf self.now pass.old }
         requires word { (place_after_seats (setup_of self.now).about ≤ word) × (word < (table_of self.now).words) }
         requires keeps { HostKeeps H.holds (setup_of self.now) pass.old.seat.id (view pass.old) word act M.changes }
-        ensures here { IsOf self.now pass.new }
-        ensures stepped { HostStepped (view pass.old) word act M.changes result (view pass.new) }
+        ensures { TakesHostStep self.now (view pass.old) word act M.changes result pass.new }
     {
         self.step::<M>(&mut pass.seat, word, act)
     }
@@ -34,8 +34,7 @@ impl<H: Host> Clock<H> {
         requires here { IsSeatOf self.now seat.old }
         requires word { MaySeatStep (setup_of self.now) (table_of self.now).words word act }
         requires keeps { SeatKeeps H.holds (setup_of self.now) seat.old.seat.id (seat_knows seat.old) word act M.changes }
-        ensures here { IsSeatOf self.now seat.new }
-        ensures stepped { SeatStepped (seat_knows seat.old) word act M.changes result (seat_knows seat.new) }
+        ensures { TakesSeatStep self.now (seat_knows seat.old) word act M.changes result seat.new }
     {
         if word < self.host_place() {
             self.load_hand::<M>(seat, word)
@@ -48,8 +47,7 @@ impl<H: Host> Clock<H> {
         requires here { IsSeatOf self.now seat.old }
         requires word { IsHand word }
         requires keeps { SeatKeeps H.holds (setup_of self.now) seat.old.seat.id (seat_knows seat.old) word HostAct.Load M.changes }
-        ensures here { IsSeatOf self.now seat.new }
-        ensures stepped { SeatStepped (seat_knows seat.old) word HostAct.Load M.changes result (seat_knows seat.new) }
+        ensures { TakesSeatStep self.now (seat_knows seat.old) word HostAct.Load M.changes result seat.new }
     {
         self.table
             .shared
@@ -65,9 +63,7 @@ impl<H: Host> Clock<H> {
         requires here { seat.old.table_id ≡ table_of self.now }
         requires word { word < (table_of self.now).words }
         requires keeps { HostKeeps H.holds (setup_of self.now) seat.old.id seat.old.me.0 word act M.changes }
-        ensures here { seat.new.table_id ≡ table_of self.now }
-        ensures same { (seat.new.id ≡ seat.old.id) × (seat.new.me.1 ≡ seat.old.me.1) }
-        ensures stepped { HostStepped seat.old.me.0 word act M.changes result seat.new.me.0 }
+        ensures { StepsOnWord (table_of self.now) seat.old word act M.changes result seat.new }
     {
         let shared = &self.table.shared;
         let place = word as usize;

@@ -2,7 +2,7 @@
 
 ghost use Rattle.smr_clock.specs.declared.setup.Setup.{Setup};
 ghost use Rattle.smr_clock.specs.HostLaws.{Includes, IncludesMemory};
-ghost use Rattle.smr_clock.specs.Complete.{AdvancesWithRoom, SaysYesOfKnown, SaysYesOfNoSection};
+ghost use Rattle.smr_clock.specs.Complete.{RefusalsHaveTheirCause};
 ghost use Rattle.smr_clock.specs.Moments.{StepsLowerNoHand};
 ghost use Rattle.smr_clock.specs.SafeReuse.{KnownIsOver, KnownStaysOver, RunsFollow};
 
@@ -36,7 +36,5 @@ pub fn no_section_is_before_a_known_goal<H: Host>()
 /// goal is expired and the tag can't be mistaken, nor where it found no section and its exchange
 /// wasn't overtaken.
 pub fn refusals_have_their_cause<H: Host>()
-    ensures advances { AdvancesWithRoom H.Part }
-    ensures known { SaysYesOfKnown H.Part }
-    ensures no_section { SaysYesOfNoSection H.Part }
+    ensures { RefusalsHaveTheirCause H.Part }
 {}

@@ -1,10 +1,6 @@
-ghost use Rattle.std.specs.Prelude.{◌≡◌, ◌+◌, ◌≤◌, [], length, IfOk, IfErr};
+ghost use Rattle.std.specs.Prelude.{◌≡◌, ◌≤◌, IfOk};
 ghost use Rattle.std.specs.Arc.{arc_value};
-ghost use Rattle.smr_core.specs.ClockState.{IsInRange, place_after_seats};
-ghost use Rattle.smr_core.specs.Making.{RefusesNumbers};
-ghost use Rattle.smr_clock.specs.Belongs.{setup_of, table_of};
-ghost use Rattle.smr_clock.specs.Notes.{IsSeatOf, seat_knows};
-ghost use Rattle.smr_clock.specs.Making.{setup, first_words, Opens, maker_view, AreWorkers, AreSplitOff, OneForEachSeat};
+ghost use Rattle.smr_clock.specs.Making.{setup, first_words, Opens, HostsClock, MakesClock, MakesPasses, MayMakePasses};
 
 use crate::bare::Bare;
 use crate::clock::Clock;
@@ -52,14 +48,7 @@ impl<H: Host> Clock<H> {
         plan: (u32, u32),
     ) -> Result<(Self, Vec<Pass<H>>, HostSeat<H>), ClockRefused>
         requires opens { Opens H.holds (setup seats start window plan) (H.first (setup seats start window plan)) more.items }
-        ensures in_range { IfOk result (λ made. IsInRange (setup seats start window plan).about) }
-        ensures clock { IfOk result (λ made. setup_of made.0 ≡ setup seats start window plan) }
-        ensures words { IfOk result (λ made. (table_of made.0).words ≡ place_after_seats (setup seats start window plan).about + length more.items) }
-        ensures workers { IfOk result (λ made. AreWorkers made.0 H.copied (H.first (setup seats start window plan)) made.1.items) }
-        ensures each_seat { IfOk result (λ made. OneForEachSeat seats made.1.items) }
-        ensures seat_here { IfOk result (λ made. IsSeatOf made.0 made.2) }
-        ensures seat { IfOk result (λ made. seat_knows made.2 ≡ maker_view (setup seats start window plan) (H.first (setup seats start window plan)) seats) }
-        ensures refused { IfErr result (RefusesNumbers (setup seats start window plan).about) }
+        ensures { HostsClock H.copied (setup seats start window plan) (H.first (setup seats start window plan)) more.items result }
     {
         let about = About::checked(seats, start, window)?;
         let setup = Setup { about, plan };
@@ -78,13 +67,8 @@ fn make_passes<H: Host>(
     setup: Setup,
     maker: &mut Seat<(), View<H::Part>>,
 ) -> Result<Vec<Pass<H>>, AllocError>
-    requires table { (maker.old.table_id ≡ table.now.shared.table_id) × (table.now.shared.key ≡ setup) }
-    requires words { place_after_seats setup.about ≤ table.now.shared.table_id.words }
-    requires seat { (maker.old.id ≡ 0) × (maker.old.me ≡ (maker_view setup (H.first setup) 0, [])) }
-    ensures one_each { IfOk result (λ passes. length passes.items ≡ setup.about.seats) }
-    ensures workers { IfOk result (λ passes. AreSplitOff table.now.shared.table_id H.copied setup (H.first setup) passes.items) }
-    ensures each_seat { IfOk result (λ passes. OneForEachSeat setup.about.seats passes.items) }
-    ensures maker { IfOk result (λ passes. (maker.new.table_id ≡ table.now.shared.table_id) × (maker.new.me ≡ (maker_view setup (H.first setup) setup.about.seats, []))) }
+    requires { MayMakePasses table.now.shared.table_id table.now.shared.key setup (H.first setup) maker.old }
+    ensures { MakesPasses table.now.shared.table_id H.copied setup (H.first setup) result maker.new }
 {
     let mut passes = Vec::new(alloc);
     for number in 0..setup.about.seats {
@@ -108,11 +92,7 @@ impl Clock<Bare> {
         start: u64,
         window: u64,
     ) -> Result<(Self, Vec<Pass<Bare>>), ClockRefused>
-        ensures in_range { IfOk result (λ made. IsInRange (setup seats start window (0, 0)).about) }
-        ensures clock { IfOk result (λ made. setup_of made.0 ≡ setup seats start window (0, 0)) }
-        ensures workers { IfOk result (λ made. AreWorkers made.0 (λ part. part) tt made.1.items) }
-        ensures each_seat { IfOk result (λ made. OneForEachSeat seats made.1.items) }
-        ensures refused { IfErr result (RefusesNumbers (setup seats start window (0, 0)).about) }
+        ensures { MakesClock (λ part. part) (setup seats start window (0, 0)) tt result }
     {
         let more = Vec::new(alloc);
         let (clock, passes, _) = Clock::<Bare>::hosted(alloc, seats, start, window, more, (0, 0))?;

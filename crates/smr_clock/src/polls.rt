@@ -1,11 +1,9 @@
-ghost use Rattle.std.specs.Prelude.{◌≡◌, ◌≤◌, ◌<◌, ◌^◌, List, [], true, false};
-ghost use Rattle.smr_core.specs.ClockState.{IsSeatWord, next_present};
-ghost use Rattle.smr_core.specs.declared.found_word.FoundWord.{FoundWord};
+ghost use Rattle.smr_clock.specs.Belongs.{clock_id};
 ghost use Rattle.smr_core.specs.declared.task.Task.{Task};
-ghost use Rattle.smr_clock.specs.Goals.{number_of, tag_of};
 ghost use Rattle.smr_clock.specs.Notes.{IsNoteOf, note_knows, note_holder};
-ghost use Rattle.smr_clock.specs.Polls.{scanned_view, Moves, OneWordEach, Polls, SaysNo};
-ghost use Rattle.smr_clock.specs.Steps.{IsReadFound, IsWriteFound, poll_reading, poll_loading, poll_presenting, poll_scanning, poll_swapping};
+ghost use Rattle.smr_clock.specs.Polls.{Moves};
+ghost use Rattle.smr_clock.specs.Steps.{poll_reading, poll_loading, poll_swapping};
+ghost use Rattle.smr_clock.specs.Calls.{IsInTask, FindsWrite, FindsRead, MayMoveRead, FindsPresent, MayScan, Scans, MayLoadWord, FindsWord, MayExchangeRead, MayPoll, TakesPoll};
 
 use crate::clock::Clock;
 use crate::goal::Goal;
@@ -20,12 +18,8 @@ impl<H: Host> Clock<H> {
     /// Whether the goal is known to be expired: every section that is open from now on was entered
     /// at the goal or after it. No is no promise.
     pub fn poll(&self, note: &mut Note<H>, goal: &Goal) -> bool
-        requires here { IsNoteOf self.now note.old }
-        requires seen { number_of goal.now ≤ (note_holder note.old).seen }
-        ensures here { IsNoteOf self.now note.new }
-        ensures yes { result ≡ true → number_of goal.now ≤ (note_holder note.new).floor }
-        ensures no { result ≡ false → SaysNo (note_knows note.old) (tag_of goal.now) (note_knows note.new) }
-        ensures polls { Polls (note_knows note.old) (tag_of goal.now) result (note_knows note.new) }
+        requires { MayPoll self.now goal.now note.old }
+        ensures { TakesPoll self.now note.old goal.now result note.new }
     {
         let read = self.poll_read_hand(note);
         let write = self.poll_write_hand(note);
@@ -37,9 +31,7 @@ impl<H: Host> Clock<H> {
 
     fn poll_read_hand(&self, note: &mut Note<H>) -> u64
         requires here { IsNoteOf self.now note.old }
-        ensures here { IsNoteOf self.now note.new }
-        ensures found { IsReadFound (note_holder note.old) result }
-        ensures view { note_knows note.new ≡ poll_reading (note_knows note.old) result }
+        ensures { FindsRead (clock_id self.now) (note_holder note.old) result (poll_reading (note_knows note.old) result) note.new.seat }
     {
         self.table
             .shared
@@ -47,11 +39,8 @@ impl<H: Host> Clock<H> {
     }
 
     fn poll_write_hand(&self, note: &mut Note<H>) -> u64
-        requires here { IsNoteOf self.now note.old }
-        requires reading { (note_holder note.old).task ≡ Task.PollRead }
-        ensures here { IsNoteOf self.now note.new }
-        ensures found { IsWriteFound (note_holder note.old) result }
-        ensures view { note_knows note.new ≡ poll_loading (note_knows note.old) result }
+        requires { IsInTask (clock_id self.now) Task.PollRead note.old.seat }
+        ensures { FindsWrite (clock_id self.now) (note_holder note.old) result (poll_loading (note_knows note.old) result) note.new.seat }
     {
         self.table
             .shared
@@ -60,9 +49,7 @@ impl<H: Host> Clock<H> {
 
     // Scans the present seats, and moves the read hand to the least mark. Answers the read hand last found.
     fn move_read_hand(&self, note: &mut Note<H>, read: u64, write: u64) -> u64
-        requires here { IsNoteOf self.now note.old }
-        requires loaded { (note_holder note.old).task ≡ Task.PollLoaded }
-        requires hands { ((note_holder note.old).read ≡ read) × ((note_holder note.old).write ≡ write) }
+        requires { MayMoveRead (clock_id self.now) read write note.old.seat }
         ensures here { IsNoteOf self.now note.new }
         ensures moves { Moves (note_knows note.old) result (note_knows note.new) }
     {
@@ -73,11 +60,8 @@ impl<H: Host> Clock<H> {
     }
 
     fn load_present(&self, note: &mut Note<H>) -> u64
-        requires here { IsNoteOf self.now note.old }
-        requires loaded { (note_holder note.old).task ≡ Task.PollLoaded }
-        ensures here { IsNoteOf self.now note.new }
-        ensures found { result < 2 ^ self.now.setup.about.seats }
-        ensures view { note_knows note.new ≡ poll_presenting (note_knows note.old) result }
+        requires { IsInTask (clock_id self.now) Task.PollLoaded note.old.seat }
+        ensures { FindsPresent (clock_id self.now) (note_knows note.old) result note.new.seat }
     {
         let place = presence_place(self.setup.about);
         self.table
@@ -88,15 +72,8 @@ impl<H: Host> Clock<H> {
     // Loads the word of each seat of the set in order, and answers the least mark. The set loses its
     // lowest bit at each turn, so the next seat needs no shift by the last one, nor waits for it.
     fn scan(&self, note: &mut Note<H>, read: u64, write: u64, present: u64) -> u64
-        requires here { IsNoteOf self.now note.old }
-        requires scanning { (note_holder note.old).task ≡ Task.Scanning }
-        requires hands { ((note_holder note.old).read ≡ read) × ((note_holder note.old).write ≡ write) }
-        requires set { (note_holder note.old).present ≡ present }
-        requires fresh { note_knows note.old ≡ scanned_view (note_knows note.old) [] (next_present self.now.setup.about present 0) }
-        ensures here { IsNoteOf self.now note.new }
-        ensures scanned { (words : List FoundWord) × OneWordEach self.now.setup.about.seats present words
-            × (note_knows note.new ≡ scanned_view (note_knows note.old) words self.now.setup.about.seats) }
-        ensures least { result ≡ (note_holder note.new).least }
+        requires { MayScan (clock_id self.now) read write present note.old.seat }
+        ensures { Scans (clock_id self.now) (note_knows note.old) present result note.new.seat }
     {
         let about = self.setup.about;
         let mut least = write;
@@ -112,26 +89,16 @@ impl<H: Host> Clock<H> {
     }
 
     fn load_word(&self, note: &mut Note<H>, seat: u32) -> u64
-        requires here { IsNoteOf self.now note.old }
-        requires scanning { (note_holder note.old).task ≡ Task.Scanning }
-        requires next { (note_holder note.old).scanned ≡ seat }
-        requires known { seat < self.now.setup.about.seats }
-        ensures here { IsNoteOf self.now note.new }
-        ensures word { IsSeatWord result }
-        ensures view { note_knows note.new ≡ poll_scanning (note_knows note.old) result }
+        requires { MayLoadWord (clock_id self.now) seat note.old.seat }
+        ensures { FindsWord (clock_id self.now) (note_knows note.old) result note.new.seat }
     {
         let place = seat_place(seat);
         self.table.shared.load::<PollScans>(&mut note.seat, place)
     }
 
     fn exchange_read_hand(&self, note: &mut Note<H>, read: u64, least: u64) -> u64
-        requires here { IsNoteOf self.now note.old }
-        requires scanning { (note_holder note.old).task ≡ Task.Scanning }
-        requires scanned { (note_holder note.old).scanned ≡ self.now.setup.about.seats }
-        requires hands { ((note_holder note.old).read ≡ read) × ((note_holder note.old).least ≡ least) }
-        ensures here { IsNoteOf self.now note.new }
-        ensures found { IsReadFound (note_holder note.old) result }
-        ensures view { note_knows note.new ≡ poll_swapping (note_knows note.old) result }
+        requires { MayExchangeRead (clock_id self.now) read least note.old.seat }
+        ensures { FindsRead (clock_id self.now) (note_holder note.old) result (poll_swapping (note_knows note.old) result) note.new.seat }
     {
         self.table
             .shared

@@ -1,6 +1,6 @@
-ghost use Rattle.std.specs.Prelude.{◌≡◌};
 ghost use Rattle.smr_core.specs.declared.phase.Phase.{Phase};
-ghost use Rattle.smr_clock.specs.Belongs.{IsOf, view, holder};
+ghost use Rattle.smr_clock.specs.Belongs.{view};
+ghost use Rattle.smr_clock.specs.Calls.{IsInPhase, Becomes, BecomesVacancy};
 ghost use Rattle.smr_clock.specs.Steps.{leaving, coming};
 ghost use Rattle.smr_clock.specs.Vacancies.{IsVacancyOf, vacancy_knows};
 
@@ -19,10 +19,8 @@ impl<H: Host> Clock<H> {
     /// The worker leaves its seat, by one step, which clears its bit. No poll that loads the presence
     /// word from now on, until the vacancy comes, loads the seat's word.
     pub fn leave(&self, pass: Pass<H>) -> Vacancy<H>
-        requires here { IsOf self.now pass }
-        requires outside { (holder pass).phase ≡ Phase.Outside }
-        ensures here { IsVacancyOf self.now result }
-        ensures view { vacancy_knows result ≡ leaving (view pass) }
+        requires { IsInPhase self.now Phase.Outside pass }
+        ensures { BecomesVacancy self.now (leaving (view pass)) result }
     {
         let Pass {
             mut seat,
@@ -45,8 +43,7 @@ impl<H: Host> Clock<H> {
     /// seen what the worker that left had seen.
     pub fn come(&self, vacancy: Vacancy<H>) -> Pass<H>
         requires here { IsVacancyOf self.now vacancy }
-        ensures here { IsOf self.now result }
-        ensures view { view result ≡ coming (vacancy_knows vacancy) }
+        ensures { Becomes self.now (coming (vacancy_knows vacancy)) result }
     {
         let Vacancy {
             mut seat,

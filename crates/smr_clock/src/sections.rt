@@ -1,8 +1,7 @@
-ghost use Rattle.std.specs.Prelude.{◌≡◌, ◌⊎◌, IfErr, OnOk};
 ghost use Rattle.smr_core.specs.declared.phase.Phase.{Phase};
-ghost use Rattle.smr_clock.specs.Belongs.{IsOf, view, holder};
-ghost use Rattle.smr_clock.specs.Sections.{Checks, IsOvertaken, Enters, Misses};
-ghost use Rattle.smr_clock.specs.Steps.{enter_loading, enter_storing, enter_checking, clearing, IsWriteFound};
+ghost use Rattle.smr_clock.specs.Belongs.{clock_id, view, holder};
+ghost use Rattle.smr_clock.specs.Calls.{FindsWrite, IsInPhase, IsInOrLate, Becomes, LoadsEnter, ChecksEnter, TakesEnter};
+ghost use Rattle.smr_clock.specs.Steps.{enter_storing, enter_checking, clearing};
 
 use crate::clock::Clock;
 use crate::host::Host;
@@ -18,11 +17,8 @@ use smr_seq::Seq;
 impl<H: Host> Clock<H> {
     /// The first step of an enter: loads the write hand.
     pub fn enter_load(&self, pass: &mut Pass<H>)
-        requires here { IsOf self.now pass.old }
-        requires outside { (holder pass.old).phase ≡ Phase.Outside }
-        ensures here { IsOf self.now pass.new }
-        ensures loaded { IsWriteFound (holder pass.old) (holder pass.new).loaded }
-        ensures view { view pass.new ≡ enter_loading (view pass.old) (holder pass.new).loaded }
+        requires { IsInPhase self.now Phase.Outside pass.old }
+        ensures { LoadsEnter self.now pass.old pass.new }
     {
         pass.loaded = self
             .table
@@ -33,10 +29,8 @@ impl<H: Host> Clock<H> {
 
     /// The second step: stores the low half of what was loaded in the seat's word.
     pub fn enter_store(&self, pass: &mut Pass<H>)
-        requires here { IsOf self.now pass.old }
-        requires loaded { (holder pass.old).phase ≡ Phase.Loaded }
-        ensures here { IsOf self.now pass.new }
-        ensures view { view pass.new ≡ enter_storing (view pass.old) }
+        requires { IsInPhase self.now Phase.Loaded pass.old }
+        ensures { Becomes self.now (enter_storing (view pass.old)) pass.new }
     {
         let word = u64::from(Seq::low(pass.loaded).raw);
         let place = seat_place(pass.number);
@@ -48,11 +42,8 @@ impl<H: Host> Clock<H> {
 
     /// The third step, which is the entry: loads the write hand again.
     pub fn enter_check(&self, pass: &mut Pass<H>) -> Result<(), Overtaken>
-        requires here { IsOf self.now pass.old }
-        requires stored { (holder pass.old).phase ≡ Phase.Stored }
-        ensures here { IsOf self.now pass.new }
-        ensures entered { OnOk result (Checks (view pass.old) (view pass.new)) }
-        ensures overtaken { IfErr result (λ overtaken. IsOvertaken (view pass.old) overtaken (view pass.new)) }
+        requires { IsInPhase self.now Phase.Stored pass.old }
+        ensures { ChecksEnter self.now pass.old result pass.new }
     {
         let loaded = pass.loaded;
         let found = self.load_mark(pass);
@@ -65,11 +56,8 @@ impl<H: Host> Clock<H> {
 
     /// Enters a section: the three steps together.
     pub fn enter(&self, pass: &mut Pass<H>) -> Result<(), Overtaken>
-        requires here { IsOf self.now pass.old }
-        requires outside { (holder pass.old).phase ≡ Phase.Outside }
-        ensures here { IsOf self.now pass.new }
-        ensures entered { OnOk result (Enters (view pass.old) (view pass.new)) }
-        ensures overtaken { IfErr result (λ overtaken. Misses (view pass.old) overtaken (view pass.new)) }
+        requires { IsInPhase self.now Phase.Outside pass.old }
+        ensures { TakesEnter self.now pass.old result pass.new }
     {
         self.enter_load(pass);
         self.enter_store(pass);
@@ -78,20 +66,15 @@ impl<H: Host> Clock<H> {
 
     /// Leaves the section.
     pub fn exit(&self, pass: &mut Pass<H>)
-        requires here { IsOf self.now pass.old }
-        requires inside { (holder pass.old).phase ≡ Phase.Inside }
-        ensures here { IsOf self.now pass.new }
-        ensures view { view pass.new ≡ clearing (view pass.old) }
+        requires { IsInPhase self.now Phase.Inside pass.old }
+        ensures { Becomes self.now (clearing (view pass.old)) pass.new }
     {
         self.clear(pass);
     }
 
     fn load_mark(&self, pass: &mut Pass<H>) -> u64
-        requires here { IsOf self.now pass.old }
-        requires stored { (holder pass.old).phase ≡ Phase.Stored }
-        ensures here { IsOf self.now pass.new }
-        ensures found { IsWriteFound (holder pass.old) result }
-        ensures view { view pass.new ≡ enter_checking (view pass.old) result }
+        requires { IsInPhase self.now Phase.Stored pass.old }
+        ensures { FindsWrite (clock_id self.now) (holder pass.old) result (enter_checking (view pass.old) result) pass.new.seat }
     {
         let found = self
             .table
@@ -106,10 +89,8 @@ impl<H: Host> Clock<H> {
     }
 
     fn clear(&self, pass: &mut Pass<H>)
-        requires here { IsOf self.now pass.old }
-        requires in_or_late { ((holder pass.old).phase ≡ Phase.Inside) ⊎ ((holder pass.old).phase ≡ Phase.Late) }
-        ensures here { IsOf self.now pass.new }
-        ensures view { view pass.new ≡ clearing (view pass.old) }
+        requires { IsInOrLate self.now pass.old }
+        ensures { Becomes self.now (clearing (view pass.old)) pass.new }
     {
         let place = seat_place(pass.number);
         self.table.shared.store::<Clears>(&mut pass.seat, place, 0);

@@ -40,7 +40,12 @@ loop-number-preserved g c =
           ∙ ap (λ (n : ℕ). fresh_view copied c.args.setup first n) (sym at.count)));
     }
 
-pub returns-clause-each_seat : goal.returns-clause-each_seat
-returns-clause-each_seat g c =
+pub returns : goal.returns
+returns g c =
     let at = c.loop-number.invariant in
-    one-for-each-seat c.args.table.now.shared.table_id g.H.Host.copied c.args.setup (g.H.Host.first c.args.setup) c.loop-number.passes.items at.workers (search rules)
+    record {
+      one_each = search rules;
+      workers = search rules;
+      each_seat = one-for-each-seat c.args.table.now.shared.table_id g.H.Host.copied c.args.setup (g.H.Host.first c.args.setup) c.loop-number.passes.items at.workers (search rules);
+      maker = search rules;
+    }

@@ -1,4 +1,4 @@
-use Rattle.std.proofs.Common.{◌≡◌, ℕ, ◌+◌, ◌-◌, ◌^◌, ◌<◌, ◌≤◌, ◌∷◌, ◌++◌, [], refl, sym, ap, ◌∙◌, arith, min, bit_and, w64}
+use Rattle.std.proofs.Common.{rules, ◌≡◌, ℕ, ◌+◌, ◌-◌, ◌^◌, ◌<◌, ◌≤◌, ◌∷◌, ◌++◌, [], refl, sym, ap, ◌∙◌, arith, min, bit_and, w64}
 use Rattle.std.specs.Int.{trailing_zeros}
 use Rattle.smr_core.specs.ClockState.{next_present, seats_below}
 use Rattle.smr_core.specs.ClockStep as clock
@@ -35,12 +35,17 @@ overflow_sub-rest g c =
     let some = some-left about c.loop-seat.rest c.loop-seat.seat c.args.self.now.in_range.few_seats fits c.loop-seat.invariant.lowest c.loop-seat-test.true in
     omega arith
 
-pub load_word-word-requires-clause-next : goal.load_word-word-requires-clause-next
-load_word-word-requires-clause-next g c =
+pub load_word-word-requires : goal.load_word-word-requires
+load_word-word-requires g c =
     let about = c.args.self.now.setup.about in
     let below : c.loop-seat.seat < about.seats = c.loop-seat-test.true in
     let here : min about.seats c.loop-seat.seat ≡ c.loop-seat.seat = omega arith in
-    ap (λ (v : View g.row.H-Part.Denot). v.holder.scanned) c.loop-seat.invariant.scanned.2 ∙ here
+    record {
+      here = search rules;
+      scanning = search rules;
+      next = ap (λ (v : View g.row.H-Part.Denot). v.holder.scanned) c.loop-seat.invariant.scanned.2 ∙ here;
+      known = search rules;
+    }
 
 pub loop-seat-smaller : goal.loop-seat-smaller
 loop-seat-smaller g c =
@@ -83,13 +88,18 @@ loop-seat-preserved g c =
       least = c.least_after-least.ensures ∙ (λ i. clock.least_after (read i) (write i) (least i) c.load_word-word.result) ∙ sym (ap (λ (v : View g.row.H-Part.Denot). v.holder.least) c.load_word-word.ensures.view);
     }
 
-pub returns-clause-scanned : goal.returns-clause-scanned
-returns-clause-scanned g c =
+pub returns : goal.returns
+returns g c =
     let at = c.loop-seat.invariant in
     let about = c.args.self.now.setup.about in
     let v = note_knows c.args.note.now in
-    let end : min about.seats c.loop-seat.seat ≡ about.seats = let past = c.loop-seat-test.false in omega arith in (
-      at.scanned.0,
-      at.scanned.1 ∙ ap (λ (n : ℕ). seats_below c.args.present n) end,
-      at.scanned.2 ∙ ap (λ (n : ℕ). scanned_view v at.scanned.0 n) end,
-    )
+    let end : min about.seats c.loop-seat.seat ≡ about.seats = let past = c.loop-seat-test.false in omega arith in
+    record {
+      here = search rules;
+      scanned = (
+        at.scanned.0,
+        at.scanned.1 ∙ ap (λ (n : ℕ). seats_below c.args.present n) end,
+        at.scanned.2 ∙ ap (λ (n : ℕ). scanned_view v at.scanned.0 n) end,
+      );
+      least = search rules;
+    }
