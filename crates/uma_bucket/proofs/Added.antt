@@ -5,6 +5,7 @@ use Rattle.std.proofs.lemmas.List.{length-take, get_or-replicate, get_or_past}
 use Rattle.std.proofs.lemmas.Bool.{cases_lt}
 use Rattle.std.proofs.lemmas.List.Sums.{sum_by-cons, sum_by-le, sum_by_more}
 use Rattle.uma_life.specs.declared.tally_sum.ZoneTallySum.{ZoneTallySum}
+use Rattle.uma_life.specs.declared.ticket.Ticket.{Ticket}
 use Rattle.uma_life.specs.Hook.{Hook, KegInit, ZoneInit, Ctor, Dtor, ZoneFini, KegFini}
 use Rattle.uma_life.specs.Sum.{sum_of, zone_sums, no_zone_sums, AreBelow}
 use Rattle.uma_life.specs.Trail.{ShowsSame}
@@ -12,7 +13,8 @@ use Rattle.uma_bucket.specs.declared.held.Held.{Held}
 use Rattle.uma_bucket.specs.declared.held.Held.TheVariants.{Cached as Cached', Freed as Freed', Away}
 use Rattle.uma_bucket.specs.declared.sums.Sums.{Sums}
 use Rattle.uma_bucket.specs.Held.{is_cached, is_freed, cached_in, freed_in, times_held}
-use Rattle.uma_bucket.specs.Sums.{nothing_held, times_cached, times_freed, Adds, AreOfAtMost, Balance}
+use Rattle.uma_bucket.specs.Home.{Home, AreHome}
+use Rattle.uma_bucket.specs.Sums.{nothing_held, times_cached, times_freed, Adds, AddsItems, AreOfAtMost, Balance, IsNothing, Joins}
 use Rattle.uma_bucket.proofs.Tallied.{trail_times, both_show}
 
 module _ {T : Type 0} {g : _} where
@@ -130,3 +132,22 @@ none_balance sums none zone =
 -- the sums of few items are those of more
 pub fewer : (sums : Sums) (few more : ℕ) → few ≤ more → AreOfAtMost few sums → AreOfAtMost more sums
 fewer sums few more less at = record { tally = λ hook. let a = at.tally hook in omega arith; deferred = let a = at.deferred in omega arith }
+
+-- ---- what calls answer, from what they add
+
+pub is_nothing : (sums : Sums) → sums ≡ nothing_held → IsNothing sums
+is_nothing sums none = record { none = none; few = none_few sums none; balance = none_balance sums none }
+
+pub joins : (was others is : Sums) → Adds (sum_of others.tally) others.deferred was is → Joins was others is
+joins was others is adds =
+    record {
+      adds = adds;
+      few = λ count more here there. few_joined was others is count more adds here there;
+      balance = λ zone here there. still_balance zone was is (sum_of others.tally) others.deferred adds there here;
+    }
+
+pub adds_items : (times : Hook → ℕ) (deferred items : ℕ) (tickets : List Ticket) (was is : Sums) → Adds times deferred was is
+    → (Adds times deferred was is → (count : ℕ) → AreOfAtMost count was → AreOfAtMost (count + items) is)
+    → (Adds times deferred was is → (home : Home) → AreHome home tickets → Balance home.zone was → Balance home.zone is)
+    → AddsItems times deferred items tickets was is
+adds_items times deferred items tickets was is adds few balance = record { adds = adds; few = few adds; balance = balance adds }

@@ -4,9 +4,9 @@ pub mod Kept
 pub mod Home
 pub mod Bucket
 pub mod Loose
-pub mod Finished
 pub mod Sealed
 pub mod Ripe
+pub mod Finished
 pub mod Sums
 pub mod Shelved
 pub mod Inboxes

@@ -1,5 +1,5 @@
 -- Own: what contracts see of a ripe bucket, and what follows where its items are used again.
-use Rattle.std.specs.Prelude.{◌≡◌, ℕ, List, true}
+use Rattle.std.specs.Prelude.{◌≡◌, ℕ, List, true, Result, IfOk, IfErr}
 use mathlib.Core.Option.{some}
 use lib.ListN.{get_elem?}
 use Rattle.smr_clock.specs.declared.setup.Setup.{Setup}
@@ -15,7 +15,7 @@ use Rattle.smr_clock.specs.SafeReuse.{Follow, StaysOver}
 use Rattle.uma_bucket.specs.declared.loose.Loose.{Loose}
 use Rattle.uma_bucket.specs.declared.sealed.Sealed.{Sealed}
 use Rattle.uma_bucket.specs.declared.ripe.Ripe.{Ripe}
-use Rattle.uma_bucket.specs.Sealed.{sealed_bucket, sealed_goal, sealed_knows}
+use Rattle.uma_bucket.specs.Sealed.{sealed_bucket, sealed_goal, sealed_note, sealed_knows, IsSealedAt, SaidNo}
 
 module _ {T H P : Type 0} {g h : _} where
   -- its items, with their room
@@ -42,6 +42,19 @@ module _ {T H P : Type 0} {g h : _} where
   SaidYes was ripe =
       (ripe_bucket ripe ≡ sealed_bucket was) × (ripe_goal ripe ≡ sealed_goal was)
       × Polls (sealed_knows was) (tag_of (sealed_goal was)) true (ripe_knows ripe)
+
+  -- the sealed bucket is this ripe one
+  pub record IsOpened (sealed : Sealed T H P g h) (ripe : Ripe T H P g h) : Type 0 where
+    pub bucket : ripe_bucket ripe ≡ sealed_bucket sealed
+    pub goal : ripe_goal ripe ≡ sealed_goal sealed
+    pub note : ripe_note ripe ≡ sealed_note sealed
+
+  -- One poll said yes, and the bucket is ripe. Or it said no, and the bucket is back.
+  pub record TriesToOpen (clock : TableId × Setup) (was : Sealed T H P g h) (answer : Result (Ripe T H P g h) (Sealed T H P g h)) : Type 0 where
+    pub here : IfOk answer (IsRipeAt clock)
+    pub back_here : IfErr answer (IsSealedAt clock)
+    pub yes : IfOk answer (SaidYes was)
+    pub no : IfErr answer (SaidNo was)
 
 -- From each moment on at which some seat of the clock knows this much, the goal is expired and no open section is before it, then and at each moment that follows. The law is that of safe reuse.
 abbrev pub IsOverFrom : {P : Type 0} → View P → ℕ → Type 0

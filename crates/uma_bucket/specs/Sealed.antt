@@ -1,11 +1,14 @@
 -- Own: what contracts see of a sealed bucket, and what its making and its polls come to.
-use Rattle.std.specs.Prelude.{◌≡◌, ◌≤◌, Bool, false}
+use Rattle.std.specs.Prelude.{◌≡◌, ◌≤◌, Bool, true, false, Result, IfOk, IfErr}
 use Rattle.smr_clock.specs.declared.setup.Setup.{Setup}
 use Rattle.smr_clock.specs.declared.view.View.{View}
+use Rattle.smr_clock.specs.declared.clock.Clock.{Clock}
 use Rattle.smr_clock.specs.declared.goal.Goal.{Goal}
 use Rattle.smr_clock.specs.declared.note.Note.{Note}
-use Rattle.smr_clock.specs.Advances.{Advances}
-use Rattle.smr_clock.specs.Belongs.{TableId}
+use Rattle.smr_clock.specs.declared.pass.Pass.{Pass}
+use Rattle.smr_clock.specs.declared.refused.AdvanceRefused.{AdvanceRefused}
+use Rattle.smr_clock.specs.Advances.{Advances, Refuses as RefusesAdvance}
+use Rattle.smr_clock.specs.Belongs.{TableId, IsOf, clock_id, view, holder}
 use Rattle.smr_clock.specs.Goals.{number_of, tag_of}
 use Rattle.smr_clock.specs.Notes.{note_knows, note_holder, note_clock, Notes}
 use Rattle.smr_clock.specs.Polls.{Polls, SaysNo}
@@ -54,3 +57,24 @@ module _ {T H P : Type 0} {g h : _} where
     pub bucket : sealed_bucket sealed ≡ loose
     pub advance : Advances v (number_of (sealed_goal sealed)) between
     pub noted : Notes copied between v' (sealed_knows sealed)
+
+  -- ---- what calls answer
+
+  -- The same bucket after one poll. From a yes its note knows that the goal is expired, and a no says why.
+  pub record PollsBucket (clock : TableId × Setup) (was : Sealed T H P g h) (answer : Bool) (is : Sealed T H P g h) : Type 0 where
+    pub here : IsSealedAt clock is
+    pub same : IsSameBucket was is
+    pub yes : answer ≡ true → KnowsExpired is
+    pub no : answer ≡ false → SaidNo was is
+    pub polled : IsPolled was answer is
+
+  -- The bucket is sealed, or the advance is refused and the bucket is back. The pass is where it was, of the same clock, and has seen what it had seen.
+  pub record SealsOrNot (clock : Clock H P) (copied : P → P) (old : Pass H P h) (loose : Loose T g) (answer : Result (Sealed T H P g h) (Loose T g × AdvanceRefused)) (new : Pass H P h) : Type 0 where
+    pub here : IsOf clock new
+    pub phase : (holder new).phase ≡ (holder old).phase
+    pub seen : (holder old).seen ≤ (holder new).seen
+    pub host : (view new).host ≡ (view old).host
+    pub of_clock : IfOk answer (IsSealedAt (clock_id clock))
+    pub seals : IfOk answer (λ sealed. Seals copied (view old) loose sealed (view new))
+    pub back : IfErr answer (λ (back_again, why). back_again ≡ loose)
+    pub refused : IfErr answer (λ (back_again, why). RefusesAdvance (view old) why (view new))

@@ -1,14 +1,19 @@
 -- Own: the sums of what buckets hold, and how they agree with the items' lives.
-use Rattle.std.specs.Prelude.{◌≡◌, ◌+◌, ◌*◌, ◌^◌, ◌<◌, ◌≤◌, ◌==◌, ℕ, cond, List}
-use Rattle.std.specs.List.{sum_by}
+use Rattle.std.specs.Prelude.{◌≡◌, ◌+◌, ◌*◌, ◌^◌, ◌<◌, ◌≤◌, ◌==◌, ℕ, cond, true, List, Vec, vec_len}
+use Rattle.std.specs.declared.alloc.Global.{Global}
+use Rattle.std.specs.List.{sum_by, list_all}
 use Rattle.uma_life.specs.declared.cached.Cached.{Cached}
+use Rattle.uma_life.specs.declared.ticket.Ticket.{Ticket}
 use Rattle.uma_life.specs.Cached.{cached_body}
 use Rattle.uma_life.specs.Hook.{Hook, Ctor, Dtor}
 use Rattle.uma_life.specs.Sum.{times_of, sum_of, no_sums}
 use Rattle.uma_life.specs.Trail.{ShowsSame}
 use Rattle.uma_bucket.specs.declared.freed.Freed.{Freed}
+use Rattle.uma_bucket.specs.declared.held.Held.{Held}
 use Rattle.uma_bucket.specs.declared.sums.Sums.{Sums}
 use Rattle.uma_bucket.specs.Freed.{freed_tally}
+use Rattle.uma_bucket.specs.Held.{is_filled}
+use Rattle.uma_bucket.specs.Home.{Home, AreHome}
 
 -- the sums of no item
 abbrev pub nothing_held : Sums
@@ -36,3 +41,29 @@ pub record AreOfAtMost (count : ℕ) (sums : Sums) : Type 0 where
 abbrev pub Balance : ℕ → Sums → Type 0
 Balance zone sums =
     (other : ℕ) → other < 8 → ShowsSame (sum_of sums.tally (Ctor other)) (sum_of sums.tally (Dtor other) + cond (zone == other) sums.deferred 0)
+
+-- ---- what calls answer
+
+-- the sums of no item are those of any count of items, and of any zone
+pub record IsNothing (sums : Sums) : Type 0 where
+  pub none : sums ≡ nothing_held
+  pub few : (count : ℕ) → AreOfAtMost count sums
+  pub balance : (zone : ℕ) → Balance zone sums
+
+-- The sums of other items were added.
+pub record Joins (was others is : Sums) : Type 0 where
+  pub adds : Adds (sum_of others.tally) others.deferred was is
+  pub few : (count more : ℕ) → AreOfAtMost count was → AreOfAtMost more others → AreOfAtMost (count + more) is
+  pub balance : (zone : ℕ) → Balance zone was → Balance zone others → Balance zone is
+
+-- So many items with these tickets were added, which passed each hook so often, so many of them deferred.
+pub record AddsItems (times : Hook → ℕ) (deferred items : ℕ) (tickets : List Ticket) (was is : Sums) : Type 0 where
+  pub adds : Adds times deferred was is
+  pub few : (count : ℕ) → AreOfAtMost count was → AreOfAtMost (count + items) is
+  pub balance : (home : Home) → AreHome home tickets → Balance home.zone was → Balance home.zone is
+
+-- the items that lie in a room may be added: they are few, and the room has no empty place
+pub record MayAdd {T : Type 0} {g : _} (sums : Sums) (held : Vec (Held T g) Global) : Type 0 where
+  pub room : AreOfAtMost (2 ^ 62) sums
+  pub few : vec_len held ≤ 64
+  pub filled : list_all is_filled held.items ≡ true

@@ -1,4 +1,4 @@
-ghost use Rattle.std.specs.Prelude.{◌≡◌, ◌≤◌, ◌<◌, ◌+◌, ◌^◌, ℕ, ◌∷◌, ◌++◌, [], length, IfSome, IfNone, IfOk, IfErr, Err, option_to_list};
+ghost use Rattle.std.specs.Prelude.{◌≡◌, ◌<◌, ◌^◌, [], length};
 ghost use Rattle.uma_bucket.specs.Held.{is_cached};
 ghost use Rattle.uma_bucket.specs.Kept.{IsKept};
 
@@ -22,17 +22,12 @@ pub struct Bucket<T: Body> {
 }
 
 impl<T: Body> Bucket<T> {
-    ghost use Rattle.uma_life.specs.Cached.{cached_ticket};
-    ghost use Rattle.uma_bucket.specs.Bucket.{items_of, tickets_of, size_of, place_of, IsOutOfRange, Refuses};
-    ghost use Rattle.uma_bucket.specs.Home.{Home, IsHome, AreHome};
-    ghost use Rattle.uma_bucket.specs.Sums.{times_cached, Adds, AreOfAtMost, Balance};
+    ghost use Rattle.uma_bucket.specs.Bucket.{IsCountOf, IsSizeOf, MakesBucket, Pops, Pushes, items_of, tickets_of, size_of};
+    ghost use Rattle.uma_bucket.specs.Sums.{AddsItems, times_cached, AreOfAtMost};
 
     /// An empty bucket with room for `size` items, which is 4 to 64.
     pub fn make(alloc: Global, size: u32) -> Result<Bucket<T>, BucketRefused>
-        ensures size { IfOk result (λ bucket. size_of bucket ≡ size) }
-        ensures empty { IfOk result (λ bucket. items_of bucket ≡ []) }
-        ensures out_of_range { IsOutOfRange size → result ≡ Err (BucketRefused.Size size) }
-        ensures err { IfErr result (Refuses size) }
+        ensures { MakesBucket size result }
     {
         if size < LEAST_SIZE || size > MOST_SIZE {
             return Err(BucketRefused::Size { size });
@@ -44,23 +39,14 @@ impl<T: Body> Bucket<T> {
     /// Puts an item on top. Its room was taken when the bucket was made.
     pub fn push(&mut self, item: Cached<T>)
         requires { length (items_of self.old) < size_of self.old }
-        ensures items { items_of self.new ≡ items_of self.old ++ item ∷ [] }
-        ensures home { (home : Home) → AreHome home (tickets_of self.old) → IsHome home (cached_ticket item) → AreHome home (tickets_of self.new) }
-        ensures size { size_of self.new ≡ size_of self.old }
-        ensures place { place_of self.new ≡ place_of self.old }
+        ensures { Pushes self.old item self.new }
     {
         self.room.push_reserved(Held::Cached(item));
     }
 
     /// Takes the item on top, which is the last that was put. None exactly where there is none.
     pub fn pop(&mut self) -> Option<Cached<T>>
-        ensures items { items_of self.old ≡ items_of self.new ++ option_to_list result }
-        ensures last { IfSome result (λ item. items_of self.old ≡ items_of self.new ++ item ∷ []) }
-        ensures none { IfNone result (items_of self.old ≡ []) }
-        ensures unchanged { IfNone result (items_of self.new ≡ []) }
-        ensures home { (home : Home) → AreHome home (tickets_of self.old) → AreHome home (tickets_of self.new) × IfSome result (λ item. IsHome home (cached_ticket item)) }
-        ensures room { IfSome result (λ _. length (items_of self.new) < size_of self.new) }
-        ensures size { size_of self.new ≡ size_of self.old }
+        ensures { Pops self.old result self.new }
     {
         match self.room.pop()? {
             Held::Cached(item) => Some(item),
@@ -78,18 +64,14 @@ impl<T: Body> Bucket<T> {
 
     /// How many items there are, at most `size`.
     pub fn len(&self) -> u32
-        ensures len { result ≡ length (items_of self.now) }
-        ensures within { result ≤ size_of self.now }
-        ensures most { result ≤ 64 }
+        ensures { IsCountOf (length (items_of self.now)) (size_of self.now) result }
     {
         self.room.len() as u32
     }
 
     /// How many items there is room for, 4 to 64.
     pub fn size(&self) -> u32
-        ensures size { result ≡ size_of self.now }
-        ensures least { 4 ≤ result }
-        ensures most { result ≤ 64 }
+        ensures { IsSizeOf (size_of self.now) result }
     {
         self.size
     }
@@ -97,9 +79,7 @@ impl<T: Body> Bucket<T> {
     /// Adds the tallies of the items.
     pub fn add_to(&self, sums: &mut Sums)
         requires { AreOfAtMost (2 ^ 62) sums.old }
-        ensures adds { Adds (λ hook. times_cached hook (items_of self.now)) 0 sums.old sums.new }
-        ensures few { (count : ℕ) → AreOfAtMost count sums.old → AreOfAtMost (count + length (items_of self.now)) sums.new }
-        ensures balance { (home : Home) → AreHome home (tickets_of self.now) → Balance home.zone sums.old → Balance home.zone sums.new }
+        ensures { AddsItems (λ hook. times_cached hook (items_of self.now)) 0 (length (items_of self.now)) (tickets_of self.now) sums.old sums.new }
     {
         sums.add_tallies(&self.room);
     }

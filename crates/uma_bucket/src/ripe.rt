@@ -1,6 +1,6 @@
 ghost use Rattle.std.specs.Prelude.{◌≡◌, ◌≤◌, length};
 ghost use Rattle.smr_clock.specs.Goals.{number_of};
-ghost use Rattle.smr_clock.specs.Notes.{note_knows, note_holder};
+ghost use Rattle.smr_clock.specs.Notes.{note_holder};
 
 use crate::bucket::Bucket;
 use crate::loose::Loose;
@@ -18,22 +18,14 @@ pub struct Ripe<T: Body, H: Host> {
 }
 
 impl<T: Body, H: Host> Ripe<T, H> {
-    ghost use Rattle.uma_bucket.specs.Bucket.{items_of, tickets_of, size_of, place_of};
-    ghost use Rattle.uma_bucket.specs.Finished.{AreFinished};
-    ghost use Rattle.uma_bucket.specs.Home.{Home, AreHome};
-    ghost use Rattle.uma_bucket.specs.Loose.{loose_items, loose_tickets, loose_size, loose_place};
-    ghost use Rattle.uma_bucket.specs.Ripe.{ripe_bucket, ripe_goal, ripe_note, IsOverFrom};
+    ghost use Rattle.uma_bucket.specs.Finished.{BecomesCached};
+    ghost use Rattle.uma_bucket.specs.Loose.{loose_items, loose_size};
+    ghost use Rattle.uma_bucket.specs.Ripe.{ripe_bucket};
 
     /// The items may be used again: each passes `dtor`, in order, and stays where it lies. From here on no open section
     /// is before the goal. The note is what a pass takes in to know it too.
     pub fn into_cached<K: Hooks<T>>(self, hooks: &K) -> (Bucket<T>, Note<H>)
-        ensures finished { AreFinished (K.leaves_dtor hooks.now) (loose_items (ripe_bucket self)) (items_of result.0) }
-        ensures tickets { tickets_of result.0 ≡ loose_tickets (ripe_bucket self) }
-        ensures home { (home : Home) → AreHome home (loose_tickets (ripe_bucket self)) → AreHome home (tickets_of result.0) }
-        ensures size { size_of result.0 ≡ loose_size (ripe_bucket self) }
-        ensures place { place_of result.0 ≡ loose_place (ripe_bucket self) }
-        ensures note { result.1 ≡ ripe_note self }
-        ensures over { IsOverFrom (note_knows result.1) (number_of (ripe_goal self)) }
+        ensures { BecomesCached (K.leaves_dtor hooks.now) self result.0 result.1 }
     {
         no_section_is_before_a_known_goal::<H>();
         let Ripe {

@@ -1,4 +1,4 @@
-ghost use Rattle.std.specs.Prelude.{◌≡◌, ◌≤◌, ◌+◌, ◌^◌, ℕ, true, false, length, IfOk, IfErr};
+ghost use Rattle.std.specs.Prelude.{◌≤◌, ◌^◌, length};
 ghost use Rattle.smr_clock.specs.Belongs.{clock_id};
 ghost use Rattle.smr_clock.specs.Goals.{number_of};
 ghost use Rattle.smr_clock.specs.Notes.{note_holder};
@@ -20,20 +20,16 @@ pub struct Sealed<T: Body, H: Host> {
 }
 
 impl<T: Body, H: Host> Sealed<T, H> {
-    ghost use Rattle.uma_bucket.specs.Home.{Home, AreHome};
+    ghost use Rattle.uma_bucket.specs.Bucket.{IsCountOf};
     ghost use Rattle.uma_bucket.specs.Loose.{loose_items, loose_tickets, loose_size};
-    ghost use Rattle.uma_bucket.specs.Ripe.{ripe_bucket, ripe_goal, ripe_note, IsRipeAt, SaidYes};
-    ghost use Rattle.uma_bucket.specs.Sealed.{sealed_bucket, sealed_goal, sealed_note, IsSealedAt, KnowsExpired, IsSameBucket, IsPolled, SaidNo};
-    ghost use Rattle.uma_bucket.specs.Sums.{times_freed, Adds, AreOfAtMost, Balance};
+    ghost use Rattle.uma_bucket.specs.Ripe.{IsOpened, TriesToOpen};
+    ghost use Rattle.uma_bucket.specs.Sealed.{PollsBucket, sealed_bucket, IsSealedAt, KnowsExpired};
+    ghost use Rattle.uma_bucket.specs.Sums.{AddsItems, times_freed, AreOfAtMost};
 
     /// Whether the goal is known to be expired, by one poll. The bucket stays as it is.
     pub fn poll(&mut self, clock: &Clock<H>) -> bool
         requires here { IsSealedAt (clock_id clock.now) self.old }
-        ensures here { IsSealedAt (clock_id clock.now) self.new }
-        ensures same { IsSameBucket self.old self.new }
-        ensures yes { result ≡ true → KnowsExpired self.new }
-        ensures no { result ≡ false → SaidNo self.old self.new }
-        ensures polled { IsPolled self.old result self.new }
+        ensures { PollsBucket (clock_id clock.now) self.old result self.new }
     {
         clock.poll(&mut self.note, &self.goal)
     }
@@ -41,9 +37,7 @@ impl<T: Body, H: Host> Sealed<T, H> {
     /// The bucket is ripe, once its note knows that the goal is expired.
     pub fn open(self) -> Ripe<T, H>
         requires { KnowsExpired self }
-        ensures bucket { ripe_bucket result ≡ sealed_bucket self }
-        ensures goal { ripe_goal result ≡ sealed_goal self }
-        ensures note { ripe_note result ≡ sealed_note self }
+        ensures { IsOpened self result }
     {
         let Sealed { loose, goal, note } = self;
         Ripe { loose, goal, note }
@@ -53,10 +47,7 @@ impl<T: Body, H: Host> Sealed<T, H> {
     /// that poll.
     pub fn try_open(mut self, clock: &Clock<H>) -> Result<Ripe<T, H>, Sealed<T, H>>
         requires here { IsSealedAt (clock_id clock.now) self }
-        ensures here { IfOk result (IsRipeAt (clock_id clock.now)) }
-        ensures back_here { IfErr result (IsSealedAt (clock_id clock.now)) }
-        ensures yes { IfOk result (SaidYes self) }
-        ensures no { IfErr result (SaidNo self) }
+        ensures { TriesToOpen (clock_id clock.now) self result }
     {
         if self.poll(clock) {
             Ok(self.open())
@@ -67,9 +58,7 @@ impl<T: Body, H: Host> Sealed<T, H> {
 
     /// How many items there are, at most `size`.
     pub fn len(&self) -> u32
-        ensures len { result ≡ length (loose_items (sealed_bucket self.now)) }
-        ensures within { result ≤ loose_size (sealed_bucket self.now) }
-        ensures most { result ≤ 64 }
+        ensures { IsCountOf (length (loose_items (sealed_bucket self.now))) (loose_size (sealed_bucket self.now)) result }
     {
         self.loose.len()
     }
@@ -77,9 +66,7 @@ impl<T: Body, H: Host> Sealed<T, H> {
     /// Adds the tallies of the items, and counts them as deferred.
     pub fn add_to(&self, sums: &mut Sums)
         requires { AreOfAtMost (2 ^ 62) sums.old }
-        ensures adds { Adds (λ hook. times_freed hook (loose_items (sealed_bucket self.now))) (length (loose_items (sealed_bucket self.now))) sums.old sums.new }
-        ensures few { (count : ℕ) → AreOfAtMost count sums.old → AreOfAtMost (count + length (loose_items (sealed_bucket self.now))) sums.new }
-        ensures balance { (home : Home) → AreHome home (loose_tickets (sealed_bucket self.now)) → Balance home.zone sums.old → Balance home.zone sums.new }
+        ensures { AddsItems (λ hook. times_freed hook (loose_items (sealed_bucket self.now))) (length (loose_items (sealed_bucket self.now))) (length (loose_items (sealed_bucket self.now))) (loose_tickets (sealed_bucket self.now)) sums.old sums.new }
     {
         self.loose.add_to(sums);
     }

@@ -8,3 +8,5 @@ pub mod Ticket
 pub mod Cached
 pub mod Live
 pub mod Sum
+pub mod Passes
+pub mod Moves

@@ -1,9 +1,10 @@
 -- Own: the sums of tallies, which don't wrap.
-use Rattle.std.specs.Prelude.{◌<◌, ◌+◌, ◌-◌, ◌^◌, ℕ, List, min, replicate, slice_index_or}
+use Rattle.std.specs.Prelude.{◌≡◌, ◌<◌, ◌+◌, ◌-◌, ◌^◌, ℕ, List, length, min, replicate, slice_index_or}
 use Rattle.uma_life.specs.declared.zone_tally.ZoneTally.{ZoneTally}
 use Rattle.uma_life.specs.declared.tally.Tally.{Tally}
 use Rattle.uma_life.specs.declared.tally_sum.ZoneTallySum.{ZoneTallySum}
 use Rattle.uma_life.specs.declared.tally_sum.TallySum.{TallySum}
+use Rattle.uma_life.specs.Life.{no_counts}
 use Rattle.uma_life.specs.Hook.{Hook, KegInit, ZoneInit, Ctor, Dtor, ZoneFini, KegFini, counts_of}
 
 abbrev pub no_zone_sums : ZoneTallySum
@@ -69,6 +70,21 @@ pub record AreCounts (counts : ZoneTally) : Type 0 where
   pub ctors : counts.ctors < 2 ^ 64
   pub dtors : counts.dtors < 2 ^ 64
   pub finis : counts.finis < 2 ^ 64
+
+-- each sum of each of eight zones is
+abbrev pub AreBelowEach : ℕ → List ZoneTallySum → Type 0
+AreBelowEach bound zones = (zone : ℕ) → zone < 8 → IsBelow bound (zone_sums zones zone)
+
+-- the sums of eight zones with the counts of one more item
+pub record AddsCounts (old : List ZoneTallySum) (more : List ZoneTally) (new : List ZoneTallySum) : Type 0 where
+  pub eight : (length old ≡ 8) × (length more ≡ 8) × (length new ≡ 8)
+  pub sums : (zone : ℕ) → zone < 8 → zone_sums new zone ≡ zone_sums_with (zone_sums old zone) (slice_index_or more zone no_counts)
+  pub counts : (zone : ℕ) → zone < 8 → AreCounts (slice_index_or more zone no_counts)
+
+-- the sums of eight zones with those of more items
+pub record AddsSums (old others new : List ZoneTallySum) : Type 0 where
+  pub eight : (length old ≡ 8) × (length others ≡ 8) × (length new ≡ 8)
+  pub sums : (zone : ℕ) → zone < 8 → zone_sums new zone ≡ zone_sums_and (zone_sums old zone) (zone_sums others zone)
 
 -- a sum as a counter of 64 bits that stops at its end
 abbrev pub capped : ℕ → ℕ

@@ -1,6 +1,6 @@
-ghost use Rattle.std.specs.Prelude.{◌≡◌, ◌≢◌, ◌<◌, Some, None, IfOk, IfErr};
+ghost use Rattle.std.specs.Prelude.{◌≡◌, ◌<◌};
 ghost use Rattle.deed_book.specs.Deed.{no_of, zone_of, deed_table};
-ghost use Rattle.uma_life.specs.Hook.{base_phase, Ctor, ZoneFini, after, IsCode};
+ghost use Rattle.uma_life.specs.Hook.{base_phase};
 ghost use Rattle.uma_life.specs.Trail.{IsAt};
 
 use crate::body::Body;
@@ -21,7 +21,8 @@ pub struct Cached<T: Body> {
 }
 
 impl<T: Body> Cached<T> {
-    ghost use Rattle.uma_life.specs.Cached.{cached_body, cached_no, cached_zone, cached_domain, cached_table};
+    ghost use Rattle.uma_life.specs.Moves.{ShowsBody};
+    ghost use Rattle.uma_life.specs.Cached.{cached_body, cached_no, cached_zone, cached_domain, cached_ticket};
 
     /// The item's number in its keg.
     pub fn no(&self) -> u32
@@ -47,29 +48,19 @@ impl<T: Body> Cached<T> {
 
     /// The item's body, in the phase of this state.
     pub fn body(&self) -> &T
-        ensures body { result.now ≡ cached_body self.now }
-        ensures number { (T.life result.now).no ≡ cached_no self.now }
-        ensures at { IsAt (base_phase (cached_zone self.now)) (T.life result.now) }
-        ensures origin { T.origin result.now ≡ (cached_table self.now).origin }
+        ensures { ShowsBody T.life T.origin (cached_body self.now) (cached_ticket self.now) (base_phase (cached_zone self.now)) result.now }
     {
         &self.body
     }
 }
 
 impl<T: Body> Cached<T> {
-    ghost use Rattle.uma_life.specs.Cached.{cached_body, cached_zone, cached_domain, cached_ticket, cached_table};
-    ghost use Rattle.uma_life.specs.Live.{live_body, live_ticket};
-    ghost use Rattle.uma_life.specs.Stored.{stored_body, stored_no, stored_domain, stored_origin};
-    ghost use Rattle.uma_life.specs.Ticket.{ticket_deed};
+    ghost use Rattle.uma_life.specs.Moves.{Builds, GivesBack};
+    ghost use Rattle.uma_life.specs.Cached.{cached_body, cached_zone};
 
     /// Builds the item: it passes `ctor`. Where that refuses the item is back, with the code.
     pub fn build<K: Hooks<T>>(self, hooks: &K, arg: u64) -> Result<Live<T>, (Cached<T>, u8)>
-        ensures ticket { IfOk result (λ item. live_ticket item ≡ cached_ticket self) }
-        ensures built { IfOk result (λ item. T.life (live_body item) ≡ after (Ctor (cached_zone self)) (T.life (cached_body self))) }
-        ensures left { IfOk result (λ item. K.leaves_ctor hooks.now (cached_body self) (cached_zone self) arg (live_body item)) }
-        ensures accepted { IfOk result (λ _. K.refuses_ctor hooks.now (cached_body self) (cached_zone self) arg ≡ None) }
-        ensures refused { IfErr result (λ (item, code). (K.refuses_ctor hooks.now (cached_body self) (cached_zone self) arg ≡ Some code) × IsCode code) }
-        ensures unchanged { IfErr result (λ (item, code). item ≡ self) }
+        ensures { Builds self (K.refuses_ctor hooks.now (cached_body self) (cached_zone self) arg) (K.leaves_ctor hooks.now (cached_body self) (cached_zone self) arg) result }
     {
         let Cached { mut body, ticket } = self;
         match hooks.ctor(ticket.zone(), &mut body, arg) {
@@ -80,13 +71,7 @@ impl<T: Body> Cached<T> {
 
     /// Gives the item back to its keg. It passes `zone_fini`, but for zone 0.
     pub fn give_back<K: Hooks<T>>(self, hooks: &K) -> (Stored<T>, Deed)
-        ensures number { stored_no result.0 ≡ no_of result.1 }
-        ensures domain { stored_domain result.0 ≡ cached_domain self }
-        ensures deed { result.1 ≡ ticket_deed (cached_ticket self) }
-        ensures origin { stored_origin result.0 ≡ (cached_table self).origin }
-        ensures primary { cached_zone self ≡ 0 → stored_body result.0 ≡ cached_body self }
-        ensures passed { cached_zone self ≢ 0 → T.life (stored_body result.0) ≡ after (ZoneFini (cached_zone self)) (T.life (cached_body self)) }
-        ensures left { cached_zone self ≢ 0 → K.leaves_fini hooks.now (cached_body self) (cached_zone self) (stored_body result.0) }
+        ensures { GivesBack self (K.leaves_fini hooks.now (cached_body self) (cached_zone self)) result.0 result.1 }
     {
         let Cached { mut body, ticket } = self;
         let (deed, domain) = ticket.into_deed();

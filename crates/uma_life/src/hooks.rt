@@ -1,16 +1,6 @@
-ghost use Rattle.std.specs.Prelude.{◌≡◌, ◌⊎◌, ℕ, List, [], Option, Some, None, IfOk, IfErr};
-ghost use Rattle.uma_life.specs.Life.{raw_life};
-ghost use Rattle.uma_life.specs.Hook.{
-  KegInit,
-  ZoneInit,
-  Ctor,
-  Dtor,
-  ZoneFini,
-  KegFini,
-  MayPass,
-  after,
-  IsCode,
-};
+ghost use Rattle.std.specs.Prelude.{◌≡◌, ◌⊎◌, ℕ, List, [], Option};
+ghost use Rattle.uma_life.specs.Hook.{KegInit, ZoneInit, Ctor, Dtor, ZoneFini, KegFini, MayPass};
+ghost use Rattle.uma_life.specs.Passes.{MakesRaw, Passes, PassesOrNot};
 ghost use Rattle.uma_life.specs.declared.body_phase.BodyPhase.TheVariants.{Raw, Gone};
 
 use crate::body::Body;
@@ -56,60 +46,37 @@ pub trait Hooks<T: Body>: Drop {
 
     /// Makes the body of a number, which passed no hook.
     fn raw<R: Wait>(&self, rt: &R, alloc: Global, no: u32) -> Result<T, Memory>
-        ensures raw { IfOk result (λ body. T.life body ≡ raw_life no) }
-        ensures made { IfOk result (λ body. makes self.now no body) }
-        ensures of_hooks { IfOk result (λ body. T.origin body ≡ origin self.now) };
+        ensures { MakesRaw T.life T.origin no (makes self.now no) (origin self.now) result };
 
     /// Runs when the item's slab is brought in.
     fn keg_init(&self, body: &mut T) -> Result<(), u8>
         requires { MayPass KegInit (T.life body.old) }
-        ensures passed { IfOk result (λ _. T.life body.new ≡ after KegInit (T.life body.old)) }
-        ensures same_origin { IfOk result (λ _. T.origin body.new ≡ T.origin body.old) }
-        ensures left { IfOk result (λ _. leaves_init self.now body.old 0 body.new) }
-        ensures accepts { IfOk result (λ _. refuses_init self.now body.old 0 ≡ None) }
-        ensures refuses { IfErr result (λ code. (refuses_init self.now body.old 0 ≡ Some code) × IsCode code) }
-        ensures unchanged { IfErr result (λ _. body.new ≡ body.old) };
+        ensures { PassesOrNot T.life T.origin KegInit (λ was. leaves_init self.now was 0) (refuses_init self.now body.old 0) body.old body.new result };
 
     /// Runs when the item enters a secondary zone, which is 1 to 7.
     fn zone_init(&self, zone: u8, body: &mut T) -> Result<(), u8>
         requires { MayPass (ZoneInit zone) (T.life body.old) }
-        ensures passed { IfOk result (λ _. T.life body.new ≡ after (ZoneInit zone) (T.life body.old)) }
-        ensures same_origin { IfOk result (λ _. T.origin body.new ≡ T.origin body.old) }
-        ensures left { IfOk result (λ _. leaves_init self.now body.old zone body.new) }
-        ensures accepts { IfOk result (λ _. refuses_init self.now body.old zone ≡ None) }
-        ensures refuses { IfErr result (λ code. (refuses_init self.now body.old zone ≡ Some code) × IsCode code) }
-        ensures unchanged { IfErr result (λ _. body.new ≡ body.old) };
+        ensures { PassesOrNot T.life T.origin (ZoneInit zone) (λ was. leaves_init self.now was zone) (refuses_init self.now body.old zone) body.old body.new result };
 
     /// Runs on an allocation in a zone below 8, with the argument of the request.
     fn ctor(&self, zone: u8, body: &mut T, arg: u64) -> Result<(), u8>
         requires { MayPass (Ctor zone) (T.life body.old) }
-        ensures passed { IfOk result (λ _. T.life body.new ≡ after (Ctor zone) (T.life body.old)) }
-        ensures same_origin { IfOk result (λ _. T.origin body.new ≡ T.origin body.old) }
-        ensures left { IfOk result (λ _. leaves_ctor self.now body.old zone arg body.new) }
-        ensures accepts { IfOk result (λ _. refuses_ctor self.now body.old zone arg ≡ None) }
-        ensures refuses { IfErr result (λ code. (refuses_ctor self.now body.old zone arg ≡ Some code) × IsCode code) }
-        ensures unchanged { IfErr result (λ _. body.new ≡ body.old) };
+        ensures { PassesOrNot T.life T.origin (Ctor zone) (λ was. leaves_ctor self.now was zone arg) (refuses_ctor self.now body.old zone arg) body.old body.new result };
 
     /// Runs once for each allocation that was freed, in its zone.
     fn dtor(&self, zone: u8, body: &mut T)
         requires { MayPass (Dtor zone) (T.life body.old) }
-        ensures passed { T.life body.new ≡ after (Dtor zone) (T.life body.old) }
-        ensures same_origin { T.origin body.new ≡ T.origin body.old }
-        ensures left { leaves_dtor self.now body.old zone body.new };
+        ensures { Passes T.life T.origin (Dtor zone) (λ was. leaves_dtor self.now was zone) body.old body.new };
 
     /// Runs when the item leaves a secondary zone, which is 1 to 7.
     fn zone_fini(&self, zone: u8, body: &mut T)
         requires { MayPass (ZoneFini zone) (T.life body.old) }
-        ensures passed { T.life body.new ≡ after (ZoneFini zone) (T.life body.old) }
-        ensures same_origin { T.origin body.new ≡ T.origin body.old }
-        ensures left { leaves_fini self.now body.old zone body.new };
+        ensures { Passes T.life T.origin (ZoneFini zone) (λ was. leaves_fini self.now was zone) body.old body.new };
 
     /// Runs when the item's slab is given up.
     fn keg_fini(&self, body: &mut T)
         requires { MayPass KegFini (T.life body.old) }
-        ensures passed { T.life body.new ≡ after KegFini (T.life body.old) }
-        ensures same_origin { T.origin body.new ≡ T.origin body.old }
-        ensures left { leaves_fini self.now body.old 0 body.new };
+        ensures { Passes T.life T.origin KegFini (λ was. leaves_fini self.now was 0) body.old body.new };
 
     /// Ends a body, and answers its tally. It passed no hook, or all.
     fn bury<R: Wait>(&self, rt: &R, body: T) -> Tally

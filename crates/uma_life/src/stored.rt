@@ -1,7 +1,6 @@
-ghost use Rattle.std.specs.Prelude.{◌≡◌, ◌≢◌, ◌⊎◌, Some, None, IfOk, IfErr, IsOkAnd};
+ghost use Rattle.std.specs.Prelude.{◌≡◌};
 ghost use Rattle.deed_book.specs.Deed.{no_of, zone_of, deed_table};
-ghost use Rattle.uma_life.specs.Life.{raw_life};
-ghost use Rattle.uma_life.specs.Hook.{KegInit, ZoneInit, KegFini, after, IsCode};
+ghost use Rattle.uma_life.specs.Hook.{KegFini, after};
 ghost use Rattle.uma_life.specs.Trail.{IsAt, OnTrail};
 ghost use Rattle.uma_life.specs.declared.body_phase.BodyPhase.TheVariants.{Kept, Gone};
 
@@ -50,12 +49,11 @@ impl<T: Body> Stored<T> {
 }
 
 impl<T: Body> Stored<T> {
-    ghost use Rattle.uma_life.specs.Stored.{stored_body, stored_domain};
+    ghost use Rattle.uma_life.specs.Moves.{IsInDomain};
 
     /// The item in a slab of this memory domain.
     pub fn in_domain(self, domain: u8) -> Stored<T>
-        ensures body { stored_body result ≡ stored_body self }
-        ensures domain { stored_domain result ≡ domain }
+        ensures { IsInDomain self domain result }
     {
         let Stored { body, domain: _ } = self;
         Stored { body, domain }
@@ -63,10 +61,8 @@ impl<T: Body> Stored<T> {
 }
 
 impl<T: Body> Stored<T> {
-    ghost use Rattle.uma_life.specs.Stored.{stored_body, stored_no, stored_domain, stored_origin};
-    ghost use Rattle.uma_life.specs.Bring.{RefusesToBring};
-    ghost use Rattle.uma_life.specs.Ticket.{ticket_deed, ticket_domain};
-    ghost use Rattle.uma_life.specs.Cached.{cached_body, cached_ticket};
+    ghost use Rattle.uma_life.specs.Moves.{Brings, Lends};
+    ghost use Rattle.uma_life.specs.Stored.{stored_body, stored_no, stored_origin};
 
     /// Makes an item of a keg: its body, after `keg_init`. Where that refuses the raw body was buried.
     pub fn bring<K: Hooks<T>, R: Wait>(
@@ -76,13 +72,7 @@ impl<T: Body> Stored<T> {
         no: u32,
         domain: u8,
     ) -> Result<Stored<T>, BringRefused>
-        ensures number { IfOk result (λ item. stored_no item ≡ no) }
-        ensures domain { IfOk result (λ item. stored_domain item ≡ domain) }
-        ensures origin { IfOk result (λ item. stored_origin item ≡ K.origin hooks.now) }
-        ensures brought { IfOk result (λ item. T.life (stored_body item) ≡ after KegInit (raw_life no)) }
-        ensures accepted { IfOk result (λ _. (raw : T) × (T.life raw ≡ raw_life no) × (K.refuses_init hooks.now raw 0 ≡ None)) }
-        ensures left { IfOk result (λ item. (raw : T) × (T.life raw ≡ raw_life no) × K.makes hooks.now no raw × (K.refuses_init hooks.now raw 0 ≡ None) × K.leaves_init hooks.now raw 0 (stored_body item)) }
-        ensures refused { IfErr result (RefusesToBring (λ code. (raw : T) × (T.life raw ≡ raw_life no) × (K.refuses_init hooks.now raw 0 ≡ Some code))) }
+        ensures { Brings no domain (K.origin hooks.now) (K.makes hooks.now no) (λ raw. K.refuses_init hooks.now raw 0) (λ raw. K.leaves_init hooks.now raw 0) result }
     {
         let mut body = hooks.raw(rt, alloc, no)?;
         if let Err(code) = hooks.keg_init(&mut body) {
@@ -101,14 +91,7 @@ impl<T: Body> Stored<T> {
     ) -> Result<Cached<T>, (Stored<T>, Deed, u8)>
         requires number { no_of deed ≡ stored_no self }
         requires origin { stored_origin self ≡ (deed_table deed).origin }
-        ensures deed { IfOk result (λ item. ticket_deed (cached_ticket item) ≡ deed) }
-        ensures domain { IfOk result (λ item. ticket_domain (cached_ticket item) ≡ stored_domain self) }
-        ensures primary { zone_of deed ≡ 0 → IsOkAnd result (λ item. cached_body item ≡ stored_body self) }
-        ensures entered { zone_of deed ≢ 0 → IfOk result (λ item. T.life (cached_body item) ≡ after (ZoneInit (zone_of deed)) (T.life (stored_body self))) }
-        ensures left { zone_of deed ≢ 0 → IfOk result (λ item. K.leaves_init hooks.now (stored_body self) (zone_of deed) (cached_body item)) }
-        ensures accepted { zone_of deed ≢ 0 → IfOk result (λ _. K.refuses_init hooks.now (stored_body self) (zone_of deed) ≡ None) }
-        ensures refused { IfErr result (λ (item, back, code). (zone_of deed ≢ 0) × (K.refuses_init hooks.now (stored_body self) (zone_of deed) ≡ Some code) × IsCode code) }
-        ensures unchanged { IfErr result (λ (item, back, code). (item ≡ self) × (back ≡ deed)) }
+        ensures { Lends self deed (K.refuses_init hooks.now (stored_body self) (zone_of deed)) (K.leaves_init hooks.now (stored_body self) (zone_of deed)) result }
     {
         let Stored { mut body, domain } = self;
         if deed.zone() != 0

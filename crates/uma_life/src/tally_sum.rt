@@ -1,7 +1,7 @@
 ghost use Rattle.std.specs.Prelude.{◌≡◌, ◌<◌, ◌+◌, ◌-◌, ◌^◌, ◌↔◌, ℕ, IsTrue, min, length, slice_index_or};
 ghost use Rattle.uma_life.specs.Hook.{Hook};
 ghost use Rattle.uma_life.specs.Life.{no_counts};
-ghost use Rattle.uma_life.specs.Sum.{times_of, sum_of, zone_sums, AreBelow, IsBelow, AreCounts, zone_sums_with, zone_sums_and, capped_zone};
+ghost use Rattle.uma_life.specs.Sum.{times_of, sum_of, zone_sums, AreBelow, AreBelowEach, IsBelow, AreCounts, AddsCounts, AddsSums, zone_sums_with, zone_sums_and, capped_zone};
 
 use crate::tally::Tally;
 use crate::zone_tally::ZoneTally;
@@ -134,10 +134,8 @@ impl ZoneTallySum {
 
 /// These sums of eight zones with the counts of one more item.
 fn zones_with(sums: [ZoneTallySum; 8], counts: [ZoneTally; 8]) -> [ZoneTallySum; 8]
-    requires { (zone : ℕ) → zone < 8 → IsBelow (2 ^ 127) (zone_sums sums zone) }
-    ensures eight { (length sums ≡ 8) × (length counts ≡ 8) × (length result ≡ 8) }
-    ensures sums { (zone : ℕ) → zone < 8 → zone_sums result zone ≡ zone_sums_with (zone_sums sums zone) (slice_index_or counts zone no_counts) }
-    ensures counts { (zone : ℕ) → zone < 8 → AreCounts (slice_index_or counts zone no_counts) }
+    requires { AreBelowEach (2 ^ 127) sums }
+    ensures { AddsCounts sums counts result }
 {
     let mut more = sums;
     for zone in 0..8 {
@@ -148,10 +146,9 @@ fn zones_with(sums: [ZoneTallySum; 8], counts: [ZoneTally; 8]) -> [ZoneTallySum;
 
 /// These sums of eight zones with those of other items.
 fn zones_and(sums: [ZoneTallySum; 8], others: [ZoneTallySum; 8]) -> [ZoneTallySum; 8]
-    requires room { (zone : ℕ) → zone < 8 → IsBelow (2 ^ 127) (zone_sums sums zone) }
-    requires few { (zone : ℕ) → zone < 8 → IsBelow (2 ^ 127) (zone_sums others zone) }
-    ensures eight { (length sums ≡ 8) × (length others ≡ 8) × (length result ≡ 8) }
-    ensures sums { (zone : ℕ) → zone < 8 → zone_sums result zone ≡ zone_sums_and (zone_sums sums zone) (zone_sums others zone) }
+    requires room { AreBelowEach (2 ^ 127) sums }
+    requires few { AreBelowEach (2 ^ 127) others }
+    ensures { AddsSums sums others result }
 {
     let mut more = sums;
     for zone in 0..8 {
@@ -180,7 +177,7 @@ fn capped_zones(sums: [ZoneTallySum; 8]) -> [ZoneTally; 8]
 
 fn zones_are_below(zones: [ZoneTallySum; 8], bound: u128) -> bool
     ensures eight { length zones ≡ 8 }
-    ensures below { IsTrue result ↔ ((zone : ℕ) → zone < 8 → IsBelow bound (zone_sums zones zone)) }
+    ensures below { IsTrue result ↔ AreBelowEach bound zones }
 {
     for sums in zones {
         if !sums.is_below(bound) {

@@ -1,7 +1,7 @@
-use Rattle.std.proofs.Common.{◌∙◌, sym}
+use Rattle.std.proofs.Common.{rules, ◌∙◌, sym}
 use Rattle.uma_bucket.specs.Held.{is_cached, cached_in}
 use Rattle.uma_bucket.proofs.Rooms.{count, cached_tests}
 use Rattle.uma_bucket.proofs.bucket.Bucket.len.Goals as goal
 
-pub returns-clause-len : goal.returns-clause-len
-returns-clause-len g c = c.len.ensures ∙ c.args.self.now.room.ok.0 ∙ sym (count is_cached cached_in cached_tests _ c.args.self.now.kept.alike)
+pub returns : goal.returns
+returns g c = record { len = c.len.ensures ∙ c.args.self.now.room.ok.0 ∙ sym (count is_cached cached_in cached_tests _ c.args.self.now.kept.alike); within = search rules; most = search rules }

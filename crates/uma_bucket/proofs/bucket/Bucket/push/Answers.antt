@@ -1,4 +1,4 @@
-use Rattle.std.proofs.Common.{◌≡◌, ◌∷◌, [], length, refl, arith}
+use Rattle.std.proofs.Common.{rules, ◌≡◌, ◌∷◌, ◌++◌, [], length, refl, arith}
 use Rattle.std.specs.List.{filter_map}
 use Rattle.std.proofs.lemmas.List.Elements.{filter_map-append}
 use Rattle.uma_life.specs.Cached.{cached_ticket}
@@ -30,8 +30,13 @@ invariant_of-self g c =
       };
     }
 
-pub returns-clause-items : goal.returns-clause-items
-returns-clause-items g c = rw c.push_reserved.ensures.items (filter_map-append cached_in c.args.self.now.room.items (Cached' c.args.item ∷ []))
-
-pub returns-clause-home : goal.returns-clause-home
-returns-clause-home g c home before here = home_push home cached_ticket _ _ c.args.item (returns-clause-items g c) before here
+pub returns : goal.returns
+returns g c =
+    let items : filter_map cached_in c.push_reserved.new.self.items ≡ filter_map cached_in c.args.self.now.room.items ++ c.args.item ∷ [] =
+    rw c.push_reserved.ensures.items (filter_map-append cached_in c.args.self.now.room.items (Cached' c.args.item ∷ [])) in
+    record {
+      items = items;
+      home = λ home before here. home_push home cached_ticket _ _ c.args.item items before here;
+      size = search rules;
+      place = search rules;
+    }

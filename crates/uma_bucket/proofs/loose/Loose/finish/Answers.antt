@@ -1,4 +1,4 @@
-use Rattle.std.proofs.Common.{◌≡◌, ◌<◌, length, refl, arith}
+use Rattle.std.proofs.Common.{rules, ◌≡◌, ◌<◌, length, refl, arith}
 use Rattle.uma_bucket.proofs.Rounds.{at_first, next_freed, one_place, all_places, all_cached, all_finished}
 use Rattle.uma_bucket.proofs.loose.Loose.finish.Goals as goal
 
@@ -36,7 +36,11 @@ invariant_of-result g c =
       };
     }
 
-pub returns-clause-finished : goal.returns-clause-finished
-returns-clause-finished g c =
+pub returns : goal.returns
+returns g c =
     let whole : c.loop-at.at ≡ length c.args.self.room.items = omega (arith, c.loop-at-test.false, c.loop-at.auto.at-end, c.len-at-end.ensures, c.args.self.room.ok.0) in
-    all_finished (g.K.Hooks.leaves_dtor c.args.hooks.now) c.args.self.room.items c.loop-at.room.items (all_places (g.K.Hooks.leaves_dtor c.args.hooks.now) c.loop-at.at _ _ c.loop-at.invariant.up_to whole)
+    record {
+      finished = all_finished (g.K.Hooks.leaves_dtor c.args.hooks.now) c.args.self.room.items c.loop-at.room.items (all_places (g.K.Hooks.leaves_dtor c.args.hooks.now) c.loop-at.at _ _ c.loop-at.invariant.up_to whole);
+      size = search rules;
+      place = search rules;
+    }

@@ -1,4 +1,4 @@
-use Rattle.std.proofs.Common.{ap}
+use Rattle.std.proofs.Common.{ap, rules}
 use Rattle.std.specs.List.{filter_map, list_all}
 use Rattle.uma_bucket.specs.Held.{is_cached, cached_in, is_freed, freed_in}
 use Rattle.uma_bucket.proofs.Rooms.{none_there, cached_tests}
@@ -18,5 +18,5 @@ invariant_of-result g c =
       };
     }
 
-pub returns-clause-empty : goal.returns-clause-empty
-returns-clause-empty g c = ap (filter_map freed_in) (none_there is_cached cached_in cached_tests c.args.bucket.room.items c.args.bucket.kept.alike c.requires)
+pub returns : goal.returns
+returns g c = record { empty = ap (filter_map freed_in) (none_there is_cached cached_in cached_tests c.args.bucket.room.items c.args.bucket.kept.alike c.requires); size = search rules; place = search rules }

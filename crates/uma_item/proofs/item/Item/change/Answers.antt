@@ -1,4 +1,4 @@
-use Rattle.std.proofs.Common.{ap, sym, subst, ◌∙◌}
+use Rattle.std.proofs.Common.{ap, rules, sym, subst, ◌∙◌}
 use Rattle.std.specs.Fn.{FnOnceReturnsAtMut}
 use Rattle.uma_life.specs.Life.{Life}
 use Rattle.uma_life.specs.Trail.{IsAt}
@@ -11,10 +11,14 @@ use Rattle.uma_item.specs.Item.{item_data}
 use Rattle.uma_item.proofs.item.Item.change.Goals as goal
 
 -- src/changing.rt:22:10
-pub from_parts-requires-clause-at : goal.from_parts-requires-clause-at
-from_parts-requires-clause-at g c =
+pub from_parts-requires : goal.from_parts-requires
+from_parts-requires g c =
     let life : Trailed g.row.B.Denot → Life = λ whole. record { no = whole.no; phase = whole.phase; tally = tally_by whole.phase whole.ctors (kept_stays whole.stays) } in
-    subst (λ whole. IsAt (Built (ticket_zone c.into_parts-item.result.1)) (life whole)) (sym c.deref_mut.ensures.value) c.into_parts-item.ensures.at
+    record {
+      number = search rules;
+      at = subst (λ whole. IsAt (Built (ticket_zone c.into_parts-item.result.1)) (life whole)) (sym c.deref_mut.ensures.value) c.into_parts-item.ensures.agree.at;
+      origin = search rules;
+    }
 
 -- src/changing.rt:14:5
 pub returns-clause-changed : goal.returns-clause-changed

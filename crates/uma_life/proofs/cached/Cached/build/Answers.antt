@@ -1,6 +1,14 @@
-use Rattle.std.proofs.Common.{refl}
+use Rattle.std.proofs.Common.{refl, rules}
 use Rattle.uma_life.proofs.Same.{cached_same}
 use Rattle.uma_life.proofs.cached.Cached.build.Goals as goal
 
-pub returns-in-Err-clause-unchanged : goal.returns-in-Err-clause-unchanged
-returns-in-Err-clause-unchanged g c = cached_same _ _ c.in-Err.ensures.unchanged refl
+pub returns-in-Err : goal.returns-in-Err
+returns-in-Err g c =
+    record {
+      ticket = search rules;
+      built = search rules;
+      left = search rules;
+      accepted = search rules;
+      refused = search rules;
+      unchanged = cached_same _ _ c.in-Err.ensures.unchanged refl;
+    }
