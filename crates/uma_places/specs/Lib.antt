@@ -6,3 +6,4 @@ pub mod Room
 pub mod Standing
 pub mod Taking
 pub mod UsedPlaces
+pub mod Calls

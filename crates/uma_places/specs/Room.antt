@@ -1,5 +1,5 @@
 -- The room that a keg keeps for the slab of one index.
-use Rattle.std.specs.Prelude.{◌≡◌, ℕ, ◌+◌, ◌<◌, ◌≤◌, Bool, true, false, ◌&&◌, ◌==◌, nat_lt, List, [], Option, None, length, replicate, slice_index_or, is_some, is_none, option_map, count_by}
+use Rattle.std.specs.Prelude.{◌≡◌, ℕ, ◌+◌, ◌<◌, ◌≤◌, Bool, true, false, ◌&&◌, ◌==◌, nat_lt, List, [], Option, Some, None, IsTrue, length, replicate, slice_get, slice_set, slice_index_or, is_some, is_none, option_map, count_by}
 use Rattle.uma_places.specs.Places.{Slab}
 
 -- the domain of the slab, while one is in, and of each place whether it is free
@@ -60,3 +60,33 @@ pub record IsLastThat (test : RoomState → Bool) (rooms : List RoomState) (inde
   pub within : index < length rooms
   pub passes : (d : RoomState) → test (slice_index_or rooms index d) ≡ true
   pub later : NonePassFrom test rooms (index + 1)
+
+-- ---- what calls of a room ask and answer
+
+-- how many rooms there may be, and how many places each may have
+pub record IsRoomCount (rooms places : ℕ) : Type 0 where
+  pub few_slabs : rooms ≤ 1024
+  pub some_place : 1 ≤ places
+  pub few_places : places ≤ 256
+
+-- the room of this index has a free place
+pub record MayTake (rooms : List RoomState) (index : ℕ) : Type 0 where
+  pub within : index < length rooms
+  pub free : IsTrue (can_take (room_at rooms index))
+
+-- the place of the room of this index is used
+pub record MayGive (rooms : List RoomState) (index place : ℕ) : Type 0 where
+  pub within : index < length rooms
+  pub used : slice_get (room_at rooms index).free place ≡ Some false
+
+-- the least free place of the room is used now
+pub record TakesPlace (old : RoomState) (place : ℕ) (new : RoomState) : Type 0 where
+  pub free : slice_get old.free place ≡ Some true
+  pub least : (lower : ℕ) → lower < place → slice_index_or old.free lower false ≡ false
+  pub used : new ≡ record old { free = slice_set old.free place false }
+
+-- and no other room changes
+pub record TakesFrom (old : List RoomState) (index place : ℕ) (new : List RoomState) : Type 0 where
+  pub free : slice_get (room_at old index).free place ≡ Some true
+  pub least : (lower : ℕ) → lower < place → slice_index_or (room_at old index).free lower false ≡ false
+  pub used : new ≡ slice_set old index (record (room_at old index) { free = slice_set (room_at old index).free place false })

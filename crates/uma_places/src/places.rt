@@ -1,9 +1,7 @@
-ghost use Rattle.std.specs.Prelude.{◌≡◌, ◌≢◌, ℕ, ◌*◌, ◌/◌, ◌<◌, ◌≤◌, ◌⊎◌, ◌↔◌, min, IsSome, IsNone, IsOk, IfSome, IfNone, IfOk, IfErr, OnSome, OnOk, OnErr};
-ghost use Rattle.uma_places.specs.Places.{place_at, domain_at, slab_count, free_count, out_count, IsFree, IsOut, IsSound, IsNew, Brings, Gives, CountsOneOut, CountsOneSlab};
-ghost use Rattle.uma_places.specs.UsedPlaces.{AreEven};
-ghost use Rattle.uma_places.specs.Refused.{IsItemSize, IsSlabCount, IsRefusedFor};
-ghost use Rattle.uma_places.specs.Dropping.{Drops, IsUsedUp, HasNoneWhollyFree};
-ghost use Rattle.uma_places.specs.Taking.{Takes};
+ghost use Rattle.std.specs.Prelude.{◌≡◌, ◌/◌, IsSome, IfOk};
+ghost use Rattle.uma_places.specs.Calls.{ArePlacesOf, AreCountsOf, BringsOrNot, DropsOrNot, GivesOne, IsEmptyKeg, MakesPlaces, TakesOrNot};
+ghost use Rattle.uma_places.specs.Places.{place_at, domain_at, IsOut};
+ghost use Rattle.uma_places.specs.Refused.{IsItemSize};
 
 use crate::counts::KegCounts;
 use crate::refused::KegRefused;
@@ -67,10 +65,7 @@ impl Places {
     ///
     /// The size is tested first. `Memory` where memory is wanting.
     pub fn new(alloc: Global, size: u32, slabs: u32) -> Result<Places, KegRefused>
-        ensures new { IfOk result (IsNew (min 256 (4096 / size)) slabs) }
-        ensures sound { IfOk result IsSound }
-        ensures accepted { OnOk result (IsItemSize size × IsSlabCount slabs) }
-        ensures refused { IfErr result (IsRefusedFor size slabs) }
+        ensures { MakesPlaces size slabs result }
     {
         if !(LEAST_SIZE..=SLAB_BYTES).contains(&size) {
             return Err(KegRefused::Size { size });
@@ -84,8 +79,7 @@ impl Places {
     /// A keg of so many places a slab, with room for `cap` slabs, and none in.
     fn empty(alloc: Global, per_slab: u32, cap: u32) -> Result<Places, AllocError>
         requires { IsSize per_slab cap }
-        ensures new { IfOk result (IsNew per_slab cap) }
-        ensures sound { IfOk result IsSound }
+        ensures { IfOk result (IsEmptyKeg per_slab cap) }
     {
         Ok(Places {
             rooms: Rooms::new(alloc, cap, per_slab)?,
@@ -100,13 +94,7 @@ impl Places {
     /// Brings in a new slab with this domain, all of whose places are free, at the least index that isn't in, and
     /// answers that index. `Full` exactly where as many slabs are in as may be.
     pub fn bring(&mut self, domain: u8) -> Result<u32, Refusal>
-        ensures brings { IfOk result (λ index. Brings self.old domain index self.new) }
-        ensures counts { OnOk result (CountsOneSlab self.old self.new) }
-        ensures outs { OnOk result ((n : ℕ) → IsOut self.new n ↔ IsOut self.old n) }
-        ensures room { IsOk result ↔ (slab_count self.old < self.old.cap) }
-        ensures full { IfErr result (λ why. (why ≡ Refusal.Full self.old.cap self.old.made) × (slab_count self.old ≡ self.old.cap)) }
-        ensures unchanged { OnErr result (self.new ≡ self.old) }
-        ensures sound { IsSound self.new }
+        ensures { BringsOrNot self.old domain result self.new }
     {
         let Some(index) = self.rooms.first_absent() else {
             return Err(Refusal::Full {
@@ -124,14 +112,7 @@ impl Places {
     /// Takes the least free place of a slab, and answers its number. A partly used slab is taken from before a wholly
     /// free one; which of several partly used slabs it is isn't promised. None exactly where no place is free.
     pub fn take(&mut self) -> Option<u32>
-        ensures takes { IfSome result (λ n. Takes self.old n self.new) }
-        ensures counts { OnSome result (CountsOneOut self.old self.new) }
-        ensures outs { IfSome result (λ n. (other : ℕ) → IsOut self.new other ↔ (IsOut self.old other ⊎ (other ≡ n))) }
-        ensures within { IfSome result (λ n. n < self.new.cap * self.new.per_slab) }
-        ensures none_exactly { IsNone result ↔ (free_count self.old ≡ 0) }
-        ensures none { IfNone result ((n : ℕ) → IsFree self.old n → ⊥) }
-        ensures unchanged { IfNone result (self.new ≡ self.old) }
-        ensures sound { IsSound self.new }
+        ensures { TakesOrNot self.old result self.new }
     {
         let index = self.rooms.to_take()?;
         let place = self.rooms.take(index);
@@ -142,10 +123,7 @@ impl Places {
     /// Gives back a number that is out.
     pub fn give(&mut self, no: u32)
         requires { IsOut self.old no }
-        ensures gives { Gives self.old no self.new }
-        ensures counts { CountsOneOut self.new self.old }
-        ensures outs { (other : ℕ) → IsOut self.new other ↔ (IsOut self.old other × (other ≢ no)) }
-        ensures sound { IsSound self.new }
+        ensures { GivesOne self.old no self.new }
     {
         self.rooms.give(no / self.per_slab, no % self.per_slab);
         self.free += 1;
@@ -154,12 +132,7 @@ impl Places {
     /// Gives up the wholly free slab of greatest index, and answers that index. None exactly where no slab is wholly
     /// free, or more than `2^40 - cap` were ever brought in; nothing changes then.
     pub fn drop_slab(&mut self) -> Option<u32>
-        ensures drops { IfSome result (λ index. Drops self.old index self.new) }
-        ensures counts { OnSome result (CountsOneSlab self.new self.old) }
-        ensures outs { OnSome result ((n : ℕ) → IsOut self.new n ↔ IsOut self.old n) }
-        ensures none_exactly { IsNone result ↔ (IsUsedUp self.old ⊎ HasNoneWhollyFree self.old) }
-        ensures unchanged { IfNone result (self.new ≡ self.old) }
-        ensures sound { IsSound self.new }
+        ensures { DropsOrNot self.old result self.new }
     {
         if self.made > MOST_MADE - self.cap as u64 {
             return None;
@@ -173,14 +146,7 @@ impl Places {
 
     /// How the keg stands. The reserve is 0, and the rest are kept values.
     pub fn counts(&self) -> KegCounts
-        ensures slabs { result.slabs ≡ slab_count self.now }
-        ensures cap { result.cap ≡ self.now.cap }
-        ensures made { result.made ≡ self.now.made }
-        ensures free { result.free ≡ free_count self.now }
-        ensures per_slab { result.per_slab ≡ self.now.per_slab }
-        ensures reserve { result.reserve ≡ 0 }
-        ensures sound { IsSound self.now }
-        ensures even { AreEven self.now }
+        ensures { AreCountsOf self.now result }
     {
         KegCounts {
             slabs: self.slabs,
@@ -204,9 +170,7 @@ impl Places {
 /// How many items of `size` bytes a slab has.
 fn places_of_slab(size: u32) -> u32
     requires { IsItemSize size }
-    ensures places { result ≡ min 256 (4096 / size) }
-    ensures some { 1 ≤ result }
-    ensures few { result ≤ 256 }
+    ensures { ArePlacesOf size result }
 {
     MOST_PLACES.min(SLAB_BYTES / size)
 }

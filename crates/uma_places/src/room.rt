@@ -1,4 +1,4 @@
-ghost use Rattle.std.specs.Prelude.{◌≡◌, ℕ, ◌+◌, ◌<◌, ◌≤◌, Bool, true, false, None, Some, IsTrue, take, length, slice_get, slice_set, slice_index_or, replicate};
+ghost use Rattle.std.specs.Prelude.{◌≡◌, ◌≤◌, true, false, None, Some, IsTrue, take, length, slice_get, slice_set, replicate};
 
 use slab_bits::Bits;
 use std::marker::Model;
@@ -23,7 +23,7 @@ impl Model for Room {
 }
 
 impl Room {
-    ghost use Rattle.uma_places.specs.Room.{RoomState, can_take, is_partly_used, is_wholly_free};
+    ghost use Rattle.uma_places.specs.Room.{TakesPlace, RoomState, can_take, is_partly_used, is_wholly_free};
 
     /// Room for a slab of so many places, with none in.
     pub fn new(places: u32) -> Room
@@ -83,9 +83,7 @@ impl Room {
     /// Takes the least free place.
     pub fn take(&mut self) -> u32
         requires { IsTrue (can_take self.old) }
-        ensures free { slice_get self.old.free result ≡ Some true }
-        ensures least { (place : ℕ) → place < result → slice_index_or self.old.free place false ≡ false }
-        ensures used { self.new ≡ record self.old { free = slice_set self.old.free result false } }
+        ensures { TakesPlace self.old result self.new }
     {
         let place = self.free.first().unwrap();
         self.free.clear(place);

@@ -1,5 +1,5 @@
-ghost use Rattle.std.specs.Prelude.{◌≡◌, ℕ, ◌+◌, ◌-◌, ◌<◌, ◌≤◌, ◌++◌, true, false, None, Some, IsTrue, IfSome, IfNone, IfOk, length, replicate, slice_get, slice_set, slice_index_or};
-ghost use Rattle.uma_places.specs.Room.{room_at, empty_room, is_absent, can_take, is_wholly_free, IsFirstThat, IsLastThat, NonePassFrom};
+ghost use Rattle.std.specs.Prelude.{◌≡◌, ◌-◌, ◌<◌, ◌≤◌, ◌++◌, true, false, None, Some, IfSome, IfNone, IfOk, length, replicate, slice_set};
+ghost use Rattle.uma_places.specs.Room.{IsRoomCount, MayGive, MayTake, TakesFrom, room_at, empty_room, is_absent, can_take, is_wholly_free, IsFirstThat, IsLastThat, NonePassFrom};
 ghost use Rattle.uma_places.specs.Standing.{IsChosen};
 
 use crate::room::Room;
@@ -33,9 +33,7 @@ impl Rooms {
 
     /// So many rooms for slabs of so many places, and no slab in.
     pub fn new(alloc: Global, slabs: u32, places: u32) -> Result<Rooms, AllocError>
-        requires few_slabs { slabs ≤ 1024 }
-        requires some_place { 1 ≤ places }
-        requires few_places { places ≤ 256 }
+        requires { IsRoomCount slabs places }
         ensures { IfOk result (λ rooms. rooms ≡ replicate slabs (empty_room places)) }
     {
         let rooms = empty_rooms(alloc, slabs, places)?;
@@ -107,11 +105,8 @@ impl Rooms {
 
     /// Takes the least free place of a slab.
     pub fn take(&mut self, index: u32) -> u32
-        requires within { index < length self.old }
-        requires free { IsTrue (can_take (room_at self.old index)) }
-        ensures free { slice_get (room_at self.old index).free result ≡ Some true }
-        ensures least { (place : ℕ) → place < result → slice_index_or (room_at self.old index).free place false ≡ false }
-        ensures used { self.new ≡ slice_set self.old index (record (room_at self.old index) { free = slice_set (room_at self.old index).free result false }) }
+        requires { MayTake self.old index }
+        ensures { TakesFrom self.old index result self.new }
     {
         let room = &mut self.rooms[index as usize];
         let place = room.take();
@@ -121,8 +116,7 @@ impl Rooms {
 
     /// Marks a used place of a slab as free.
     pub fn give(&mut self, index: u32, place: u32)
-        requires within { index < length self.old }
-        requires used { slice_get (room_at self.old index).free place ≡ Some false }
+        requires { MayGive self.old index place }
         ensures { self.new ≡ slice_set self.old index (record (room_at self.old index) { free = slice_set (room_at self.old index).free place true }) }
     {
         let room = &mut self.rooms[index as usize];

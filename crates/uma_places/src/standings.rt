@@ -1,5 +1,5 @@
 ghost use Rattle.std.specs.Prelude.{◌≡◌, ◌<◌, slice_set};
-ghost use Rattle.uma_places.specs.Room.{is_absent, is_partly_used, is_wholly_free};
+ghost use Rattle.uma_places.specs.Standing.{Marks};
 
 use crate::room::Room;
 use slab_bits::Wide;
@@ -17,9 +17,7 @@ impl Standings {
     /// Puts an index, which is below 1,024, where its room stands.
     pub fn put(&mut self, index: u32, room: &Room)
         requires { index < 1024 }
-        ensures partly_used { self.new.partly_used ≡ slice_set self.old.partly_used index (is_partly_used room.now) }
-        ensures wholly_free { self.new.wholly_free ≡ slice_set self.old.wholly_free index (is_wholly_free room.now) }
-        ensures absent { self.new.absent ≡ slice_set self.old.absent index (is_absent room.now) }
+        ensures { Marks index room.now self.old.partly_used self.new.partly_used self.old.wholly_free self.new.wholly_free self.old.absent self.new.absent }
     {
         mark(&mut self.partly_used, index, room.is_partly_used());
         mark(&mut self.wholly_free, index, room.is_wholly_free());

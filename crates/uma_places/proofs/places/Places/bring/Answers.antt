@@ -1,4 +1,4 @@
-use Rattle.std.proofs.Common.{◌≡◌, ℕ, ◌+◌, Option, arith, refl, ap, subst, ◌∙◌}
+use Rattle.std.proofs.Common.{rules, ◌≡◌, ℕ, ◌+◌, Option, arith, refl, ap, subst, ◌∙◌}
 use Rattle.zone_stats.specs.declared.refusal.Refusal.TheVariants.{Full}
 use Rattle.std.specs.Option.{IfNone}
 use Rattle.uma_places.specs.Kept.{keg_of, places_of}
@@ -14,14 +14,20 @@ full c =
     let At : Option ℕ → Type 0 = λ o. IfNone o (NonePassFrom is_absent c.self.inside.rooms 0) in
     slab_count-full c.self.inside c.self.invariant (subst At c.in_default.is c.first_absent.ensures.none)
 
-pub returns-in_default-clause-room : goal.returns-in_default-clause-room
-returns-in_default-clause-room c =
-    let all = full c in
-    rw (← c.self.view_is) (λ e. absurd (cc), λ less. absurd (omega (arith, all, less)))
-
-pub returns-in_default-clause-full : goal.returns-in_default-clause-full
-returns-in_default-clause-full c =
-    rw (← c.self.view_is) (ap (λ (slabs : ℕ). Full slabs c.self.inside.made) (c.self.invariant.slabs ∙ full c), full c)
+pub returns-in_default : goal.returns-in_default
+returns-in_default c =
+    record {
+      brings = search rules;
+      counts = search rules;
+      outs = search rules;
+      room =
+          let all = full c in
+          rw (← c.self.view_is) (λ e. absurd (cc), λ less. absurd (omega (arith, all, less)));
+      full =
+          rw (← c.self.view_is) (ap (λ (slabs : ℕ). Full slabs c.self.inside.made) (c.self.invariant.slabs ∙ full c), full c);
+      unchanged = search rules;
+      sound = search rules;
+    }
 
 brought : (c : goal.After-self-3-1) → IsBrought c.self.inside c.args.domain c.in-Some.index (room_at c.self.inside.rooms c.in-Some.index) (brought_room c.args.domain (room_at c.self.inside.rooms c.in-Some.index))
 brought c = brought_at c.self.inside c.args.domain c.in-Some.index c.in-Some.ensures.first
@@ -35,17 +41,14 @@ in_keg c =
     let done = brings_room c.self.inside c.self.invariant c.args.domain c.in-Some.index (room_at c.self.inside.rooms c.in-Some.index) (brought_room c.args.domain (room_at c.self.inside.rooms c.in-Some.index)) (brought c) in
     rw (← c.self.view_is, c.bring.ensures) done
 
-pub returns-clause-brings : goal.returns-clause-brings
-returns-clause-brings c = (in_keg c).brings
-
-pub returns-clause-counts : goal.returns-clause-counts
-returns-clause-counts c = (in_keg c).counts
-
-pub returns-clause-outs : goal.returns-clause-outs
-returns-clause-outs c = (in_keg c).outs
-
-pub returns-clause-room : goal.returns-clause-room
-returns-clause-room c = (λ _. (in_keg c).room, λ _. refl)
-
-pub returns-clause-sound : goal.returns-clause-sound
-returns-clause-sound c = (in_keg c).sound
+pub returns : goal.returns
+returns c =
+    record {
+      brings = (in_keg c).brings;
+      counts = (in_keg c).counts;
+      outs = (in_keg c).outs;
+      room = (λ _. (in_keg c).room, λ _. refl);
+      full = search rules;
+      unchanged = search rules;
+      sound = (in_keg c).sound;
+    }

@@ -1,4 +1,4 @@
-use Rattle.std.proofs.Common.{◌+◌, ◌^◌, ◌≤◌, arith, refl, inl, inr}
+use Rattle.std.proofs.Common.{rules, ◌+◌, ◌^◌, ◌≤◌, arith, refl, inl, inr}
 use Rattle.uma_places.specs.Dropping.{IsUsedUp}
 use Rattle.uma_places.specs.Kept.{keg_of}
 use Rattle.uma_places.specs.Places.{KegPlaces}
@@ -8,10 +8,18 @@ use Rattle.uma_places.proofs.RoomDrops.{IsGivenUp, given_up_at, no_slab_in, drop
 use Rattle.uma_places.proofs.places.Places.drop_slab.Goals as goal
 use Rattle.uma_places.proofs.places.Places.drop_slab.Goals.{After-self-2-1}
 
-pub returns-in_err-index-clause-none_exactly : goal.returns-in_err-index-clause-none_exactly
-returns-in_err-index-clause-none_exactly c =
-    let none = c.in_err-index.ensures.none in
-    (λ _. inr (rw (← c.self.view_is) (HasNoneWhollyFree-rooms c.self.inside c.self.invariant none)), λ _. rw c.from_residual.ensures refl)
+pub returns-in_err-index : goal.returns-in_err-index
+returns-in_err-index c =
+    record {
+      drops = search rules;
+      counts = search rules;
+      outs = search rules;
+      none_exactly =
+          let none = c.in_err-index.ensures.none in
+          (λ _. inr (rw (← c.self.view_is) (HasNoneWhollyFree-rooms c.self.inside c.self.invariant none)), λ _. rw c.from_residual.ensures refl);
+      unchanged = search rules;
+      sound = search rules;
+    }
 
 pub overflow_sub-self : goal.overflow_sub-self
 overflow_sub-self c =
@@ -43,28 +51,24 @@ gone c =
     let done = drops_room c.self.inside c.self.invariant c.in_ok-index.index (room_at c.self.inside.rooms c.in_ok-index.index) (no_slab_in (room_at c.self.inside.rooms c.in_ok-index.index)) (given_up c) in
     rw (← c.self.view_is, c.give_up.ensures) done
 
-pub returns-clause-drops : goal.returns-clause-drops
-returns-clause-drops c = (gone c).drops
-
-pub returns-clause-counts : goal.returns-clause-counts
-returns-clause-counts c = (gone c).counts
-
-pub returns-clause-outs : goal.returns-clause-outs
-returns-clause-outs c = (gone c).outs
-
 -- a slab was given up, so one was wholly free, and not too many were made
 not_used_up : (k : KegPlaces) → k.made + k.cap ≤ 2 ^ 40 → IsUsedUp k → ⊥
 not_used_up k not_used used_up = omega arith
 
-pub returns-clause-none_exactly : goal.returns-clause-none_exactly
-returns-clause-none_exactly c =
-    let not_used : c.args.self.now.made + c.args.self.now.cap ≤ 2 ^ 40 = rw (← c.self.view_is) (given_up c).not_used in (
-      λ e. absurd (cc),
-      λ either. absurd (elim either [
-        | inl used_up ↦ not_used_up c.args.self.now not_used used_up
-        | inr none ↦ none c.in_ok-index.index (gone c).drops.whole
-      ]),
-    )
-
-pub returns-clause-sound : goal.returns-clause-sound
-returns-clause-sound c = (gone c).sound
+pub returns : goal.returns
+returns c =
+    record {
+      drops = (gone c).drops;
+      counts = (gone c).counts;
+      outs = (gone c).outs;
+      none_exactly =
+          let not_used : c.args.self.now.made + c.args.self.now.cap ≤ 2 ^ 40 = rw (← c.self.view_is) (given_up c).not_used in (
+            λ e. absurd (cc),
+            λ either. absurd (elim either [
+              | inl used_up ↦ not_used_up c.args.self.now not_used used_up
+              | inr none ↦ none c.in_ok-index.index (gone c).drops.whole
+            ]),
+          );
+      unchanged = search rules;
+      sound = (gone c).sound;
+    }

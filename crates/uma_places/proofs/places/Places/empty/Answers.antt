@@ -6,12 +6,13 @@ pub invariant_of-result : goal.invariant_of-result
 invariant_of-result c =
     IsKept-empty (record { rooms = c.in_ok-new.field-0; per_slab = c.args.per_slab; cap = c.args.cap; slabs = 0; free = 0; made = 0 }) c.requires refl refl refl c.in_ok-new.ensures
 
-pub returns-clause-new : goal.returns-clause-new
-returns-clause-new c =
-    rw (keeps_empty (record { rooms = c.in_ok-new.field-0; per_slab = c.args.per_slab; cap = c.args.cap; slabs = 0; free = 0; made = 0 }) c.requires refl refl refl c.in_ok-new.ensures)
-    (IsNew-empty c.args.per_slab c.args.cap)
-
-pub returns-clause-sound : goal.returns-clause-sound
-returns-clause-sound c =
-    rw (keeps_empty (record { rooms = c.in_ok-new.field-0; per_slab = c.args.per_slab; cap = c.args.cap; slabs = 0; free = 0; made = 0 }) c.requires refl refl refl c.in_ok-new.ensures)
-    (IsSound-empty c.args.per_slab c.args.cap c.requires)
+pub returns : goal.returns
+returns c =
+    record {
+      new =
+          rw (keeps_empty (record { rooms = c.in_ok-new.field-0; per_slab = c.args.per_slab; cap = c.args.cap; slabs = 0; free = 0; made = 0 }) c.requires refl refl refl c.in_ok-new.ensures)
+          (IsNew-empty c.args.per_slab c.args.cap);
+      sound =
+          rw (keeps_empty (record { rooms = c.in_ok-new.field-0; per_slab = c.args.per_slab; cap = c.args.cap; slabs = 0; free = 0; made = 0 }) c.requires refl refl refl c.in_ok-new.ensures)
+          (IsSound-empty c.args.per_slab c.args.cap c.requires);
+    }

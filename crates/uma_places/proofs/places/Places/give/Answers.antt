@@ -4,15 +4,11 @@ use Rattle.uma_places.specs.Room.{room_at}
 use Rattle.uma_places.proofs.RoomPuts.{out_room, gives_back, GivesBack, IsKept-given}
 use Rattle.uma_places.proofs.places.Places.give.Goals as goal
 
-pub give-requires-clause-within : goal.give-requires-clause-within
-give-requires-clause-within c =
+pub give-requires : goal.give-requires
+give-requires c =
     let out = rw (← c.self.view_is) at c.requires in
-    (out_room c.self.inside c.self.invariant c.args.no out).within
-
-pub give-requires-clause-used : goal.give-requires-clause-used
-give-requires-clause-used c =
-    let out = rw (← c.self.view_is) at c.requires in
-    (out_room c.self.inside c.self.invariant c.args.no out).used
+    let here = out_room c.self.inside c.self.invariant c.args.no out in
+    record { within = here.within; used = here.used }
 
 pub invariant_of-self : goal.invariant_of-self
 invariant_of-self c =
@@ -28,14 +24,11 @@ back c =
     let done = gives_back c.self.inside c.self.invariant c.args.no (room_at c.self.inside.rooms (c.args.no / c.self.inside.per_slab)) _ out here.room refl in
     rw (← c.self.view_is, c.give.ensures) done
 
-pub returns-clause-gives : goal.returns-clause-gives
-returns-clause-gives c = (back c).gives
-
-pub returns-clause-counts : goal.returns-clause-counts
-returns-clause-counts c = (back c).counts
-
-pub returns-clause-outs : goal.returns-clause-outs
-returns-clause-outs c = (back c).outs
-
-pub returns-clause-sound : goal.returns-clause-sound
-returns-clause-sound c = (back c).sound
+pub returns : goal.returns
+returns c =
+    record {
+      gives = (back c).gives;
+      counts = (back c).counts;
+      outs = (back c).outs;
+      sound = (back c).sound;
+    }

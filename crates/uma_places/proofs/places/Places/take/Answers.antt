@@ -1,4 +1,4 @@
-use Rattle.std.proofs.Common.{◌≡◌, ◌+◌, ◌*◌, arith, refl}
+use Rattle.std.proofs.Common.{rules, ◌≡◌, ◌+◌, ◌*◌, arith, refl}
 use Rattle.uma_places.specs.Kept.{keg_of}
 use Rattle.uma_places.specs.Places.{free_count}
 use Rattle.uma_places.specs.Room.{room_at}
@@ -9,17 +9,21 @@ use Rattle.uma_places.proofs.places.Places.take.Goals as goal
 none_free : (c : goal.After-from_residual) → free_count c.args.self.now ≡ 0
 none_free c = rw (← c.self.view_is) (free_count-none c.self.inside c.in_err-index.ensures.none)
 
-pub returns-in_err-index-clause-none_exactly : goal.returns-in_err-index-clause-none_exactly
-returns-in_err-index-clause-none_exactly c = (λ _. none_free c, λ _. rw c.from_residual.ensures refl)
+pub returns-in_err-index : goal.returns-in_err-index
+returns-in_err-index c =
+    record {
+      takes = search rules;
+      counts = search rules;
+      outs = search rules;
+      within = search rules;
+      none_exactly = (λ _. none_free c, λ _. rw c.from_residual.ensures refl);
+      none = rw c.from_residual.ensures (free_count-no_place c.args.self.now (none_free c));
+      unchanged = search rules;
+      sound = search rules;
+    }
 
-pub returns-in_err-index-clause-none : goal.returns-in_err-index-clause-none
-returns-in_err-index-clause-none c = rw c.from_residual.ensures (free_count-no_place c.args.self.now (none_free c))
-
-pub take-place-requires-clause-within : goal.take-place-requires-clause-within
-take-place-requires-clause-within c = c.in_ok-index.ensures.chosen.within
-
-pub take-place-requires-clause-free : goal.take-place-requires-clause-free
-take-place-requires-clause-free c = c.in_ok-index.ensures.chosen.can _
+pub take-place-requires : goal.take-place-requires
+take-place-requires c = record { within = c.in_ok-index.ensures.chosen.within; free = c.in_ok-index.ensures.chosen.can _ }
 
 -- the room that was chosen is taken from by the rule
 from_sub : (c : goal.After-take-place) → IsTakenFrom c.self.inside c.in_ok-index.index c.take-place.result (room_at c.self.inside.rooms c.in_ok-index.index) (with_used (room_at c.self.inside.rooms c.in_ok-index.index) c.take-place.result)
@@ -49,22 +53,17 @@ out c =
     let done = takes_out c.self.inside c.self.invariant c.in_ok-index.index c.take-place.result (room_at c.self.inside.rooms c.in_ok-index.index) (with_used (room_at c.self.inside.rooms c.in_ok-index.index) c.take-place.result) (from c) in
     rw (← c.self.view_is, c.take-place.ensures.used) done
 
-pub returns-clause-takes : goal.returns-clause-takes
-returns-clause-takes c = (out c).takes
-
-pub returns-clause-counts : goal.returns-clause-counts
-returns-clause-counts c = (out c).counts
-
-pub returns-clause-outs : goal.returns-clause-outs
-returns-clause-outs c = (out c).outs
-
-pub returns-clause-within : goal.returns-clause-within
-returns-clause-within c = (out c).within
-
-pub returns-clause-none_exactly : goal.returns-clause-none_exactly
-returns-clause-none_exactly c =
-    let counted = (out c).counts.free in
-    (λ e. cc, λ e. absurd (omega (arith, counted, e)))
-
-pub returns-clause-sound : goal.returns-clause-sound
-returns-clause-sound c = (out c).sound
+pub returns : goal.returns
+returns c =
+    record {
+      takes = (out c).takes;
+      counts = (out c).counts;
+      outs = (out c).outs;
+      within = (out c).within;
+      none_exactly =
+          let counted = (out c).counts.free in
+          (λ e. cc, λ e. absurd (omega (arith, counted, e)));
+      none = search rules;
+      unchanged = search rules;
+      sound = (out c).sound;
+    }

@@ -33,16 +33,15 @@ invariant_of-self c =
     let within = least_within c.self.inside.places c.self.inside.free c.self.invariant c.unwrap-place.result least in
     rw c.clear.ensures (IsRoom-set c.self.inside.places c.self.inside.free c.unwrap-place.result false c.self.invariant within)
 
-pub returns-clause-free : goal.returns-clause-free
-returns-clause-free c =
-    let least = is_least c.first.result c.unwrap-place.result c.self.inside.free c.unwrap-place.ensures c.first.ensures.least in
-    rw (← c.self.view_is) (least_free c.self.inside.places c.self.inside.free c.self.invariant c.unwrap-place.result least)
-
-pub returns-clause-least : goal.returns-clause-least
-returns-clause-least c =
-    let least = is_least c.first.result c.unwrap-place.result c.self.inside.free c.unwrap-place.ensures c.first.ensures.least in
-    rw (← c.self.view_is) (least_least c.self.inside.places c.self.inside.free c.self.invariant c.unwrap-place.result least)
-
-pub returns-clause-used : goal.returns-clause-used
-returns-clause-used c =
-    rw (← c.self.view_is, c.clear.ensures) (ap (with_free c.self.inside.domain) (take-set_at c.self.inside.places c.self.inside.free c.unwrap-place.result false))
+pub returns : goal.returns
+returns c =
+    record {
+      free =
+          let least = is_least c.first.result c.unwrap-place.result c.self.inside.free c.unwrap-place.ensures c.first.ensures.least in
+          rw (← c.self.view_is) (least_free c.self.inside.places c.self.inside.free c.self.invariant c.unwrap-place.result least);
+      least =
+          let least = is_least c.first.result c.unwrap-place.result c.self.inside.free c.unwrap-place.ensures c.first.ensures.least in
+          rw (← c.self.view_is) (least_least c.self.inside.places c.self.inside.free c.self.invariant c.unwrap-place.result least);
+      used =
+          rw (← c.self.view_is, c.clear.ensures) (ap (with_free c.self.inside.domain) (take-set_at c.self.inside.places c.self.inside.free c.unwrap-place.result false));
+    }
