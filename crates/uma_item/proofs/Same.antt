@@ -1,5 +1,5 @@
 -- Two items with one block are one item, and an item whose data come back as they were is the same item.
-use Rattle.std.proofs.Common.{◌≡◌, ap, ◌∙◌, Result, Ok, Err, IfErr}
+use Rattle.std.proofs.Common.{◌≡◌, ◌∙◌, Result, Ok, Err, IfErr}
 use Rattle.std.proofs.Props.{props}
 use std.HLevel.{prop→path_p}
 use Rattle.std.specs.Box.{with_value}
