@@ -9,3 +9,4 @@ pub mod FailViews
 pub mod FailBookLaw
 pub mod FailBook
 pub mod FailShare
+pub mod Calls

@@ -1,4 +1,4 @@
-ghost use Rattle.std.specs.Prelude.{◌≡◌, ◌<◌, ◌↔◌, IsTrue, IfOk, IfErr, Ok, Err, Some, None, length, slice_set, replicate};
+ghost use Rattle.std.specs.Prelude.{◌≡◌, ◌<◌, ◌↔◌, IsTrue, IfOk, None, length, replicate};
 
 use crate::deed::Deed;
 use crate::origin::Origin;
@@ -27,30 +27,22 @@ fn all_home(alloc: Global, numbers: u32) -> Result<Vec<Option<u8>>, AllocError>
 
 impl Book {
     ghost use Rattle.std.specs.Prelude.{[]};
-    ghost use Rattle.deed_book.specs.BookLaw.{IsHome, IsOutside};
+    ghost use Rattle.deed_book.specs.BookLaw.{IsHome};
     ghost use Rattle.deed_book.specs.Origin.{origin_numbers};
-    ghost use Rattle.deed_book.specs.Book.{book_table, zones_of, IsOutOfRange, Refuses};
-    ghost use Rattle.deed_book.specs.Deed.{deed_table, no_of, zone_of};
-    ghost use Rattle.deed_book.specs.BookId.{numbers_of};
+    ghost use Rattle.deed_book.specs.Book.{book_table, zones_of};
+    ghost use Rattle.deed_book.specs.Calls.{AcceptsDeed, IssuesDeed, MakesBook};
+    ghost use Rattle.deed_book.specs.Deed.{deed_table};
 
     /// A book of no origin, of the numbers below `numbers`, which is 1 to 262,144. All of them are at home.
     pub fn new(alloc: Global, numbers: u32) -> Result<Book, BookRefused>
-        ensures ok { IfOk result (λ book. zones_of book ≡ replicate numbers None) }
-        ensures numbers { IfOk result (λ book. numbers_of (book_table book) ≡ numbers) }
-        ensures origin { IfOk result (λ book. (book_table book).origin ≡ []) }
-        ensures out_of_range { IsOutOfRange numbers → result ≡ Err (BookRefused.Numbers numbers) }
-        ensures err { IfErr result (Refuses numbers) }
+        ensures { MakesBook numbers [] result }
     {
         Book::made_for(alloc, numbers, Origin::none())
     }
 
     /// A book whose deeds all are of one origin, as `new` makes it.
     pub fn made_for(alloc: Global, numbers: u32, origin: Origin) -> Result<Book, BookRefused>
-        ensures ok { IfOk result (λ book. zones_of book ≡ replicate numbers None) }
-        ensures numbers { IfOk result (λ book. numbers_of (book_table book) ≡ numbers) }
-        ensures origin { IfOk result (λ book. (book_table book).origin ≡ origin_numbers origin) }
-        ensures out_of_range { IsOutOfRange numbers → result ≡ Err (BookRefused.Numbers numbers) }
-        ensures err { IfErr result (Refuses numbers) }
+        ensures { MakesBook numbers (origin_numbers origin) result }
     {
         if numbers == 0 || numbers > MOST_NUMBERS {
             return Err(BookRefused::Numbers { numbers });
@@ -65,10 +57,7 @@ impl Book {
     pub fn issue(&mut self, no: u32, zone: u8) -> Deed
         requires home { IsHome (zones_of self.old) no }
         requires zone { zone < 8 }
-        ensures deed { (no_of result ≡ no) × (zone_of result ≡ zone) }
-        ensures book { zones_of self.new ≡ slice_set (zones_of self.old) no (Some zone) }
-        ensures table { book_table self.new ≡ book_table self.old }
-        ensures deed_table { deed_table result ≡ book_table self.old }
+        ensures { IssuesDeed no zone (book_table self.old) (zones_of self.old) result (book_table self.new) (zones_of self.new) }
     {
         let deed = self.register.issue(no, zone);
         self.zones[no as usize] = Some(zone);
@@ -79,10 +68,7 @@ impl Book {
     #[tactic(auto, using(std::proofs::lemmas::Option::slice_get_within))]
     pub fn accept(&mut self, deed: Deed) -> (u32, u8)
         requires { deed_table deed ≡ book_table self.old }
-        ensures deed { (result.0 ≡ no_of deed) × (result.1 ≡ zone_of deed) }
-        ensures was_outside { IsOutside (zones_of self.old) result }
-        ensures book { zones_of self.new ≡ slice_set (zones_of self.old) result.0 None }
-        ensures table { book_table self.new ≡ book_table self.old }
+        ensures { AcceptsDeed deed (book_table self.old) (zones_of self.old) result (book_table self.new) (zones_of self.new) }
     {
         let (no, zone) = self.register.accept(deed);
         self.zones[no as usize] = None;

@@ -1,4 +1,4 @@
-ghost use Rattle.std.specs.Prelude.{◌≡◌, [], ◌∷◌, ◌++◌, IfOk, None};
+ghost use Rattle.std.specs.Prelude.{◌≡◌, [], IfOk, None};
 
 use crate::fail_rule::{FailTable, FailView, Raising, SplittingOff, StoringFirst, StoringSecond};
 use crate::fail_share::FailShare;
@@ -26,9 +26,10 @@ pub struct FailBook {
 }
 
 impl FailBook {
+    ghost use Rattle.deed_book.specs.Calls.{AddsCause, OpensShare, RaisesUnit};
     ghost use Rattle.deed_book.specs.FailViews.{cause};
     ghost use Rattle.deed_book.specs.FailBook.{fail_book_table, causes_of};
-    ghost use Rattle.deed_book.specs.FailShare.{share_table, causes_in};
+    ghost use Rattle.deed_book.specs.FailShare.{share_table};
 
     /// A book that has counted nothing, and has no share.
     pub fn new(alloc: Global) -> Result<FailBook, Memory>
@@ -40,10 +41,7 @@ impl FailBook {
 
     /// A share that has no cause.
     pub fn new_share(&mut self) -> FailShare
-        ensures share { causes_in result ≡ [] }
-        ensures book { causes_of self.new ≡ causes_of self.old }
-        ensures table { fail_book_table self.new ≡ fail_book_table self.old }
-        ensures share_table { share_table result ≡ fail_book_table self.old }
+        ensures { OpensShare self.old result self.new }
     {
         let table = &self.table;
         let seat = table.shared.split_seat::<SplittingOff>(&mut self.seat);
@@ -53,10 +51,7 @@ impl FailBook {
     /// Counts a refusal in the book and in a share of it. Both have its cause at the end of their lists.
     pub fn add(&mut self, share: &mut FailShare, kind: u64, first: u64, second: u64)
         requires { share_table share.old ≡ fail_book_table self.old }
-        ensures book { causes_of self.new ≡ causes_of self.old ++ cause kind first second ∷ [] }
-        ensures share { causes_in share.new ≡ causes_in share.old ++ cause kind first second ∷ [] }
-        ensures table { fail_book_table self.new ≡ fail_book_table self.old }
-        ensures share_table { share_table share.new ≡ share_table share.old }
+        ensures { AddsCause (cause kind first second) self.old share.old self.new share.new }
     {
         let unit = self.raise(kind, first, second);
         share.join_in(&self.table, unit);
@@ -64,10 +59,7 @@ impl FailBook {
 
     // Raises the book by a cause, and splits the unit off that has it.
     fn raise(&mut self, kind: u64, first: u64, second: u64) -> FailShare
-        ensures unit { causes_in result ≡ cause kind first second ∷ [] }
-        ensures book { causes_of self.new ≡ causes_of self.old ++ cause kind first second ∷ [] }
-        ensures table { fail_book_table self.new ≡ fail_book_table self.old }
-        ensures unit_table { share_table result ≡ fail_book_table self.old }
+        ensures { RaisesUnit (cause kind first second) self.old result self.new }
     {
         let table = &self.table;
         let shared = &table.shared;

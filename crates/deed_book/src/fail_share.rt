@@ -14,13 +14,12 @@ pub struct FailShare {
 
 impl FailShare {
     ghost use Rattle.std.specs.Prelude.{◌++◌};
+    ghost use Rattle.deed_book.specs.Calls.{CanJoinIn};
     ghost use Rattle.deed_book.specs.FailShare.{share_table, causes_in};
 
     // Joins what another share has into this one.
     pub(crate) fn join_in(&mut self, table: &FailTable, other: FailShare)
-        requires mine { share_table self.old ≡ table.now.shared.table_id }
-        requires other { share_table other ≡ table.now.shared.table_id }
-        requires words { table.now.shared.table_id.words ≡ 3 }
+        requires { CanJoinIn table.now.shared.table_id self.old other }
         ensures causes { causes_in self.new ≡ causes_in self.old ++ causes_in other }
         ensures table { share_table self.new ≡ share_table self.old }
     {

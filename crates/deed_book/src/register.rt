@@ -40,11 +40,12 @@ fn spelled(no: u32, zone: u8) -> u64
 }
 
 impl Register {
-    ghost use Rattle.std.specs.Prelude.{None, Some, replicate, slice_set};
-    ghost use Rattle.deed_book.specs.BookLaw.{IsHome, IsOutside};
+    ghost use Rattle.std.specs.Prelude.{None, replicate};
+    ghost use Rattle.deed_book.specs.BookLaw.{IsHome};
+    ghost use Rattle.deed_book.specs.Calls.{AcceptsDeed, IssuesDeed};
     ghost use Rattle.deed_book.specs.Origin.{origin_numbers};
     ghost use Rattle.deed_book.specs.Register.{register_table, register_zones};
-    ghost use Rattle.deed_book.specs.Deed.{deed_table, no_of, zone_of};
+    ghost use Rattle.deed_book.specs.Deed.{deed_table};
 
     // All numbers below `numbers` are at home.
     pub fn new(alloc: Global, numbers: u32, origin: Origin) -> Result<Register, AllocError>
@@ -66,10 +67,7 @@ impl Register {
     pub fn issue(&mut self, no: u32, zone: u8) -> Deed
         requires home { IsHome (register_zones self.old) no }
         requires zone { zone < 8 }
-        ensures deed { (no_of result ≡ no) × (zone_of result ≡ zone) }
-        ensures zones { register_zones self.new ≡ slice_set (register_zones self.old) no (Some zone) }
-        ensures table { register_table self.new ≡ register_table self.old }
-        ensures deed_table { deed_table result ≡ register_table self.old }
+        ensures { IssuesDeed no zone (register_table self.old) (register_zones self.old) result (register_table self.new) (register_zones self.new) }
     {
         let table = &self.table;
         let shared = &table.shared;
@@ -87,10 +85,7 @@ impl Register {
     // Joins a deed in. A load then shows that its number was outside, and puts it home.
     pub fn accept(&mut self, deed: Deed) -> (u32, u8)
         requires { deed_table deed ≡ register_table self.old }
-        ensures deed { (result.0 ≡ no_of deed) × (result.1 ≡ zone_of deed) }
-        ensures was_outside { IsOutside (register_zones self.old) result }
-        ensures zones { register_zones self.new ≡ slice_set (register_zones self.old) result.0 None }
-        ensures table { register_table self.new ≡ register_table self.old }
+        ensures { AcceptsDeed deed (register_table self.old) (register_zones self.old) result (register_table self.new) (register_zones self.new) }
     {
         let Deed {
             no,

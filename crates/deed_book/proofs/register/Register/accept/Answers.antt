@@ -1,4 +1,4 @@
-use Rattle.std.proofs.Common.{◌≡◌, [], None, Some, length, set, sym, ap, ◌∙◌, arith}
+use Rattle.std.proofs.Common.{◌≡◌, [], None, Some, length, set, refl, sym, ap, ◌∙◌, arith, rules}
 use Rattle.std.proofs.lemmas.List.{length-set}
 use Rattle.atomic_table.specs.Seated.{TableId}
 use Rattle.atomic_table.specs.Table.{Me}
@@ -37,16 +37,16 @@ invariant_of-self-clause-between_calls c =
     let again : Me (Unit {0}) View → Me (Unit {0}) View = λ m. (book_view m.0.zones, []) in
     told.1 ∙ ap again (sym told.1)
 
-pub returns-clause-was_outside : goal.returns-clause-was_outside
-returns-clause-was_outside c =
-    let register = c.args.self.now in
-    (accepted register.seat.me.0.zones (c.args.deed.no, c.args.deed.zone) _ _ _ _ register.between_calls c.args.deed.knows c.join_seat.ensures.2 c.load.ensures.2).0
-
-pub returns-clause-zones : goal.returns-clause-zones
-returns-clause-zones c =
+pub returns : goal.returns
+returns c =
     let register = c.args.self.now in
     let told = accepted register.seat.me.0.zones (c.args.deed.no, c.args.deed.zone) _ _ _ _ register.between_calls c.args.deed.knows c.join_seat.ensures.2 c.load.ensures.2 in
-    ap (λ (m : Me (Unit {0}) View). m.0.zones) told.1
+    record {
+      deed = (refl, refl);
+      was_outside = told.0;
+      book = ap (λ (m : Me (Unit {0}) View). m.0.zones) told.1;
+      table = search rules;
+    }
 
 pub invariant_of-self-clause-counted : goal.invariant_of-self-clause-counted
 invariant_of-self-clause-counted c =
