@@ -1,5 +1,5 @@
 -- A keg keeps its law where a slab is brought in, all of whose items are at home.
-use Rattle.std.proofs.Common.{◌≡◌, ◌≢◌, ◌≤◌, ◌<◌, ◌+◌, ◌*◌, ◌/◌, ◌%◌, ℕ, Bool, true, List, Option, Some, None, is_some, refl, inl, inr, sym, ap, ◌∙◌}
+use Rattle.std.proofs.Common.{◌≡◌, ◌≤◌, ◌<◌, ◌+◌, ◌*◌, ◌/◌, ◌%◌, ℕ, Bool, true, List, Option, Some, None, is_some, refl, inl, inr, sym, ap, ◌∙◌}
 use Rattle.std.proofs.Math.Nat.{mod-lt}
 use Rattle.std.proofs.lemmas.Nat.{div-add-mod'}
 use Rattle.std.proofs.lemmas.Bool.{cases_eq}
@@ -10,7 +10,7 @@ use Rattle.uma_keg.specs.declared.slab_items.SlabItems.{SlabItems}
 use Rattle.uma_keg.specs.declared.home_items.HomeItems.{HomeItems}
 use Rattle.uma_places.specs.Places.{KegPlaces, place_at, domain_at, Brings}
 use Rattle.uma_keg.specs.HomeLists.{item_on}
-use Rattle.uma_keg.specs.HomeItems.{item_at, has_slab, slab_room, places_each}
+use Rattle.uma_keg.specs.HomeItems.{IsAdded}
 use Rattle.uma_keg.specs.KegLaw.{PlacesLaw, is_used_place, is_free_place}
 
 -- each place of the slab has the item of its number, in this domain
@@ -18,15 +18,6 @@ pub record IsBrought {T : Type 0} {g : _} (first per_slab domain : ℕ) (slab_it
   pub whole : (place : ℕ) → place < per_slab → is_some (item_on place slab_items) ≡ true
   pub numbered : (place : ℕ) (item : Stored T g) → item_on place slab_items ≡ Some item → stored_no item ≡ first + place
   pub domains : (place : ℕ) (item : Stored T g) → item_on place slab_items ≡ Some item → stored_domain item ≡ domain
-
--- the items of a new slab were added
-pub record IsAdded {T : Type 0} {g : _} (old new : HomeItems T g) (index : ℕ) (slab_items : SlabItems T g) : Type 0 where
-  pub items : (n : ℕ) → n / places_each old ≡ index → item_at new n ≡ item_on (n % places_each old) slab_items
-  pub others : (n : ℕ) → n / places_each old ≢ index → item_at new n ≡ item_at old n
-  pub there : has_slab new index ≡ true
-  pub home_items : (other : ℕ) → other ≢ index → has_slab new other ≡ has_slab old other
-  pub count : slab_room new ≡ slab_room old
-  pub places : places_each new ≡ places_each old
 
 same_some : {m n : ℕ} → Some m ≡ Some n → m ≡ n
 same_some e = cc

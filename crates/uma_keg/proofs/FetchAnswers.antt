@@ -1,6 +1,6 @@
 -- What the answer of a fetch tells its caller.
 use Rattle.std.proofs.Common.{◌≡◌, ◌≤◌, ◌+◌, ◌*◌, [], ◌∷◌, ◌++◌, ℕ, Some, Result, Ok, Err, List, drop, length, inl, inr, refl, arith, sym, ap, subst, ◌∙◌}
-use Rattle.std.specs.Prelude.{IfOk, IfErr}
+use Rattle.std.specs.Prelude.{IfOk, IfErr, OnOk, OnErr}
 use Rattle.std.specs.List.{filter_map}
 use Rattle.std.proofs.Math.Seq.{drop-append_seam}
 use Rattle.std.proofs.lemmas.List.{append-nil}
@@ -8,15 +8,19 @@ use Rattle.std.proofs.lemmas.List.Elements.{All-weaker, filter_map-append}
 use Rattle.uma_life.specs.declared.cached.Cached.{Cached}
 use Rattle.uma_life.specs.Stored.{stored_body}
 use Rattle.zone_stats.specs.declared.refusal.Refusal.TheVariants.{AtLimit, Reserved, Full, Init, Ctor}
+use Rattle.uma_bucket.specs.declared.bucket.Bucket.{Bucket}
+use Rattle.uma_bucket.specs.Bucket.{items_of}
 use Rattle.uma_keg.specs.declared.fetch_ask.FetchAsk.{FetchAsk}
 use Rattle.uma_keg.specs.declared.fetch_refused.FetchRefused.{FetchRefused}
 use Rattle.uma_keg.specs.declared.fetch_refused.FetchRefused.TheVariants.{Refused, Memory}
 use Rattle.uma_keg.specs.declared.keg.Keg.{Keg}
-use Rattle.uma_keg.specs.Keg.{places_in, refusal_of}
+use Rattle.uma_keg.specs.Keg.{places_in, zones_in, out_in, buried_in, refusal_of, IsWithinLimit}
 use Rattle.uma_keg.specs.BringSlab.{RefusesNumber}
 use Rattle.uma_keg.specs.BringSlabs.{found_in, StopsAtSlab}
 use Rattle.uma_keg.specs.TakeItem.{IsTaken}
-use Rattle.uma_keg.specs.Fetched.{wish_of, Fetches, FetchesInto, RefusesFetch, NamesWhatItFound, IsOutIn, GivesItems, IsUnmoved, refusals_after}
+use Rattle.uma_keg.specs.Frames.{IsUnmoved}
+use Rattle.uma_keg.specs.Fetched.{wish_of, Fetches, FetchesInto, RefusesFetch, NamesWhatItFound, IsOutIn, GivesItems, refusals_after}
+use Rattle.uma_keg.specs.Fetching.{GivesCount, GivesNone}
 use Rattle.uma_keg.proofs.FetchedItems.{still_refused, still_fetched}
 use Rattle.uma_keg.proofs.FetchOutcomes.{names_limit, names_slabs, names_reserve, gives_few}
 
@@ -56,22 +60,49 @@ gives_items {T} {K} {g} {h} old new hooks ask count before after some is =
     subst Gives' (sym (ap (drop (length before)) is.pushed ∙ drop-append_seam before is.items)) (subst Counts is.counted (gives old new hooks ask is.items some is.fetches))
 
 -- The same of an answer that isn't told apart. Where nothing moved after the fetch, what it did stands.
-module _ {T K : Type 0} {g : _} {h : _} (old mid : Keg T K g h) (hooks : K) (ask : FetchAsk) where
-  pub end_names : (end : Result ℕ FetchRefused) → IfErr end (RefusesFetch old hooks ask mid) → IfErr end (NamesWhatItFound old hooks ask)
+module _ {T K : Type 0} {g : _} {h : _} (old mid : Keg T K g h) (hooks : K) (ask : FetchAsk) (before after : Bucket T g) where
+  -- it gave so many items, or none
+  abbrev pub IsGiven : Result ℕ FetchRefused → Type 0
+  IsGiven end = IfOk end (λ count. GivesCount old hooks ask count before after mid)
+
+  abbrev pub IsRefused : Result ℕ FetchRefused → Type 0
+  IsRefused end = IfErr end (λ why. GivesNone old hooks ask why before after mid)
+
+  pub end_names : (end : Result ℕ FetchRefused) → IsRefused end → IfErr end (NamesWhatItFound old hooks ask)
   end_names (Ok count) is = tt
-  end_names (Err why) is = names_found old mid hooks ask why is
+  end_names (Err why) is = names_found old mid hooks ask why is.refused
 
-  pub end_refused : (new : Keg T K g h) (end : Result ℕ FetchRefused) → IsUnmoved mid new → IfErr end (RefusesFetch old hooks ask mid) → IfErr end (RefusesFetch old hooks ask new)
+  pub end_refused : (new : Keg T K g h) (end : Result ℕ FetchRefused) → IsUnmoved mid new → IsRefused end → IfErr end (RefusesFetch old hooks ask new)
   end_refused new (Ok count) same is = tt
-  end_refused new (Err why) same is = still_refused old mid new hooks ask why same is
+  end_refused new (Err why) same is = still_refused old mid new hooks ask why same is.refused
 
-  pub end_gives : (before after : List (Cached T g)) (end : Result ℕ FetchRefused) → 1 ≤ ask.most → IfOk end (λ count. FetchesInto old hooks ask count before after mid) → IfOk end (λ count. GivesItems old ask count (drop (length before) after))
-  end_gives before after (Ok count) some is = gives_items old mid hooks ask count before after some is
-  end_gives before after (Err why) some is = tt
+  pub end_none : (end : Result ℕ FetchRefused) → IsRefused end → OnErr end (items_of after ≡ items_of before)
+  end_none (Ok count) is = tt
+  end_none (Err why) is = is.none
 
-  pub end_fetched : (new : Keg T K g h) (before after : List (Cached T g)) (end : Result ℕ FetchRefused) → IsUnmoved mid new → IfOk end (λ count. FetchesInto old hooks ask count before after mid) → IfOk end (λ count. FetchesInto old hooks ask count before after new)
-  end_fetched new before after (Ok count) same is = still_fetched old mid new hooks ask count before after same is
-  end_fetched new before after (Err why) same is = tt
+  pub end_zones : (end : Result ℕ FetchRefused) → IsRefused end → OnErr end (zones_in mid ≡ zones_in old)
+  end_zones (Ok count) is = tt
+  end_zones (Err why) is = is.zones
+
+  pub end_gives : (end : Result ℕ FetchRefused) → 1 ≤ ask.most → IsGiven end → IfOk end (λ count. GivesItems old ask count (drop (length (items_of before)) (items_of after)))
+  end_gives (Ok count) some is = gives_items old mid hooks ask count (items_of before) (items_of after) some is.fetched
+  end_gives (Err why) some is = tt
+
+  pub end_fetched : (new : Keg T K g h) (end : Result ℕ FetchRefused) → IsUnmoved mid new → IsGiven end → IfOk end (λ count. FetchesInto old hooks ask count (items_of before) (items_of after) new)
+  end_fetched new (Ok count) same is = still_fetched old mid new hooks ask count (items_of before) (items_of after) same is.fetched
+  end_fetched new (Err why) same is = tt
+
+  pub end_within : (end : Result ℕ FetchRefused) → IsGiven end → OnOk end (IsWithinLimit mid ask.zone)
+  end_within (Ok count) is = is.within
+  end_within (Err why) is = tt
+
+  pub end_out : (end : Result ℕ FetchRefused) → IsGiven end → IfOk end (λ count. out_in mid ask.zone ≡ out_in old ask.zone + count)
+  end_out (Ok count) is = is.out
+  end_out (Err why) is = tt
+
+  pub end_buried : (end : Result ℕ FetchRefused) → IsGiven end → OnOk end (buried_in mid ≡ buried_in old)
+  end_buried (Ok count) is = is.buried
+  end_buried (Err why) is = tt
 
 -- the refusals of a zone, with one fetch more
 pub refusals_with : (before : List (Result ℕ FetchRefused)) (end : Result ℕ FetchRefused) → filter_map refusal_of (before ++ end ∷ []) ≡ refusals_after (filter_map refusal_of before) end

@@ -18,7 +18,8 @@ use Rattle.uma_keg.specs.BringSlabs.{found_in, BringsSlabs, StopsAtSlab}
 use Rattle.uma_keg.specs.Keg.{places_in, zones_in, stored_in, buried_in, out_in, limit_in, reserve_in, IsSameKeg, IsWithinLimit}
 use Rattle.uma_keg.specs.TakeItem.{MayTake, SamePlaces, KeepsItems}
 use Rattle.uma_keg.specs.TakeItems.{TakesItems, TakesInto, StopsAtItem}
-use Rattle.uma_keg.specs.Fetched.{wish_of, Proceeds, FetchesInto, RefusesFirst, IsUnmoved, RefusesFetch, IsOfKeg}
+use Rattle.uma_keg.specs.Frames.{IsUnmoved}
+use Rattle.uma_keg.specs.Fetched.{wish_of, Proceeds, FetchesInto, RefusesFirst, RefusesFetch, IsOfKeg}
 use Rattle.uma_keg.proofs.TakenItems.{keeps_same}
 
 -- how a fetch ends by each of its numbers: the reserve, the items outside and the limit, the free items, the slabs and those ever made
@@ -190,6 +191,9 @@ pub pushed_none : {T K : Type 0} {g : _} {h : _} (mid new : Keg T K g h) (hooks 
 pushed_none mid new hooks zone count code before after stops =
     let none = none_taken mid stops.left hooks zone stops.takes.items stops.takes.counted stops.takes.takes in
     stops.takes.pushed ∙ ap (λ items. before ++ items) none.3 ∙ append-nil before
+
+pub zones_none : {T K : Type 0} {g : _} {h : _} (mid new : Keg T K g h) (hooks : K) (zone count code : ℕ) (before after : List (Cached T g)) → StopsAtItem mid hooks zone count 0 code before after new → zones_in new ≡ zones_in mid
+zones_none mid new hooks zone count code before after stops = stops.keeps.zones ∙ (none_taken mid stops.left hooks zone stops.takes.items stops.takes.counted stops.takes.takes).1
 
 -- how many are out once the taking stopped
 pub out_stopped : {T K : Type 0} {g : _} {h : _} (mid new : Keg T K g h) (hooks : K) (zone count taken code : ℕ) (before after : List (Cached T g)) → StopsAtItem mid hooks zone count taken code before after new → out_in new zone ≡ out_in mid zone + taken

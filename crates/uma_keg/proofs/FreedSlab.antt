@@ -1,30 +1,22 @@
 -- A keg keeps its law where a wholly free slab is given up.
-use Rattle.std.proofs.Common.{◌≡◌, ◌≢◌, ◌≤◌, ◌+◌, ◌*◌, ◌/◌, ◌^◌, ℕ, false, List, Option, Some, None, is_some, inl, inr, arith, sym, ap, ◌∙◌}
+use Rattle.std.proofs.Common.{◌≡◌, ◌≤◌, ◌+◌, ◌*◌, ◌/◌, ◌^◌, ℕ, List, Option, Some, None, is_some, inl, inr, arith, sym, ap, ◌∙◌}
 use Rattle.std.proofs.lemmas.Bool.{cases_eq}
 use Rattle.uma_life.specs.declared.tally_sum.TallySum.{TallySum}
 use Rattle.uma_life.specs.Hook.{Hook}
 use Rattle.uma_life.specs.Sum.{sum_of}
 use Rattle.uma_keg.specs.declared.home_items.HomeItems.{HomeItems}
+use Rattle.uma_keg.specs.declared.slab_items.SlabItems.{SlabItems}
 use Rattle.uma_places.specs.Places.{KegPlaces, domain_at, slab_count}
 use Rattle.uma_places.specs.Dropping.{Drops}
-use Rattle.uma_keg.specs.HomeItems.{item_at, has_slab, slab_room, places_each}
+use Rattle.uma_keg.specs.HomeItems.{IsRemoved}
 use Rattle.uma_keg.specs.Tallies.{TallyLaw}
 use Rattle.uma_keg.specs.KegLaw.{PlacesLaw, is_used_place, is_free_place}
-
--- the items of a slab were taken away
-pub record IsRemoved {T : Type 0} {g : _} (old new : HomeItems T g) (index : ℕ) : Type 0 where
-  pub gone : (n : ℕ) → n / places_each old ≡ index → item_at new n ≡ None
-  pub others : (n : ℕ) → n / places_each old ≢ index → item_at new n ≡ item_at old n
-  pub no_slab : has_slab new index ≡ false
-  pub home_items : (other : ℕ) → other ≢ index → has_slab new other ≡ has_slab old other
-  pub count : slab_room new ≡ slab_room old
-  pub places : places_each new ≡ places_each old
 
 none_some : {X : Type 0} (x : X) → None ≡ Some x → ⊥
 none_some x e = cc
 
-pub PlacesLaw-dropped : {T : Type 0} {g : _} (places now : KegPlaces) (zones : List (Option ℕ)) (home_items fewer : HomeItems T g) (index : ℕ) → PlacesLaw places zones home_items → Drops places index now → IsRemoved home_items fewer index → PlacesLaw now zones fewer
-PlacesLaw-dropped places now zones home_items fewer index law drops removed = record {
+pub PlacesLaw-dropped : {T : Type 0} {g : _} (places now : KegPlaces) (zones : List (Option ℕ)) (home_items fewer : HomeItems T g) (index : ℕ) (slab_items : SlabItems T g) → PlacesLaw places zones home_items → Drops places index now → IsRemoved home_items fewer index slab_items → PlacesLaw now zones fewer
+PlacesLaw-dropped places now zones home_items fewer index slab_items law drops removed = record {
   per_slab = removed.places ∙ law.per_slab ∙ sym drops.per_slab;
   cap = removed.count ∙ law.cap ∙ sym drops.cap;
   numbers = rw (drops.per_slab, drops.cap) law.numbers;

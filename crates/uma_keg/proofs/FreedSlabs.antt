@@ -5,11 +5,14 @@ use Rattle.std.proofs.lemmas.Nat.{div_below, div-mul-add}
 use Rattle.uma_keg.specs.declared.keg.Keg.{Keg}
 use Rattle.uma_places.specs.Places.{KegPlaces, domain_at, IsIn, IsFree, IsSound, CountsOneSlab}
 use Rattle.uma_places.specs.Dropping.{IsWhollyFree, Drops}
+use Rattle.uma_life.specs.declared.tally_sum.TallySum.{TallySum}
+use Rattle.uma_life.specs.Sum.{sum_of}
 use Rattle.uma_keg.specs.Tallies.{sum_below}
-use Rattle.uma_keg.specs.Keg.{places_in, stored_in, hooks_in, IsSameKeg}
+use Rattle.uma_keg.specs.Frames.{IsUnmoved}
+use Rattle.uma_keg.specs.Keg.{places_in, stored_in, hooks_in, buried_in, IsSameKeg}
 use Rattle.uma_keg.specs.FreeSlabs.{Goes, DropsFrom, CountsFewer, BuriesGone, FreesSlabs, FreesSlab, times_gone}
 use Rattle.uma_keg.proofs.EndedItems.{ended_before}
-use Rattle.uma_keg.proofs.GoneSums.{sum_below-add, same_sums, gone_twice}
+use Rattle.uma_keg.proofs.GoneSums.{sum_below-add, sum_below-same, same_sums, gone_twice}
 
 no_some : {X : Type 0} (o : Option X) → o ≡ None → IsSome o → ⊥
 no_some o none some = cc
@@ -182,6 +185,23 @@ frees_more old mid new count index hooks leaves before one =
       ];
       others = λ n stays. one.others n (slab_then n (places_in old).per_slab (places_in mid).per_slab before.places.per_slab index (not_this (places_in old) (places_in mid) (places_in new) before.from index (n / (places_in old).per_slab) before.places one.places stays)) ∙ before.others n (not_before (places_in old) (places_in mid) (places_in new) before.from index (n / (places_in old).per_slab) before.places one.places stays);
       buried = buries_more old mid new count index leaves before one;
+    }
+
+-- where nothing moved after it, what was given up stands
+pub frees_unmoved : {T K : Type 0} {g : _} {h : _} (old mid new : Keg T K g h) (count : ℕ) → FreesSlabs old count mid → IsUnmoved mid new → FreesSlabs old count new
+frees_unmoved old mid new count freed same =
+    let Drops' : KegPlaces → Type 0 = λ k. DropsFrom (places_in old) freed.from k in
+    let Fewer : KegPlaces → Type 0 = λ k. CountsFewer (places_in old) count k in
+    record {
+      from = freed.from;
+      places = subst Drops' (sym same.places) freed.places;
+      counts = subst Fewer (sym same.places) freed.counts;
+      gone = λ n goes. same.stored n ∙ freed.gone n goes;
+      ended = freed.ended;
+      others = λ n stays. same.stored n ∙ freed.others n stays;
+      buried = λ hook.
+          ap (λ (b : TallySum). sum_of b hook) same.buried ∙ freed.buried hook
+          ∙ ap (λ (t : ℕ). sum_of (buried_in old) hook + t) (sum_below-same (λ n. times_gone hook (stored_in old n) (stored_in mid n)) (λ n. times_gone hook (stored_in old n) (stored_in new n)) (λ n. ap (times_gone hook (stored_in old n)) (sym (same.stored n))) ((places_in old).cap * (places_in old).per_slab));
     }
 
 -- what no call changes, in two steps

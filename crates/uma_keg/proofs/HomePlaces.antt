@@ -64,6 +64,10 @@ no_slab {T} {g} cap index = elim (cases_lt index cap) [
 pub item_none : {T : Type 0} {g : _} (p cap n : ℕ) (slabs : List (Option (SlabItems T g))) → slabs ≡ replicate cap None → item_in p slabs n ≡ None
 item_none p cap n slabs is = no_item_of p n slabs (rw is (no_slab cap (n / p)))
 
+-- and so no slab is there
+pub slab_none : {T : Type 0} {g : _} (cap index : ℕ) (slabs : List (Option (SlabItems T g))) → slabs ≡ replicate cap None → is_some (slab_items_in slabs index) ≡ false
+slab_none cap index slabs is = rw is (ap is_some (no_slab cap index))
+
 not_none : {X : Type 0} (o : Option X) → is_none o ≡ true → is_some o ≡ false
 not_none None is = refl
 not_none (Some x) is = absurd cc
@@ -111,3 +115,11 @@ slab_items_gone p n index slabs within at = rw (at, get_or-set_same slabs index 
 pub slab_items_stay : {T : Type 0} {g : _} (p n index : ℕ) (slabs : List (Option (SlabItems T g))) → n / p ≢ index → item_in p (set slabs index None) n ≡ item_in p slabs n
 unfolding item_in
 slab_items_stay p n index slabs other = rw (get_or-set_other slabs index (n / p) None None other) refl
+
+-- where a gap was read and put back, each item is where it was
+pub gap_unmoved : {T : Type 0} {g : _} (p n index : ℕ) (slabs : List (Option (SlabItems T g))) (gap : Option (SlabItems T g)) → index < length slabs → slab_items_in slabs index ≡ None → gap ≡ None → item_in p (set slabs index gap) n ≡ item_in p slabs n
+unfolding item_in
+gap_unmoved p n index slabs gap within there none = elim (cases_eq (n / p) index) [
+  | inl at ↦ rw (at, get_or-set_same slabs index gap None within, none, there) refl
+  | inr other ↦ rw (get_or-set_other slabs index (n / p) gap None other) refl
+]

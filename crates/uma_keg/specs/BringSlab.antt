@@ -1,11 +1,11 @@
 -- How a keg brings a slab in, or is refused. That keg_init runs on each item of a new slab, and that a refusal ends those made before it, is the rule of FreeBSD's uma(9); the least index is own.
-use Rattle.std.specs.Prelude.{◌≡◌, ◌≢◌, ◌<◌, ◌+◌, ◌*◌, ◌/◌, ℕ, Some, None}
+use Rattle.std.specs.Prelude.{◌≡◌, ◌≢◌, ◌<◌, ◌+◌, ◌*◌, ◌/◌, ◌^◌, ℕ, Some, None, Result, Err, IfErr, OnOk, OnErr}
 use Rattle.std.specs.Option.{IsSomeAnd}
 use Rattle.uma_life.specs.declared.refused.BringRefused.{BringRefused}
 use Rattle.uma_life.specs.declared.refused.BringRefused.TheVariants.{Init as InitItem, Memory as MemoryItem}
 use Rattle.uma_life.specs.declared.tally_sum.TallySum.{TallySum}
 use Rattle.uma_life.specs.Life.{raw_life}
-use Rattle.uma_life.specs.Hook.{IsCode}
+use Rattle.uma_life.specs.Hook.{Hook, IsCode}
 use Rattle.zone_stats.specs.declared.refusal.Refusal.TheVariants.{Full, Init}
 use Rattle.uma_keg.specs.declared.fetch_refused.FetchRefused.{FetchRefused}
 use Rattle.uma_keg.specs.declared.fetch_refused.FetchRefused.TheVariants.{Refused, Memory}
@@ -13,7 +13,7 @@ use Rattle.uma_keg.specs.declared.keg.Keg.{Keg}
 use Rattle.uma_places.specs.Places.{KegPlaces, IsIn, domain_at, slab_count, Brings, CountsOneSlab}
 use Rattle.uma_keg.specs.NewItems.{IsNewItem, StopsAt}
 use Rattle.uma_keg.specs.Tallies.{AddsVain}
-use Rattle.uma_keg.specs.Keg.{places_in, stored_in, hooks_in, buried_in}
+use Rattle.uma_keg.specs.Keg.{places_in, zones_in, rights_in, stored_in, limit_in, fetches_in, hooks_in, buried_in, total_in, IsSameKeg}
 
 -- why no slab is brought in where its items weren't made
 abbrev pub as_fetch : BringRefused → FetchRefused
@@ -30,6 +30,7 @@ RefusesNumber {T} {K} {g} {h} keg n code = (raw : T) × (g.life raw ≡ raw_life
 
 -- A slab of this domain is in at the least index that wasn't, and its new items are at home, which keg_init took. All else stays.
 pub record BringsSlab {T K : Type 0} {g : _} {h : _} (old : Keg T K g h) (domain : ℕ) (new : Keg T K g h) : Type 0 where
+  pub room : slab_count (places_in old) < (places_in old).cap
   pub index : ℕ
   pub places : Brings (places_in old) domain index (places_in new)
   pub counts : CountsOneSlab (places_in old) (places_in new)
@@ -57,3 +58,22 @@ RefusesSlab old buried (Refused (Init code)) =
     × (place : ℕ) × StopsAt per_slab place (λ lower. AcceptsNumber old (index * per_slab + lower)) (buried_in old) buried × RefusesNumber old (index * per_slab + place) code × IsCode code
 RefusesSlab old buried (Refused _) = ⊥
 RefusesSlab old buried Memory = (ended : ℕ) × (ended < (places_in old).per_slab) × AddsVain (buried_in old) ended buried
+
+-- A slab is refused for this cause, and of the keg nothing but the buried may change.
+pub record StaysWithout {T K : Type 0} {g : _} {h : _} (old : Keg T K g h) (why : FetchRefused) (new : Keg T K g h) : Type 0 where
+  pub refused : RefusesSlab old (buried_in new) why
+  pub places : places_in new ≡ places_in old
+  pub stored : (n : ℕ) → stored_in new n ≡ stored_in old n
+
+-- A slab is brought in, or refused for a cause, and always where a sum of hooks is full. Which numbers are outside, the zones and the lists of fetches stay.
+pub record BringsOrRefuses {T K : Type 0} {g : _} {h : _} (old : Keg T K g h) (domain : ℕ) (end : Result (Unit {0}) FetchRefused) (new : Keg T K g h) : Type 0 where
+  pub brings : OnOk end (BringsSlab old domain new)
+  pub refused : IfErr end (RefusesSlab old (buried_in new))
+  pub places : OnErr end (places_in new ≡ places_in old)
+  pub stored : OnErr end ((n : ℕ) → stored_in new n ≡ stored_in old n)
+  pub sums_full : (((hook : Hook) → total_in old hook < 2 ^ 120) → ⊥) → end ≡ Err Memory
+  pub zones : zones_in new ≡ zones_in old
+  pub rights : rights_in new ≡ rights_in old
+  pub limits : (zone : ℕ) → limit_in new zone ≡ limit_in old zone
+  pub fetches : (zone : ℕ) → fetches_in new zone ≡ fetches_in old zone
+  pub same : IsSameKeg old new

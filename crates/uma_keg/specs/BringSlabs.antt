@@ -1,5 +1,5 @@
 -- How a keg brings in as many slabs as a fetch wants. That a keg whose free items are used up takes a new slab is FreeBSD's uma(9); that slabs are brought in until some item is free beyond the reserve, and at the least indices, is own.
-use Rattle.std.specs.Prelude.{◌≡◌, ◌≤◌, ◌<◌, ◌+◌, ◌*◌, ◌/◌, ℕ, Some, None}
+use Rattle.std.specs.Prelude.{◌≡◌, ◌≤◌, ◌<◌, ◌+◌, ◌*◌, ◌/◌, ◌↔◌, ℕ, Bool, IsTrue, Some, None}
 use Rattle.std.specs.Option.{IsSomeAnd}
 use Rattle.uma_keg.specs.declared.fetch_refused.FetchRefused.{FetchRefused}
 use Rattle.uma_keg.specs.declared.keg.Keg.{Keg}
@@ -59,3 +59,8 @@ pub record StopsAtSlab {T K : Type 0} {g : _} {h : _} (old : Keg T K g h) (domai
   pub refused : RefusesSlab left (buried_in new) why
   pub places : places_in new ≡ places_in left
   pub stored : (n : ℕ) → stored_in new n ≡ stored_in left n
+
+-- whether no item is free beyond the reserve, and a further slab may be in
+pub record WantsSlab {T K : Type 0} {g : _} {h : _} (keg : Keg T K g h) (answer : Bool) : Type 0 where
+  pub wants : IsTrue answer ↔ ((free_count (places_in keg) ≤ reserve_in keg) × (slab_count (places_in keg) < (places_in keg).cap))
+  pub within : slab_count (places_in keg) ≤ (places_in keg).cap

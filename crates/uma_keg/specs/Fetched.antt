@@ -11,7 +11,8 @@ use Rattle.uma_keg.specs.declared.fetch_refused.FetchRefused.TheVariants.{Refuse
 use Rattle.uma_keg.specs.declared.keg.Keg.{Keg}
 use Rattle.uma_keg.specs.Fetch.{Wish, is_at_limit, IsNewSlabs, outcome_with, Outcome, Refuses, Gives, EndsAs}
 use Rattle.uma_places.specs.Places.{slab_count}
-use Rattle.uma_keg.specs.Keg.{places_in, zones_in, out_in, table_in, limit_in, reserve_in, stored_in, buried_in, total_in, IsSameKeg}
+use Rattle.uma_keg.specs.Keg.{places_in, zones_in, out_in, table_in, limit_in, reserve_in, buried_in, total_in, IsSameKeg}
+pub use Rattle.uma_keg.specs.Frames.{IsUnmoved}
 use Rattle.uma_keg.specs.BringSlab.{RefusesNumber}
 use Rattle.uma_keg.specs.BringSlabs.{found_in, BringsSlabs, StopsAtSlab}
 use Rattle.uma_keg.specs.TakeItem.{RefusesItem, KeepsItems}
@@ -49,13 +50,6 @@ pub record RefusesFirst {T K : Type 0} {g : _} {h : _} (old : Keg T K g h) (hook
   pub proceeds : Proceeds old ask (Gives whole) left
   pub refused : RefusesItem left hooks ask.zone code
   pub keeps : KeepsItems left new
-  pub buried : buried_in new ≡ buried_in old
-
--- all items are where they were
-pub record IsUnmoved {T K : Type 0} {g : _} {h : _} (old new : Keg T K g h) : Type 0 where
-  pub places : places_in new ≡ places_in old
-  pub zones : zones_in new ≡ zones_in old
-  pub stored : (n : ℕ) → stored_in new n ≡ stored_in old n
   pub buried : buried_in new ≡ buried_in old
 
 -- its numbers refuse it, once the slabs are in

@@ -1,5 +1,5 @@
 -- How a keg gives up slabs. That a slab whose items are all free may be given up, that keg_fini runs on each of them, and that the reserve is kept, is the rule of FreeBSD's uma(9); the greatest index first, and how many are given up at once, are own.
-use Rattle.std.specs.Prelude.{◌≡◌, ◌≢◌, ◌≤◌, ◌<◌, ◌+◌, ◌-◌, ◌*◌, ◌/◌, ◌^◌, ◌⊎◌, ℕ, Bool, ◌&&◌, ◌==◌, nat_lt, min, if◌then◌else◌, Option, Some, None, is_some}
+use Rattle.std.specs.Prelude.{◌≡◌, ◌≢◌, ◌≤◌, ◌<◌, ◌+◌, ◌-◌, ◌*◌, ◌/◌, ◌^◌, ◌⊎◌, ◌↔◌, ℕ, Bool, ◌&&◌, ◌==◌, nat_lt, min, if◌then◌else◌, Option, Some, None, IsNone, IfSome, IfNone, is_some}
 use Rattle.uma_life.specs.declared.stored.Stored.{Stored}
 use Rattle.uma_life.specs.Hook.{Hook}
 use Rattle.uma_life.specs.Sum.{sum_of}
@@ -9,6 +9,7 @@ use Rattle.uma_places.specs.Dropping.{IsWhollyFree, IsUsedUp, HasNoneWhollyFree,
 use Rattle.uma_keg.specs.KegLaw.{is_free_place}
 use Rattle.uma_keg.specs.Tallies.{ended_times, sum_below}
 use Rattle.uma_keg.specs.Ended.{IsEndedAt}
+use Rattle.uma_keg.specs.Frames.{IsUnmoved}
 use Rattle.uma_keg.specs.Keg.{places_in, stored_in, hooks_in, buried_in, reserve_in}
 
 -- the slab of this index is wholly free, and its index is at least the one that the giving up went down to
@@ -88,3 +89,17 @@ wholly_free_count k = count_below (is_wholly_free k) k.cap
 -- How many slabs a keg with such a reserve gives up at once: as many as lie whole in what is free beyond the reserve, where so many are wholly free, and else those that are. None once too many were ever brought in.
 unfoldable pub slabs_to_free : KegPlaces → ℕ → ℕ
 slabs_to_free k reserve = if nat_lt (2 ^ 40 - k.cap) k.made then 0 else min ((free_count k - reserve) / k.per_slab) (wholly_free_count k)
+
+-- So many slabs are given up at once. The reserve stays, none goes where too many were ever brought in, and no further one may go.
+pub record FreesAtOnce {T K : Type 0} {g : _} {h : _} (old : Keg T K g h) (slabs : ℕ) (new : Keg T K g h) : Type 0 where
+  pub freed : FreesSlabs old slabs new
+  pub count : slabs ≡ slabs_to_free (places_in old) (reserve_in old)
+  pub reserve : 0 < slabs → reserve_in old ≤ free_count (places_in new)
+  pub used_up : IsUsedUp (places_in old) → slabs ≡ 0
+  pub no_more : GivesNoMore new
+
+-- The wholly free slab of greatest index is given up, and its index answered; or there is none that may go, and no item moves.
+pub record FreesGreatest {T K : Type 0} {g : _} {h : _} (old : Keg T K g h) (end : Option ℕ) (new : Keg T K g h) : Type 0 where
+  pub freed : IfSome end (λ index. FreesSlab old index new)
+  pub unmoved : IfNone end (IsUnmoved old new)
+  pub none_exactly : IsNone end ↔ (IsUsedUp (places_in old) ⊎ HasNoneWhollyFree (places_in old))

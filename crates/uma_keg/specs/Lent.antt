@@ -1,9 +1,11 @@
 -- Own: the live items that are lent to a census, and what stays of one when its deed is taken in and issued again.
 use Rattle.std.specs.Prelude.{◌≡◌, ℕ, ◌==◌, List, [], ◌∷◌, ◌++◌, Option, None, map, count_by, reverse, slice_set}
-use Rattle.deed_book.specs.Deed.{BookId}
+use Rattle.deed_book.specs.declared.deed.Deed.{Deed}
+use Rattle.deed_book.specs.Deed.{BookId, deed_table, no_of, zone_of}
 use Rattle.deed_book.specs.BookLaw.{IsOutside}
 use Rattle.uma_life.specs.declared.live.Live.{Live}
-use Rattle.uma_life.specs.Live.{live_body, live_no, live_zone, live_domain, live_table}
+use Rattle.uma_life.specs.Live.{live_body, live_ticket, live_no, live_zone, live_domain, live_table}
+use Rattle.uma_life.specs.Ticket.{ticket_deed}
 use Rattle.uma_keg.specs.declared.undeeded.Undeeded.{Undeeded}
 
 -- a live item but for which token its deed is
@@ -49,3 +51,18 @@ TakesIn zones (deed ∷ deeds) now = IsOutside zones deed × TakesIn (slice_set 
 -- the items that have their deeds, and then those that haven't, the last taken first
 abbrev pub together : {T : Type 0} {g : _} → BookId → List (Live T g) → List (Undeeded T g) → List (Seen T)
 together table items taken = all_seen items ++ reverse (map (seen_without table) taken)
+
+-- a live item parts from its deed
+pub record PartsFrom {T : Type 0} {g : _} (item : Live T g) (without : Undeeded T g) (token : Deed) : Type 0 where
+  pub seen : seen_without (live_table item) without ≡ seen_of item
+  pub deed : token ≡ ticket_deed (live_ticket item)
+  pub origin : IsWithoutOf (live_table item) without
+
+-- the number and the zone of a deed
+abbrev pub number_and_zone : Deed → ℕ × ℕ
+number_and_zone deed = (no_of deed, zone_of deed)
+
+-- the deed is as the one that the item had, and of a book that the item may be of
+pub record MayHave {T : Type 0} {g : _} (deed : Deed) (item : Undeeded T g) : Type 0 where
+  pub numbers : number_and_zone deed ≡ deed_without item
+  pub origin : IsWithoutOf (deed_table deed) item

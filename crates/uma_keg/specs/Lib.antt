@@ -5,6 +5,8 @@ pub mod HomeLists
 pub mod HomeItems
 pub mod KegLaw
 pub mod Keg
+pub mod Frames
+pub mod Totals
 pub mod Fetch
 pub mod Tallies
 pub mod Ended
@@ -12,11 +14,15 @@ pub mod NewItems
 pub mod BringSlab
 pub mod FreeSlabs
 pub mod Lent
+pub mod Recount
 pub mod Paired
 pub mod Census
 pub mod TakeItem
 pub mod TakeItems
+pub mod GiveItem
+pub mod NewKeg
 pub mod BringSlabs
 pub mod Fetched
+pub mod Fetching
 pub mod CountsFound
 pub mod SetLimit

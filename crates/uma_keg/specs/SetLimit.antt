@@ -1,5 +1,5 @@
 -- What becomes of a keg where a zone's limit is set. That a limit may be set while requests go on is FreeBSD's uma(9), uma_zone_set_max; that a lowered one takes nothing away is own.
-use Rattle.std.specs.Prelude.{◌≡◌, ◌≢◌, ℕ}
+use Rattle.std.specs.Prelude.{◌≡◌, ◌≢◌, ◌≤◌, ◌<◌, ℕ}
 use Rattle.uma_keg.specs.declared.keg.Keg.{Keg}
 use Rattle.uma_keg.specs.Keg.{places_in, book_in, rights_in, stored_in, limit_in, fetches_in, buried_in, IsSameKeg}
 
@@ -14,3 +14,8 @@ pub record SetsLimit {T K : Type 0} {g : _} {h : _} (old : Keg T K g h) (zone li
   pub fetches : (at : ℕ) → fetches_in new at ≡ fetches_in old at
   pub buried : buried_in new ≡ buried_in old
   pub same : IsSameKeg old new
+
+-- a zone and a limit that it may have
+pub record MayLimit (zone limit : ℕ) : Type 0 where
+  pub below_8 : zone < 8
+  pub most : limit ≤ 1000000

@@ -8,7 +8,7 @@ use Rattle.uma_life.specs.Hook.{ZoneInit, after, IsCode}
 use Rattle.uma_keg.specs.declared.keg.Keg.{Keg}
 use Rattle.uma_places.specs.Places.{KegPlaces, place_at, domain_at, slab_count, free_count, out_count, IsFree, KeepsSlabs, CountsOneOut}
 use Rattle.uma_places.specs.Taking.{Takes, IsPartlyUsed}
-use Rattle.uma_keg.specs.Keg.{places_in, zones_in, out_in, table_in, stored_in}
+use Rattle.uma_keg.specs.Keg.{places_in, zones_in, out_in, table_in, stored_in, HasZone}
 
 -- An item is out in a zone: its deed is of the keg's book, its domain is its slab's, and it is the one that was at home. Its body, if the zone isn't 0, passed zone_init, and is as these hooks left it.
 pub record IsTaken {T K : Type 0} {g : _} {h : _} (old : Keg T K g h) (hooks : K) (zone : ℕ) (item : Cached T g) : Type 0 where
@@ -62,3 +62,14 @@ pub record KeepsItems {T K : Type 0} {g : _} {h : _} (old new : Keg T K g h) : T
   pub places : SamePlaces (places_in old) (places_in new)
   pub zones : zones_in new ≡ zones_in old
   pub stored : (n : ℕ) → stored_in new n ≡ stored_in old n
+
+-- some item is free, and the zone is one of the eight and exists
+pub record MayTakeItem {T K : Type 0} {g : _} {h : _} (keg : Keg T K g h) (zone : ℕ) : Type 0 where
+  pub some : 0 < free_count (places_in keg)
+  pub exists : HasZone keg zone
+  pub in_range : zone < 8
+
+-- The item that the taking rule allows is refused by zone_init, and stays.
+pub record KeepsRefused {T K : Type 0} {g : _} {h : _} (old : Keg T K g h) (hooks : K) (zone code : ℕ) (new : Keg T K g h) : Type 0 where
+  pub refused : RefusesItem old hooks zone code
+  pub keeps : KeepsItems old new

@@ -1,11 +1,13 @@
 -- What becomes of a keg where several items are taken from it for a zone, one after the other.
-use Rattle.std.specs.Prelude.{◌≡◌, ◌≢◌, ◌<◌, ◌+◌, ◌⊎◌, ℕ, List, [], ◌∷◌, ◌++◌, Option, Some, None, All, length, map, slice_set}
+use Rattle.std.specs.Prelude.{◌≡◌, ◌≢◌, ◌≤◌, ◌<◌, ◌+◌, ◌⊎◌, ℕ, List, [], ◌∷◌, ◌++◌, Option, Some, None, All, length, map, slice_set}
 use Rattle.uma_life.specs.declared.cached.Cached.{Cached}
 use Rattle.uma_life.specs.Cached.{cached_no}
+use Rattle.uma_bucket.specs.declared.bucket.Bucket.{Bucket}
+use Rattle.uma_bucket.specs.Bucket.{items_of, size_of}
 use Rattle.uma_keg.specs.declared.keg.Keg.{Keg}
 use Rattle.uma_places.specs.Places.{KegPlaces, slab_count, free_count, out_count, KeepsSlabs}
 use Rattle.uma_places.specs.Taking.{Takes}
-use Rattle.uma_keg.specs.Keg.{places_in, zones_in, out_in, stored_in}
+use Rattle.uma_keg.specs.Keg.{places_in, zones_in, out_in, stored_in, HasZone}
 use Rattle.uma_keg.specs.TakeItem.{IsTaken, RefusesItem, KeepsItems}
 
 -- each of these numbers is the one of the taking rule, from what those before it left
@@ -59,3 +61,10 @@ pub record StopsAtItem {T K : Type 0} {g : _} {h : _} (old : Keg T K g h) (hooks
   pub takes : TakesInto old hooks zone taken before after left
   pub refused : RefusesItem left hooks zone code
   pub keeps : KeepsItems left new
+
+-- so many items are free, the zone is one of the eight and exists, and the bucket has room for them
+pub record MayTakeItems {T K : Type 0} {g : _} {h : _} (keg : Keg T K g h) (zone count : ℕ) (into : Bucket T g) : Type 0 where
+  pub free : count ≤ free_count (places_in keg)
+  pub exists : HasZone keg zone
+  pub in_range : zone < 8
+  pub room : length (items_of into) + count ≤ size_of into

@@ -1,9 +1,8 @@
-ghost use Rattle.std.specs.Prelude.{◌≡◌, ◌<◌, ◌^◌, ℕ, Err, IfErr, OnOk, OnErr};
-ghost use Rattle.uma_life.specs.Hook.{Hook};
+ghost use Rattle.std.specs.Prelude.{◌^◌, IfErr, OnOk};
 ghost use Rattle.uma_life.specs.Sum.{AreBelow};
-ghost use Rattle.uma_places.specs.Places.{slab_count};
-ghost use Rattle.uma_keg.specs.BringSlab.{BringsSlab, RefusesSlab};
-ghost use Rattle.uma_keg.specs.Keg.{places_in, zones_in, rights_in, stored_in, limit_in, fetches_in, buried_in, total_in, IsSameKeg};
+ghost use Rattle.uma_keg.specs.BringSlab.{BringsSlab, StaysWithout, BringsOrRefuses};
+ghost use Rattle.uma_keg.specs.Keg.{buried_in};
+ghost use Rattle.uma_keg.specs.Frames.{KeepsButSlabs};
 
 use crate::fetch_refused::FetchRefused;
 use crate::keg::Keg;
@@ -24,17 +23,7 @@ impl<T: Body, K: Hooks<T>> Keg<T, K> {
     /// of the slab that were made before it are ended, and no half of a slab is in. `Memory` where memory is wanting, or
     /// one of the sums of hooks is at 2^120. It waits for `raw` and `bury` alone.
     pub fn bring<R: Wait>(&mut self, rt: &R, alloc: Global, domain: u8) -> Result<(), FetchRefused>
-        ensures brings { OnOk result (BringsSlab self.old domain self.new) }
-        ensures room { OnOk result (slab_count (places_in self.old) < (places_in self.old).cap) }
-        ensures refused { IfErr result (RefusesSlab self.old (buried_in self.new)) }
-        ensures places { OnErr result (places_in self.new ≡ places_in self.old) }
-        ensures stored { OnErr result ((n : ℕ) → stored_in self.new n ≡ stored_in self.old n) }
-        ensures sums_full { (((hook : Hook) → total_in self.old hook < 2 ^ 120) → ⊥) → result ≡ Err FetchRefused.Memory }
-        ensures zones { zones_in self.new ≡ zones_in self.old }
-        ensures rights { rights_in self.new ≡ rights_in self.old }
-        ensures limits { (zone : ℕ) → limit_in self.new zone ≡ limit_in self.old zone }
-        ensures fetches { (zone : ℕ) → fetches_in self.new zone ≡ fetches_in self.old zone }
-        ensures same { IsSameKeg self.old self.new }
+        ensures { BringsOrRefuses self.old domain result self.new }
     {
         if !self.has_tally_room() {
             return Err(FetchRefused::Memory);
@@ -51,15 +40,8 @@ impl<T: Body, K: Hooks<T>> Keg<T, K> {
     ) -> Result<(), FetchRefused>
         requires { AreBelow (2 ^ 120) (buried_in self.old) }
         ensures brings { OnOk result (BringsSlab self.old domain self.new) }
-        ensures room { OnOk result (slab_count (places_in self.old) < (places_in self.old).cap) }
-        ensures refused { IfErr result (RefusesSlab self.old (buried_in self.new)) }
-        ensures places { OnErr result (places_in self.new ≡ places_in self.old) }
-        ensures stored { OnErr result ((n : ℕ) → stored_in self.new n ≡ stored_in self.old n) }
-        ensures zones { zones_in self.new ≡ zones_in self.old }
-        ensures rights { rights_in self.new ≡ rights_in self.old }
-        ensures limits { (zone : ℕ) → limit_in self.new zone ≡ limit_in self.old zone }
-        ensures fetches { (zone : ℕ) → fetches_in self.new zone ≡ fetches_in self.old zone }
-        ensures same { IsSameKeg self.old self.new }
+        ensures refused { IfErr result (λ why. StaysWithout self.old why self.new) }
+        ensures kept { KeepsButSlabs self.old self.new }
     {
         let KegCounts {
             slabs,

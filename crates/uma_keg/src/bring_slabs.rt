@@ -1,9 +1,9 @@
-ghost use Rattle.std.specs.Prelude.{◌≡◌, ◌≤◌, ◌<◌, ◌^◌, ◌↔◌, ℕ, IsTrue, IfErr, OnOk};
+ghost use Rattle.std.specs.Prelude.{◌^◌, ℕ, IfErr, OnOk};
 ghost use Rattle.uma_life.specs.Sum.{AreBelow};
-ghost use Rattle.uma_places.specs.Places.{slab_count, free_count};
 ghost use Rattle.uma_keg.specs.Fetch.{IsNewSlabs};
-ghost use Rattle.uma_keg.specs.BringSlabs.{found_in, BringsSlabs, StopsAtSlab};
-ghost use Rattle.uma_keg.specs.Keg.{places_in, zones_in, rights_in, limit_in, fetches_in, reserve_in, buried_in, IsSameKeg};
+ghost use Rattle.uma_keg.specs.BringSlabs.{found_in, BringsSlabs, StopsAtSlab, WantsSlab};
+ghost use Rattle.uma_keg.specs.Keg.{buried_in};
+ghost use Rattle.uma_keg.specs.Frames.{KeepsButSlabs};
 
 use crate::fetch_refused::FetchRefused;
 use crate::keg::Keg;
@@ -24,11 +24,7 @@ impl<T: Body, K: Hooks<T>> Keg<T, K> {
         requires { AreBelow (2 ^ 120) (buried_in self.old) }
         ensures brings { OnOk result ((slabs : ℕ) × BringsSlabs self.old domain slabs self.new × ((zone : ℕ) → IsNewSlabs (found_in self.old zone) slabs)) }
         ensures refused { IfErr result (λ why. StopsAtSlab self.old domain why self.new) }
-        ensures zones { zones_in self.new ≡ zones_in self.old }
-        ensures rights { rights_in self.new ≡ rights_in self.old }
-        ensures limits { (zone : ℕ) → limit_in self.new zone ≡ limit_in self.old zone }
-        ensures fetches { (zone : ℕ) → fetches_in self.new zone ≡ fetches_in self.old zone }
-        ensures same { IsSameKeg self.old self.new }
+        ensures kept { KeepsButSlabs self.old self.new }
     {
         while self.wants_slab() {
             self.bring_slab(rt, alloc, domain)?;
@@ -38,8 +34,7 @@ impl<T: Body, K: Hooks<T>> Keg<T, K> {
 
     /// Whether no item is free beyond the reserve, and a further slab may be in.
     fn wants_slab(&self) -> bool
-        ensures wants { IsTrue result ↔ ((free_count (places_in self.now) ≤ reserve_in self.now) × (slab_count (places_in self.now) < (places_in self.now).cap)) }
-        ensures within { slab_count (places_in self.now) ≤ (places_in self.now).cap }
+        ensures { WantsSlab self.now result }
     {
         let KegCounts {
             slabs,

@@ -1,4 +1,4 @@
-ghost use Rattle.std.specs.Prelude.{◌≡◌, ◌<◌, ◌+◌, ◌*◌, ◌^◌, sum_by};
+ghost use Rattle.std.specs.Prelude.{◌≡◌, ◌+◌, ◌*◌, ◌^◌, sum_by};
 ghost use Rattle.uma_life.specs.Sum.{AreBelow};
 ghost use Rattle.uma_keg.specs.Paired.{ArePaired};
 
@@ -26,7 +26,7 @@ pub struct Census {
 }
 
 impl Census {
-    ghost use Rattle.uma_keg.specs.Census.{census_counts, census_outs, census_tally};
+    ghost use Rattle.uma_keg.specs.Census.{census_counts, census_outs, AreCensusTally};
 
     /// How the keg stood.
     pub fn counts(&self) -> KegCounts
@@ -44,8 +44,7 @@ impl Census {
 
     /// How often the items passed each hook, summed up over those at home in the keg and the buried.
     pub fn tally(&self) -> &TallySum
-        ensures tally { result.now ≡ census_tally self.now }
-        ensures below { AreBelow (2 ^ 121) result.now }
+        ensures { AreCensusTally self.now result.now }
     {
         &self.tally
     }

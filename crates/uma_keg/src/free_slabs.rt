@@ -1,8 +1,8 @@
-ghost use Rattle.std.specs.Prelude.{◌≡◌, ◌≤◌, ◌<◌, ◌+◌, ◌⊎◌, ◌↔◌, ℕ, IsTrue, IsNone, IfSome, IfNone};
+ghost use Rattle.std.specs.Prelude.{◌≤◌, ◌+◌, ◌↔◌, IsTrue};
 ghost use Rattle.uma_places.specs.Places.{free_count};
-ghost use Rattle.uma_places.specs.Dropping.{IsUsedUp, HasNoneWhollyFree};
-ghost use Rattle.uma_keg.specs.FreeSlabs.{FreesSlab, FreesSlabs, GivesNoMore, slabs_to_free};
-ghost use Rattle.uma_keg.specs.Keg.{places_in, zones_in, rights_in, stored_in, limit_in, fetches_in, reserve_in, buried_in, IsSameKeg};
+ghost use Rattle.uma_keg.specs.FreeSlabs.{FreesAtOnce, FreesGreatest};
+ghost use Rattle.uma_keg.specs.Keg.{places_in, reserve_in};
+ghost use Rattle.uma_keg.specs.Frames.{KeepsButSlabs};
 
 use crate::keg::Keg;
 use std::sync::Wait;
@@ -17,16 +17,8 @@ impl<T: Body, K: Hooks<T>> Keg<T, K> {
     /// Their items pass `keg_fini` of the keg's own hooks and are buried. None is given up where more than `2^40 - cap` slabs were ever brought
     /// in. It waits for `bury` alone.
     pub fn free_slabs<R: Wait>(&mut self, rt: &R) -> u32
-        ensures freed { FreesSlabs self.old result self.new }
-        ensures count { result ≡ slabs_to_free (places_in self.old) (reserve_in self.old) }
-        ensures reserve { 0 < result → reserve_in self.old ≤ free_count (places_in self.new) }
-        ensures used_up { IsUsedUp (places_in self.old) → result ≡ 0 }
-        ensures no_more { GivesNoMore self.new }
-        ensures zones { zones_in self.new ≡ zones_in self.old }
-        ensures rights { rights_in self.new ≡ rights_in self.old }
-        ensures limits { (zone : ℕ) → limit_in self.new zone ≡ limit_in self.old zone }
-        ensures fetches { (zone : ℕ) → fetches_in self.new zone ≡ fetches_in self.old zone }
-        ensures same { IsSameKeg self.old self.new }
+        ensures frees { FreesAtOnce self.old result self.new }
+        ensures kept { KeepsButSlabs self.old self.new }
     {
         let KegCounts { per_slab, .. } = self.places.counts();
         let mut count = 0;
@@ -50,16 +42,8 @@ impl<T: Body, K: Hooks<T>> Keg<T, K> {
     /// Gives up the wholly free slab of greatest index, whatever the reserve, and answers that index. None exactly where
     /// no slab is wholly free, or more than `2^40 - cap` were ever brought in; nothing changes then.
     fn free_slab<R: Wait>(&mut self, rt: &R) -> Option<u32>
-        ensures freed { IfSome result (λ index. FreesSlab self.old index self.new) }
-        ensures none_exactly { IsNone result ↔ (IsUsedUp (places_in self.old) ⊎ HasNoneWhollyFree (places_in self.old)) }
-        ensures places { IfNone result (places_in self.new ≡ places_in self.old) }
-        ensures stored { IfNone result ((n : ℕ) → stored_in self.new n ≡ stored_in self.old n) }
-        ensures buried { IfNone result (buried_in self.new ≡ buried_in self.old) }
-        ensures zones { zones_in self.new ≡ zones_in self.old }
-        ensures rights { rights_in self.new ≡ rights_in self.old }
-        ensures limits { (zone : ℕ) → limit_in self.new zone ≡ limit_in self.old zone }
-        ensures fetches { (zone : ℕ) → fetches_in self.new zone ≡ fetches_in self.old zone }
-        ensures same { IsSameKeg self.old self.new }
+        ensures frees { FreesGreatest self.old result self.new }
+        ensures kept { KeepsButSlabs self.old self.new }
     {
         let index = self.places.drop_slab()?;
         let slab_items = self.home_items.remove(index);

@@ -1,6 +1,6 @@
-ghost use Rattle.std.specs.Prelude.{◌≡◌, ◌≢◌, ◌≤◌, ◌<◌, ◌/◌, ◌%◌, ℕ, true, false, None, Some, IfOk, IfSome, IfNone, is_none, length, position, vec_len, slice_index_or};
+ghost use Rattle.std.specs.Prelude.{◌≡◌, ◌≤◌, ◌<◌, ◌/◌, true, IfOk, is_none, position};
 ghost use Rattle.std.specs.Option.{option_copied};
-ghost use Rattle.uma_keg.specs.HomeLists.{AreWhole, item_on};
+ghost use Rattle.uma_keg.specs.HomeLists.{AreWhole};
 
 use crate::slab_items::SlabItems;
 use std::alloc::{AllocError, Global};
@@ -16,16 +16,12 @@ pub(crate) struct HomeItems<T: Body> {
 }
 
 impl<T: Body> HomeItems<T> {
-    ghost use Rattle.uma_keg.specs.SlabItems.{places_of_slab};
-    ghost use Rattle.uma_keg.specs.HomeItems.{item_at, has_slab, slab_room, places_each};
+    ghost use Rattle.uma_keg.specs.HomeItems.{item_at, has_slab, slab_room, places_each, IsNewHome, TakesHome, MayPutHome, PutsHome, FindsGap, MayAddSlab, IsAdded, IsRemoved};
 
     /// Room for `cap` slabs' items, of so many places, and none there.
     pub fn new(alloc: Global, cap: u32, per_slab: u32) -> Result<HomeItems<T>, AllocError>
         requires { 1 ≤ per_slab }
-        ensures count { IfOk result (λ home_items. slab_room home_items ≡ cap) }
-        ensures places { IfOk result (λ home_items. places_each home_items ≡ per_slab) }
-        ensures none { IfOk result (λ home_items. (index : ℕ) → has_slab home_items index ≡ false) }
-        ensures no_item { IfOk result (λ home_items. (n : ℕ) → item_at home_items n ≡ None) }
+        ensures { IfOk result (IsNewHome cap per_slab) }
     {
         let mut slabs = Vec::with_capacity(alloc, cap as usize)?;
         for _ in 0..cap {
@@ -50,12 +46,7 @@ impl<T: Body> HomeItems<T> {
     /// Takes the item of a number, if it is there.
     pub fn take(&mut self, no: u32) -> Option<Stored<T>>
         requires { no / places_each self.old < slab_room self.old }
-        ensures item { result ≡ item_at self.old no }
-        ensures gone { item_at self.new no ≡ None }
-        ensures others { (n : ℕ) → n ≢ no → item_at self.new n ≡ item_at self.old n }
-        ensures home_items { (index : ℕ) → has_slab self.new index ≡ has_slab self.old index }
-        ensures count { slab_room self.new ≡ slab_room self.old }
-        ensures places { places_each self.new ≡ places_each self.old }
+        ensures { TakesHome self.old no result self.new }
     {
         let index = (no / self.per_slab) as usize;
         let place = no % self.per_slab;
@@ -67,13 +58,8 @@ impl<T: Body> HomeItems<T> {
 
     /// Puts an item where its number's place is, which has none.
     pub fn put(&mut self, no: u32, item: Stored<T>)
-        requires slab_items { has_slab self.old (no / places_each self.old) ≡ true }
-        requires gone { item_at self.old no ≡ None }
-        ensures item { item_at self.new no ≡ Some item }
-        ensures others { (n : ℕ) → n ≢ no → item_at self.new n ≡ item_at self.old n }
-        ensures home_items { (index : ℕ) → has_slab self.new index ≡ has_slab self.old index }
-        ensures count { slab_room self.new ≡ slab_room self.old }
-        ensures places { places_each self.new ≡ places_each self.old }
+        requires { MayPutHome self.old no }
+        ensures { PutsHome self.old no item self.new }
     {
         let index = (no / self.per_slab) as usize;
         let place = no % self.per_slab;
@@ -86,9 +72,7 @@ impl<T: Body> HomeItems<T> {
     /// The least index that has no list of items. None where each has one.
     pub fn first_gap(&self) -> Option<u32>
         requires { slab_room self.now ≤ 1024 }
-        ensures gap { IfSome result (λ index. (has_slab self.now index ≡ false) × (index < slab_room self.now)) }
-        ensures least { IfSome result (λ index. (lower : ℕ) → lower < index → has_slab self.now lower ≡ true) }
-        ensures none { IfNone result ((index : ℕ) → index < slab_room self.now → has_slab self.now index ≡ true) }
+        ensures { FindsGap self.now result }
     {
         match first_empty(&self.slabs) {
             Some(index) => Some(index as u32),
@@ -98,15 +82,8 @@ impl<T: Body> HomeItems<T> {
 
     /// Puts the items of a new slab at an index that has none.
     pub fn add(&mut self, index: u32, slab_items: SlabItems<T>)
-        requires within { index < slab_room self.old }
-        requires gap { has_slab self.old index ≡ false }
-        requires whole { length (places_of_slab slab_items) ≡ places_each self.old }
-        ensures items { (n : ℕ) → n / places_each self.old ≡ index → item_at self.new n ≡ item_on (n % places_each self.old) slab_items }
-        ensures others { (n : ℕ) → n / places_each self.old ≢ index → item_at self.new n ≡ item_at self.old n }
-        ensures slab_items { has_slab self.new index ≡ true }
-        ensures home_items { (other : ℕ) → other ≢ index → has_slab self.new other ≡ has_slab self.old other }
-        ensures count { slab_room self.new ≡ slab_room self.old }
-        ensures places { places_each self.new ≡ places_each self.old }
+        requires { MayAddSlab self.old index slab_items }
+        ensures { IsAdded self.old self.new index slab_items }
     {
         let gap = self.slabs[index as usize].replace(slab_items);
         let None = gap else { unreachable!() };
@@ -115,14 +92,7 @@ impl<T: Body> HomeItems<T> {
     /// Takes the items of a slab away, with the items that are there.
     pub fn remove(&mut self, index: u32) -> SlabItems<T>
         requires { has_slab self.old index ≡ true }
-        ensures whole { length (places_of_slab result) ≡ places_each self.old }
-        ensures items { (n : ℕ) → n / places_each self.old ≡ index → item_at self.old n ≡ item_on (n % places_each self.old) result }
-        ensures gone { (n : ℕ) → n / places_each self.old ≡ index → item_at self.new n ≡ None }
-        ensures others { (n : ℕ) → n / places_each self.old ≢ index → item_at self.new n ≡ item_at self.old n }
-        ensures no_slab { has_slab self.new index ≡ false }
-        ensures home_items { (other : ℕ) → other ≢ index → has_slab self.new other ≡ has_slab self.old other }
-        ensures count { slab_room self.new ≡ slab_room self.old }
-        ensures places { places_each self.new ≡ places_each self.old }
+        ensures { IsRemoved self.old self.new index result }
     {
         let Some(slab_items) = self.slabs[index as usize].take() else {
             unreachable!()

@@ -1,9 +1,7 @@
-ghost use Rattle.std.specs.Prelude.{◌≡◌, ◌≢◌, ℕ, ◌+◌, ◌*◌, ◌/◌, ◌<◌, ◌≤◌, ◌↔◌, ◌∷◌, [], min, None, Some, IsTrue, IfOk, IfErr, OnOk, All, count_by, is_some, map, replicate, slice_set};
+ghost use Rattle.std.specs.Prelude.{◌≡◌, ◌<◌, ◌↔◌, [], IsTrue, IfOk, IfErr, replicate};
 ghost use Rattle.deed_book.specs.Book.{book_table, zones_of};
-ghost use Rattle.deed_book.specs.Deed.{deed_table, no_of};
-ghost use Rattle.uma_life.specs.Sum.{no_sums};
-ghost use Rattle.uma_places.specs.Places.{IsNew, IsSound, slab_count, free_count};
-ghost use Rattle.uma_places.specs.Refused.{IsItemSize, IsSlabCount, IsRefusedFor};
+ghost use Rattle.deed_book.specs.Deed.{deed_table};
+ghost use Rattle.uma_places.specs.Refused.{IsRefusedFor};
 ghost use Rattle.uma_keg.specs.KegLaw.{PlacesLaw, ZonesLaw, AreOfOrigin};
 ghost use Rattle.uma_keg.specs.Tallies.{TallyLaw};
 ghost use Rattle.uma_keg.specs.Paired.{ArePaired};
@@ -81,7 +79,9 @@ fn no_fetches() -> [Log<Result<u32, FetchRefused>>; 8]
 }
 
 impl<T: Body, K: Hooks<T>> Keg<T, K> {
-    ghost use Rattle.uma_keg.specs.Keg.{places_in, zones_in, out_in, table_in, book_in, rights_in, HasZone, stored_in, limit_in, fetches_in, reserve_in, size_in, hooks_in, buried_in, IsSameKeg};
+    ghost use Rattle.uma_keg.specs.Census.{CountsKeg};
+    ghost use Rattle.uma_keg.specs.Keg.{out_in, book_in, rights_in, HasZone, limit_in, size_in};
+    ghost use Rattle.uma_keg.specs.NewKeg.{IsNewKeg, AddsZone};
 
     /// A keg of items of `size` bytes, 8 to 4,096, with room for `slabs` slabs, 1 to 1,024, of which none is in, and of
     /// no zone. With it come its eight rights to a zone, whose numbers are 7 down to 0.
@@ -95,19 +95,7 @@ impl<T: Body, K: Hooks<T>> Keg<T, K> {
         reserve: u64,
         hooks: K,
     ) -> Result<(Keg<T, K>, Vec<Deed>), KegRefused>
-        ensures places { IfOk result (λ (keg, rights). IsNew (min 256 (4096 / size)) slabs (places_in keg)) }
-        ensures outside { IfOk result (λ (keg, rights). zones_in keg ≡ replicate (slabs * min 256 (4096 / size)) None) }
-        ensures zones { IfOk result (λ (keg, rights). zones_of (rights_in keg) ≡ replicate 8 (Some 0)) }
-        ensures limits { IfOk result (λ (keg, rights). (zone : ℕ) → limit_in keg zone ≡ 0) }
-        ensures fetches { IfOk result (λ (keg, rights). (zone : ℕ) → fetches_in keg zone ≡ []) }
-        ensures reserve { IfOk result (λ (keg, rights). reserve_in keg ≡ reserve) }
-        ensures size { IfOk result (λ (keg, rights). size_in keg ≡ size) }
-        ensures hooks { IfOk result (λ (keg, rights). hooks_in keg ≡ hooks) }
-        ensures origin { IfOk result (λ (keg, rights). (table_in keg).origin ≡ K.origin hooks) }
-        ensures buried { IfOk result (λ (keg, rights). buried_in keg ≡ no_sums) }
-        ensures rights { IfOk result (λ (keg, rights). map no_of rights.items ≡ 7 ∷ 6 ∷ 5 ∷ 4 ∷ 3 ∷ 2 ∷ 1 ∷ 0 ∷ []) }
-        ensures rights_of_keg { IfOk result (λ (keg, rights). All (λ right. deed_table right ≡ book_table (rights_in keg)) rights.items) }
-        ensures accepted { OnOk result (IsItemSize size × IsSlabCount slabs) }
+        ensures made { IfOk result (λ (keg, rights). IsNewKeg size slabs reserve hooks keg rights.items) }
         ensures refused { IfErr result (IsRefusedFor size slabs) }
     {
         let places = Places::new(alloc, size, slabs)?;
@@ -133,14 +121,7 @@ impl<T: Body, K: Hooks<T>> Keg<T, K> {
 
     /// How the keg stands.
     pub fn counts(&self) -> KegCounts
-        ensures slabs { result.slabs ≡ slab_count (places_in self.now) }
-        ensures cap { result.cap ≡ (places_in self.now).cap }
-        ensures made { result.made ≡ (places_in self.now).made }
-        ensures free { result.free ≡ free_count (places_in self.now) }
-        ensures per_slab { result.per_slab ≡ (places_in self.now).per_slab }
-        ensures reserve { result.reserve ≡ reserve_in self.now }
-        ensures sound { IsSound (places_in self.now) }
-        ensures balanced { result.slabs * result.per_slab ≡ result.free + count_by is_some (zones_in self.now) }
+        ensures { CountsKeg self.now result }
     {
         let counts = self.places.counts();
         KegCounts {
@@ -207,18 +188,7 @@ impl<T: Body, K: Hooks<T>> Keg<T, K> {
     /// right's number.
     pub fn add_zone(&mut self, right: Deed, limit: u64) -> u8
         requires { deed_table right ≡ book_table (rights_in self.old) }
-        ensures index { result ≡ no_of right }
-        ensures below_8 { result < 8 }
-        ensures was_none { HasZone self.old (no_of right) → ⊥ }
-        ensures rights { zones_of (rights_in self.new) ≡ slice_set (zones_of (rights_in self.old)) (no_of right) None }
-        ensures limit { limit_in self.new (no_of right) ≡ limit }
-        ensures limits { (zone : ℕ) → zone ≢ no_of right → limit_in self.new zone ≡ limit_in self.old zone }
-        ensures fetches { (zone : ℕ) → fetches_in self.new zone ≡ fetches_in self.old zone }
-        ensures places { places_in self.new ≡ places_in self.old }
-        ensures zones { zones_in self.new ≡ zones_in self.old }
-        ensures stored { (n : ℕ) → stored_in self.new n ≡ stored_in self.old n }
-        ensures buried { buried_in self.new ≡ buried_in self.old }
-        ensures same { IsSameKeg self.old self.new }
+        ensures { AddsZone self.old right limit result self.new }
     {
         let (no, _) = self.rights.accept(right);
         self.limits[no as usize] = limit;

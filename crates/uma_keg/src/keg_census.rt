@@ -1,11 +1,8 @@
-ghost use Rattle.std.specs.Prelude.{◌≡◌, ◌≤◌, ◌<◌, ℕ, All, IfOk, IfErr, OnOk};
-ghost use Rattle.deed_book.specs.BookLaw.{IsOutside};
-ghost use Rattle.uma_life.specs.Hook.{Hook};
+ghost use Rattle.std.specs.Prelude.{◌≡◌, All, IfOk, IfErr};
 ghost use Rattle.uma_life.specs.Live.{live_table};
-ghost use Rattle.uma_life.specs.Sum.{sum_of};
-ghost use Rattle.uma_keg.specs.Lent.{all_seen, lent_of, deed_of};
-ghost use Rattle.uma_keg.specs.Census.{census_counts, census_out, census_tally, census_table, counts_in};
-ghost use Rattle.uma_keg.specs.Keg.{places_in, zones_in, out_in, table_in, rights_in, HasZone, stored_in, limit_in, fetches_in, buried_in, total_in, IsSameKeg};
+ghost use Rattle.uma_keg.specs.Census.{IsCensusOf, CountsWith};
+ghost use Rattle.uma_keg.specs.Keg.{table_in};
+ghost use Rattle.uma_keg.specs.Frames.{IsUnchanged};
 
 use crate::census::Census;
 use crate::keg::Keg;
@@ -21,23 +18,9 @@ impl<T: Body, K: Hooks<T>> Keg<T, K> {
     /// The Err is want of memory alone, which is taken first.
     pub fn census(&mut self, alloc: Global, lives: Lives<T>) -> Result<(Census, Lives<T>), Lives<T>>
         requires { All (λ item. live_table item ≡ table_in self.old) lives }
-        ensures counts { IfOk result (λ (census, back). census_counts census ≡ counts_in self.old) }
-        ensures outs { IfOk result (λ (census, back). (zone : ℕ) → zone < 8 → census_out census zone ≡ out_in self.old zone) }
-        ensures no_zone { IfOk result (λ (census, back). (zone : ℕ) → zone < 8 → (HasZone self.old zone → ⊥) → census_out census zone ≡ 0) }
-        ensures tally { IfOk result (λ (census, back). (hook : Hook) → sum_of (census_tally census) hook ≡ total_in self.old hook) }
-        ensures table_of { IfOk result (λ (census, back). census_table census ≡ table_in self.old) }
-        ensures lent { IfOk result (λ (census, back). (zone : ℕ) → zone < 8 → lent_of lives zone ≤ census_out census zone) }
-        ensures items { IfOk result (λ (census, back). all_seen back ≡ all_seen lives) }
-        ensures were_outside { OnOk result (All (λ item. IsOutside (zones_in self.old) (deed_of item)) lives) }
+        ensures census { IfOk result (λ (census, back). CountsWith self.old lives census back) }
         ensures refused { IfErr result (λ back. back ≡ lives) }
-        ensures places { places_in self.new ≡ places_in self.old }
-        ensures zones { zones_in self.new ≡ zones_in self.old }
-        ensures stored { (n : ℕ) → stored_in self.new n ≡ stored_in self.old n }
-        ensures rights { rights_in self.new ≡ rights_in self.old }
-        ensures limits { (zone : ℕ) → limit_in self.new zone ≡ limit_in self.old zone }
-        ensures fetches { (zone : ℕ) → fetches_in self.new zone ≡ fetches_in self.old zone }
-        ensures buried { buried_in self.new ≡ buried_in self.old }
-        ensures same { IsSameKeg self.old self.new }
+        ensures kept { IsUnchanged self.old self.new }
     {
         let back = recount(&mut self.outside, alloc, lives)?;
         Ok((self.counted(), back))
@@ -45,10 +28,7 @@ impl<T: Body, K: Hooks<T>> Keg<T, K> {
 
     /// The census itself.
     fn counted(&self) -> Census
-        ensures counts { census_counts result ≡ counts_in self.now }
-        ensures outs { (zone : ℕ) → zone < 8 → census_out result zone ≡ out_in self.now zone }
-        ensures tally { (hook : Hook) → sum_of (census_tally result) hook ≡ total_in self.now hook }
-        ensures table_of { census_table result ≡ table_in self.now }
+        ensures { IsCensusOf self.now result }
     {
         Census {
             counts: self.counts(),

@@ -1,12 +1,9 @@
-ghost use Rattle.std.specs.Prelude.{◌≡◌, ◌≤◌, ◌<◌, ◌+◌, ◌*◌, ◌^◌, ℕ, None, Some, IfOk, IfErr, OnOk, All, length, sum_by, vec_len};
-ghost use Rattle.uma_life.specs.Hook.{Hook, IsCode};
+ghost use Rattle.std.specs.Prelude.{◌≡◌, ◌+◌, ◌^◌, None, Some, IfOk, IfErr, OnOk};
 ghost use Rattle.uma_life.specs.Life.{raw_life};
-ghost use Rattle.uma_life.specs.Sum.{sum_of, AreBelow};
-ghost use Rattle.uma_life.specs.Bring.{RefusesToBring};
+ghost use Rattle.uma_life.specs.Sum.{AreBelow};
 ghost use Rattle.uma_keg.specs.SlabItems.{places_of_slab};
-ghost use Rattle.uma_keg.specs.Tallies.{ended_times};
-ghost use Rattle.uma_keg.specs.Ended.{IsEndedAt};
-ghost use Rattle.uma_keg.specs.NewItems.{AreNewItems, IsOfOrigin, RefusesItems};
+ghost use Rattle.uma_keg.specs.Ended.{MayEnd, EndsItems, EndsItem};
+ghost use Rattle.uma_keg.specs.NewItems.{RefusesItems, AreNumbers, MayBringItems, MakesItems, StopsMaking};
 
 use crate::slab_items::SlabItems;
 use std::alloc::Global;
@@ -25,13 +22,8 @@ impl<T: Body> SlabItems<T> {
         domain: u8,
         buried: &mut TallySum,
     ) -> Result<SlabItems<T>, BringRefused>
-        requires numbers { first + per_slab ≤ 2 ^ 32 }
-        requires places { (1 ≤ per_slab) × (per_slab ≤ 256) }
-        requires room { AreBelow (2 ^ 126) buried.old }
-        ensures whole { IfOk result (λ slab_items. length (places_of_slab slab_items) ≡ per_slab) }
-        ensures items { IfOk result (λ slab_items. AreNewItems first domain (places_of_slab slab_items)) }
-        ensures origins { IfOk result (λ slab_items. All (IsOfOrigin (K.origin hooks.now)) (places_of_slab slab_items)) }
-        ensures accepted { OnOk result ((place : ℕ) → place < per_slab → (raw : T) × (T.life raw ≡ raw_life (first + place)) × (K.refuses_init hooks.now raw 0 ≡ None)) }
+        requires { MayBringItems first per_slab buried.old }
+        ensures made { IfOk result (λ slab_items. MakesItems first per_slab domain (K.origin hooks.now) (λ place. (raw : T) × (T.life raw ≡ raw_life (first + place)) × (K.refuses_init hooks.now raw 0 ≡ None)) (places_of_slab slab_items)) }
         ensures buried { OnOk result (buried.new ≡ buried.old) }
         ensures refused { IfErr result (RefusesItems per_slab (λ place code. (raw : T) × (T.life raw ≡ raw_life (first + place)) × (K.refuses_init hooks.now raw 0 ≡ Some code)) (λ place. (raw : T) × (T.life raw ≡ raw_life (first + place)) × (K.refuses_init hooks.now raw 0 ≡ None)) buried.old buried.new) }
     {
@@ -46,11 +38,8 @@ impl<T: Body> SlabItems<T> {
 
     /// Ends the items that are there, and adds their tallies to the buried.
     pub fn end<K: Hooks<T>, R: Wait>(self, rt: &R, hooks: &K, buried: &mut TallySum)
-        requires few { length (places_of_slab self) ≤ 256 }
-        requires room { AreBelow (2 ^ 126) buried.old }
-        ensures sums { (hook : Hook) → sum_of buried.new hook ≡ sum_of buried.old hook + sum_by (ended_times hook) (places_of_slab self) }
-        ensures counts { (hook : Hook) → sum_by (ended_times hook) (places_of_slab self) ≤ length (places_of_slab self) * 2 ^ 64 }
-        ensures ended { All (IsEndedAt (λ body gone. K.leaves_fini hooks.now body 0 gone)) (places_of_slab self) }
+        requires { MayEnd (places_of_slab self) buried.old }
+        ensures { EndsItems (λ body gone. K.leaves_fini hooks.now body 0 gone) (places_of_slab self) buried.old buried.new }
     {
         let SlabItems { places } = self;
         end_all(rt, hooks, places, buried);
@@ -66,16 +55,9 @@ fn make_items<T: Body, K: Hooks<T>, R: Wait>(
     per_slab: u32,
     domain: u8,
 ) -> Result<Vec<Option<Stored<T>>>, (Vec<Option<Stored<T>>>, BringRefused)>
-    requires numbers { first + per_slab ≤ 2 ^ 32 }
-    requires some { 1 ≤ per_slab }
-    ensures whole { IfOk result (λ places. vec_len places ≡ per_slab) }
-    ensures items { IfOk result (λ places. AreNewItems first domain places.items) }
-    ensures origins { IfOk result (λ places. All (IsOfOrigin (K.origin hooks.now)) places.items) }
-    ensures accepted { IfOk result (λ _. (place : ℕ) → place < per_slab → (raw : T) × (T.life raw ≡ raw_life (first + place)) × (K.refuses_init hooks.now raw 0 ≡ None)) }
-    ensures fewer { IfErr result (λ (places, refused). vec_len places < per_slab) }
-    ensures earlier { IfErr result (λ (places, refused). AreNewItems first domain places.items) }
-    ensures accepted_earlier { IfErr result (λ (places, refused). (place : ℕ) → place < vec_len places → (raw : T) × (T.life raw ≡ raw_life (first + place)) × (K.refuses_init hooks.now raw 0 ≡ None)) }
-    ensures refused { IfErr result (λ (places, refused). RefusesToBring (λ code. (raw : T) × (T.life raw ≡ raw_life (first + vec_len places)) × (K.refuses_init hooks.now raw 0 ≡ Some code)) refused) }
+    requires { AreNumbers first per_slab }
+    ensures made { IfOk result (λ places. MakesItems first per_slab domain (K.origin hooks.now) (λ place. (raw : T) × (T.life raw ≡ raw_life (first + place)) × (K.refuses_init hooks.now raw 0 ≡ None)) places.items) }
+    ensures stopped { IfErr result (λ (places, refused). StopsMaking first per_slab domain (λ place code. (raw : T) × (T.life raw ≡ raw_life (first + place)) × (K.refuses_init hooks.now raw 0 ≡ Some code)) (λ place. (raw : T) × (T.life raw ≡ raw_life (first + place)) × (K.refuses_init hooks.now raw 0 ≡ None)) places.items refused) }
 {
     let Ok(mut places) = Vec::with_capacity(alloc, per_slab as usize) else {
         return Err((Vec::new(alloc), BringRefused::Memory));
@@ -96,11 +78,8 @@ pub(crate) fn end_all<T: Body, K: Hooks<T>, R: Wait>(
     mut places: Vec<Option<Stored<T>>>,
     buried: &mut TallySum,
 )
-    requires few { vec_len places ≤ 256 }
-    requires room { AreBelow (2 ^ 126) buried.old }
-    ensures sums { (hook : Hook) → sum_of buried.new hook ≡ sum_of buried.old hook + sum_by (ended_times hook) places.items }
-    ensures counts { (hook : Hook) → sum_by (ended_times hook) places.items ≤ vec_len places * 2 ^ 64 }
-    ensures ended { All (IsEndedAt (λ body gone. K.leaves_fini hooks.now body 0 gone)) places.items }
+    requires { MayEnd places.items buried.old }
+    ensures { EndsItems (λ body gone. K.leaves_fini hooks.now body 0 gone) places.items buried.old buried.new }
 {
     while let Some(place) = places.pop() {
         end_one(rt, hooks, place, buried);
@@ -116,9 +95,7 @@ fn end_one<T: Body, K: Hooks<T>, R: Wait>(
     buried: &mut TallySum,
 )
     requires { AreBelow (2 ^ 127) buried.old }
-    ensures sums { (hook : Hook) → sum_of buried.new hook ≡ sum_of buried.old hook + ended_times hook place }
-    ensures counts { (hook : Hook) → ended_times hook place < 2 ^ 64 }
-    ensures ended { IsEndedAt (λ body gone. K.leaves_fini hooks.now body 0 gone) place }
+    ensures { EndsItem (λ body gone. K.leaves_fini hooks.now body 0 gone) place buried.old buried.new }
 {
     match place {
         Some(item) => buried.add(item.end(rt, hooks)),

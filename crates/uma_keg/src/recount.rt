@@ -1,10 +1,7 @@
-ghost use Rattle.std.specs.Prelude.{◌≡◌, ◌≤◌, ℕ, ◌++◌, [], All, IfOk, IfErr, OnOk, map, vec_len, reverse};
-ghost use Rattle.std.specs.Vec.{vec_capacity};
-ghost use Rattle.deed_book.specs.BookLaw.{IsOutside};
+ghost use Rattle.std.specs.Prelude.{◌≡◌, All, IfOk, IfErr};
 ghost use Rattle.uma_life.specs.Live.{live_table};
-ghost use Rattle.uma_keg.specs.Outs.{out_of};
 ghost use Rattle.uma_keg.specs.Outside.{outside_zones, outside_table};
-ghost use Rattle.uma_keg.specs.Lent.{all_seen, lent_of, deed_of, deed_without, seen_without, together, TakesIn, IsWithoutOf};
+ghost use Rattle.uma_keg.specs.Recount.{KeepsOutside, Recounts, MayTakeIn, TakesDeeds, MayIssueAgain, IssuesAgain};
 
 use crate::outside::Outside;
 use crate::undeeded::Undeeded;
@@ -20,12 +17,9 @@ pub(crate) fn recount<T: Body>(
     lives: Lives<T>,
 ) -> Result<Lives<T>, Lives<T>>
     requires { All (λ item. live_table item ≡ outside_table outside.old) lives }
-    ensures items { IfOk result (λ back. all_seen back ≡ all_seen lives) }
-    ensures were_outside { OnOk result (All (λ item. IsOutside (outside_zones outside.old) (deed_of item)) lives) }
-    ensures lent { OnOk result ((zone : ℕ) → lent_of lives zone ≤ out_of (outside_zones outside.old) zone) }
+    ensures recounted { IfOk result (λ back. Recounts (outside_zones outside.old) lives back) }
     ensures refused { IfErr result (λ back. back ≡ lives) }
-    ensures zones { outside_zones outside.new ≡ outside_zones outside.old }
-    ensures table { outside_table outside.new ≡ outside_table outside.old }
+    ensures kept { KeepsOutside outside.old outside.new }
 {
     let mut items = lives.into_vec();
     let Ok(mut taken) = Vec::with_capacity(alloc, items.len()) else {
@@ -39,15 +33,8 @@ pub(crate) fn recount<T: Body>(
 
 /// Takes the deeds of live items in, from the last item to the first.
 fn take_in<T: Body>(outside: &mut Outside, items: &mut Vec<Live<T>>, taken: &mut Vec<Undeeded<T>>)
-    requires table { All (λ item. live_table item ≡ outside_table outside.old) items.old.items }
-    requires none { taken.old.items ≡ [] }
-    requires room { vec_len items.old ≤ vec_capacity taken.old }
-    ensures none_left { items.new.items ≡ [] }
-    ensures room { vec_len taken.new ≤ vec_capacity items.new }
-    ensures items { together (outside_table outside.old) items.new.items taken.new.items ≡ all_seen items.old.items }
-    ensures origins { All (IsWithoutOf (outside_table outside.old)) taken.new.items }
-    ensures taken { TakesIn (outside_zones outside.old) (map deed_without taken.new.items) (outside_zones outside.new) }
-    ensures table { outside_table outside.new ≡ outside_table outside.old }
+    requires { MayTakeIn outside.old items.old taken.old }
+    ensures { TakesDeeds outside.old outside.new items.old items.new taken.new }
 {
     while let Some(item) = items.pop() {
         let (item, deed) = Undeeded::of(item);
@@ -64,13 +51,8 @@ fn issue_again<T: Body>(
     mut taken: Vec<Undeeded<T>>,
     items: &mut Vec<Live<T>>,
 )
-    requires taken { TakesIn (outside_zones before.value) (map deed_without taken.items) (outside_zones outside.old) }
-    requires origins { All (IsWithoutOf (outside_table outside.old)) taken.items }
-    requires none { items.old.items ≡ [] }
-    requires room { vec_len taken ≤ vec_capacity items.old }
-    ensures items { all_seen items.new.items ≡ reverse (map (seen_without (outside_table outside.old)) taken.items) }
-    ensures zones { outside_zones outside.new ≡ outside_zones before.value }
-    ensures table { outside_table outside.new ≡ outside_table outside.old }
+    requires { MayIssueAgain before.value outside.old taken items.old }
+    ensures { IssuesAgain before.value outside.old outside.new taken.items items.new.items }
 {
     while let Some(item) = taken.pop() {
         let (no, zone) = item.deed();

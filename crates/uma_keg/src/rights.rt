@@ -1,6 +1,5 @@
-ghost use Rattle.std.specs.Prelude.{◌≡◌, ◌∷◌, [], Some, IfOk, All, map, replicate};
-ghost use Rattle.deed_book.specs.Book.{book_table, zones_of};
-ghost use Rattle.deed_book.specs.Deed.{deed_table, no_of};
+ghost use Rattle.std.specs.Prelude.{IfOk};
+ghost use Rattle.uma_keg.specs.NewKeg.{AreNewRights};
 
 use deed_book::{Book, Deed, Memory};
 use std::alloc::Global;
@@ -10,9 +9,7 @@ const MOST_ZONES: u32 = 8;
 
 /// The book of a keg's rights to a zone, all of which are outside, and the rights with the numbers 7 down to 0.
 pub(crate) fn new_rights(alloc: Global) -> Result<(Book, Vec<Deed>), Memory>
-    ensures book { IfOk result (λ (book, rights). zones_of book ≡ replicate 8 (Some 0)) }
-    ensures numbers { IfOk result (λ (book, rights). map no_of rights.items ≡ 7 ∷ 6 ∷ 5 ∷ 4 ∷ 3 ∷ 2 ∷ 1 ∷ 0 ∷ []) }
-    ensures of_book { IfOk result (λ (book, rights). All (λ right. deed_table right ≡ book_table book) rights.items) }
+    ensures { IfOk result (λ (book, rights). AreNewRights book rights.items) }
 {
     let Ok(mut book) = Book::new(alloc, MOST_ZONES) else {
         return Err(Memory);

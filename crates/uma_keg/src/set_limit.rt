@@ -1,6 +1,6 @@
-ghost use Rattle.std.specs.Prelude.{◌≡◌, ◌≤◌, ◌<◌};
+ghost use Rattle.std.specs.Prelude.{◌≡◌};
 ghost use Rattle.uma_keg.specs.Keg.{limit_in};
-ghost use Rattle.uma_keg.specs.SetLimit.{SetsLimit};
+ghost use Rattle.uma_keg.specs.SetLimit.{SetsLimit, MayLimit};
 
 use crate::keg::Keg;
 use uma_life::{Body, Hooks};
@@ -12,8 +12,7 @@ impl<T: Body, K: Hooks<T>> Keg<T, K> {
     /// A lowered limit takes nothing away: more items may then be outside than it allows, and no fetch gives one until
     /// fewer are.
     pub fn set_limit(&mut self, zone: u8, limit: u64) -> u64
-        requires below_8 { zone < 8 }
-        requires most { limit ≤ 1000000 }
+        requires { MayLimit zone limit }
         ensures former { result ≡ limit_in self.old zone }
         ensures set { SetsLimit self.old zone limit self.new }
     {

@@ -10,7 +10,7 @@ pub(crate) struct SlabItems<T: Body> {
 }
 
 impl<T: Body> SlabItems<T> {
-    ghost use Rattle.uma_keg.specs.SlabItems.{places_of_slab};
+    ghost use Rattle.uma_keg.specs.SlabItems.{places_of_slab, TakesPlace};
     ghost use Rattle.uma_keg.specs.HomeLists.{item_on};
 
     /// The item of a place, if it is there.
@@ -24,8 +24,7 @@ impl<T: Body> SlabItems<T> {
     /// Takes the item of a place, if it is there.
     pub fn take(&mut self, place: u32) -> Option<Stored<T>>
         requires { place < length (places_of_slab self.old) }
-        ensures item { slice_get (places_of_slab self.old) place ≡ Some result }
-        ensures items { places_of_slab self.new ≡ slice_set (places_of_slab self.old) place None }
+        ensures { TakesPlace self.old place result self.new }
     {
         self.places[place as usize].take()
     }

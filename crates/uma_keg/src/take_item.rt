@@ -1,7 +1,6 @@
-ghost use Rattle.std.specs.Prelude.{◌≡◌, ◌<◌, ℕ, IfOk, IfErr, OnErr};
-ghost use Rattle.uma_places.specs.Places.{free_count};
-ghost use Rattle.uma_keg.specs.TakeItem.{TakesItem, RefusesItem, KeepsItems};
-ghost use Rattle.uma_keg.specs.Keg.{places_in, rights_in, limit_in, fetches_in, buried_in, HasZone, IsSameKeg};
+ghost use Rattle.std.specs.Prelude.{IfOk, IfErr};
+ghost use Rattle.uma_keg.specs.TakeItem.{TakesItem, MayTakeItem, KeepsRefused};
+ghost use Rattle.uma_keg.specs.Frames.{KeepsButItems};
 
 use crate::keg::Keg;
 use uma_life::{Body, Cached, Hooks};
@@ -10,17 +9,10 @@ impl<T: Body, K: Hooks<T>> Keg<T, K> {
     /// Takes one item out for a zone, by the taking rule. It passes `zone_init`, but for zone 0;
     /// where that refuses it stays in the keg, and the code is the answer.
     pub(crate) fn take_item(&mut self, hooks: &K, zone: u8) -> Result<Cached<T>, u8>
-        requires some { 0 < free_count (places_in self.old) }
-        requires exists { HasZone self.old zone }
-        requires in_range { zone < 8 }
+        requires { MayTakeItem self.old zone }
         ensures takes { IfOk result (λ item. TakesItem self.old hooks.now zone item self.new) }
-        ensures keeps { OnErr result (KeepsItems self.old self.new) }
-        ensures refused { IfErr result (RefusesItem self.old hooks.now zone) }
-        ensures rights { rights_in self.new ≡ rights_in self.old }
-        ensures limits { (other : ℕ) → limit_in self.new other ≡ limit_in self.old other }
-        ensures fetches { (other : ℕ) → fetches_in self.new other ≡ fetches_in self.old other }
-        ensures buried { buried_in self.new ≡ buried_in self.old }
-        ensures same { IsSameKeg self.old self.new }
+        ensures refused { IfErr result (λ code. KeepsRefused self.old hooks.now zone code self.new) }
+        ensures kept { KeepsButItems self.old self.new }
     {
         let no = self.places.take().unwrap();
         let item = self.home_items.take(no).unwrap();

@@ -1,9 +1,8 @@
-ghost use Rattle.std.specs.Prelude.{◌≡◌, ◌≤◌, ◌<◌, ◌+◌, ◌*◌, ◌-◌, ◌^◌, ◌/◌, ◌↔◌, ℕ, IsTrue, min};
+ghost use Rattle.std.specs.Prelude.{◌≡◌, ◌<◌, ◌-◌, ◌^◌, ◌↔◌, IsTrue, min};
 ghost use Rattle.uma_life.specs.Hook.{Hook};
-ghost use Rattle.uma_life.specs.Sum.{sum_of, times_of, AreBelow};
-ghost use Rattle.uma_keg.specs.HomeItems.{item_at, slab_room, places_each};
-ghost use Rattle.uma_keg.specs.Tallies.{home_times};
+ghost use Rattle.uma_life.specs.Sum.{times_of};
 ghost use Rattle.uma_keg.specs.Keg.{total_in};
+ghost use Rattle.uma_keg.specs.Totals.{AreTotals, MayAddHome, AddsHome};
 
 use crate::bring::MOST_TALLIED;
 use crate::home_items::HomeItems;
@@ -14,8 +13,7 @@ use uma_places::KegCounts;
 impl<T: Body, K: Hooks<T>> Keg<T, K> {
     /// How often the items passed each hook, summed up over those at home in the keg and the buried.
     pub fn wide_tally(&self) -> TallySum
-        ensures totals { (hook : Hook) → sum_of result hook ≡ total_in self.now hook }
-        ensures below { AreBelow (2 ^ 121) result }
+        ensures { AreTotals self.now result }
     {
         let KegCounts { cap, per_slab, .. } = self.places.counts();
         let mut sums = self.buried;
@@ -46,10 +44,8 @@ impl<T: Body, K: Hooks<T>> Keg<T, K> {
 
 /// Adds the tally of the item of a number, if it is at home.
 fn add_home<T: Body>(home_items: &HomeItems<T>, no: u32, sums: &mut TallySum)
-    requires within { no / places_each home_items.now < slab_room home_items.now }
-    requires room { AreBelow (2 ^ 127) sums.old }
-    ensures sums { (hook : Hook) → sum_of sums.new hook ≡ sum_of sums.old hook + home_times hook (item_at home_items.now no) }
-    ensures counts { (hook : Hook) → home_times hook (item_at home_items.now no) < 2 ^ 64 }
+    requires { MayAddHome home_items.now no sums.old }
+    ensures { AddsHome home_items.now no sums.old sums.new }
 {
     match home_items.item(no) {
         Some(item) => sums.add(item.body().tally()),

@@ -1,7 +1,5 @@
 ghost use Rattle.std.specs.Prelude.{◌≡◌, ◌<◌};
-ghost use Rattle.deed_book.specs.Deed.{deed_table, no_of, zone_of};
-ghost use Rattle.uma_life.specs.Live.{live_ticket, live_table};
-ghost use Rattle.uma_life.specs.Ticket.{ticket_deed};
+ghost use Rattle.deed_book.specs.Deed.{deed_table};
 ghost use Rattle.uma_life.specs.Trail.{IsAt};
 ghost use Rattle.uma_life.specs.declared.body_phase.BodyPhase.TheVariants.{Built};
 
@@ -21,13 +19,11 @@ pub(crate) struct Undeeded<T: Body> {
 }
 
 impl<T: Body> Undeeded<T> {
-    ghost use Rattle.uma_keg.specs.Lent.{seen_of, seen_without, deed_without, IsWithoutOf};
+    ghost use Rattle.uma_keg.specs.Lent.{seen_of, seen_without, deed_without, PartsFrom, MayHave};
 
     /// The item and its deed.
     pub fn of(item: Live<T>) -> (Undeeded<T>, Deed)
-        ensures seen { seen_without (live_table item) result.0 ≡ seen_of item }
-        ensures deed { result.1 ≡ ticket_deed (live_ticket item) }
-        ensures origin { IsWithoutOf (live_table item) result.0 }
+        ensures { PartsFrom item result.0 result.1 }
     {
         let (body, ticket) = item.into_parts();
         let (deed, domain) = ticket.into_deed();
@@ -49,8 +45,7 @@ impl<T: Body> Undeeded<T> {
 
     /// The item with a deed of its number and zone.
     pub fn with(self, deed: Deed) -> Live<T>
-        requires numbers { (no_of deed, zone_of deed) ≡ deed_without self }
-        requires origin { IsWithoutOf (deed_table deed) self }
+        requires { MayHave deed self }
         ensures { seen_of result ≡ seen_without (deed_table deed) self }
     {
         let Undeeded { body, domain, .. } = self;

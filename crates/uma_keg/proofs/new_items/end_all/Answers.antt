@@ -13,7 +13,11 @@ loop-place-preserved g c =
       room = λ hook. grind (arith, common_steps);
     }
 
-pub returns-clause-counts : goal.returns-clause-counts
-returns-clause-counts g c hook =
+pub returns : goal.returns
+returns g c =
     let none : c.loop-place.places.items ≡ [] = search rules in
-    omega (arith, c.loop-place.invariant.sums hook, c.loop-place.invariant.counts hook, ap (sum_by (ended_times hook)) none)
+    record {
+      sums = search rules;
+      counts = λ hook. omega (arith, c.loop-place.invariant.sums hook, c.loop-place.invariant.counts hook, ap (sum_by (ended_times hook)) none, c.args.places.ok.0);
+      ended = search rules;
+    }

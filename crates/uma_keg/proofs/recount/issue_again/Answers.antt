@@ -1,4 +1,4 @@
-use Rattle.std.proofs.Common.{◌≡◌, Some, sym, ap, arith, ◌∙◌}
+use Rattle.std.proofs.Common.{rules, ◌≡◌, Some, sym, ap, arith, ◌∙◌}
 use Rattle.std.proofs.lemmas.List.Elements.{All-pop}
 use Rattle.deed_book.specs.Deed.{BookId}
 use Rattle.uma_keg.specs.Outside.{outside_table, outside_zones}
@@ -6,15 +6,17 @@ use Rattle.uma_keg.specs.Lent.{seen_of, seen_without, IsWithoutOf}
 use Rattle.uma_keg.proofs.TakenIn.{item_moved, last_taken, last_home, last_issued}
 use Rattle.uma_keg.proofs.recount.issue_again.Goals as goal
 
-pub issue-requires-clause-home : goal.issue-requires-clause-home
-issue-requires-clause-home g c =
-    last_home _ _ _ c.deed-no.result _ (last_taken (outside_zones c.args.before.value) (outside_zones c.loop-item.outside) _ _ c.in-Some.item c.in-Some.ensures.items c.loop-item.invariant.taken) c.deed-no.ensures
+pub issue-requires : goal.issue-requires
+issue-requires g c = record {
+  home = last_home _ _ _ c.deed-no.result _ (last_taken (outside_zones c.args.before.value) (outside_zones c.loop-item.outside) _ _ c.in-Some.item c.in-Some.ensures.items c.loop-item.invariant.taken) c.deed-no.ensures;
+  zone = search rules;
+}
 
-pub with-requires-clause-origin : goal.with-requires-clause-origin
-with-requires-clause-origin g c =
+pub with-requires : goal.with-requires
+with-requires g c =
     let kept = c.loop-item.invariant in
     let of_book = All-pop (IsWithoutOf (outside_table c.args.outside.now)) _ _ (Some c.in-Some.item) c.in-Some.ensures.items kept.origins in
-    of_book.1 ∙ sym (ap (λ (book : BookId). book.origin) (c.issue.ensures.deed_table ∙ kept.table))
+    record { numbers = search rules; origin = of_book.1 ∙ sym (ap (λ (book : BookId). book.origin) (c.issue.ensures.deed_table ∙ kept.table)) }
 
 pub loop-item-preserved : goal.loop-item-preserved
 loop-item-preserved g c =

@@ -1,4 +1,4 @@
-use Rattle.std.proofs.Common.{◌≡◌, ◌-◌, refl, sym, ap, arith, ◌∙◌}
+use Rattle.std.proofs.Common.{rules, ◌≡◌, ◌-◌, refl, sym, ap, arith, ◌∙◌}
 use Rattle.std.proofs.lemmas.List.Elements.{All-push, All-nil}
 use Rattle.std.proofs.lemmas.List.{append-nil}
 use Rattle.deed_book.specs.Book.{book_table}
@@ -27,13 +27,13 @@ loop-below-preserved c = record {
   room = omega (arith, c.push_reserved.ensures.capacity, c.loop-below.invariant.room);
 }
 
-pub returns-clause-book : goal.returns-clause-book
-returns-clause-book c =
+pub returns : goal.returns
+returns c =
     let eight : c.loop-below.below ≡ 8 = omega arith in
-    c.loop-below.invariant.book ∙ ap rights_out eight ∙ all_out
-
-pub returns-clause-numbers : goal.returns-clause-numbers
-returns-clause-numbers c =
     let none : 8 - c.loop-below.below ≡ 0 = omega arith in
     let listed = rw (none, none_down, eight_down) at c.loop-below.invariant.numbers in
-    sym (append-nil _) ∙ listed
+    record {
+      book = c.loop-below.invariant.book ∙ ap rights_out eight ∙ all_out;
+      numbers = sym (append-nil _) ∙ listed;
+      of_book = search rules;
+    }

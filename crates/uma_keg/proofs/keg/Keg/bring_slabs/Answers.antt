@@ -29,11 +29,11 @@ loop-alloc-preserved g c =
     record {
       bringing = bringing_more old mid new c.args.domain before.bringing before.same wants.0 wants.1 one.brings;
       below = subst (AreBelow (2 ^ 120)) (sym one.brings.buried) before.below;
-      zones = one.zones ∙ before.zones;
-      rights = one.rights ∙ before.rights;
-      limits = λ zone. one.limits zone ∙ before.limits zone;
-      fetches = λ zone. one.fetches zone ∙ before.fetches zone;
-      same = same_more old mid new before.same one.same;
+      zones = one.kept.zones ∙ before.zones;
+      rights = one.kept.rights ∙ before.rights;
+      limits = λ zone. one.kept.limits zone ∙ before.limits zone;
+      fetches = λ zone. one.kept.fetches zone ∙ before.fetches zone;
+      same = same_more old mid new before.same one.kept.same;
     }
 
 pub returns-clause-brings : goal.returns-clause-brings
@@ -49,4 +49,4 @@ returns-in_err-bring_slab-clause-refused g c =
     let one = c.in_err-bring_slab.ensures in
     let wants : (free_count (places_in mid) ≤ reserve_in mid) × (slab_count (places_in mid) < (places_in mid).cap) = c.wants_slab.ensures.wants.0 c.loop-alloc-test.true in
     let p = err_from_is_err_and c.from_residual.result c.from_residual.ensures.1 in
-    rw (p.1, p.2) (stops_bringing c.args.self.now mid c.bring_slab.new.self c.args.domain c.in_err-bring_slab.field-0.0 before.bringing before.same wants.0 wants.1 one.refused one.places one.stored)
+    rw (p.1, p.2) (stops_bringing c.args.self.now mid c.bring_slab.new.self c.args.domain c.in_err-bring_slab.field-0.0 before.bringing before.same wants.0 wants.1 one.refused.refused one.refused.places one.refused.stored)

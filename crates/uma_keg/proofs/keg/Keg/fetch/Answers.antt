@@ -3,7 +3,7 @@ use Rattle.std.specs.List.{filter_map}
 use Rattle.std.proofs.lemmas.Option.{slice_get_within}
 use Rattle.deed_book.specs.Book.{zones_of}
 use Rattle.uma_keg.specs.Keg.{fetches_in, refusal_of}
-use Rattle.uma_keg.proofs.FetchAnswers.{end_names, end_refused, end_gives, end_fetched, refusals_with}
+use Rattle.uma_keg.proofs.FetchAnswers.{end_names, end_refused, end_none, end_zones, end_gives, end_fetched, end_within, end_out, end_buried, refusals_with}
 use Rattle.uma_keg.proofs.keg.Keg.fetch.Goals as goal
 
 -- only eight rights can be at home
@@ -17,17 +17,43 @@ list_end-requires g c =
     let keg = c.args.self.now in
     omega (arith, slice_get_within (zones_of keg.rights) c.args.ask.zone None c.requires.exists, keg.zones_law.eight_rights)
 
-pub returns-clause-fetched : goal.returns-clause-fetched
-returns-clause-fetched g c = end_fetched c.args.self.now c.fetch_items-end.new.self c.args.hooks.now c.args.ask _ _ _ c.fetch_items-end.result (record { places = refl; zones = refl; stored = λ n. refl; buried = refl }) c.fetch_items-end.ensures.fetched
-
-pub returns-clause-refused : goal.returns-clause-refused
-returns-clause-refused g c = end_refused c.args.self.now c.fetch_items-end.new.self c.args.hooks.now c.args.ask _ c.fetch_items-end.result (record { places = refl; zones = refl; stored = λ n. refl; buried = refl }) c.fetch_items-end.ensures.refused
-
-pub returns-clause-given : goal.returns-clause-given
-returns-clause-given g c = end_gives c.args.self.now c.fetch_items-end.new.self c.args.hooks.now c.args.ask _ _ c.fetch_items-end.result c.requires.some c.fetch_items-end.ensures.fetched
-
-pub returns-clause-names : goal.returns-clause-names
-returns-clause-names g c = end_names c.args.self.now c.fetch_items-end.new.self c.args.hooks.now c.args.ask c.fetch_items-end.result c.fetch_items-end.ensures.refused
-
-pub returns-clause-refusals : goal.returns-clause-refusals
-returns-clause-refusals g c = ap (filter_map refusal_of) (c.list_end.ensures.listed ∙ ap (λ list. list ++ c.fetch_items-end.result ∷ []) (c.fetch_items-end.ensures.fetches c.args.ask.zone)) ∙ refusals_with (fetches_in c.args.self.now c.args.ask.zone) c.fetch_items-end.result
+pub returns : goal.returns
+returns g c =
+    let old = c.args.self.now in
+    let mid = c.fetch_items-end.new.self in
+    let hooks = c.args.hooks.now in
+    let ask = c.args.ask in
+    let before = c.args.into.now in
+    let after = c.fetch_items-end.new.into in
+    let end = c.fetch_items-end.result in
+    let given = c.fetch_items-end.ensures.given in
+    let none = c.fetch_items-end.ensures.none in
+    let kept = c.fetch_items-end.ensures.kept in
+    record {
+      fetched = end_fetched old mid hooks ask before after _ end (record { places = refl; zones = refl; stored = λ n. refl; buried = refl }) given;
+      refused = end_refused old mid hooks ask before after _ end (record { places = refl; zones = refl; stored = λ n. refl; buried = refl }) none;
+      given = end_gives old mid hooks ask before after end c.requires.some given;
+      names = end_names old mid hooks ask before after end none;
+      sums_full = c.fetch_items-end.ensures.sums_full;
+      none = end_none old mid hooks ask before after end none;
+      size = kept.size;
+      within = end_within old mid hooks ask before after end given;
+      out = end_out old mid hooks ask before after end given;
+      zones = end_zones old mid hooks ask before after end none;
+      outs = kept.outs;
+      fetches = c.list_end.ensures.listed ∙ ap (λ list. list ++ end ∷ []) (kept.fetches ask.zone);
+      other_fetches = λ zone other. c.list_end.ensures.others zone other ∙ kept.fetches zone;
+      refusals = ap (filter_map refusal_of) (c.list_end.ensures.listed ∙ ap (λ list. list ++ end ∷ []) (kept.fetches ask.zone)) ∙ refusals_with (fetches_in old ask.zone) end;
+      rights = kept.rights;
+      limits = kept.limits;
+      buried = end_buried old mid hooks ask before after end given;
+      same = record {
+        table = kept.same.table;
+        rights_table = kept.same.rights_table;
+        size = kept.same.size;
+        per_slab = kept.same.per_slab;
+        cap = kept.same.cap;
+        reserve = kept.same.reserve;
+        hooks = kept.same.hooks;
+      };
+    }

@@ -1,4 +1,4 @@
-use Rattle.std.proofs.Common.{◌≡◌, ◌<◌, ◌≤◌, ◌+◌, ◌⊎◌, ◌↔◌, ℕ, Bool, true, false, refl, inl, inr, arith, sym, ◌∙◌}
+use Rattle.std.proofs.Common.{rules, ◌≡◌, ◌<◌, ◌≤◌, ◌+◌, ◌⊎◌, ◌↔◌, ℕ, Bool, true, false, refl, inl, inr, arith, sym, ◌∙◌}
 use Rattle.std.specs.Prelude.{IsTrue}
 use Rattle.std.proofs.lemmas.Bool.{cases_lt}
 use Rattle.uma_keg.specs.declared.keg.Keg.{Keg}
@@ -7,7 +7,7 @@ use Rattle.uma_places.specs.Dropping.{IsUsedUp, HasNoneWhollyFree}
 use Rattle.uma_keg.specs.FreeSlabs.{FreesSlabs, GivesNoMore, wholly_free_count, slabs_to_free}
 use Rattle.uma_keg.specs.Keg.{places_in, reserve_in, IsSameKeg}
 use Rattle.uma_keg.proofs.FreedCounts.{one_fewer, freed_count}
-use Rattle.uma_keg.proofs.FreedSlabs.{frees_none, frees_more, leaves_more, same_more}
+use Rattle.uma_keg.proofs.FreedSlabs.{frees_none, frees_more, frees_unmoved, leaves_more, same_more}
 use Rattle.uma_keg.proofs.keg.Keg.free_slabs.Goals as goal
 
 stopped : {T K : Type 0} {g : _} {h : _} (old new : Keg T K g h) (count : ℕ) → IsSound (places_in old) → FreesSlabs old count new → wholly_free_count (places_in old) ≡ wholly_free_count (places_in new) + count → (0 < count → reserve_in old ≤ free_count (places_in new)) → (0 < count → IsUsedUp (places_in old) → ⊥) → IsSameKeg old new → GivesNoMore new → count ≡ slabs_to_free (places_in old) (reserve_in old)
@@ -62,32 +62,50 @@ loop-self-preserved g c =
     let before = c.loop-self.invariant in
     let one = c.in-Some.ensures in
     record {
-      freed = frees_more old mid new c.loop-self.count c.in-Some.field-0 before.same.hooks before.leaves before.freed one.freed;
-      leaves = leaves_more old mid new c.in-Some.field-0 before.leaves one.freed;
-      reserve = λ some. let spare : reserve_in mid + c.counts-per_slab.result.per_slab ≤ free_count (places_in mid) = c.can_spare.ensures.0 c.loop-self-test.true in omega (arith, spare, one.freed.counts.free, one.freed.places.per_slab, before.same.reserve, before.same.per_slab, c.counts-per_slab.ensures.per_slab);
-      whole = omega (arith, before.whole, one_fewer (places_in mid) (places_in new) c.in-Some.field-0 one.freed.places);
-      not_used = λ some used_up. absurd (cc (one.none_exactly.1 (inl (omega (arith, used_up, before.freed.places.cap, before.freed.places.made)))));
-      few = omega (arith, before.few, one.freed.counts.slabs);
-      zones = one.zones ∙ before.zones;
-      rights = one.rights ∙ before.rights;
-      limits = λ zone. one.limits zone ∙ before.limits zone;
-      fetches = λ zone. one.fetches zone ∙ before.fetches zone;
-      same = same_more old mid new before.same one.same;
+      freed = frees_more old mid new c.loop-self.count c.in-Some.field-0 before.same.hooks before.leaves before.freed one.frees.freed;
+      leaves = leaves_more old mid new c.in-Some.field-0 before.leaves one.frees.freed;
+      reserve = λ some. let spare : reserve_in mid + c.counts-per_slab.result.per_slab ≤ free_count (places_in mid) = c.can_spare.ensures.0 c.loop-self-test.true in omega (arith, spare, one.frees.freed.counts.free, one.frees.freed.places.per_slab, before.same.reserve, before.same.per_slab, c.counts-per_slab.ensures.per_slab);
+      whole = omega (arith, before.whole, one_fewer (places_in mid) (places_in new) c.in-Some.field-0 one.frees.freed.places);
+      not_used = λ some used_up. absurd (cc (one.frees.none_exactly.1 (inl (omega (arith, used_up, before.freed.places.cap, before.freed.places.made)))));
+      few = omega (arith, before.few, one.frees.freed.counts.slabs);
+      zones = one.kept.zones ∙ before.zones;
+      rights = one.kept.rights ∙ before.rights;
+      limits = λ zone. one.kept.limits zone ∙ before.limits zone;
+      fetches = λ zone. one.kept.fetches zone ∙ before.fetches zone;
+      same = same_more old mid new before.same one.kept.same;
     }
 
+unused : (count : ℕ) (UsedUp : Type 0) → (0 < count → UsedUp → ⊥) → UsedUp → count ≡ 0
+unused count UsedUp not used_up = elim (cases_lt 0 count) [ inl some ↦ absurd (not some used_up) | inr none ↦ omega arith ]
+
 -- where no slab is wholly free, or too many were ever brought in
-pub returns-in_default-clause-count : goal.returns-in_default-clause-count
-returns-in_default-clause-count g c =
+pub returns-in_default-clause-frees : goal.returns-in_default-clause-frees
+returns-in_default-clause-frees g c =
     let before = c.loop-self.invariant in
     let sound = c.counts-per_slab.ensures.sound in
+    let old = c.args.self.now in
     let keg = c.loop-self.self in
-    stopped c.args.self.now keg c.loop-self.count sound before.freed before.whole before.reserve before.not_used before.same (none_left keg (c.in_default.ensures.none_exactly.0 refl))
+    let no_more = none_left keg (c.in_default.ensures.frees.none_exactly.0 refl) in
+    record {
+      freed = frees_unmoved old keg c.free_slab.new.self c.loop-self.count before.freed c.in_default.ensures.frees.unmoved;
+      count = stopped old keg c.loop-self.count sound before.freed before.whole before.reserve before.not_used before.same no_more;
+      reserve = search rules;
+      used_up = unused c.loop-self.count (IsUsedUp (places_in old)) before.not_used;
+      no_more = search rules;
+    }
 
 -- where one slab more would take of the reserve
-pub returns-clause-count : goal.returns-clause-count
-returns-clause-count g c =
+pub returns-clause-frees : goal.returns-clause-frees
+returns-clause-frees g c =
     let before = c.loop-self.invariant in
     let sound = c.counts-per_slab.ensures.sound in
+    let old = c.args.self.now in
     let keg = c.loop-self.self in
-    stopped c.args.self.now keg c.loop-self.count sound before.freed before.whole before.reserve before.not_used before.same
-    (inr (inr (short keg c.can_spare.result _ (before.same.per_slab ∙ sym c.counts-per_slab.ensures.per_slab) c.can_spare.ensures c.loop-self-test.false)))
+    let no_more : GivesNoMore keg = inr (inr (short keg c.can_spare.result _ (before.same.per_slab ∙ sym c.counts-per_slab.ensures.per_slab) c.can_spare.ensures c.loop-self-test.false)) in
+    record {
+      freed = before.freed;
+      count = stopped old keg c.loop-self.count sound before.freed before.whole before.reserve before.not_used before.same no_more;
+      reserve = before.reserve;
+      used_up = unused c.loop-self.count (IsUsedUp (places_in old)) before.not_used;
+      no_more = no_more;
+    }

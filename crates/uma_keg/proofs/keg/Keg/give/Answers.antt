@@ -1,4 +1,4 @@
-use Rattle.std.proofs.Common.{◌≡◌, ℕ, Some, refl, sym, ap, ◌∙◌}
+use Rattle.std.proofs.Common.{rules, ◌≡◌, ℕ, Some, refl, sym, ap, ◌∙◌}
 use Rattle.std.specs.List.{slice_get}
 use Rattle.deed_book.specs.Deed.{zone_of, BookId}
 use Rattle.uma_life.specs.Stored.{stored_no, stored_origin}
@@ -35,12 +35,23 @@ invariant_of-self g c =
       items_of_hooks = origins_kept _ keg.home_items c.put.new.self (λ (n : ℕ). n) c.accept-no.result keg.items_of_hooks (λ n item at is. one_there _ _ item _ origin (ap (item_at c.put.new.self) at ∙ c.put.ensures.item) is) c.put.ensures.others;
     }
 
-pub returns-clause-out : goal.returns-clause-out
-returns-clause-out g c =
+pub returns : goal.returns
+returns g c =
     let was : slice_get (zones_in c.args.self.now) _ ≡ Some (Some (cached_zone c.args.item)) = c.accept-no.ensures.was_outside ∙ ap (λ deed. Some (Some (zone_of deed))) c.give_back-stored.ensures.deed in
-    out_given _ _ _ _ c.accept-no.ensures.zones was
-
-pub returns-clause-outs : goal.returns-clause-outs
-returns-clause-outs g c zone =
-    let was : slice_get (zones_in c.args.self.now) _ ≡ Some (Some (cached_zone c.args.item)) = c.accept-no.ensures.was_outside ∙ ap (λ deed. Some (Some (zone_of deed))) c.give_back-stored.ensures.deed in
-    outs_given _ _ _ _ zone c.accept-no.ensures.zones was
+    record {
+      places = search rules;
+      counts = search rules;
+      was_outside = search rules;
+      zones = search rules;
+      out = out_given _ _ _ _ c.accept-no.ensures.zones was;
+      outs = λ zone. outs_given _ _ _ _ zone c.accept-no.ensures.zones was;
+      primary = search rules;
+      left = search rules;
+      passed = search rules;
+      stored = search rules;
+      rights = refl;
+      limits = λ zone. refl;
+      fetches = λ zone. refl;
+      buried = refl;
+      same = search rules;
+    }

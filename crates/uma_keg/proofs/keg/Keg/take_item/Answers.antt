@@ -1,4 +1,4 @@
-use Rattle.std.proofs.Common.{◌≡◌, ◌<◌, ◌*◌, ◌/◌, ℕ, Some, None, set, sym, ap, subst, ◌∙◌}
+use Rattle.std.proofs.Common.{rules, ◌≡◌, ◌<◌, ◌*◌, ◌/◌, ℕ, Some, None, set, sym, ap, subst, ◌∙◌}
 use Rattle.deed_book.specs.Deed.{no_of, zone_of, deed_table, BookId}
 use Rattle.deed_book.specs.Book.{zones_of}
 use Rattle.uma_life.specs.Stored.{stored_no, stored_domain, stored_origin}
@@ -30,8 +30,8 @@ invariant_of-self g c =
       items_of_hooks = origins_kept _ keg.home_items c.take-2.new.self (λ (n : ℕ). n) no keg.items_of_hooks (λ n item at is. none_there _ _ item (ap (item_at c.take-2.new.self) at ∙ taken.gone) is) taken.others;
     }
 
-pub put-requires-clause-slab_items : goal.put-requires-clause-slab_items
-put-requires-clause-slab_items g c =
+pub put-requires : goal.put-requires
+put-requires g c =
     let keg = c.args.self.now in
     let no = c.unwrap-no.result in
     let takes : Takes keg.places no c.take.new.self = if_some c.take.result (λ (n : ℕ). Takes keg.places n c.take.new.self) no c.unwrap-no.ensures c.take.ensures.takes in
@@ -41,7 +41,7 @@ put-requires-clause-slab_items g c =
     let law : PlacesLaw c.take.new.self _ c.take-2.new.self = PlacesLaw-taken _ _ _ _ _ _ no c.args.zone keg.places_law takes below c.issue-deed.ensures.zones taken.gone taken.others taken.home_items taken.count taken.places in
     let same_deed : c.in-Err.deed ≡ c.issue-deed.result = c.in-Err.ensures.unchanged.1 in
     let number : c.accept-no.result ≡ no = c.accept-no.ensures.number ∙ ap no_of same_deed ∙ c.issue-deed.ensures.deed.0 in
-    rw number (out_slab law no takes.out)
+    record { slab_items = rw number (out_slab law no takes.out); gone = search rules }
 
 pub lend-requires-clause-origin : goal.lend-requires-clause-origin
 lend-requires-clause-origin g c =
@@ -100,8 +100,8 @@ returns-in-Ok-clause-takes g c =
     stands c.issue-deed.ensures.deed.1 (record { primary = lent.primary; entered = lent.entered; left = lent.left; accepted = lent.accepted })
     c.issue-deed.ensures.zones (free_home keg.places_law no below takes.free) taken.gone taken.others
 
-pub returns-in-Err-clause-keeps : goal.returns-in-Err-clause-keeps
-returns-in-Err-clause-keeps g c =
+pub returns-in-Err-clause-refused : goal.returns-in-Err-clause-refused
+returns-in-Err-clause-refused g c =
     let keg = c.args.self.now in
     let no = c.unwrap-no.result in
     let takes : Takes keg.places no c.take.new.self = if_some c.take.result (λ (n : ℕ). Takes keg.places n c.take.new.self) no c.unwrap-no.ensures c.take.ensures.takes in
@@ -114,26 +114,21 @@ returns-in-Err-clause-keeps g c =
     let number : c.accept-no.result ≡ no = c.accept-no.ensures.number ∙ ap no_of same_deed ∙ c.issue-deed.ensures.deed.0 in
     let stands : item_at keg.home_items no ≡ Some c.unwrap-item.result = sym taken.item ∙ c.unwrap-item.ensures in
     let Given : ℕ → Type 0 = λ m. Gives c.take.new.self m c.give.new.self in
-    record {
-      places = same_again keg.places c.take.new.self c.give.new.self no takes counts (subst Given number c.give.ensures.gives) c.give.ensures.counts;
-      zones = zones_again _ _ _ no c.args.zone (free_home keg.places_law no below takes.free) c.issue-deed.ensures.zones (c.accept-no.ensures.zones ∙ ap (λ (m : ℕ). set (zones_of c.issue-deed.new.self.book) m None) (sym c.accept-no.ensures.number ∙ number));
-      stored = items_again keg.home_items c.take-2.new.self c.put.new.self no c.unwrap-item.result stands taken.others (ap (item_at c.put.new.self) (sym number) ∙ c.put.ensures.item ∙ ap Some same_item) (λ m ne. c.put.ensures.others m (λ at. ne (at ∙ number)));
-    }
-
-pub returns-in-Err-clause-refused : goal.returns-in-Err-clause-refused
-returns-in-Err-clause-refused g c =
-    let keg = c.args.self.now in
-    let no = c.unwrap-no.result in
-    let takes : Takes keg.places no c.take.new.self = if_some c.take.result (λ (n : ℕ). Takes keg.places n c.take.new.self) no c.unwrap-no.ensures c.take.ensures.takes in
-    let stands : item_at keg.home_items no ≡ Some c.unwrap-item.result = sym c.take-2.ensures.item ∙ c.unwrap-item.ensures in
     let refused = c.in-Err.ensures.refused in
     let in_zone : zone_of c.issue-deed.result ≡ c.args.zone = c.issue-deed.ensures.deed.1 in
     record {
-      no = no;
-      may = record { free = takes.free; least = takes.least; preferred = takes.preferred };
-      stored = c.unwrap-item.result;
-      is_home = stands;
-      secondary = λ none. refused.0 (in_zone ∙ none);
-      refused = ap (λ (z : ℕ). g.K.Hooks.refuses_init c.args.hooks.now c.unwrap-item.result.body z) (sym in_zone) ∙ refused.1;
-      is_code = refused.2;
+      refused = record {
+        no = no;
+        may = record { free = takes.free; least = takes.least; preferred = takes.preferred };
+        stored = c.unwrap-item.result;
+        is_home = stands;
+        secondary = λ none. refused.0 (in_zone ∙ none);
+        refused = ap (λ (z : ℕ). g.K.Hooks.refuses_init c.args.hooks.now c.unwrap-item.result.body z) (sym in_zone) ∙ refused.1;
+        is_code = refused.2;
+      };
+      keeps = record {
+        places = same_again keg.places c.take.new.self c.give.new.self no takes counts (subst Given number c.give.ensures.gives) c.give.ensures.counts;
+        zones = zones_again _ _ _ no c.args.zone (free_home keg.places_law no below takes.free) c.issue-deed.ensures.zones (c.accept-no.ensures.zones ∙ ap (λ (m : ℕ). set (zones_of c.issue-deed.new.self.book) m None) (sym c.accept-no.ensures.number ∙ number));
+        stored = items_again keg.home_items c.take-2.new.self c.put.new.self no c.unwrap-item.result stands taken.others (ap (item_at c.put.new.self) (sym number) ∙ c.put.ensures.item ∙ ap Some same_item) (λ m ne. c.put.ensures.others m (λ at. ne (at ∙ number)));
+      };
     }

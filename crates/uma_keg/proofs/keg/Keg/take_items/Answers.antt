@@ -27,9 +27,9 @@ loop-taken-preserved g c =
       takes = into_more old mid new c.args.hooks.now c.args.zone c.loop-taken.taken _ _ _ c.in-Ok.item before.known before.same before.takes one.takes c.push.ensures.items;
       known = known_more old mid new c.args.hooks.now c.args.zone c.in-Ok.item before.known one.takes;
       size = c.push.ensures.size ∙ before.size;
-      rights = one.rights ∙ before.rights;
-      limits = λ zone. one.limits zone ∙ before.limits zone;
-      fetches = λ zone. one.fetches zone ∙ before.fetches zone;
-      buried = one.buried ∙ before.buried;
-      same = same_more old mid new before.same one.same;
+      rights = one.kept.rights ∙ before.rights;
+      limits = λ zone. one.kept.limits zone ∙ before.limits zone;
+      fetches = λ zone. one.kept.fetches zone ∙ before.fetches zone;
+      buried = one.kept.buried ∙ before.buried;
+      same = same_more old mid new before.same one.kept.same;
     }

@@ -1,4 +1,4 @@
-use Rattle.std.proofs.Common.{arith}
+use Rattle.std.proofs.Common.{rules, arith}
 use Rattle.uma_keg.specs.HomeItems.{item_at}
 use Rattle.uma_keg.specs.Tallies.{home_times}
 use Rattle.uma_keg.proofs.TallyLaws.{sum_below-more, sum_below-none, buried_few, totals_below}
@@ -20,8 +20,11 @@ loop-no-preserved g c =
       room = λ hook. omega (arith, c.add_home.ensures.sums hook, c.add_home.ensures.counts hook, c.loop-no.invariant.room hook);
     }
 
-pub returns-clause-below : goal.returns-clause-below
-returns-clause-below g c hook =
+pub returns : goal.returns
+returns g c =
     let counts = c.counts-cap in
     let sound = counts.ensures.sound in
-    totals_below _ c.loop-no.no counts.result.cap counts.result.per_slab (omega (arith, counts.ensures.cap, sound.few_slabs)) (omega (arith, counts.ensures.per_slab, sound.few_places)) (omega arith) (c.loop-no.invariant.room hook)
+    record {
+      totals = search rules;
+      below = λ hook. totals_below _ c.loop-no.no counts.result.cap counts.result.per_slab (omega (arith, counts.ensures.cap, sound.few_slabs)) (omega (arith, counts.ensures.per_slab, sound.few_places)) (omega arith) (c.loop-no.invariant.room hook);
+    }

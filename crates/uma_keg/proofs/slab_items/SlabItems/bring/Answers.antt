@@ -1,4 +1,4 @@
-use Rattle.std.proofs.Common.{◌≡◌, ◌+◌, Some, None, vec_len, arith}
+use Rattle.std.proofs.Common.{◌≡◌, ◌+◌, Some, None, length, refl}
 use Rattle.uma_life.specs.Life.{raw_life}
 use Rattle.uma_keg.proofs.NewItemSums.{adds_vain, refuses_items}
 use Rattle.uma_keg.proofs.slab_items.SlabItems.bring.Goals as goal
@@ -6,10 +6,10 @@ use Rattle.uma_keg.proofs.slab_items.SlabItems.bring.Goals as goal
 pub returns-in-Err-clause-refused : goal.returns-in-Err-clause-refused
 returns-in-Err-clause-refused g c =
     let made = c.in-Err.places in
-    let is = c.in-Err.ensures in
-    refuses_items c.args.per_slab (vec_len made)
+    let is = c.in-Err.ensures.stopped in
+    refuses_items c.args.per_slab (length made.items)
     (λ place code. (raw : _) × (g.T.Body.life raw ≡ raw_life (c.args.first + place)) × (g.K.Hooks.refuses_init c.args.hooks.now raw 0 ≡ Some code))
     (λ place. (raw : _) × (g.T.Body.life raw ≡ raw_life (c.args.first + place)) × (g.K.Hooks.refuses_init c.args.hooks.now raw 0 ≡ None))
     c.args.buried.now c.end_all.new.buried
-    (record { within = is.fewer; earlier = is.accepted_earlier; buried = adds_vain _ _ _ made.items _ _ is.earlier (omega (arith, made.ok.0)) c.end_all.ensures.sums })
+    (record { within = is.fewer; earlier = is.accepted_earlier; buried = adds_vain _ _ _ made.items _ _ is.earlier refl c.end_all.ensures.sums })
     c.in-Err.refused is.refused
