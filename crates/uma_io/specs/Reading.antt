@@ -1,6 +1,8 @@
 -- What reading all bytes takes from a source (own).
-use Rattle.std.specs.Prelude.{ℕ, Option, ◌≡◌, ◌+◌, ◌≤◌, List, ◌++◌, length}
-use Rattle.uma_io.specs.Source.{Takes}
+use Rattle.std.specs.Prelude.{ℕ, Option, ◌≡◌, ◌+◌, ◌≤◌, List, ◌++◌, Result, Vec, length, vec_len, IsErrOf}
+use Rattle.std.specs.declared.alloc.Global.{Global}
+use Rattle.uma_io.specs.Faults.{Rose}
+use Rattle.uma_io.specs.Source.{Takes, IsAtEnd}
 use Rattle.uma_io.specs.declared.reading.ReadRefused.{ReadRefused}
 use Rattle.uma_io.specs.declared.reading.ReadRefused.TheVariants.{Fault, TooLong, Memory}
 
@@ -21,3 +23,15 @@ abbrev pub Loses : ℕ → Option (List ℕ) → ReadRefused → Option (List �
 Loses most before Fault after = TakesAtMost most before after
 Loses most before (TooLong _) after = TakesCount (most + 1) before after
 Loses most before Memory after = TakesAtMost most before after
+
+-- so many bytes were appended, which are no more than may come in all, and none only at the end
+pub record EndsPiece (most : ℕ) (old : Vec ℕ Global) (count : ℕ) (new : Vec ℕ Global) (rest : Option (List ℕ)) : Type 0 where
+  pub grows : vec_len new ≡ vec_len old + count
+  pub within : vec_len new ≤ most
+  pub end : count ≡ 0 → IsAtEnd rest
+
+-- a fault only where one was counted, and too long only by the most that may come; the count never falls
+pub record FaultsOrEnds (most faults : ℕ) (answer : Result ℕ ReadRefused) (count : ℕ) : Type 0 where
+  pub fault : IsErrOf answer Fault → Rose faults count
+  pub too_long : (named : ℕ) → IsErrOf answer (TooLong named) → named ≡ most
+  pub never_falls : faults ≤ count

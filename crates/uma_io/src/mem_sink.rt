@@ -1,6 +1,6 @@
-ghost use Rattle.std.specs.Prelude.{ℕ, [], ◌≡◌, ◌-◌, ◌<◌, ◌≤◌, ◌⊎◌, ◌↔◌, ◌++◌, length, take, min, IfOk, OnErr, IsErr, Contains};
-ghost use Rattle.uma_io.specs.Faults.{Rose, raised};
-ghost use Rattle.uma_io.specs.Sink.{Adds};
+ghost use Rattle.std.specs.Prelude.{[], ◌≡◌, IfOk};
+ghost use Rattle.uma_io.specs.MemSink.{AreHeld, TakesOrFails};
+ghost use Rattle.uma_io.specs.Sink.{Writes};
 
 use crate::failed::Failed;
 use crate::memory::Memory;
@@ -59,8 +59,7 @@ impl MemSink {
 
     /// The bytes that it holds.
     pub fn bytes(&self) -> &[u8]
-        ensures held { result.now ≡ self.now.held }
-        ensures within { length result.now ≤ self.now.room }
+        ensures { AreHeld self.now result.now }
     {
         self.bytes.as_slice()
     }
@@ -74,27 +73,8 @@ impl Sink for MemSink {
     ghost fault_count = { λ s. s.faults };
 
     fn write(&mut self, piece: &[u8]) -> Result<usize, Failed>
-        ensures within { IfOk result (λ n. n ≤ length piece.now) }
-        ensures some { IfOk result (λ n. 0 < length piece.now → 0 < n) }
-        ensures adds { IfOk result (λ n. Adds (Some self.old.held) (take n piece.now) (Some self.new.held)) }
-        ensures unchanged { OnErr result (Some self.new.held ≡ Some self.old.held) }
-        ensures rose { OnErr result (Rose self.old.faults self.new.faults) }
-        ensures never_falls { self.old.faults ≤ self.new.faults }
-
-        // Exactly the calls that are listed and those that find no room fail, and each of the others
-        // takes as much as there is room for.
-        ensures fails { IsErr result ↔ (Contains self.old.failing (raised self.old.calls)
-            ⊎ ((0 < length piece.now) × (self.old.room ≤ length self.old.held))) }
-        ensures failed { OnErr result (self.new ≡ record self.old {
-          calls = raised self.old.calls;
-          faults = raised self.old.faults;
-        }) }
-        ensures takes { IfOk result (λ n.
-            n ≡ min (length piece.now) (self.old.room - length self.old.held)) }
-        ensures took { IfOk result (λ n. self.new ≡ record self.old {
-          held = self.old.held ++ take n piece.now;
-          calls = raised self.old.calls;
-        }) }
+        ensures sink { Writes (Some self.old.held) self.old.faults piece.now result (Some self.new.held) self.new.faults }
+        ensures takes { TakesOrFails self.old piece.now result self.new }
     {
         self.calls = self.calls.saturating_add(1);
         let free = self.room - self.bytes.len();

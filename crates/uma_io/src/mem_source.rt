@@ -1,6 +1,6 @@
-ghost use Rattle.std.specs.Prelude.{ℕ, ◌≡◌, ◌<◌, ◌≤◌, ◌↔◌, length, take, drop, min, IfOk, OnErr, IsErr, Contains};
-ghost use Rattle.uma_io.specs.Faults.{Rose, raised};
-ghost use Rattle.uma_io.specs.Source.{Takes, IsAtEnd};
+ghost use Rattle.std.specs.Prelude.{◌≡◌, ◌≤◌};
+ghost use Rattle.uma_io.specs.MemSource.{CopiesFront, GivesOrFails};
+ghost use Rattle.uma_io.specs.Source.{Reads};
 
 use crate::failed::Failed;
 use crate::source::Source;
@@ -66,25 +66,8 @@ impl Source for MemSource {
     ghost fault_count = { λ s. s.faults };
 
     fn read(&mut self, room: &mut [u8]) -> Result<usize, Failed>
-        ensures within { IfOk result (λ n. n ≤ length room.new) }
-        ensures takes { IfOk result (λ n. Takes (Some self.old.left) (take n room.new) (Some self.new.left)) }
-        ensures ends { IfOk result (λ n. n ≡ 0 → 0 < length room.new → IsAtEnd (Some self.new.left)) }
-        ensures unchanged { OnErr result (Some self.new.left ≡ Some self.old.left) }
-        ensures rose { OnErr result (Rose self.old.faults self.new.faults) }
-        ensures never_falls { self.old.faults ≤ self.new.faults }
-
-        // Exactly the calls that are listed fail, and each of the others gives as much as it may.
-        ensures fails { IsErr result ↔ Contains self.old.failing (raised self.old.calls) }
-        ensures failed { OnErr result (self.new ≡ record self.old {
-          calls = raised self.old.calls;
-          faults = raised self.old.faults;
-        }) }
-        ensures gives { IfOk result (λ n.
-            n ≡ min (min (length room.new) self.old.each) (length self.old.left)) }
-        ensures gave { IfOk result (λ n. self.new ≡ record self.old {
-          left = drop n self.old.left;
-          calls = raised self.old.calls;
-        }) }
+        ensures source { Reads (Some self.old.left) self.old.faults result room.new (Some self.new.left) self.new.faults }
+        ensures gives { GivesOrFails self.old result room.new self.new }
     {
         self.calls = self.calls.saturating_add(1);
         if self.failing.contains(&self.calls) {
@@ -104,8 +87,7 @@ impl Source for MemSource {
 
 // Copies as many bytes as both have from the front of one to the front of the other, up to `most`.
 fn copy_front(from: &[u8], to: &mut [u8], most: usize) -> usize
-    ensures count { result ≡ min (min (length to.old) most) (length from.now) }
-    ensures copied { take result to.new ≡ take result from.now }
+    ensures { CopiesFront from.now to.old most result to.new }
 {
     let count = to.len().min(most).min(from.len());
     to[..count].copy_from_slice(&from[..count]);

@@ -1,7 +1,7 @@
 ghost use Rattle.std.specs.Prelude.{ℕ, ◌≡◌, ◌+◌, ◌-◌, ◌<◌, ◌≤◌, vec_len, IfSome, IfOk, IfErr, IsErrOf, OnOk};
 ghost use Rattle.uma_io.specs.Faults.{Rose};
-ghost use Rattle.uma_io.specs.Source.{IsAtEnd, Exhausts, HasMoreThan};
-ghost use Rattle.uma_io.specs.Reading.{AppendsTaken, Loses};
+ghost use Rattle.uma_io.specs.Source.{Exhausts, HasMoreThan};
+ghost use Rattle.uma_io.specs.Reading.{AppendsTaken, EndsPiece, FaultsOrEnds, Loses};
 
 use crate::failed::Failed;
 use crate::source::Source;
@@ -91,15 +91,10 @@ fn append_piece<S: Source>(
     requires { vec_len bytes.old ≤ most }
     ensures appends { OnOk result (AppendsTaken (S.bytes_left source.old) bytes.old.items
         (S.bytes_left source.new) bytes.new.items) }
-    ensures grows { IfOk result (λ n. vec_len bytes.new ≡ vec_len bytes.old + n) }
-    ensures within { OnOk result (vec_len bytes.new ≤ most) }
-    ensures end { IfOk result (λ n. n ≡ 0 → IsAtEnd (S.bytes_left source.new)) }
-    ensures fault { IsErrOf result ReadRefused.Fault
-        → Rose (S.fault_count source.old) (S.fault_count source.new) }
-    ensures too_long { (named : ℕ) → IsErrOf result (ReadRefused.TooLong named) → named ≡ most }
+    ensures ends { IfOk result (λ n. EndsPiece most bytes.old n bytes.new (S.bytes_left source.new)) }
+    ensures faults { FaultsOrEnds most (S.fault_count source.old) result (S.fault_count source.new) }
     ensures lost { IfErr result (λ refused. Loses (most - vec_len bytes.old) (S.bytes_left source.old) refused
         (S.bytes_left source.new)) }
-    ensures never_falls { S.fault_count source.old ≤ S.fault_count source.new }
 {
     let free = most - bytes.len() as u64;
     let room = &mut chunk[..asked(free)];
@@ -113,9 +108,7 @@ fn append_piece<S: Source>(
 
 // How many bytes are asked for where `free` more may come: one more than that, up to a chunk.
 fn asked(free: u64) -> usize
-    ensures some { 0 < result }
-    ensures most { result ≤ CHUNK }
-    ensures past { result ≤ free + 1 }
+    ensures { (0 < result) × (result ≤ CHUNK) × (result ≤ free + 1) }
 {
     if free < CHUNK as u64 {
         free as usize + 1

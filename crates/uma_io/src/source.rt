@@ -1,6 +1,5 @@
-ghost use Rattle.std.specs.Prelude.{ℕ, Option, ◌<◌, ◌≤◌, ◌≡◌, List, length, take, IfOk, OnErr};
-ghost use Rattle.uma_io.specs.Faults.{Rose};
-ghost use Rattle.uma_io.specs.Source.{Takes, IsAtEnd};
+ghost use Rattle.std.specs.Prelude.{ℕ, Option, ◌≡◌, List};
+ghost use Rattle.uma_io.specs.Source.{Reads};
 
 use crate::failed::Failed;
 
@@ -16,12 +15,7 @@ pub trait Source {
     /// if it likes, but 0 only at the end of the input or where `room` is empty. What stands in `room`
     /// after them is of no meaning. After `Failed` a further call may succeed.
     fn read(&mut self, room: &mut [u8]) -> Result<usize, Failed>
-        ensures within { IfOk result (λ n. n ≤ length room.new) }
-        ensures takes { IfOk result (λ n. Takes (bytes_left self.old) (take n room.new) (bytes_left self.new)) }
-        ensures ends { IfOk result (λ n. n ≡ 0 → 0 < length room.new → IsAtEnd (bytes_left self.new)) }
-        ensures unchanged { OnErr result (bytes_left self.new ≡ bytes_left self.old) }
-        ensures rose { OnErr result (Rose (fault_count self.old) (fault_count self.new)) }
-        ensures never_falls { fault_count self.old ≤ fault_count self.new };
+        ensures { Reads (bytes_left self.old) (fault_count self.old) result room.new (bytes_left self.new) (fault_count self.new) };
 
     /// The count of faults, from 0, which stands still at `u64::MAX`.
     fn faults(&self) -> u64

@@ -1,6 +1,7 @@
-ghost use Rattle.std.specs.Prelude.{◌≡◌, ◌<◌, ◌≤◌, if◌then◌else◌, length, is_ok, IfOk, OnErr};
+ghost use Rattle.std.specs.Prelude.{◌≡◌, if◌then◌else◌, is_ok};
 ghost use Rattle.std.specs.Io.KnownBytes.{WriteAppends};
-ghost use Rattle.uma_io.specs.Faults.{Rose, raised};
+ghost use Rattle.uma_io.specs.Faults.{raised};
+ghost use Rattle.uma_io.specs.Sink.{Writes};
 
 use crate::counted::{counted, fault};
 use crate::failed::Failed;
@@ -45,10 +46,7 @@ impl<W: Write> Sink for StdSink<W> {
     ghost fault_count = { λ s. s.faults };
 
     fn write(&mut self, piece: &[u8]) -> Result<usize, Failed>
-        ensures within { IfOk result (λ n. n ≤ length piece.now) }
-        ensures some { IfOk result (λ n. 0 < length piece.now → 0 < n) }
-        ensures rose { OnErr result (Rose self.old.faults self.new.faults) }
-        ensures never_falls { self.old.faults ≤ self.new.faults }
+        ensures sink { Writes None self.old.faults piece.now result None self.new.faults }
 
         // Exactly an `Err` of the writer, or a write that takes nothing, raises the count, by one.
         ensures counts { self.new.faults ≡ (if is_ok result then self.old.faults else raised self.old.faults) }

@@ -1,6 +1,7 @@
-ghost use Rattle.std.specs.Prelude.{◌≡◌, ◌≤◌, if◌then◌else◌, length, is_ok, IfOk, OnErr};
+ghost use Rattle.std.specs.Prelude.{◌≡◌, if◌then◌else◌, is_ok};
 ghost use Rattle.std.specs.Io.KnownBytes.{ReadConsumes};
-ghost use Rattle.uma_io.specs.Faults.{Rose, raised};
+ghost use Rattle.uma_io.specs.Faults.{raised};
+ghost use Rattle.uma_io.specs.Source.{Reads};
 
 use crate::counted::counted;
 use crate::failed::Failed;
@@ -43,9 +44,7 @@ impl<R: Read> Source for StdSource<R> {
     ghost fault_count = { λ s. s.faults };
 
     fn read(&mut self, room: &mut [u8]) -> Result<usize, Failed>
-        ensures within { IfOk result (λ n. n ≤ length room.new) }
-        ensures rose { OnErr result (Rose self.old.faults self.new.faults) }
-        ensures never_falls { self.old.faults ≤ self.new.faults }
+        ensures source { Reads None self.old.faults result room.new None self.new.faults }
 
         // Exactly an `Err` of the reader raises the count, by one.
         ensures counts { self.new.faults ≡ (if is_ok result then self.old.faults else raised self.old.faults) }
