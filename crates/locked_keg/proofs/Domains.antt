@@ -1,5 +1,5 @@
 -- The domains of a keg's slabs stay below a bound.
-use Rattle.std.proofs.Common.{◌≡◌, ◌<◌, ◌⊎◌, ℕ, List, [], ◌++◌, map, Option, Some, None, IsSome, refl, inl, inr, sym, ap, ◌∙◌, subst}
+use Rattle.std.proofs.Common.{◌≡◌, ◌<◌, ◌⊎◌, ℕ, List, [], map, Option, Some, None, IsSome, refl, inl, inr, sym, ◌∙◌, subst}
 use Rattle.std.proofs.lemmas.List.Elements.{All-weaker, All-map}
 use Rattle.zone_stats.specs.declared.refusal.Refusal.TheVariants.{AtLimit, Reserved, Full, Init, Ctor}
 use Rattle.uma_life.specs.declared.cached.Cached.{Cached}
@@ -11,8 +11,8 @@ use Rattle.uma_keg.specs.declared.fetch_refused.FetchRefused.TheVariants.{Refuse
 use Rattle.uma_keg.specs.declared.keg.Keg.{Keg}
 use Rattle.uma_keg.specs.BringSlabs.{IsNewSlab, BringsSlabs, StopsAtSlab}
 use Rattle.uma_keg.specs.Fetched.{Fetches, FetchesInto, RefusesFetch}
-use Rattle.uma_keg.specs.FreeSlabs.{Goes, DropsFrom}
-use Rattle.uma_keg.specs.Keg.{places_in, table_in}
+use Rattle.uma_keg.specs.FreeSlabs.{DropsFrom}
+use Rattle.uma_keg.specs.Keg.{places_in}
 use Rattle.uma_keg.specs.TakeItem.{IsTaken}
 use Rattle.uma_places.specs.Places.{KegPlaces, KeepsSlabs, domain_at}
 use Rattle.locked_keg.specs.Rule.{HasDomainsBelow}

@@ -42,3 +42,14 @@ more_entry {X} {C} f xs i zone x y c e within more =
 -- an entry that is there has a place within the list
 pub within_map : {X Y : Type 0} (f : X → Y) (xs : List X) (i : ℕ) (y : Y) → slice_get (map f xs) i ≡ Some y → i < length xs
 within_map f xs i y at = omega (arith, slice_get_within (map f xs) i y at, length-map xs f)
+
+this_get : {X Y : Type 0} (f : X → Y) (xs : List X) (i : ℕ) (x : X) → i < length xs → slice_get (map f xs) i ≡ Some (f (slice_index_or xs i x))
+this_get f [] i x within = absurd (omega (arith, within))
+this_get f (z ∷ xs) zero x within = refl
+this_get f (z ∷ xs) (suc i) x within = this_get f xs i x (omega (arith, within))
+
+-- an entry within the list is there, and shows what it shows
+pub entry_there : {X Y : Type 0} (f : X → Y) (xs : List X) (i zone : ℕ) (x : X) (y : Y) → i ≡ zone → zone < length xs → y ≡ f (slice_index_or xs i x) → slice_get (map f xs) zone ≡ Some y
+entry_there {X} {Y} f xs i zone x y e within shows =
+    let here : i < length xs = omega (arith, e, within) in
+    ap (λ (n : ℕ). slice_get (map f xs) n) (sym e) ∙ this_get f xs i x here ∙ ap (λ (z : Y). Some z) (sym shows)

@@ -3,6 +3,9 @@ pub mod FailBooks
 pub mod LockedKeg
 pub mod Key
 pub mod Rule
+pub mod Frames
+pub mod Zones
 pub mod Seating
 pub mod Slabs
 pub mod Gives
+pub mod Standing

@@ -1,13 +1,14 @@
 -- Own: what a keg keeps whenever its lock is free.
-use Rattle.std.specs.Prelude.{◌≡◌, ◌<◌, ◌/◌, ℕ, Some, map, min}
+use Rattle.std.specs.Prelude.{◌≡◌, ◌<◌, ◌/◌, ℕ, [], Some, map, min}
 use Rattle.deed_book.specs.Book.{book_table}
 use Rattle.uma_places.specs.Places.{KegPlaces, domain_at}
+use Rattle.uma_keg.specs.declared.keg.Keg.{Keg}
 use Rattle.uma_keg.specs.Keg.{places_in, table_in, rights_in, size_in, reserve_in, fetches_in}
 use Rattle.locked_keg.specs.declared.key.KegKey.{KegKey}
 use Rattle.locked_keg.specs.declared.locked_keg.LockedKeg.{LockedKeg}
 use Rattle.locked_keg.specs.Ends.{fetch_cause}
 use Rattle.locked_keg.specs.FailBooks.{table_at, causes_at}
-use Rattle.locked_keg.specs.Key.{key_numbers, key_rights, key_fails}
+use Rattle.locked_keg.specs.Key.{key_numbers, key_rights, key_fails, IsKeyOf}
 use Rattle.locked_keg.specs.LockedKeg.{keg_in, fails_in}
 
 -- the slabs that are in are of the domains below this count
@@ -36,3 +37,20 @@ module _ {T K : Type 0} {g : _} {h : _} where
     pub of_key : IsOfKey key locked
     pub counted : ListsFetches locked
     pub domains : HasDomainsBelow key.domains (places_in (keg_in locked))
+
+  -- it has this keg, and fail books that list nothing, as the keg fetched nothing
+  pub record IsNewLocked (of : Keg T K g h) (locked : LockedKeg T K g h) : Type 0 where
+    pub keg : keg_in locked ≡ of
+    pub causes : (zone : ℕ) → causes_at (fails_in locked) zone ≡ []
+    pub listed : ListsFetches locked
+
+  -- its slabs are of so many domains, with as many places as the size of an item allows, and its books list its fetches
+  pub record MayLockUp (locked : LockedKeg T K g h) (most : ℕ) : Type 0 where
+    pub per_slab : (places_in (keg_in locked)).per_slab ≡ min 256 (4096 / size_in (keg_in locked))
+    pub domains : HasDomainsBelow most (places_in (keg_in locked))
+    pub listed : ListsFetches locked
+
+  -- the key of its lock names it, with its fail books
+  pub record IsLockedBy (locked : LockedKeg T K g h) (most : ℕ) (by : KegKey) : Type 0 where
+    pub key : IsKeyOf (keg_in locked) most by
+    pub fails : (zone : ℕ) → key_fails by zone ≡ table_at (fails_in locked) zone

@@ -14,13 +14,9 @@ pub struct FailBooks {
 }
 
 impl FailBooks {
-    ghost use Rattle.std.specs.Prelude.{◌≡◌, ◌≢◌, ◌<◌, ◌++◌, ◌∷◌, [], ℕ, true, Some, IfOk};
-    ghost use Rattle.deed_book.specs.FailShare.{share_table, causes_in};
-    ghost use Rattle.zone_stats.specs.LedgerSteps.{HasRoom};
-    ghost use Rattle.uma_seat.specs.Fetches.{end_cause, is_of_keg, CountsEnd};
-    ghost use Rattle.uma_seat.specs.Seat.{ledger_of, fetches_of, seat_fails, KeepsLists};
-    ghost use Rattle.locked_keg.specs.Ends.{end_of, fetch_cause};
-    ghost use Rattle.locked_keg.specs.FailBooks.{table_at, causes_at};
+    ghost use Rattle.std.specs.Prelude.{◌≡◌, ◌<◌, [], ℕ, IfOk};
+    ghost use Rattle.locked_keg.specs.Ends.{end_of};
+    ghost use Rattle.locked_keg.specs.FailBooks.{causes_at, GivesShare, MayList, Lists};
 
     /// Books that have listed nothing.
     pub fn new(alloc: Global) -> Result<FailBooks, Memory>
@@ -42,10 +38,7 @@ impl FailBooks {
     /// A share of the zone's book that lists nothing.
     pub fn new_share(&mut self, zone: u8) -> FailShare
         requires { zone < 8 }
-        ensures empty { causes_in result ≡ [] }
-        ensures mine { table_at self.old zone ≡ Some (share_table result) }
-        ensures causes { (at : ℕ) → causes_at self.new at ≡ causes_at self.old at }
-        ensures tables { (at : ℕ) → table_at self.new at ≡ table_at self.old at }
+        ensures { GivesShare self.old zone result self.new }
     {
         let book = &mut self.books[usize::from(zone)];
         book.new_share()
@@ -59,32 +52,16 @@ impl FailBooks {
         seat: &mut SeatCache<T, H>,
         answer: Result<u32, FetchRefused>,
     )
-        requires mine { table_at self.old zone ≡ Some (seat_fails seat.old) }
-        requires room { HasRoom (ledger_of seat.old) }
-        requires of_keg { is_of_keg (end_of answer) ≡ true }
-        ensures ledger { CountsEnd (ledger_of seat.old) (ledger_of seat.new) (end_of answer) }
-        ensures share { fetches_of seat.new ≡ fetches_of seat.old ++ fetch_cause answer ∷ [] }
-        ensures causes { causes_at self.new zone ≡ causes_at self.old zone ++ fetch_cause answer ∷ [] }
-        ensures others { (at : ℕ) → at ≢ zone → causes_at self.new at ≡ causes_at self.old at }
-        ensures tables { (at : ℕ) → table_at self.new at ≡ table_at self.old at }
-        ensures fails { seat_fails seat.new ≡ seat_fails seat.old }
-        ensures lists { KeepsLists seat.old seat.new }
+        requires { MayList self.old zone seat.old (end_of answer) }
+        ensures { Lists self.old zone seat.old (end_of answer) self.new seat.new }
     {
         self.list_end(zone, seat, fetch_end(answer));
     }
 
     /// The same, with the answer as the seat counts it.
     fn list_end<T: Body, H: Host>(&mut self, zone: u8, seat: &mut SeatCache<T, H>, end: FetchEnd)
-        requires mine { table_at self.old zone ≡ Some (seat_fails seat.old) }
-        requires room { HasRoom (ledger_of seat.old) }
-        requires of_keg { is_of_keg end ≡ true }
-        ensures ledger { CountsEnd (ledger_of seat.old) (ledger_of seat.new) end }
-        ensures share { fetches_of seat.new ≡ fetches_of seat.old ++ end_cause end ∷ [] }
-        ensures causes { causes_at self.new zone ≡ causes_at self.old zone ++ end_cause end ∷ [] }
-        ensures others { (at : ℕ) → at ≢ zone → causes_at self.new at ≡ causes_at self.old at }
-        ensures tables { (at : ℕ) → table_at self.new at ≡ table_at self.old at }
-        ensures fails { seat_fails seat.new ≡ seat_fails seat.old }
-        ensures lists { KeepsLists seat.old seat.new }
+        requires { MayList self.old zone seat.old end }
+        ensures { Lists self.old zone seat.old end self.new seat.new }
     {
         let book = &mut self.books[usize::from(zone)];
         seat.count_end(book, end);

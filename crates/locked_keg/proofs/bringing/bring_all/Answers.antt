@@ -1,4 +1,4 @@
-use Rattle.std.proofs.Common.{◌≡◌, ℕ, refl, ◌∙◌}
+use Rattle.std.proofs.Common.{refl, ◌∙◌}
 use Rattle.std.proofs.lemmas.Result.{err_from_is_err_and}
 use Rattle.uma_keg.proofs.BroughtSlabs.{brings_none, brings_more}
 use Rattle.locked_keg.proofs.Kept.{same_keg, same_more}

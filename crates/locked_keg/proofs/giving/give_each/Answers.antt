@@ -1,10 +1,10 @@
-use Rattle.std.proofs.Common.{◌≡◌, ◌∷◌, ◌++◌, [], ℕ, All, Some, length, length-append, refl, sym, ap, ◌∙◌, arith}
+use Rattle.std.proofs.Common.{rules, ◌≡◌, Some, length, length-append, refl, sym, ap, ◌∙◌, arith}
 use Rattle.std.proofs.lemmas.List.Elements.{All-pop}
 use Rattle.uma_life.specs.Cached.{cached_table}
 use Rattle.uma_bucket.specs.Bucket.{items_of}
 use Rattle.uma_keg.specs.Keg.{table_in}
-use Rattle.locked_keg.specs.Gives.{GivesBack}
-use Rattle.locked_keg.proofs.Given.{gives_none, gives_one, gives_all, none_left}
+use Rattle.locked_keg.specs.Gives.{GivesBack, GivesAllBack}
+use Rattle.locked_keg.proofs.Given.{gives_none, gives_one, gives_all, none_left, outs_back}
 use Rattle.locked_keg.proofs.Kept.{same_keg, same_more}
 use Rattle.locked_keg.proofs.giving.give_each.Goals as goal
 
@@ -45,6 +45,7 @@ loop-preserved g c =
       left = one.left;
       passed = one.passed;
       stored = one.stored;
+      buried = one.buried;
     } in
     record {
       counted = omega (arith, before.counted, simp length-append at (ap length c.in-Some.ensures.last));
@@ -60,5 +61,16 @@ loop-preserved g c =
 pub returns-clause-none_left : goal.returns-clause-none_left
 returns-clause-none_left g c = none_left (items_of c.loop.bucket) (omega (arith, c.loop.invariant.counted, c.len-count.ensures.len))
 
-pub returns-clause-gives : goal.returns-clause-gives
-returns-clause-gives g c = gives_all c.args.keg.now c.loop.keg c.args.hooks.now (items_of c.args.bucket.now) (items_of c.loop.bucket) c.loop.invariant.gives (returns-clause-none_left g c)
+pub returns-clause-given : goal.returns-clause-given
+returns-clause-given g c =
+    let old = c.args.keg.now in
+    let items = items_of c.args.bucket.now in
+    let end = c.loop.invariant in
+    let gives : GivesAllBack old c.args.hooks.now items c.loop.keg = gives_all old c.loop.keg c.args.hooks.now items (items_of c.loop.bucket) end.gives (returns-clause-none_left g c) in
+    record {
+      count = search rules;
+      gives = gives;
+      outs = λ zone. outs_back old c.loop.keg c.args.hooks.now items zone gives;
+      buried = end.buried;
+      zones = record { rights = end.rights; limits = end.limits; fetches = end.fetches; same = end.same };
+    }

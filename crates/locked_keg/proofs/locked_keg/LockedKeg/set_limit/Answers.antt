@@ -6,10 +6,17 @@ use Rattle.locked_keg.proofs.Kept.{still_keeps, still_lists}
 use Rattle.uma_keg.specs.Keg.{places_in}
 use Rattle.locked_keg.proofs.locked_keg.LockedKeg.set_limit.Goals as goal
 
-pub returns-clause-keeps : goal.returns-clause-keeps
-returns-clause-keeps g c key kept =
+pub returns : goal.returns
+returns g c =
     let old = c.args.self.now in
     let keg = c.set_limit.ensures.set in
     let new : LockedKeg g.row.T.Denot g.row.K.Denot g.T.Body g.K.Hooks = record { keg = c.set_limit.new.self; fails = c.args.self.now.fails } in
-    still_keeps key old new keg.same (λ zone. refl) (still_lists old new (λ zone. refl) keg.fetches)
-    (same_places (places_in (keg_in old)) (places_in c.set_limit.new.self) key.domains keg.places) kept
+    record {
+      former = c.set_limit.ensures.former;
+      set = keg;
+      kept = record {
+        books = refl;
+        keeps = λ key kept. still_keeps key old new keg.same (λ zone. refl) (still_lists old new (λ zone. refl) keg.fetches)
+            (same_places (places_in (keg_in old)) (places_in c.set_limit.new.self) key.domains keg.places) kept;
+      };
+    }

@@ -2,7 +2,7 @@ use Rattle.locked_keg.specs.LockedKeg.{keg_in}
 use Rattle.uma_zone.proofs.zone.Zone.free_slabs.Goals as goal
 
 pub drop-guard-requires : goal.drop-guard-requires
-drop-guard-requires g c = c.free_slabs.ensures.keeps _ c.lock-guard.ensures.kept
+drop-guard-requires g c = c.free_slabs.ensures.kept.keeps _ c.lock-guard.ensures.kept
 
 pub returns-clause-freed : goal.returns-clause-freed
 returns-clause-freed g c =

@@ -7,7 +7,7 @@ pub give_all-requires : goal.give_all-requires
 give_all-requires g c = of_book (zone_home c.args.self.now) c.args.bucket _ c.lock-guard.ensures.numbers c.requires
 
 pub drop-guard-requires : goal.drop-guard-requires
-drop-guard-requires g c = c.give_all.ensures.keeps _ c.lock-guard.ensures.kept
+drop-guard-requires g c = c.give_all.ensures.kept.keeps _ c.lock-guard.ensures.kept
 
 pub returns-clause-given : goal.returns-clause-given
-returns-clause-given g c = record { was = keg_in c.lock-guard.result.value; is = keg_in c.give_all.new.self; of_zone = c.lock-guard.ensures.numbers; gives = c.give_all.ensures.gives }
+returns-clause-given g c = record { was = keg_in c.lock-guard.result.value; is = keg_in c.give_all.new.self; of_zone = c.lock-guard.ensures.numbers; gives = c.give_all.ensures.given.gives }

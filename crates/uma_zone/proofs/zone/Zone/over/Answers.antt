@@ -7,7 +7,7 @@ use Rattle.locked_keg.specs.Ends.{fetch_cause}
 use Rattle.locked_keg.specs.FailBooks.{table_at}
 use Rattle.locked_keg.specs.Key.{key_rights, key_fails, IsKeyOf}
 use Rattle.locked_keg.specs.LockedKeg.{keg_in, fails_in}
-use Rattle.std.proofs.Common.{◌≡◌, List, [], ◌∷◌, ◌++◌, map, Some, refl, sym, ap, ◌∙◌}
+use Rattle.std.proofs.Common.{rules, ◌≡◌, List, [], ◌∷◌, ◌++◌, map, Some, refl, sym, ap, ◌∙◌}
 use Rattle.std.proofs.lemmas.List.Elements.{All-pop, All-weaker}
 use Rattle.std.specs.Arc.{arc_value}
 use Rattle.uma_bucket.specs.Home.{Home}
@@ -33,13 +33,13 @@ add_zone-index-requires g c =
     (All-pop (λ (right : Deed). deed_table right ≡ book_table (rights_in c.args.keg)) c.args.rights.items c.pop.new.self.items (Some c.in-Some.right) c.in-Some.ensures.items c.requires.of_keg).1
     ∙ ap (λ (keg : _). book_table (rights_in keg)) (sym c.in_ok-keg.ensures.keg)
 
-pub lock_up-requires-clause-domains : goal.lock_up-requires-clause-domains
-lock_up-requires-clause-domains g c =
-    no_slabs (places_in c.args.keg) _ _ _ c.args.set.domains (c.add_zone-index.ensures.places ∙ ap places_in c.in_ok-keg.ensures.keg) c.requires.new
-
-pub lock_up-requires-clause-listed : goal.lock_up-requires-clause-listed
-lock_up-requires-clause-listed g c = record {
-  each = λ zone. c.add_zone-index.ensures.causes zone ∙ c.in_ok-keg.ensures.listed.each zone ∙ ap (map fetch_cause) (sym (c.add_zone-index.ensures.fetches zone));
+pub lock_up-requires : goal.lock_up-requires
+lock_up-requires g c = record {
+  per_slab = search rules;
+  domains = no_slabs (places_in c.args.keg) _ _ _ c.args.set.domains (c.add_zone-index.ensures.unmoved.places ∙ ap places_in c.in_ok-keg.ensures.keg) c.requires.new;
+  listed = record {
+    each = λ zone. c.add_zone-index.ensures.causes zone ∙ c.in_ok-keg.ensures.listed.each zone ∙ ap (map fetch_cause) (sym (c.add_zone-index.ensures.fetches zone));
+  };
 }
 
 -- the key of the lock names the keg

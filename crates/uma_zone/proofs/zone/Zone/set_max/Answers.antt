@@ -2,7 +2,7 @@ use Rattle.locked_keg.specs.LockedKeg.{keg_in}
 use Rattle.uma_zone.proofs.zone.Zone.set_max.Goals as goal
 
 pub drop-guard-requires : goal.drop-guard-requires
-drop-guard-requires g c = c.set_limit.ensures.keeps _ c.lock-guard.ensures.kept
+drop-guard-requires g c = c.set_limit.ensures.kept.keeps _ c.lock-guard.ensures.kept
 
 pub returns : goal.returns
 returns g c =
