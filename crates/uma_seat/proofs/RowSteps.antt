@@ -3,12 +3,15 @@ use Rattle.std.proofs.Common.{◌≡◌, ◌<◌, ◌+◌, ℕ, List, [], ◌∷
 use Rattle.std.specs.Prelude.{◌≢◌}
 use Rattle.std.proofs.lemmas.Bool.{cases_lt}
 use Rattle.std.specs.List.{All}
-use Rattle.std.proofs.lemmas.List.{get_or-map, map-set}
+use Rattle.std.proofs.lemmas.List.{get_or-map, length-map, map-set}
 use Rattle.std.proofs.lemmas.List.Elements.{All-pop, All-nil}
 use Rattle.uma_life.specs.declared.ticket.Ticket.{Ticket}
+use Rattle.uma_bucket.specs.declared.loose.Loose.{Loose}
+use Rattle.uma_bucket.specs.Freed.{freed_item, freed_ticket}
 use Rattle.uma_bucket.specs.Home.{Home, IsHome, AreHome}
+use Rattle.uma_bucket.specs.Loose.{loose_items, loose_tickets}
 use Rattle.uma_seat.specs.Row.{TakesAt}
-use Rattle.uma_seat.specs.Stack.{Stack, stack_at, with_item, empty_stack}
+use Rattle.uma_seat.specs.Stack.{Stack, loose_stack, stack_at, with_item, empty_stack}
 
 abbrev pub stack_with : {A : Type 0} → List A → ℕ → Stack A
 stack_with items room = record { items = items; room = room }
@@ -36,6 +39,12 @@ none_more P n own before here k below other = elim (cases_lt k n) [
 
 pub none_home : {A : Type 0} (ticket : A → Ticket) (home : Home) (xs : List A) → xs ≡ [] → AreHome home (map ticket xs)
 none_home {A = A} ticket home xs none = subst (λ (l : List A). AreHome home (map ticket l)) (sym none) (All-nil (IsHome home))
+
+-- empty buckets are at home anywhere
+pub new_home : {T : Type 0} {g : _} (home : Home) (size : ℕ) (xs : List (Loose T g)) → All (λ loose. loose_stack loose ≡ empty_stack size) xs → All (λ loose. AreHome home (loose_tickets loose)) xs
+new_home home size xs empty i loose within =
+    let items = loose_items (get_or xs i loose) in
+    none_home freed_ticket home items (none_of items (sym (length-map items freed_item) ∙ ap length (ap (λ (s : Stack _). s.items) (empty i loose within))))
 
 module _ {B A : Type 0} (stack : B → Stack A) (xs : List B) (i : ℕ) where
   pub at_row : (b : B) → i < length xs → b ≡ get_or xs i b → stack_at (map stack xs) i ≡ stack b

@@ -5,7 +5,14 @@ pub mod Fetches
 pub mod Counts
 pub mod Seating
 pub mod Seat
+pub mod Frames
+pub mod Making
+pub mod Allocating
+pub mod Counting
+pub mod Shelving
 pub mod Freeing
+pub mod FreeCalls
 pub mod Lending
 pub mod ShelfSums
+pub mod Adding
 pub mod Sums

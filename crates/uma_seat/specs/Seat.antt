@@ -17,6 +17,7 @@ use Rattle.uma_bucket.specs.Home.{Home}
 use Rattle.uma_bucket.specs.declared.inbox_key.InboxKey.{InboxKey}
 use Rattle.inbox.specs.declared.port.Port.{Port}
 use Rattle.uma_seat.specs.declared.seating.Seating.{Seating}
+use Rattle.uma_seat.specs.declared.counts.Counts.{Counts}
 use Rattle.uma_seat.specs.declared.seat.SeatCache.{SeatCache}
 use Rattle.uma_seat.specs.Stack.{Stack, stack_of, stack_at, empty_stack}
 use Rattle.uma_seat.specs.Rack.{spares_in, shelf_in}
@@ -88,6 +89,9 @@ module _ {T H P : Type 0} {g h : _} where
   HasPlace seat = length (spares_of seat) + length (shelf_of seat) < 2
 
   -- ---- what it counted
+
+  abbrev pub counts_of : SeatCache T H P g h → Counts
+  counts_of seat = seat.counts
 
   abbrev pub ledger_of : SeatCache T H P g h → SeatLedger
   ledger_of seat = ledger_in seat.counts

@@ -1,5 +1,5 @@
 -- Own: what contracts see of a bucket in a seat: its items, and how many it has room for.
-use Rattle.std.specs.Prelude.{ℕ, ◌+◌, Bool, List, [], ◌∷◌, ◌++◌, length, map, nat_le, slice_index_or}
+use Rattle.std.specs.Prelude.{◌≡◌, ℕ, ◌<◌, ◌≤◌, ◌+◌, Bool, true, List, [], ◌∷◌, ◌++◌, length, map, nat_le, slice_index_or}
 use Rattle.uma_life.specs.declared.cached.Cached.{Cached}
 use Rattle.uma_life.specs.declared.live.Live.{Live}
 use Rattle.uma_bucket.specs.declared.bucket.Bucket.{Bucket}
@@ -35,3 +35,29 @@ is_filled_by_one stack = nat_le stack.room (length stack.items + 1)
 -- the bucket of a domain
 abbrev pub stack_at : {A : Type 0} → List (Stack A) → ℕ → Stack A
 stack_at stacks domain = slice_index_or stacks domain (empty_stack 0)
+
+-- a bucket can have room for so many items
+pub record IsSize (size : ℕ) : Type 0 where
+  pub least : 4 ≤ size
+  pub most : size ≤ 64
+
+-- there is such a domain, and one item more fills its bucket, or doesn't
+pub record CanPutAt {A : Type 0} (filled : Bool) (domains : ℕ) (stacks : List (Stack A)) (domain : ℕ) : Type 0 where
+  pub within : domain < domains
+  pub room : is_filled_by_one (stack_at stacks domain) ≡ filled
+
+-- there is such a domain, one item more fills its bucket, and the bucket that then stands in its place has no item
+pub record CanFillAt {A B : Type 0} (domains : ℕ) (stacks : List (Stack A)) (domain : ℕ) (spare : List B) : Type 0 where
+  pub within : domain < domains
+  pub room : is_filled_by_one (stack_at stacks domain) ≡ true
+  pub empty : spare ≡ []
+
+-- there is such a domain, and the bucket that is to stand in the place of its own has no item
+pub record CanExchangeAt {B : Type 0} (domains domain : ℕ) (other : List B) : Type 0 where
+  pub within : domain < domains
+  pub empty : other ≡ []
+
+-- there is such a domain, and its bucket has an item
+pub record HasItemAt {A : Type 0} (domains : ℕ) (stacks : List (Stack A)) (domain : ℕ) : Type 0 where
+  pub within : domain < domains
+  pub some : 0 < length (stack_at stacks domain).items

@@ -4,7 +4,10 @@ use Rattle.std.specs.List.{sum_by}
 use Rattle.uma_life.specs.Hook.{Hook}
 use Rattle.uma_bucket.specs.Bucket.{items_of}
 use Rattle.uma_bucket.specs.Loose.{loose_items}
-use Rattle.uma_bucket.specs.Sums.{times_cached, times_freed}
+use Rattle.uma_bucket.specs.declared.sums.Sums.{Sums}
+use Rattle.uma_bucket.specs.Home.{AreHome}
+use Rattle.uma_bucket.specs.Sums.{nothing_held, times_cached, times_freed, Adds, AreOfAtMost, Balance}
+use Rattle.uma_seat.specs.Seat.{seat_home, top_tickets}
 use Rattle.uma_seat.specs.ShelfSums.{times_shelved, deferred_shelved}
 use Rattle.uma_seat.specs.declared.plain_row.PlainRow.{PlainRow}
 use Rattle.uma_seat.specs.declared.freed_row.FreedRow.{FreedRow}
@@ -36,3 +39,9 @@ module _ {T H P : Type 0} {g h : _} where
   -- how many of them are deferred
   abbrev pub deferred_in_seat : SeatCache T H P g h → ℕ
   deferred_in_seat seat = deferred_in_freed seat.freed + deferred_in_rack seat.rack
+
+  -- these are the sums of the seat
+  pub record SumsUp (seat : SeatCache T H P g h) (sums : Sums) : Type 0 where
+    pub adds : Adds (λ hook. times_in_seat hook seat) (deferred_in_seat seat) nothing_held sums
+    pub few : AreOfAtMost 704 sums
+    pub balance : AreHome (seat_home seat) (top_tickets seat) → Balance (seat_home seat).zone sums

@@ -1,8 +1,5 @@
-ghost use Rattle.std.specs.Prelude.{◌≡◌, [], ◌∷◌, ◌++◌, true, false, IsTrue, ◌↔◌};
-ghost use Rattle.deed_book.specs.FailBook.{fail_book_table, causes_of};
-ghost use Rattle.zone_stats.specs.Ledger.{is_ctor};
-ghost use Rattle.zone_stats.specs.LedgerSteps.{HasRoom, CountsAlloc, CountsCtor, CountsTurned};
-ghost use Rattle.uma_seat.specs.Fetches.{end_cause, refusal_cause, is_of_keg, CountsEnd};
+ghost use Rattle.std.specs.Prelude.{◌≡◌, IsTrue, ◌↔◌};
+ghost use Rattle.zone_stats.specs.LedgerSteps.{HasRoom, CountsAlloc, CountsCtor};
 
 use crate::fetch_end::FetchEnd;
 use crate::seat::SeatCache;
@@ -12,7 +9,9 @@ use uma_life::Body;
 use zone_stats::{Refusal, SeatLedger};
 
 impl<T: Body, H: Host> SeatCache<T, H> {
-    ghost use Rattle.uma_seat.specs.Seat.{ledger_of, fetches_of, seat_fails, KeepsLists};
+    ghost use Rattle.uma_seat.specs.Counting.{CanListEnd, CanListRefusal, CountsFetch};
+    ghost use Rattle.uma_seat.specs.Frames.{KeepsAllButLedger};
+    ghost use Rattle.uma_seat.specs.Seat.{counts_of, ledger_of};
 
     /// What the seat counted.
     pub fn ledger(&self) -> SeatLedger
@@ -34,9 +33,7 @@ impl<T: Body, H: Host> SeatCache<T, H> {
     pub fn count_alloc(&mut self)
         requires { HasRoom (ledger_of self.old) }
         ensures ledger { CountsAlloc (ledger_of self.old) (ledger_of self.new) }
-        ensures fetches { fetches_of self.new ≡ fetches_of self.old }
-        ensures fails { seat_fails self.new ≡ seat_fails self.old }
-        ensures lists { KeepsLists self.old self.new }
+        ensures frame { KeepsAllButLedger self.old self.new }
     {
         self.counts.count_alloc();
     }
@@ -45,9 +42,7 @@ impl<T: Body, H: Host> SeatCache<T, H> {
     pub fn count_ctor(&mut self, code: u8)
         requires { HasRoom (ledger_of self.old) }
         ensures ledger { CountsCtor (ledger_of self.old) (ledger_of self.new) code }
-        ensures fetches { fetches_of self.new ≡ fetches_of self.old }
-        ensures fails { seat_fails self.new ≡ seat_fails self.old }
-        ensures lists { KeepsLists self.old self.new }
+        ensures frame { KeepsAllButLedger self.old self.new }
     {
         self.counts.count_ctor(code);
     }
@@ -55,15 +50,8 @@ impl<T: Body, H: Host> SeatCache<T, H> {
     /// Counts a request whose fetch was refused, and keeps the refusal. The fetch is listed with its cause in the zone's
     /// book and in the seat's share.
     pub fn count_turned(&mut self, book: &mut FailBook, refusal: Refusal)
-        requires room { HasRoom (ledger_of self.old) }
-        requires mine { seat_fails self.old ≡ fail_book_table book.old }
-        requires turned { is_ctor refusal ≡ false }
-        ensures ledger { CountsTurned (ledger_of self.old) (ledger_of self.new) refusal }
-        ensures fetches { fetches_of self.new ≡ fetches_of self.old ++ refusal_cause refusal ∷ [] }
-        ensures book { causes_of book.new ≡ causes_of book.old ++ refusal_cause refusal ∷ [] }
-        ensures fails { seat_fails self.new ≡ seat_fails self.old }
-        ensures book_table { fail_book_table book.new ≡ fail_book_table book.old }
-        ensures lists { KeepsLists self.old self.new }
+        requires { CanListRefusal (counts_of self.old) book.old refusal }
+        ensures { CountsFetch self.old book.old (FetchEnd.Refused refusal) self.new book.new }
     {
         self.counts.count_turned(book, refusal);
     }
@@ -71,15 +59,8 @@ impl<T: Body, H: Host> SeatCache<T, H> {
     /// Lists a fetch with its end in the zone's book and in the seat's share. One that was refused is counted as by
     /// `count_turned`; every other one leaves the ledger as it was.
     pub fn count_end(&mut self, book: &mut FailBook, end: FetchEnd)
-        requires room { HasRoom (ledger_of self.old) }
-        requires mine { seat_fails self.old ≡ fail_book_table book.old }
-        requires of_keg { is_of_keg end ≡ true }
-        ensures ledger { CountsEnd (ledger_of self.old) (ledger_of self.new) end }
-        ensures fetches { fetches_of self.new ≡ fetches_of self.old ++ end_cause end ∷ [] }
-        ensures book { causes_of book.new ≡ causes_of book.old ++ end_cause end ∷ [] }
-        ensures fails { seat_fails self.new ≡ seat_fails self.old }
-        ensures book_table { fail_book_table book.new ≡ fail_book_table book.old }
-        ensures lists { KeepsLists self.old self.new }
+        requires { CanListEnd (counts_of self.old) book.old end }
+        ensures { CountsFetch self.old book.old end self.new book.new }
     {
         self.counts.count_end(book, end);
     }

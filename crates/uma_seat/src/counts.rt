@@ -1,9 +1,7 @@
-ghost use Rattle.std.specs.Prelude.{◌≡◌, ◌∷◌, ◌++◌, [], true, false, Bool, IsTrue, ◌↔◌};
-ghost use Rattle.deed_book.specs.FailBook.{fail_book_table, causes_of};
-ghost use Rattle.deed_book.specs.FailShare.{share_table, causes_in};
-ghost use Rattle.zone_stats.specs.Ledger.{is_ctor};
-ghost use Rattle.zone_stats.specs.LedgerSteps.{HasRoom, IsNew, CountsAlloc, CountsCtor, CountsFree, CountsTurned};
-ghost use Rattle.uma_seat.specs.Fetches.{turned_in, end_cause, refusal_cause, is_of_keg, CountsEnd};
+ghost use Rattle.std.specs.Prelude.{◌≡◌, [], IsTrue, ◌↔◌};
+ghost use Rattle.deed_book.specs.FailShare.{causes_in};
+ghost use Rattle.zone_stats.specs.LedgerSteps.{HasRoom, CountsAlloc, CountsCtor, CountsFree};
+ghost use Rattle.uma_seat.specs.Fetches.{turned_in};
 
 use crate::fetch_end::FetchEnd;
 use deed_book::{FailBook, FailShare};
@@ -23,14 +21,13 @@ pub struct Counts {
 }
 
 impl Counts {
-    ghost use Rattle.uma_seat.specs.Counts.{ledger_in, fetches_in, fails_in};
+    ghost use Rattle.uma_seat.specs.Counts.{ledger_in};
+    ghost use Rattle.uma_seat.specs.Counting.{CanListEnd, CanListRefusal, IsNewCounts, KeepsShare, ListsEnd};
 
     /// A ledger of nothing yet, beside a share that lists nothing.
     pub fn new(share: FailShare) -> Counts
         requires { causes_in share ≡ [] }
-        ensures ledger { IsNew (ledger_in result) }
-        ensures fetches { fetches_in result ≡ [] }
-        ensures table { fails_in result ≡ share_table share }
+        ensures { IsNewCounts share result }
     {
         Counts {
             ledger: SeatLedger::new(),
@@ -56,8 +53,7 @@ impl Counts {
     pub fn count_alloc(&mut self)
         requires { HasRoom (ledger_in self.old) }
         ensures ledger { CountsAlloc (ledger_in self.old) (ledger_in self.new) }
-        ensures fetches { fetches_in self.new ≡ fetches_in self.old }
-        ensures table { fails_in self.new ≡ fails_in self.old }
+        ensures frame { KeepsShare self.old self.new }
     {
         self.ledger.count_alloc();
     }
@@ -66,8 +62,7 @@ impl Counts {
     pub fn count_ctor(&mut self, code: u8)
         requires { HasRoom (ledger_in self.old) }
         ensures ledger { CountsCtor (ledger_in self.old) (ledger_in self.new) code }
-        ensures fetches { fetches_in self.new ≡ fetches_in self.old }
-        ensures table { fails_in self.new ≡ fails_in self.old }
+        ensures frame { KeepsShare self.old self.new }
     {
         self.ledger.count_ctor(code);
     }
@@ -76,22 +71,15 @@ impl Counts {
     pub fn count_free(&mut self, cross: bool)
         requires { HasRoom (ledger_in self.old) }
         ensures ledger { CountsFree (ledger_in self.old) (ledger_in self.new) cross }
-        ensures fetches { fetches_in self.new ≡ fetches_in self.old }
-        ensures table { fails_in self.new ≡ fails_in self.old }
+        ensures frame { KeepsShare self.old self.new }
     {
         self.ledger.count_free(cross);
     }
 
     /// Counts a request whose fetch was refused, and lists the fetch with its cause in the book and in the share.
     pub fn count_turned(&mut self, book: &mut FailBook, refusal: Refusal)
-        requires room { HasRoom (ledger_in self.old) }
-        requires mine { fails_in self.old ≡ fail_book_table book.old }
-        requires turned { is_ctor refusal ≡ false }
-        ensures ledger { CountsTurned (ledger_in self.old) (ledger_in self.new) refusal }
-        ensures fetches { fetches_in self.new ≡ fetches_in self.old ++ refusal_cause refusal ∷ [] }
-        ensures book { causes_of book.new ≡ causes_of book.old ++ refusal_cause refusal ∷ [] }
-        ensures table { fails_in self.new ≡ fails_in self.old }
-        ensures book_table { fail_book_table book.new ≡ fail_book_table book.old }
+        requires { CanListRefusal self.old book.old refusal }
+        ensures { ListsEnd self.old book.old (FetchEnd.Refused refusal) self.new book.new }
     {
         let (kind, first, second) = refusal.cause();
         book.add(&mut self.share, kind, first, second);
@@ -100,14 +88,8 @@ impl Counts {
 
     /// Lists a fetch with its end in the book and in the share. It is counted only where it was refused.
     pub fn count_end(&mut self, book: &mut FailBook, end: FetchEnd)
-        requires room { HasRoom (ledger_in self.old) }
-        requires mine { fails_in self.old ≡ fail_book_table book.old }
-        requires of_keg { is_of_keg end ≡ true }
-        ensures ledger { CountsEnd (ledger_in self.old) (ledger_in self.new) end }
-        ensures fetches { fetches_in self.new ≡ fetches_in self.old ++ end_cause end ∷ [] }
-        ensures book { causes_of book.new ≡ causes_of book.old ++ end_cause end ∷ [] }
-        ensures table { fails_in self.new ≡ fails_in self.old }
-        ensures book_table { fail_book_table book.new ≡ fail_book_table book.old }
+        requires { CanListEnd self.old book.old end }
+        ensures { ListsEnd self.old book.old end self.new book.new }
     {
         match end {
             FetchEnd::Gave { count } => book.add(&mut self.share, GAVE, u64::from(count), 0),

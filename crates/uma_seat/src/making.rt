@@ -1,6 +1,5 @@
-ghost use Rattle.std.specs.Prelude.{◌≡◌, ◌≤◌, [], IfOk, IfErr, Err, length};
-ghost use Rattle.deed_book.specs.FailShare.{share_table, causes_in};
-ghost use Rattle.uma_bucket.specs.Bucket.{IsOutOfRange, Refuses};
+ghost use Rattle.std.specs.Prelude.{◌≡◌, [], length};
+ghost use Rattle.deed_book.specs.FailShare.{causes_in};
 
 use crate::counts::Counts;
 use crate::freed_row::FreedRow;
@@ -20,7 +19,7 @@ const LEAST_SIZE: u32 = 4;
 const MOST_SIZE: u32 = 64;
 
 impl<T: Body + Drop, H: Host> SeatCache<T, H> {
-    ghost use Rattle.uma_seat.specs.Seat.{IsNewSeat, ports_of};
+    ghost use Rattle.uma_seat.specs.Making.{CanMake, MakesSeat};
 
     /// A seat whose buckets are all empty and have room for `size` items each, 4 to 64; two of them are spares. All room
     /// that the seat ever needs is taken here. `share` is of the zone's fail book and lists nothing yet, `misses` of the
@@ -35,10 +34,7 @@ impl<T: Body + Drop, H: Host> SeatCache<T, H> {
     ) -> Result<SeatCache<T, H>, BucketRefused>
         requires listed { causes_in share ≡ [] }
         requires ports { length ports.items ≡ seating.domains }
-        ensures made { IfOk result (IsNewSeat size seating (share_table share) misses) }
-        ensures ports { IfOk result (λ seat. ports_of seat ≡ ports.items) }
-        ensures out_of_range { IsOutOfRange size → result ≡ Err (BucketRefused.Size size) }
-        ensures err { IfErr result (Refuses size) }
+        ensures { MakesSeat size seating share misses ports.items result }
     {
         if size < LEAST_SIZE || size > MOST_SIZE {
             return Err(BucketRefused::Size { size });
@@ -54,13 +50,8 @@ impl<T: Body + Drop, H: Host> SeatCache<T, H> {
         misses: FailShare,
         ports: Vec<Port<T, H>>,
     ) -> Result<SeatCache<T, H>, BucketRefused>
-        requires least { 4 ≤ size }
-        requires most { size ≤ 64 }
-        requires listed { causes_in share ≡ [] }
-        requires ports { length ports.items ≡ seating.domains }
-        ensures made { IfOk result (IsNewSeat size seating (share_table share) misses) }
-        ensures ports { IfOk result (λ seat. ports_of seat ≡ ports.items) }
-        ensures err { IfErr result (Refuses size) }
+        requires { CanMake size seating share ports.items }
+        ensures { MakesSeat size seating share misses ports.items result }
     {
         let top = Bucket::make(alloc, size)?;
         let plain = PlainRow::make(alloc, size, seating.plain_domains())?;

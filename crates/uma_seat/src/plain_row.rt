@@ -1,10 +1,7 @@
-ghost use Rattle.std.specs.Prelude.{◌≡◌, ◌+◌, ◌*◌, ◌^◌, ◌≢◌, ◌<◌, ◌≤◌, ◌∷◌, ◌++◌, [], length, true, false, slice_set, ℕ, IfOk, IfErr, IfSome, IfNone, IsSome};
+ghost use Rattle.std.specs.Prelude.{◌≡◌, ◌*◌, ◌<◌, length, false, IfOk, IfErr, IfSome, IfNone};
 ghost use Rattle.std.specs.List.{All};
-ghost use Rattle.uma_life.specs.Cached.{cached_ticket};
-ghost use Rattle.uma_bucket.specs.Bucket.{items_of, tickets_of, size_of, Refuses};
-ghost use Rattle.uma_bucket.specs.Home.{Home, IsHome, AreHome};
-ghost use Rattle.uma_bucket.specs.Sums.{Adds, AreOfAtMost, Balance};
-ghost use Rattle.uma_seat.specs.Stack.{stack_of, stack_at, with_item, empty_stack, is_filled_by_one};
+ghost use Rattle.uma_bucket.specs.Bucket.{items_of, size_of, Refuses};
+ghost use Rattle.uma_seat.specs.Stack.{stack_at, is_filled_by_one, IsSize, CanPutAt, CanFillAt, CanExchangeAt, HasItemAt};
 
 use std::alloc::Global;
 use std::mem::{replace, swap};
@@ -19,15 +16,12 @@ pub struct PlainRow<T: Body> {
 }
 
 impl<T: Body + Drop> PlainRow<T> {
-    ghost use Rattle.uma_seat.specs.Row.{stacks_of, row_len, IsRowAt};
+    ghost use Rattle.uma_seat.specs.Row.{IsNewRow};
 
     /// So many empty buckets.
     pub fn make(alloc: Global, size: u32, count: usize) -> Result<PlainRow<T>, BucketRefused>
-        requires least { 4 ≤ size }
-        requires most { size ≤ 64 }
-        ensures len { IfOk result (λ row. row_len row ≡ count) }
-        ensures empty { IfOk result (λ row. All (λ stack. stack ≡ empty_stack size) (stacks_of row)) }
-        ensures home { (home : Home) → IfOk result (IsRowAt home) }
+        requires { IsSize size }
+        ensures made { IfOk result (IsNewRow size count) }
         ensures err { IfErr result (Refuses size) }
     {
         let mut buckets = Vec::with_capacity(alloc, count)?;
@@ -39,7 +33,8 @@ impl<T: Body + Drop> PlainRow<T> {
 }
 
 impl<T: Body> PlainRow<T> {
-    ghost use Rattle.uma_seat.specs.Row.{stacks_of, row_len, IsRowAt, TakesAt};
+    ghost use Rattle.uma_seat.specs.Row.{stacks_of, row_len, IsRowAt, PutsAt, FillsAt, ExchangesAt, HasOther, HasNoOther, PopsAt};
+    ghost use Rattle.uma_seat.specs.Adding.{AddsAll, CanAddRow};
     ghost use Rattle.uma_seat.specs.Sums.{times_in_row};
 
     /// Whether one item more fills the bucket of the domain.
@@ -53,11 +48,8 @@ impl<T: Body> PlainRow<T> {
 
     /// Puts an item on top of the bucket of its domain, which has more room still.
     pub fn push(&mut self, domain: u8, item: Cached<T>)
-        requires within { domain < row_len self.old }
-        requires room { is_filled_by_one (stack_at (stacks_of self.old) domain) ≡ false }
-        ensures stacks { stacks_of self.new ≡ slice_set (stacks_of self.old) domain (with_item (stack_at (stacks_of self.old) domain) item) }
-        ensures home { (home : Home) → IsRowAt home self.old → IsHome home (cached_ticket item) → IsRowAt home self.new }
-        ensures len { row_len self.new ≡ row_len self.old }
+        requires { CanPutAt false (row_len self.old) (stacks_of self.old) domain }
+        ensures { PutsAt self.old domain item self.new }
     {
         let bucket = &mut self.buckets[domain as usize];
         bucket.push(item);
@@ -65,14 +57,8 @@ impl<T: Body> PlainRow<T> {
 
     /// Puts an item on top of the bucket of its domain, which fills it, and an empty bucket in its place.
     pub fn push_last(&mut self, domain: u8, item: Cached<T>, spare: Bucket<T>) -> Bucket<T>
-        requires within { domain < row_len self.old }
-        requires room { is_filled_by_one (stack_at (stacks_of self.old) domain) ≡ true }
-        requires empty { items_of spare ≡ [] }
-        ensures stacks { stacks_of self.new ≡ slice_set (stacks_of self.old) domain (empty_stack (size_of spare)) }
-        ensures full { stack_of result ≡ with_item (stack_at (stacks_of self.old) domain) item }
-        ensures home { (home : Home) → IsRowAt home self.old → IsHome home (cached_ticket item) → AreHome home (tickets_of result) }
-        ensures row_home { (home : Home) → IsRowAt home self.old → IsRowAt home self.new }
-        ensures len { row_len self.new ≡ row_len self.old }
+        requires { CanFillAt (row_len self.old) (stacks_of self.old) domain (items_of spare) }
+        ensures { FillsAt self.old domain item spare result self.new }
     {
         let bucket = &mut self.buckets[domain as usize];
         let mut full = replace(bucket, spare);
@@ -82,13 +68,8 @@ impl<T: Body> PlainRow<T> {
 
     /// Exchanges an empty bucket with that of the domain.
     pub fn exchange(&mut self, domain: u8, empty: &mut Bucket<T>)
-        requires within { domain < row_len self.old }
-        requires empty { items_of empty.old ≡ [] }
-        ensures stacks { stacks_of self.new ≡ slice_set (stacks_of self.old) domain (empty_stack (size_of empty.old)) }
-        ensures taken { stack_of empty.new ≡ stack_at (stacks_of self.old) domain }
-        ensures home { (home : Home) → IsRowAt home self.old → AreHome home (tickets_of empty.new) }
-        ensures row_home { (home : Home) → IsRowAt home self.old → IsRowAt home self.new }
-        ensures len { row_len self.new ≡ row_len self.old }
+        requires { CanExchangeAt (row_len self.old) domain (items_of empty.old) }
+        ensures { ExchangesAt self.old domain empty.old empty.new self.new }
     {
         let bucket = &mut self.buckets[domain as usize];
         swap(bucket, empty);
@@ -96,10 +77,8 @@ impl<T: Body> PlainRow<T> {
 
     /// The first domain, but for the seat's own, whose bucket has an item.
     pub fn first_but(&self, own: u8) -> Option<usize>
-        ensures within { IfSome result (λ domain. domain < row_len self.now) }
-        ensures other { IfSome result (λ domain. domain ≢ own) }
-        ensures some { IfSome result (λ domain. 0 < length (stack_at (stacks_of self.now) domain).items) }
-        ensures none { IfNone result ((domain : ℕ) → domain < row_len self.now → domain ≢ own → (stack_at (stacks_of self.now) domain).items ≡ []) }
+        ensures found { IfSome result (HasOther own self.now) }
+        ensures none { IfNone result (HasNoOther own self.now) }
     {
         for (domain, bucket) in self.buckets.iter().enumerate() {
             if domain != own as usize && bucket.len() != 0 {
@@ -111,13 +90,8 @@ impl<T: Body> PlainRow<T> {
 
     /// Takes the item on top of the bucket of a domain.
     pub fn pop(&mut self, domain: usize) -> Option<Cached<T>>
-        requires within { domain < row_len self.old }
-        requires some { 0 < length (stack_at (stacks_of self.old) domain).items }
-        ensures some { IsSome result }
-        ensures takes { IfSome result (λ item. TakesAt (stacks_of self.old) domain item (stacks_of self.new)) }
-        ensures home { (home : Home) → IsRowAt home self.old → IfSome result (λ item. IsHome home (cached_ticket item)) }
-        ensures row_home { (home : Home) → IsRowAt home self.old → IsRowAt home self.new }
-        ensures len { row_len self.new ≡ row_len self.old }
+        requires { HasItemAt (row_len self.old) (stacks_of self.old) domain }
+        ensures { PopsAt self.old domain result self.new }
     {
         let bucket = &mut self.buckets[domain];
         bucket.pop()
@@ -125,11 +99,8 @@ impl<T: Body> PlainRow<T> {
 
     /// Adds the tallies of the items.
     pub fn add_to(&self, sums: &mut Sums)
-        requires room { AreOfAtMost (2 ^ 61) sums.old }
-        requires domains { row_len self.now ≤ 4 }
-        ensures adds { Adds (λ hook. times_in_row hook self.now) 0 sums.old sums.new }
-        ensures few { (count : ℕ) → AreOfAtMost count sums.old → AreOfAtMost (count + 64 * row_len self.now) sums.new }
-        ensures balance { (home : Home) → IsRowAt home self.now → Balance home.zone sums.old → Balance home.zone sums.new }
+        requires { CanAddRow (row_len self.now) sums.old }
+        ensures { AddsAll (λ hook. times_in_row hook self.now) 0 (64 * row_len self.now) (λ home. IsRowAt home self.now) sums.old sums.new }
     {
         for bucket in &self.buckets {
             bucket.add_to(sums);

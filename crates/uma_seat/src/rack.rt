@@ -1,12 +1,12 @@
-ghost use Rattle.std.specs.Prelude.{◌≡◌, ◌*◌, ◌^◌, ℕ, ◌<◌, ◌≤◌, ◌+◌, ◌∷◌, ◌++◌, [], length, vec_len, IsTrue, ◌↔◌, IfOk, IfErr, IfSome, IfNone};
+ghost use Rattle.std.specs.Prelude.{◌≡◌, ◌*◌, ◌^◌, ◌<◌, ◌≤◌, ◌+◌, ◌∷◌, [], length, vec_len, IsTrue, ◌↔◌, IfOk, IfErr};
 ghost use Rattle.std.specs.List.{All};
 ghost use Rattle.std.specs.Vec.{vec_capacity};
 ghost use Rattle.std.specs.VecDeque.{deque_len, deque_capacity};
-ghost use Rattle.uma_bucket.specs.Bucket.{items_of, size_of, Refuses};
-ghost use Rattle.uma_bucket.specs.Home.{Home};
-ghost use Rattle.uma_bucket.specs.Sums.{Adds, AreOfAtMost, Balance};
+ghost use Rattle.uma_bucket.specs.Bucket.{items_of, Refuses};
+ghost use Rattle.uma_bucket.specs.Sums.{AreOfAtMost};
 ghost use Rattle.uma_bucket.specs.Shelved.{count_of, IsShelvedAt};
 ghost use Rattle.uma_seat.specs.ShelfSums.{times_shelved, deferred_shelved};
+ghost use Rattle.uma_seat.specs.Adding.{AddsAll};
 
 use smr_clock::Host;
 use std::alloc::{AllocError, Global};
@@ -31,12 +31,12 @@ pub struct Rack<T: Body, H: Host> {
 }
 
 impl<T: Body + Drop, H: Host> Rack<T, H> {
-    ghost use Rattle.uma_seat.specs.Rack.{spares_in, shelf_in};
+    ghost use Rattle.uma_seat.specs.Rack.{IsRackOf};
+    ghost use Rattle.uma_seat.specs.Stack.{IsSize};
 
     /// No spare, and an empty shelf, with the places of both.
     pub fn make(alloc: Global) -> Result<Rack<T, H>, AllocError>
-        ensures spares { IfOk result (λ rack. spares_in rack ≡ []) }
-        ensures shelf { IfOk result (λ rack. shelf_in rack ≡ []) }
+        ensures { IfOk result (IsRackOf []) }
     {
         let spares = Vec::with_capacity(alloc, MOST as usize)?;
         let shelf = VecDeque::with_capacity(alloc, MOST as usize)?;
@@ -45,10 +45,8 @@ impl<T: Body + Drop, H: Host> Rack<T, H> {
 
     /// Two spares with room for `size` items each, and an empty shelf.
     pub fn with_spares(alloc: Global, size: u32) -> Result<Rack<T, H>, BucketRefused>
-        requires least { 4 ≤ size }
-        requires most { size ≤ 64 }
-        ensures spares { IfOk result (λ rack. spares_in rack ≡ size ∷ size ∷ []) }
-        ensures shelf { IfOk result (λ rack. shelf_in rack ≡ []) }
+        requires { IsSize size }
+        ensures made { IfOk result (IsRackOf (size ∷ size ∷ [])) }
         ensures err { IfErr result (Refuses size) }
     {
         let mut rack = Rack::make(alloc)?;
@@ -59,13 +57,12 @@ impl<T: Body + Drop, H: Host> Rack<T, H> {
 }
 
 impl<T: Body, H: Host> Rack<T, H> {
-    ghost use Rattle.uma_seat.specs.Rack.{spares_in, shelf_in};
+    ghost use Rattle.uma_seat.specs.Rack.{spares_in, shelf_in, CountsSpares, CanTakeSpare, CanTakeShelved, TakesSpare, PutsSpare, PutsNewest, PutsOldest, TakesOldest};
     ghost use Rattle.uma_seat.specs.Sums.{times_in_rack, deferred_in_rack};
 
     /// How many spares there are, at most 2.
     pub fn spare(&self) -> u32
-        ensures spare { result ≡ length (spares_in self.now) }
-        ensures few { result + length (shelf_in self.now) ≤ 2 }
+        ensures { CountsSpares (spares_in self.now) (shelf_in self.now) result }
     {
         self.spares.len() as u32
     }
@@ -80,9 +77,7 @@ impl<T: Body, H: Host> Rack<T, H> {
     /// Takes a spare. It is empty.
     pub fn take_spare(&mut self) -> Bucket<T>
         requires { 0 < length (spares_in self.old) }
-        ensures spares { spares_in self.old ≡ spares_in self.new ++ size_of result ∷ [] }
-        ensures empty { items_of result ≡ [] }
-        ensures shelf { shelf_in self.new ≡ shelf_in self.old }
+        ensures { TakesSpare self.old result self.new }
     {
         match self.spares.pop() {
             Some(spare) => spare,
@@ -92,41 +87,31 @@ impl<T: Body, H: Host> Rack<T, H> {
 
     /// Puts an empty bucket to the spares.
     pub fn put_spare(&mut self, spare: Bucket<T>)
-        requires place { length (spares_in self.old) + length (shelf_in self.old) < 2 }
-        requires empty { items_of spare ≡ [] }
-        ensures spares { spares_in self.new ≡ spares_in self.old ++ size_of spare ∷ [] }
-        ensures shelf { shelf_in self.new ≡ shelf_in self.old }
+        requires { CanTakeSpare self.old spare }
+        ensures { PutsSpare self.old spare self.new }
     {
         self.spares.push_reserved(spare);
     }
 
     /// Puts a bucket on the shelf, as the newest.
     pub fn put_newest(&mut self, shelved: Shelved<T, H>)
-        requires place { length (spares_in self.old) + length (shelf_in self.old) < 2 }
-        requires filled { 0 < count_of shelved }
-        ensures shelf { shelf_in self.new ≡ shelf_in self.old ++ shelved ∷ [] }
-        ensures spares { spares_in self.new ≡ spares_in self.old }
+        requires { CanTakeShelved self.old shelved }
+        ensures { PutsNewest self.old shelved self.new }
     {
         self.shelf.push_back_reserved(shelved);
     }
 
     /// Puts a bucket on the shelf, as the oldest.
     pub fn put_oldest(&mut self, shelved: Shelved<T, H>)
-        requires place { length (spares_in self.old) + length (shelf_in self.old) < 2 }
-        requires filled { 0 < count_of shelved }
-        ensures shelf { shelf_in self.new ≡ shelved ∷ shelf_in self.old }
-        ensures spares { spares_in self.new ≡ spares_in self.old }
+        requires { CanTakeShelved self.old shelved }
+        ensures { PutsOldest self.old shelved self.new }
     {
         self.shelf.push_front_reserved(shelved);
     }
 
     /// Takes the oldest bucket from the shelf, which isn't empty. None exactly where the shelf is empty.
     pub fn take_oldest(&mut self) -> Option<Shelved<T, H>>
-        ensures oldest { IfSome result (λ shelved. shelf_in self.old ≡ shelved ∷ shelf_in self.new) }
-        ensures filled { IfSome result (λ shelved. 0 < count_of shelved) }
-        ensures none { IfNone result (shelf_in self.old ≡ []) }
-        ensures unchanged { IfNone result (shelf_in self.new ≡ []) }
-        ensures spares { spares_in self.new ≡ spares_in self.old }
+        ensures { TakesOldest self.old result self.new }
     {
         self.shelf.pop_front()
     }
@@ -134,9 +119,7 @@ impl<T: Body, H: Host> Rack<T, H> {
     /// Adds the tallies of the items on the shelf, and counts the freed ones as deferred.
     pub fn add_to(&self, sums: &mut Sums)
         requires { AreOfAtMost (2 ^ 61) sums.old }
-        ensures adds { Adds (λ hook. times_in_rack hook self.now) (deferred_in_rack self.now) sums.old sums.new }
-        ensures few { (count : ℕ) → AreOfAtMost count sums.old → AreOfAtMost (count + 64 * length (shelf_in self.now)) sums.new }
-        ensures balance { (home : Home) → All (IsShelvedAt home) (shelf_in self.now) → Balance home.zone sums.old → Balance home.zone sums.new }
+        ensures { AddsAll (λ hook. times_in_rack hook self.now) (deferred_in_rack self.now) (64 * length (shelf_in self.now)) (λ home. All (IsShelvedAt home) (shelf_in self.now)) sums.old sums.new }
     {
         for at in 0..self.shelf.len() {
             add_shelved(&self.shelf[at], sums);
@@ -147,9 +130,7 @@ impl<T: Body, H: Host> Rack<T, H> {
 // Adds the tallies of a bucket on the shelf.
 fn add_shelved<T: Body, H: Host>(shelved: &Shelved<T, H>, sums: &mut Sums)
     requires { AreOfAtMost (2 ^ 62) sums.old }
-    ensures adds { Adds (λ hook. times_shelved hook shelved.now) (deferred_shelved shelved.now) sums.old sums.new }
-    ensures few { (count : ℕ) → AreOfAtMost count sums.old → AreOfAtMost (count + count_of shelved.now) sums.new }
-    ensures balance { (home : Home) → IsShelvedAt home shelved.now → Balance home.zone sums.old → Balance home.zone sums.new }
+    ensures { AddsAll (λ hook. times_shelved hook shelved.now) (deferred_shelved shelved.now) (count_of shelved.now) (λ home. IsShelvedAt home shelved.now) sums.old sums.new }
 {
     match shelved {
         Shelved::Plain { bucket, .. } => bucket.add_to(sums),

@@ -1,7 +1,12 @@
-use Rattle.std.proofs.Common.{◌≡◌}
+use Rattle.std.proofs.Common.{rules, ◌≡◌}
 use Rattle.std.proofs.lemmas.List.Elements.{All-map}
 use Rattle.uma_seat.specs.Stack.{loose_stack, empty_stack}
+use Rattle.uma_seat.proofs.RowSteps.{new_home}
 use Rattle.uma_seat.proofs.freed_row.FreedRow.make.Goals as goal
 
-pub returns-clause-empty : goal.returns-clause-empty
-returns-clause-empty g c = All-map (λ stack. stack ≡ empty_stack c.args.size) loose_stack c.loop.buckets.items c.loop.invariant.empty
+pub returns-clause-made : goal.returns-clause-made
+returns-clause-made g c = record {
+  len = search rules;
+  empty = All-map (λ stack. stack ≡ empty_stack c.args.size) loose_stack c.loop.buckets.items c.loop.invariant.empty;
+  home = λ home. new_home home c.args.size c.loop.buckets.items c.loop.invariant.empty;
+}

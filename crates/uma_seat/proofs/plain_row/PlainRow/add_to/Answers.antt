@@ -1,4 +1,4 @@
-use Rattle.std.proofs.Common.{◌≡◌, ◌<◌, ◌+◌, ◌*◌, ℕ, length, get_or, ap, ◌∙◌, subst, arith}
+use Rattle.std.proofs.Common.{rules, ◌≡◌, ◌<◌, ◌+◌, ◌*◌, ℕ, length, get_or, ap, ◌∙◌, subst, arith}
 use Rattle.uma_bucket.specs.Bucket.{items_of, tickets_of}
 use Rattle.uma_bucket.specs.Home.{AreHome}
 use Rattle.uma_bucket.specs.Sums.{times_cached, Adds}
@@ -20,14 +20,14 @@ loop-bucket-preserved g c =
     one_more_added (λ hook bucket. times_cached hook (items_of bucket)) (λ bucket. 0) (λ home bucket. AreHome home (tickets_of bucket)) xs c.args.sums.now c.loop-bucket.sums c.add_to.new.sums c.loop-bucket.bucket-index item (length (items_of item)) c.loop-bucket.invariant within
     (c.bucket-item.is ∙ ap (λ l. get_or l c.loop-bucket.bucket-index item) c.deref-bucket-items.ensures.value) (bucket_few item) c.add_to.ensures.adds c.add_to.ensures.few c.add_to.ensures.balance
 
-pub returns-clause-few : goal.returns-clause-few
-returns-clause-few g c count most =
-    let xs = c.args.self.now.buckets.items in
-    widen (count + 64 * c.loop-bucket.bucket-index) (count + 64 * length xs) _ (omega (arith, ap length c.deref-bucket-items.ensures.value, c.loop-bucket.auto.bucket-index-end)) (c.loop-bucket.invariant.few count most)
-
-pub returns-clause-adds : goal.returns-clause-adds
-returns-clause-adds g c =
+pub returns : goal.returns
+returns g c =
     let xs = c.args.self.now.buckets.items in
     let whole : c.loop-bucket.bucket-index ≡ length xs = omega (arith, ap length c.deref-bucket-items.ensures.value, c.loop-bucket.auto.bucket-index-end, c.loop-bucket-test.false) in
-    subst (λ (n : ℕ). Adds (λ hook. times_in_row hook c.args.self.now) n c.args.sums.now c.loop-bucket.sums) (zero_sum xs)
-    (all_added (λ hook bucket. times_cached hook (items_of bucket)) (λ bucket. 0) (λ home bucket. AreHome home (tickets_of bucket)) xs c.args.sums.now c.loop-bucket.sums c.loop-bucket.bucket-index c.loop-bucket.invariant whole)
+    record {
+      adds =
+          subst (λ (n : ℕ). Adds (λ hook. times_in_row hook c.args.self.now) n c.args.sums.now c.loop-bucket.sums) (zero_sum xs)
+          (all_added (λ hook bucket. times_cached hook (items_of bucket)) (λ bucket. 0) (λ home bucket. AreHome home (tickets_of bucket)) xs c.args.sums.now c.loop-bucket.sums c.loop-bucket.bucket-index c.loop-bucket.invariant whole);
+      few = λ count most. widen (count + 64 * c.loop-bucket.bucket-index) (count + 64 * length xs) _ (omega (arith, ap length c.deref-bucket-items.ensures.value, c.loop-bucket.auto.bucket-index-end)) (c.loop-bucket.invariant.few count most);
+      balance = search rules;
+    }

@@ -1,4 +1,4 @@
-use Rattle.std.proofs.Common.{◌∙◌, ap, sym, subst, refl}
+use Rattle.std.proofs.Common.{rules, ◌∙◌, ap, sym, subst, refl}
 use Rattle.std.proofs.lemmas.List.Elements.{All-set}
 use Rattle.uma_life.specs.Cached.{cached_ticket}
 use Rattle.uma_bucket.specs.Bucket.{tickets_of, size_of}
@@ -7,21 +7,17 @@ use Rattle.uma_seat.specs.Stack.{stack_of}
 use Rattle.uma_seat.proofs.RowSteps.{same_stack, at_row, set_row, All-there, none_home}
 use Rattle.uma_seat.proofs.plain_row.PlainRow.exchange.Goals as goal
 
-pub returns-clause-stacks : goal.returns-clause-stacks
-returns-clause-stacks g c =
+pub returns : goal.returns
+returns g c =
     let xs = c.args.self.now.buckets.items in
-    set_row stack_of xs c.args.domain c.swap.new.x _ (ap stack_of c.swap.ensures.x_after ∙ same_stack _ _ (size_of c.args.empty.now) _ c.requires.empty refl)
-
-pub returns-clause-taken : goal.returns-clause-taken
-returns-clause-taken g c =
-    ap stack_of c.swap.ensures.y_after ∙ sym (at_row stack_of c.args.self.now.buckets.items c.args.domain _ c.requires.within c.index_mut-bucket.ensures.value)
-
-pub returns-clause-home : goal.returns-clause-home
-returns-clause-home g c home before =
-    subst (λ bucket. AreHome home (tickets_of bucket)) (sym c.swap.ensures.y_after)
-    (All-there (λ bucket. AreHome home (tickets_of bucket)) c.args.self.now.buckets.items c.args.domain _ c.requires.within c.index_mut-bucket.ensures.value before)
-
-pub returns-clause-row_home : goal.returns-clause-row_home
-returns-clause-row_home g c home before =
-    All-set (λ bucket. AreHome home (tickets_of bucket)) c.args.self.now.buckets.items c.args.domain c.swap.new.x
-    (subst (λ bucket. AreHome home (tickets_of bucket)) (sym c.swap.ensures.x_after) (none_home cached_ticket home _ c.requires.empty)) before
+    record {
+      stacks = set_row stack_of xs c.args.domain c.swap.new.x _ (ap stack_of c.swap.ensures.x_after ∙ same_stack _ _ (size_of c.args.empty.now) _ c.requires.empty refl);
+      taken = ap stack_of c.swap.ensures.y_after ∙ sym (at_row stack_of c.args.self.now.buckets.items c.args.domain _ c.requires.within c.index_mut-bucket.ensures.value);
+      home = λ home before.
+          subst (λ bucket. AreHome home (tickets_of bucket)) (sym c.swap.ensures.y_after)
+          (All-there (λ bucket. AreHome home (tickets_of bucket)) c.args.self.now.buckets.items c.args.domain _ c.requires.within c.index_mut-bucket.ensures.value before);
+      row_home = λ home before.
+          All-set (λ bucket. AreHome home (tickets_of bucket)) c.args.self.now.buckets.items c.args.domain c.swap.new.x
+          (subst (λ bucket. AreHome home (tickets_of bucket)) (sym c.swap.ensures.x_after) (none_home cached_ticket home _ c.requires.empty)) before;
+      len = search rules;
+    }

@@ -12,7 +12,7 @@ pub invariant_of-self-clause-shelf_home : goal.invariant_of-self-clause-shelf_ho
 invariant_of-self-clause-shelf_home g c =
     let home = home_of c.args.self.now.seating in
     All-shelved (IsShelvedAt home) _ _ _ _ c.take_spare-spare.ensures.shelf c.put_newest.ensures.shelf c.args.self.now.shelf_home
-    (subst (λ domain. domain < home.domains) (sym c.requires.own) c.requires.home.2, c.push_last-bucket.ensures.home home c.args.self.now.plain_home c.requires.home)
+    (subst (λ domain. domain < home.domains) (sym c.requires.put.own) c.requires.put.home.2, c.push_last-bucket.ensures.home home c.args.self.now.plain_home c.requires.put.home)
 
 pub invariant_of-self-clause-shelf_clock : goal.invariant_of-self-clause-shelf_clock
 invariant_of-self-clause-shelf_clock g c =
@@ -21,4 +21,4 @@ invariant_of-self-clause-shelf_clock g c =
 
 pub returns-clause-full : goal.returns-clause-full
 returns-clause-full g c =
-    plain_shelved c.args.self.now _ c.args.domain _ c.args.item c.push_last-bucket.result _ _ _ c.requires.own c.push_last-bucket.ensures.full c.take_spare-spare.ensures.shelf c.put_newest.ensures.shelf c.take_spare-spare.ensures.spares c.put_newest.ensures.spares c.push_last-bucket.ensures.stacks
+    plain_shelved c.args.self.now _ c.args.domain _ c.args.item c.push_last-bucket.result _ _ _ c.requires.put.own c.push_last-bucket.ensures.full c.take_spare-spare.ensures.shelf c.put_newest.ensures.shelf c.take_spare-spare.ensures.spares c.put_newest.ensures.spares c.push_last-bucket.ensures.stacks
