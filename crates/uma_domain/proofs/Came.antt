@@ -19,9 +19,10 @@ use Rattle.uma_bucket.specs.Shelved.{count_of, CanBeListed}
 use Rattle.uma_domain.specs.declared.lists.Lists.{Lists}
 use Rattle.uma_domain.specs.declared.locked.Locked.{Locked}
 use Rattle.uma_domain.specs.declared.working.Working.{Working}
+use Rattle.uma_domain.specs.Frames.{KeepsAll}
 use Rattle.uma_domain.specs.Identity.{Identity, origin_of}
 use Rattle.uma_domain.specs.Listed.{IsPlainOf, IsLooseOf, IsSealedOf}
-use Rattle.uma_domain.specs.Lists.{lists_identity, plain_in, loose_in, sealed_in, working_in, missed_in}
+use Rattle.uma_domain.specs.Lists.{plain_in, loose_in, sealed_in, working_in}
 use Rattle.uma_domain.specs.Settled.{plain_of, loose_of, sealed_of, AreListed, Settles}
 use Rattle.uma_domain.specs.Working.{after, IsBounded}
 
@@ -72,18 +73,18 @@ module _ {T H P : Type 0} {g h : _} where
 
   -- ---- what is listed
 
-  abbrev IsKept : Lists T H P g h → Lists T H P g h → Type 0
-  IsKept was is = (plain_in is ≡ plain_in was) × (loose_in is ≡ loose_in was) × (sealed_in is ≡ sealed_in was) × (working_in is ≡ working_in was)
-
-  pub none_listed : (was is : Lists T H P g h) → IsKept was is → missed_in is ≡ missed_in was → lists_identity is ≡ lists_identity was → AreListed [] was is
-  none_listed was is kept missed identity = record {
-    plain = kept.0 ∙ sym (append-nil (plain_in was));
-    loose = kept.1 ∙ sym (append-nil (loose_in was));
-    sealed = kept.2 ∙ sym (append-nil (sealed_in was));
-    working = kept.3 ∙ still (working_in was) _ was.bounded refl;
-    missed = missed;
-    identity = identity;
+  pub none_listed : (was is : Lists T H P g h) → KeepsAll was is → AreListed [] was is
+  none_listed was is all = record {
+    plain = all.kept.plain ∙ sym (append-nil (plain_in was));
+    loose = all.kept.loose ∙ sym (append-nil (loose_in was));
+    sealed = all.kept.sealed ∙ sym (append-nil (sealed_in was));
+    working = all.kept.working ∙ still (working_in was) _ was.bounded refl;
+    missed = all.missed;
+    identity = all.kept.identity;
   }
+
+  pub all_kept : (lists : Lists T H P g h) → KeepsAll lists lists
+  all_kept lists = record { kept = record { plain = refl; loose = refl; sealed = refl; working = refl; identity = refl }; missed = refl }
 
   more_of : {A : Type 0} (of : Shelved T H P g h → Option A) (was mid is : List A) (first then : List (Shelved T H P g h)) → mid ≡ was ++ filter_map of first → is ≡ mid ++ filter_map of then → is ≡ was ++ filter_map of (first ++ then)
   more_of of was mid is first then one two =

@@ -1,10 +1,8 @@
 -- What a call of a domain did to its lists, from what the lists' own call did.
-use Rattle.std.proofs.Common.{◌≡◌, ◌+◌, ◌<◌, ℕ, [], ◌∷◌, ◌++◌, Option, Some, None, IfSome, IfNone, Result, Ok, Err, IfOk, OnOk, OnErr, is_ok, if◌then◌else◌, subst}
+use Rattle.std.proofs.Common.{◌≡◌, ◌+◌, ℕ, [], ◌∷◌, ◌++◌, Option, Some, None, IfSome, IfNone, Result, Ok, Err, IfOk, OnOk, OnErr, is_ok, if◌then◌else◌, All, subst}
 use Rattle.smr_clock.specs.declared.setup.Setup.{Setup}
 use Rattle.smr_clock.specs.declared.view.View.{View}
 use Rattle.smr_clock.specs.Belongs.{TableId}
-use Rattle.inbox.specs.Inbox.{popped_by}
-use Rattle.inbox.specs.Rule.{AreAll}
 use Rattle.uma_bucket.specs.declared.bucket.Bucket.{Bucket}
 use Rattle.uma_bucket.specs.declared.loose.Loose.{Loose}
 use Rattle.uma_bucket.specs.declared.sealed.Sealed.{Sealed}
@@ -15,14 +13,13 @@ use Rattle.uma_domain.specs.declared.lists.Lists.{Lists}
 use Rattle.uma_domain.specs.declared.locked.Locked.{Locked}
 use Rattle.uma_domain.specs.declared.taken.Taken.{Taken}
 use Rattle.uma_domain.specs.Domain.{domain_identity}
-use Rattle.uma_domain.specs.Listed.{listed}
-use Rattle.uma_domain.specs.Lists.{plain_in, loose_in, sealed_in, working_in, missed_in}
+use Rattle.uma_domain.specs.Giving.{TrimsUnused, TakesCandidates}
+use Rattle.uma_domain.specs.Identity.{Identity}
+use Rattle.uma_domain.specs.Lists.{lists_identity, plain_in, loose_in, sealed_in, working_in, missed_in}
 use Rattle.uma_domain.specs.Scans.{AllStay, TakesRipe}
-use Rattle.uma_domain.specs.Settled.{Settles, SettlesSome, SumsSettled}
-use Rattle.uma_domain.specs.Taken.{taken_in}
+use Rattle.uma_domain.specs.Settled.{SettlesAll, SettlesSome, SumsSettled}
+use Rattle.uma_domain.specs.Taken.{taken_in, IsTakenOf}
 use Rattle.uma_domain.specs.Tries.{SealsEach}
-use Rattle.uma_domain.specs.Trim.{Trims, TakesAll}
-use Rattle.uma_domain.specs.Working.{after, begun, working_set}
 use Rattle.uma_domain.specs.UnderLock.{AreListsOf, PutsPlain, PutsLoose, PutsSealed, TakesPlain, FindsNoPlain, TakesOldestRipe, FindsNoneRipe, SealsLoose, TakesUnused, TakesEach, KeepsLists, SettlesInbox, SettlesPart, SumsListed}
 
 module _ {T H P : Type 0} {g h : _} (domain : Domain T H P g h) (was is : Lists T H P g h) (of : AreListsOf domain was) where
@@ -62,15 +59,16 @@ module _ {T H P : Type 0} {g h : _} (domain : Domain T H P g h) (was is : Lists 
     tried = subst (λ (id : TableId × Setup). SealsEach copied id v (loose_in was) (sealed_in was) count (loose_in is) (sealed_in is) v') here tried;
   }
 
-  pub takes_unused : {E : Type 0} (result : Result (Taken T H P g h) E) → IfOk result (λ taken. Trims (working_set (working_in was)) (working_in was).count (plain_in was) (sealed_in was) (taken_in taken) (plain_in is) (sealed_in is))
-      → loose_in is ≡ loose_in was → IfOk result (λ _. working_in is ≡ begun (listed (plain_in is) (loose_in is) (sealed_in is))) → IfOk result (TakesUnused domain)
-  takes_unused (Ok taken) trimmed loose begins = record { was = was; is = is; of_domain = of; trimmed = trimmed; loose = loose; begins = begins }
-  takes_unused (Err e) trimmed loose begins = tt
+  pub takes_unused : {E : Type 0} (result : Result (Taken T H P g h) E) → IfOk result (λ taken. TrimsUnused was taken is) → loose_in is ≡ loose_in was → IfOk result (TakesUnused domain)
+  takes_unused (Ok taken) trimmed loose = record { was = was; is = is; of_domain = of; trimmed = trimmed.trims; loose = loose; begins = trimmed.begins }
+  takes_unused (Err e) trimmed loose = tt
 
-  pub takes_each : {E : Type 0} (result : Result (Taken T H P g h) E) → IfOk result (λ taken. TakesAll (plain_in was) (sealed_in was) (taken_in taken) (sealed_in is)) → IfOk result (λ _. plain_in is ≡ [])
-      → loose_in is ≡ loose_in was → IfOk result (λ _. working_in is ≡ after (working_in was) (listed (plain_in is) (loose_in is) (sealed_in is))) → IfOk result (TakesEach domain)
-  takes_each (Ok taken) all none loose goes_on = record { was = was; is = is; of_domain = of; all = all; none_left = none; loose = loose; goes_on = goes_on }
-  takes_each (Err e) all none loose goes_on = tt
+  pub takes_each : {E : Type 0} (result : Result (Taken T H P g h) E) → IfOk result (λ taken. TakesCandidates was taken is) → loose_in is ≡ loose_in was → IfOk result (TakesEach domain)
+  takes_each (Ok taken) all loose = record { was = was; is = is; of_domain = of; all = all.takes; none_left = all.none_left; loose = loose; goes_on = all.goes_on }
+  takes_each (Err e) all loose = tt
+
+  pub taken_own : {E : Type 0} (result : Result (Taken T H P g h) E) → IfOk result (λ taken. All (IsTakenOf (lists_identity was)) (taken_in taken)) → IfOk result (λ taken. All (IsTakenOf (domain_identity domain)) (taken_in taken))
+  taken_own result own = subst (λ (id : Identity). IfOk result (λ taken. All (IsTakenOf id) (taken_in taken))) of own
 
   pub keeps_lists : {E : Type 0} (result : Result (Taken T H P g h) E) → OnErr result ((plain_in is ≡ plain_in was) × (sealed_in is ≡ sealed_in was) × (working_in is ≡ working_in was)) → loose_in is ≡ loose_in was → OnErr result (KeepsLists domain)
   keeps_lists (Ok taken) kept loose = tt
@@ -78,9 +76,9 @@ module _ {T H P : Type 0} {g h : _} (domain : Domain T H P g h) (was is : Lists 
 
 -- by the inbox
 module _ {T H P : Type 0} {g h : _} (domain : Domain T H P g h) (was is : Locked T H P g h) (of : AreListsOf domain was.lists) where
-  pub settles_inbox : {E : Type 0} (result : Result ℕ E) → IfOk result (λ count. Settles was count is) → IfOk result (λ count. count < 65536 → AreAll (popped_by is.taker)) → IfOk result (SettlesInbox domain)
-  settles_inbox (Ok count) settles all = record { was = was; is = is; of_domain = of; settles = settles; all = all }
-  settles_inbox (Err e) settles all = tt
+  pub settles_inbox : {E : Type 0} (result : Result ℕ E) → SettlesAll was result is → IfOk result (SettlesInbox domain)
+  settles_inbox (Ok count) all = record { was = was; is = is; of_domain = of; settles = all.settled; most = all.most; all = all.all }
+  settles_inbox (Err e) all = tt
 
   pub settles_part : {A E : Type 0} (result : Result A E) → OnErr result (SettlesSome was is) → OnErr result (SettlesPart domain)
   settles_part (Ok count) settles = tt

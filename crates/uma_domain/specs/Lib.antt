@@ -4,9 +4,13 @@ pub mod Working
 pub mod Scans
 pub mod Taken
 pub mod Trim
-pub mod Tries
 pub mod Lists
+pub mod Frames
+pub mod Looks
+pub mod Puts
+pub mod Tries
 pub mod Domain
+pub mod Giving
 pub mod Sums
 pub mod Settled
 pub mod UnderLock

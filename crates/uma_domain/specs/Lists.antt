@@ -1,6 +1,8 @@
 -- Own: what contracts see of the lists under a domain's lock.
-use Rattle.std.specs.Prelude.{◌≡◌, ℕ, List, [], ◌∷◌, ◌++◌, length}
+use Rattle.std.specs.Prelude.{◌≡◌, ◌<◌, ◌^◌, ℕ, List, [], ◌∷◌, ◌++◌, length}
+use Rattle.deed_book.specs.declared.fail_book.FailBook.{FailBook}
 use Rattle.deed_book.specs.declared.fail_share.FailShare.{FailShare}
+use Rattle.deed_book.specs.FailBook.{fail_book_table, causes_of}
 use Rattle.deed_book.specs.FailShare.{causes_in, share_table}
 use Rattle.deed_book.specs.FailViews.{cause}
 use Rattle.uma_bucket.specs.declared.bucket.Bucket.{Bucket}
@@ -9,6 +11,8 @@ use Rattle.uma_bucket.specs.declared.sealed.Sealed.{Sealed}
 use Rattle.uma_domain.specs.declared.lists.Lists.{Lists}
 use Rattle.uma_domain.specs.declared.working.Working.{Working}
 use Rattle.uma_domain.specs.Identity.{Identity, key_identity}
+use Rattle.uma_domain.specs.Listed.{listed}
+use Rattle.uma_domain.specs.Working.{begun}
 
 module _ {T H P : Type 0} {g h : _} where
   -- which domain it is
@@ -32,6 +36,24 @@ module _ {T H P : Type 0} {g h : _} where
   -- how many looks found nothing
   abbrev pub missed_in : Lists T H P g h → ℕ
   missed_in lists = length lists.missed
+
+  -- they are of this domain, empty, and nothing was counted
+  pub record AreNew (own : Identity) (lists : Lists T H P g h) : Type 0 where
+    pub identity : lists_identity lists ≡ own
+    pub empty : (plain_in lists ≡ []) × (loose_in lists ≡ []) × (sealed_in lists ≡ [])
+    pub working : working_in lists ≡ begun 0
+    pub missed : missed_in lists ≡ 0
+
+  -- so many items are listed, fewer than 2^32
+  pub record HasItems (lists : Lists T H P g h) (many : ℕ) : Type 0 where
+    pub count : many ≡ (working_in lists).count
+    pub all : many ≡ listed (plain_in lists) (loose_in lists) (sealed_in lists)
+    pub few : many < 2 ^ 32
+
+-- The book is the domain's book of misses, and has counted none.
+pub record IsUnusedBook (identity : Identity) (misses : FailBook) : Type 0 where
+  pub book : fail_book_table misses ≡ identity.misses
+  pub none : causes_of misses ≡ []
 
 -- One more miss is in the share, whose book is the same.
 pub record IsRaised (was is : FailShare) : Type 0 where

@@ -1,10 +1,14 @@
 -- Own: what a scan of the sealed buckets by polls comes to.
 use Rattle.std.specs.Prelude.{◌≡◌, ◌≤◌, ◌<◌, ◌+◌, ◌-◌, ◌⊎◌, ℕ, List, [], ◌∷◌, ◌++◌, take, drop, slice_index_or, Option, IfSome, IfNone}
-use Rattle.std.specs.List.{AllZip}
+use Rattle.std.specs.List.{All, AllZip}
+use Rattle.std.specs.VecDeque.{deque_len, deque_capacity}
+use Rattle.std.specs.declared.collections.VecDeque.{VecDeque}
+use Rattle.smr_clock.specs.declared.setup.Setup.{Setup}
 use Rattle.uma_bucket.specs.declared.sealed.Sealed.{Sealed}
 use Rattle.uma_bucket.specs.declared.ripe.Ripe.{Ripe}
 use Rattle.uma_bucket.specs.Ripe.{ripe_note, SaidYes}
-use Rattle.uma_bucket.specs.Sealed.{sealed_note, SaidNo}
+use Rattle.uma_bucket.specs.Sealed.{sealed_note, SaidNo, IsSealedAt}
+use Rattle.smr_clock.specs.Belongs.{TableId}
 use Rattle.smr_clock.specs.Notes.{note_clock}
 use Rattle.uma_domain.specs.Listed.{sealed_len}
 
@@ -56,3 +60,23 @@ module _ {T H P : Type 0} {g h : _} where
     pub split : was ≡ take at was ++ bucket ∷ drop (at + 1) was
     pub taken : IfSome result (λ ripe. Ripens bucket ripe × (is ≡ take at was ++ drop (at + 1) was))
     pub stays : IfNone result ((stay : Sealed T H P g h) × Stays bucket stay × (is ≡ take at was ++ stay ∷ drop (at + 1) was))
+
+module _ {T H P Z : Type 0} {g h : _} where
+  -- there is a bucket at the place, and all are of this clock
+  pub record CanTryAt (clock : TableId × Setup) (sealed : VecDeque (Sealed T H P g h) Z) (at : ℕ) : Type 0 where
+    pub within : at < deque_len sealed
+    pub here : All (IsSealedAt clock) sealed.items
+
+  -- Those that are left are of the clock too, in the same room. They are one fewer where one was taken.
+  pub record LeavesTried (clock : TableId × Setup) (was : VecDeque (Sealed T H P g h) Z) (result : Option (Ripe T H P g h)) (is : VecDeque (Sealed T H P g h) Z) : Type 0 where
+    pub here : All (IsSealedAt clock) is.items
+    pub some : IfSome result (λ _. deque_len is + 1 ≡ deque_len was)
+    pub none : IfNone result (deque_len is ≡ deque_len was)
+    pub capacity : deque_capacity is ≡ deque_capacity was
+
+  -- The oldest bucket whose poll said yes is taken; none where each one's poll said no. No bucket came, and the room is the same.
+  pub record ScansForRipe (was : VecDeque (Sealed T H P g h) Z) (result : Option (Ripe T H P g h)) (is : VecDeque (Sealed T H P g h) Z) : Type 0 where
+    pub some : IfSome result (λ ripe. TakesRipe was.items ripe is.items)
+    pub none : IfNone result (AllStay was.items is.items)
+    pub fewer : deque_len is ≤ deque_len was
+    pub capacity : deque_capacity is ≡ deque_capacity was

@@ -1,5 +1,5 @@
 -- Own: what a settle comes to: buckets that came by the inbox are listed as the newest of their kinds, in the order in which they were popped.
-use Rattle.std.specs.Prelude.{◌≡◌, ◌<◌, ◌+◌, ℕ, List, ◌++◌, length, sum_by, Option, Some, None}
+use Rattle.std.specs.Prelude.{◌≡◌, ◌≤◌, ◌<◌, ◌+◌, ℕ, Bool, true, false, List, ◌++◌, length, sum_by, Option, Some, None, Result, IfOk, OnErr}
 use Rattle.std.specs.List.{filter_map}
 use Rattle.inbox.specs.Inbox.{items_of, popped_by}
 use Rattle.inbox.specs.Rule.{AreAll}
@@ -61,3 +61,19 @@ module _ {T H P : Type 0} {g h : _} where
     pub settles : Settles was count is
     pub all : count < 65536 → AreAll (popped_by is.taker)
     pub adds : Adds (times_listed (plain_in is.lists) (loose_in is.lists) (sealed_in is.lists)) (deferred_listed (loose_in is.lists) (sealed_in is.lists)) nothing_held sums
+
+  -- One bucket is settled, or there was none, and the inbox was empty at a step of the call. Where memory is wanting, none is.
+  pub record SettlesNext {E : Type 0} (was : Locked T H P g h) (result : Result Bool E) (is : Locked T H P g h) : Type 0 where
+    pub one : IfOk result (λ more. more ≡ true → Settles was 1 is)
+    pub none : IfOk result (λ more. more ≡ false → Settles was 0 is)
+    pub all : IfOk result (λ more. more ≡ false → AreAll (popped_by is.taker))
+    pub stays : OnErr result (Settles was 0 is)
+    pub identity : lists_identity is.lists ≡ lists_identity was.lists
+
+  -- So many buckets are settled, 65,536 at most; where they are fewer, the inbox was empty at a step of the call. Where memory is wanting, some are.
+  pub record SettlesAll {E : Type 0} (was : Locked T H P g h) (result : Result ℕ E) (is : Locked T H P g h) : Type 0 where
+    pub settled : IfOk result (λ count. Settles was count is)
+    pub most : IfOk result (λ count. count ≤ 65536)
+    pub all : IfOk result (λ count. count < 65536 → AreAll (popped_by is.taker))
+    pub stays : OnErr result (SettlesSome was is)
+    pub identity : lists_identity is.lists ≡ lists_identity was.lists

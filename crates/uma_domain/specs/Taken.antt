@@ -1,6 +1,6 @@
 -- Own: what contracts see of the buckets that a domain gave back.
-use Rattle.std.specs.Prelude.{ℕ, List}
-use Rattle.std.specs.VecDeque.{deque_capacity}
+use Rattle.std.specs.Prelude.{◌≡◌, ◌≤◌, ℕ, List, []}
+use Rattle.std.specs.VecDeque.{deque_len, deque_capacity}
 use Rattle.uma_domain.specs.declared.taken.Taken.{Taken}
 use Rattle.uma_domain.specs.declared.taken.TakenBucket.{TakenBucket}
 use Rattle.uma_domain.specs.declared.taken.TakenBucket.TheVariants.{Plain as Plain', Ripe as Ripe'}
@@ -20,3 +20,9 @@ module _ {T H P : Type 0} {g h : _} where
   abbrev pub IsTakenOf : Identity → TakenBucket T H P g h → Type 0
   IsTakenOf identity (Plain' bucket) = IsPlainOf identity.home bucket
   IsTakenOf identity (Ripe' bucket) = IsRipeOf identity bucket
+
+  -- none is in it, and it has room for so many
+  pub record IsEmptyFor (buckets : ℕ) (taken : Taken T H P g h) : Type 0 where
+    pub empty : taken_in taken ≡ []
+    pub none : deque_len taken.buckets ≡ 0
+    pub room : buckets ≤ taken_room taken

@@ -1,11 +1,17 @@
 -- Own: what a domain gives back. The candidates are the plain buckets, oldest first, and then the sealed ones whose poll says yes, oldest first.
 use Rattle.std.specs.Prelude.{◌≡◌, ◌≤◌, ◌<◌, ◌+◌, ◌-◌, ℕ, List, [], ◌∷◌, ◌++◌, length, map, sum_by}
+use Rattle.std.specs.List.{All}
+use Rattle.std.specs.VecDeque.{deque_len, deque_capacity}
+use Rattle.std.specs.declared.collections.VecDeque.{VecDeque}
+use Rattle.smr_clock.specs.declared.setup.Setup.{Setup}
+use Rattle.smr_clock.specs.Belongs.{TableId}
 use Rattle.uma_bucket.specs.declared.bucket.Bucket.{Bucket}
 use Rattle.uma_bucket.specs.declared.sealed.Sealed.{Sealed}
 use Rattle.uma_bucket.specs.declared.ripe.Ripe.{Ripe}
+use Rattle.uma_bucket.specs.Sealed.{IsSealedAt}
 use Rattle.uma_domain.specs.declared.taken.TakenBucket.{TakenBucket}
 use Rattle.uma_domain.specs.declared.taken.TakenBucket.TheVariants.{Plain as Plain', Ripe as Ripe'}
-use Rattle.uma_domain.specs.Listed.{plain_len, ripe_len}
+use Rattle.uma_domain.specs.Listed.{plain_len, sealed_len, ripe_len}
 use Rattle.uma_domain.specs.Scans.{TakesAllRipe, TrimsSealed}
 
 module _ {T : Type 0} {g : _} where
@@ -48,3 +54,40 @@ module _ {T H P : Type 0} {g h : _} where
     pub trims : TrimsSealed floor remain was ripe is
     pub order : list ≡ listed ++ map Ripe' ripe
     pub left : remains + sum_by ripe_len ripe ≡ remain
+
+module _ {X Z : Type 0} where
+  -- no bucket came, and the room is the same
+  pub record IsNoLonger (was is : VecDeque X Z) : Type 0 where
+    pub fewer : deque_len is ≤ deque_len was
+    pub capacity : deque_capacity is ≡ deque_capacity was
+
+module _ {T H P Y Z : Type 0} {g h : _} where
+  -- at least so many items remain as these buckets have, and the list of those taken has room for each bucket
+  pub record HasRoomFor {X : Type 0} (len : X → ℕ) (buckets : VecDeque X Y) (remain : ℕ) (taken : VecDeque (TakenBucket T H P g h) Z) : Type 0 where
+    pub enough : sum_by len buckets.items ≤ remain
+    pub room : deque_len taken + deque_len buckets ≤ deque_capacity taken
+
+  -- and the buckets are sealed by this clock
+  pub record CanTrimSealed (clock : TableId × Setup) (sealed : VecDeque (Sealed T H P g h) Y) (remain : ℕ) (taken : VecDeque (TakenBucket T H P g h) Z) : Type 0 where
+    pub here : All (IsSealedAt clock) sealed.items
+    pub fits : HasRoomFor sealed_len sealed remain taken
+
+  -- both lists have no bucket more than they had, and that of those taken has the same room
+  pub record StaysWithin (plain : VecDeque (Bucket T g) Y) (taken : VecDeque (TakenBucket T H P g h) Z) (plain_left : VecDeque (Bucket T g) Y) (list : VecDeque (TakenBucket T H P g h) Z) : Type 0 where
+    pub room : deque_len list + deque_len plain_left ≤ deque_len taken + deque_len plain
+    pub capacity : deque_capacity list ≡ deque_capacity taken
+
+module _ {T H P X Y Z : Type 0} {g h : _} where
+  -- the sealed buckets are of this clock, at least so many items remain as both lists have, and that of those taken is empty and has room for each bucket
+  pub record CanTakeCandidates (clock : TableId × Setup) (plain : VecDeque (Bucket T g) X) (sealed : VecDeque (Sealed T H P g h) Y) (remain : ℕ) (taken : VecDeque (TakenBucket T H P g h) Z) : Type 0 where
+    pub here : All (IsSealedAt clock) sealed.items
+    pub enough : sum_by plain_len plain.items + sum_by sealed_len sealed.items ≤ remain
+    pub empty : taken.items ≡ []
+    pub room : deque_len taken + (deque_len plain + deque_len sealed) ≤ deque_capacity taken
+
+module _ {T H P X Y : Type 0} {g h : _} where
+  -- as many items remain as before less those of the buckets that went, and no sealed bucket came
+  pub record LeavesItems (remain : ℕ) (plain : VecDeque (Bucket T g) X) (sealed : VecDeque (Sealed T H P g h) Y) (remains : ℕ) (plain_left : VecDeque (Bucket T g) X) (sealed_left : VecDeque (Sealed T H P g h) Y) : Type 0 where
+    pub left : remains + sum_by plain_len plain.items + sum_by sealed_len sealed.items ≡ remain + sum_by plain_len plain_left.items + sum_by sealed_len sealed_left.items
+    pub bound : remains ≤ remain
+    pub shorter : IsNoLonger sealed sealed_left

@@ -1,8 +1,9 @@
 -- Own: what a call of a domain did to its lists. They lie behind a lock, so each record names the lists of this very domain as the call found them under the lock, and as it left them.
-use Rattle.std.specs.Prelude.{◌≡◌, ◌+◌, ◌<◌, ◌⊎◌, ℕ, [], ◌∷◌, ◌++◌}
+use Rattle.std.specs.Prelude.{◌≡◌, ◌+◌, ◌<◌, ◌≤◌, ◌⊎◌, ℕ, [], ◌∷◌, ◌++◌, Result, IfOk, IfErr, OnOk, OnErr}
+use Rattle.std.specs.List.{All}
 use Rattle.smr_clock.specs.declared.view.View.{View}
 use Rattle.inbox.specs.declared.port.Port.{Port}
-use Rattle.inbox.specs.Inbox.{sent_by, turned_by, popped_by}
+use Rattle.inbox.specs.Inbox.{port_number, sent_by, turned_by, popped_by}
 use Rattle.inbox.specs.Rule.{AreAll}
 use Rattle.uma_bucket.specs.declared.bucket.Bucket.{Bucket}
 use Rattle.uma_bucket.specs.declared.inbox_key.InboxKey.{InboxKey}
@@ -12,6 +13,7 @@ use Rattle.uma_bucket.specs.declared.ripe.Ripe.{Ripe}
 use Rattle.uma_bucket.specs.declared.shelved.Shelved.{Shelved}
 use Rattle.uma_bucket.specs.declared.shelved.Shelved.TheVariants.{Plain as Plain', Loose as Loose', Sealed as Sealed'}
 use Rattle.uma_bucket.specs.declared.sums.Sums.{Sums}
+use Rattle.uma_bucket.specs.Inboxes.{port_origin}
 use Rattle.uma_domain.specs.declared.domain.Domain.{Domain}
 use Rattle.uma_domain.specs.declared.lists.Lists.{Lists}
 use Rattle.uma_domain.specs.declared.locked.Locked.{Locked}
@@ -21,7 +23,7 @@ use Rattle.uma_domain.specs.Listed.{listed}
 use Rattle.uma_domain.specs.Lists.{lists_identity, plain_in, loose_in, sealed_in, working_in, missed_in}
 use Rattle.uma_domain.specs.Scans.{AllStay, TakesRipe}
 use Rattle.uma_domain.specs.Settled.{Settles, SettlesSome, SumsSettled}
-use Rattle.uma_domain.specs.Taken.{taken_in}
+use Rattle.uma_domain.specs.Taken.{taken_in, IsTakenOf}
 use Rattle.uma_domain.specs.Tries.{SealsEach}
 use Rattle.uma_domain.specs.Trim.{Trims, TakesAll}
 use Rattle.uma_domain.specs.Working.{after, begun, working_set}
@@ -68,12 +70,22 @@ module _ {T H P : Type 0} {g h : _} where
   pub record HandsOver (domain : Domain T H P g h) (was : Port (Shelved T H P g h) (InboxKey H P)) (shelved : Shelved T H P g h) (is : Port (Shelved T H P g h) (InboxKey H P)) : Type 0 where
     pub went : (sent_by is ≡ sent_by was ++ unnumbered shelved ∷ []) ⊎ ((sent_by is ≡ sent_by was) × (turned_by is ≡ turned_by was + 1) × PutsShelved domain shelved)
 
-  -- so many buckets of the domain's inbox are listed; where they are fewer than 65,536, the inbox was empty at a step of the call
+  -- A put of a bucket by a port hands it over, or it comes back, and the port pushed nothing. The port is of the same inbox, with the same number.
+  pub record PutsByPort {B : Type 0} (domain : Domain T H P g h) (was : Port (Shelved T H P g h) (InboxKey H P)) (bucket : B) (shelved : Shelved T H P g h) (result : Result (Unit {0}) B) (is : Port (Shelved T H P g h) (InboxKey H P)) : Type 0 where
+    pub port : port_origin is ≡ port_origin was
+    pub number : port_number is ≡ port_number was
+    pub back : IfErr result (λ b. b ≡ bucket)
+    pub put : OnOk result (HandsOver domain was shelved is)
+    pub still : OnErr result (sent_by is ≡ sent_by was)
+    pub turned : OnErr result (turned_by is ≡ turned_by was + 1)
+
+  -- so many buckets of the domain's inbox are listed, 65,536 at most; where they are fewer, the inbox was empty at a step of the call
   pub record SettlesInbox (domain : Domain T H P g h) (count : ℕ) : Type 0 where
     pub was : Locked T H P g h
     pub is : Locked T H P g h
     pub of_domain : AreListsOf domain was.lists
     pub settles : Settles was count is
+    pub most : count ≤ 65536
     pub all : count < 65536 → AreAll (popped_by is.taker)
 
   -- some buckets of the domain's inbox are listed, and the rest is in the inbox
@@ -148,6 +160,12 @@ module _ {T H P : Type 0} {g h : _} where
     pub loose : loose_in is ≡ loose_in was
     pub sealed : sealed_in is ≡ sealed_in was
     pub working : working_in is ≡ working_in was
+
+  -- What is taken is as is said of it, and of the domain. Where memory is wanting the lists are as they were.
+  pub record GivesUnderLock {E : Type 0} (domain : Domain T H P g h) (Takes : Taken T H P g h → Type 0) (result : Result (Taken T H P g h) E) : Type 0 where
+    pub of_domain : IfOk result (λ given. All (IsTakenOf (domain_identity domain)) (taken_in given))
+    pub taken : IfOk result Takes
+    pub unchanged : OnErr result (KeepsLists domain)
 
   -- a new interval begins
   pub record Marks (domain : Domain T H P g h) : Type 0 where

@@ -1,9 +1,5 @@
-ghost use Rattle.std.specs.Prelude.{◌≡◌, ◌≤◌, ◌+◌, [], All, sum_by};
-ghost use Rattle.std.specs.VecDeque.{deque_len, deque_capacity};
 ghost use Rattle.smr_clock.specs.Belongs.{clock_id};
-ghost use Rattle.uma_bucket.specs.Sealed.{IsSealedAt};
-ghost use Rattle.uma_domain.specs.Listed.{plain_len, sealed_len};
-ghost use Rattle.uma_domain.specs.Trim.{Trims};
+ghost use Rattle.uma_domain.specs.Trim.{CanTakeCandidates, LeavesItems, Trims};
 
 use crate::plains::trim_plain;
 use crate::scans::trim_sealed;
@@ -23,15 +19,9 @@ pub(crate) fn take_candidates<T: Body, H: Host>(
     remain: u64,
     taken: &mut VecDeque<TakenBucket<T, H>>,
 ) -> u64
-    requires here { All (IsSealedAt (clock_id clock.now)) sealed.old.items }
-    requires enough { sum_by plain_len plain.old.items + sum_by sealed_len sealed.old.items ≤ remain }
-    requires empty { taken.old.items ≡ [] }
-    requires room { deque_len taken.old + (deque_len plain.old + deque_len sealed.old) ≤ deque_capacity taken.old }
+    requires { CanTakeCandidates (clock_id clock.now) plain.old sealed.old remain taken.old }
     ensures trims { Trims floor remain plain.old.items sealed.old.items taken.new.items plain.new.items sealed.new.items }
-    ensures left { result + sum_by plain_len plain.old.items + sum_by sealed_len sealed.old.items ≡ remain + sum_by plain_len plain.new.items + sum_by sealed_len sealed.new.items }
-    ensures bound { result ≤ remain }
-    ensures fewer { deque_len sealed.new ≤ deque_len sealed.old }
-    ensures capacity { deque_capacity sealed.new ≡ deque_capacity sealed.old }
+    ensures leaves { LeavesItems remain plain.old sealed.old result plain.new sealed.new }
 {
     let left = trim_plain(plain, floor, remain, taken);
     if !plain.is_empty() {

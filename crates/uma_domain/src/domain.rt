@@ -1,17 +1,12 @@
-ghost use Rattle.std.specs.Prelude.{◌≡◌, ◌≤◌, ◌<◌, ◌+◌, ◌^◌, ◌-◌, [], All, true, false, IfOk, IfErr, OnOk, OnErr, IfSome, IfNone};
+ghost use Rattle.std.specs.Prelude.{◌≡◌, ◌≤◌, ◌<◌, ◌^◌, false, IfOk, OnErr};
 ghost use Rattle.deed_book.specs.Book.{book_table};
-ghost use Rattle.deed_book.specs.FailBook.{fail_book_table, causes_of};
-ghost use Rattle.deed_book.specs.FailShare.{share_table, causes_in};
-ghost use Rattle.inbox.specs.Inbox.{inbox_id, port_number, sent_by, turned_by};
+ghost use Rattle.inbox.specs.Inbox.{inbox_id};
 ghost use Rattle.keyed_lock.specs.KeyedLock.{lock_key};
-ghost use Rattle.smr_clock.specs.Belongs.{IsOf, clock_id, view, holder};
+ghost use Rattle.smr_clock.specs.Belongs.{clock_id, view};
 ghost use Rattle.uma_bucket.specs.Inboxes.{port_origin, taker_origin};
 ghost use Rattle.uma_bucket.specs.Shelved.{CanBeListed};
-ghost use Rattle.uma_bucket.specs.Sums.{AreOfAtMost, Balance};
 ghost use Rattle.uma_domain.specs.Identity.{home_of, key_identity, origin_of};
 ghost use Rattle.uma_domain.specs.Listed.{IsPlainOf, IsLooseOf, IsSealedOf, IsRipeOf};
-ghost use Rattle.uma_domain.specs.Lists.{IsRaised};
-ghost use Rattle.uma_domain.specs.Taken.{taken_in, IsTakenOf};
 
 use crate::key::DomainKey;
 use crate::lists::Lists;
@@ -43,7 +38,8 @@ pub struct Domain<T: Body, H: Host> {
 }
 
 impl<T: Body + Drop, H: Host> Domain<T, H> {
-    ghost use Rattle.uma_domain.specs.Domain.{domain_identity};
+    ghost use Rattle.uma_domain.specs.Domain.{IsMadeFor};
+    ghost use Rattle.uma_domain.specs.Lists.{IsUnusedBook};
 
     /// A domain with empty lists and an empty inbox, of a zone with so many domains over the keg whose item numbers are those
     /// of the book. `smr` says whether readers of the zone hold no lock. The clock is that of the zone.
@@ -55,9 +51,7 @@ impl<T: Body + Drop, H: Host> Domain<T, H> {
         domains: u8,
         smr: bool,
     ) -> Result<Domain<T, H>, Memory>
-        ensures clock { IfOk result (λ domain. (domain_identity domain).clock ≡ clock_id clock.now) }
-        ensures home { IfOk result (λ domain. (domain_identity domain).home ≡ home_of (book_table book.value) zone domains) }
-        ensures smr { IfOk result (λ domain. (domain_identity domain).smr ≡ smr) }
+        ensures { IfOk result (IsMadeFor (clock_id clock.now) (home_of (book_table book.value) zone domains) smr) }
     {
         let misses = FailBook::new(alloc)?;
         let buckets = InboxKey {
@@ -88,8 +82,7 @@ impl<T: Body + Drop, H: Host> Domain<T, H> {
         misses: FailBook,
         taker: Taker<T, H>,
     ) -> Result<KeyedLock<Box<Locked<T, H>>, DomainKey<H>, ListsOfKey>, Memory>
-        requires book { fail_book_table misses ≡ (key_identity key.now).misses }
-        requires none { causes_of misses ≡ [] }
+        requires book { IsUnusedBook (key_identity key.now) misses }
         requires taker { taker_origin taker ≡ origin_of (key_identity key.now) }
         ensures { IfOk result (λ lists. lock_key lists ≡ key.now) }
     {
@@ -110,7 +103,8 @@ impl<T: Body + Drop, H: Host> Domain<T, H> {
 /// What goes by the inbox.
 impl<T: Body + Drop, H: Host> Domain<T, H> {
     ghost use Rattle.uma_domain.specs.Domain.{domain_identity};
-    ghost use Rattle.uma_domain.specs.UnderLock.{HandsOver, SettlesInbox, SettlesPart, SumsListed};
+    ghost use Rattle.uma_domain.specs.Sums.{TellsSums};
+    ghost use Rattle.uma_domain.specs.UnderLock.{PutsByPort, SettlesInbox, SettlesPart, SumsListed};
 
     /// Hands a full plain bucket over by a port: pushes it into the inbox. Where the inbox hands it back, the bucket is
     /// listed as the newest plain one, under the lock. It comes back where memory is wanting for that too, or where 2^32
@@ -123,12 +117,7 @@ impl<T: Body + Drop, H: Host> Domain<T, H> {
     ) -> Result<(), Bucket<T>>
         requires port { port_origin port.old ≡ origin_of (domain_identity self.now) }
         requires bucket { IsPlainOf (domain_identity self.now).home bucket }
-        ensures port { port_origin port.new ≡ port_origin port.old }
-        ensures number { port_number port.new ≡ port_number port.old }
-        ensures back { IfErr result (λ back. back ≡ bucket) }
-        ensures put { OnOk result (HandsOver self.now port.old (Shelved.Plain 0 bucket) port.new) }
-        ensures still { OnErr result (sent_by port.new ≡ sent_by port.old) }
-        ensures turned { OnErr result (turned_by port.new ≡ turned_by port.old + 1) }
+        ensures { PutsByPort self.now port.old bucket (Shelved.Plain 0 bucket) result port.new }
     {
         let shelved = Shelved::Plain { domain: 0, bucket };
         match self.inbox.push(rt, port, shelved) {
@@ -149,12 +138,7 @@ impl<T: Body + Drop, H: Host> Domain<T, H> {
     ) -> Result<(), Loose<T>>
         requires port { port_origin port.old ≡ origin_of (domain_identity self.now) }
         requires bucket { IsLooseOf (domain_identity self.now).home bucket }
-        ensures port { port_origin port.new ≡ port_origin port.old }
-        ensures number { port_number port.new ≡ port_number port.old }
-        ensures back { IfErr result (λ back. back ≡ bucket) }
-        ensures put { OnOk result (HandsOver self.now port.old (Shelved.Loose 0 bucket) port.new) }
-        ensures still { OnErr result (sent_by port.new ≡ sent_by port.old) }
-        ensures turned { OnErr result (turned_by port.new ≡ turned_by port.old + 1) }
+        ensures { PutsByPort self.now port.old bucket (Shelved.Loose 0 bucket) result port.new }
     {
         let shelved = Shelved::Loose { domain: 0, bucket };
         match self.inbox.push(rt, port, shelved) {
@@ -175,12 +159,7 @@ impl<T: Body + Drop, H: Host> Domain<T, H> {
     ) -> Result<(), Sealed<T, H>>
         requires port { port_origin port.old ≡ origin_of (domain_identity self.now) }
         requires bucket { IsSealedOf (domain_identity self.now) bucket }
-        ensures port { port_origin port.new ≡ port_origin port.old }
-        ensures number { port_number port.new ≡ port_number port.old }
-        ensures back { IfErr result (λ back. back ≡ bucket) }
-        ensures put { OnOk result (HandsOver self.now port.old (Shelved.Sealed 0 bucket) port.new) }
-        ensures still { OnErr result (sent_by port.new ≡ sent_by port.old) }
-        ensures turned { OnErr result (turned_by port.new ≡ turned_by port.old + 1) }
+        ensures { PutsByPort self.now port.old bucket (Shelved.Sealed 0 bucket) result port.new }
     {
         let shelved = Shelved::Sealed { domain: 0, bucket };
         match self.inbox.push(rt, port, shelved) {
@@ -195,7 +174,6 @@ impl<T: Body + Drop, H: Host> Domain<T, H> {
     /// or more could be listed, what was listed stays listed, and the rest is in the inbox.
     pub fn settle<R: Wait>(&self, rt: &R) -> Result<u32, Memory>
         ensures settled { IfOk result (SettlesInbox self.now) }
-        ensures most { IfOk result (λ count. count ≤ 65536) }
         ensures stays { OnErr result (SettlesPart self.now) }
     {
         let mut guard = self.lists.lock(rt);
@@ -206,11 +184,7 @@ impl<T: Body + Drop, H: Host> Domain<T, H> {
     /// the domain's own zone the ctors exceed the dtors by those that are freed, and in every other zone they are equal,
     /// modulo 2^64. Each is below 2^96.
     pub fn sums<R: Wait>(&self, rt: &R) -> Result<Sums, Memory>
-        ensures adds { IfOk result (SumsListed self.now) }
-        ensures few { IfOk result (AreOfAtMost (2 ^ 32)) }
-        ensures below { IfOk result (AreOfAtMost (2 ^ 32 - 1)) }
-        ensures balance { IfOk result (Balance (domain_identity self.now).home.zone) }
-        ensures stays { OnErr result (SettlesPart self.now) }
+        ensures { TellsSums (domain_identity self.now).home.zone (SumsListed self.now) (SettlesPart self.now) result }
     {
         let mut guard = self.lists.lock(rt);
         guard.value.sums(rt, &self.inbox)
@@ -219,12 +193,15 @@ impl<T: Body + Drop, H: Host> Domain<T, H> {
 
 impl<T: Body, H: Host> Domain<T, H> {
     ghost use Rattle.uma_domain.specs.Domain.{domain_identity};
-    ghost use Rattle.uma_domain.specs.UnderLock.{PutsPlain, PutsLoose, PutsSealed, TakesPlain, FindsNoPlain, TakesOldestRipe, FindsNoneRipe, SealsLoose, TakesUnused, TakesEach, KeepsLists, Marks, CountsListed, TellsWorking};
+    ghost use Rattle.uma_domain.specs.Frames.{KeepsPass};
+    ghost use Rattle.uma_domain.specs.Looks.{CanLook, CanPoll, IsNewShare, LooksUnderLock};
+    ghost use Rattle.uma_domain.specs.Puts.{IsNewPort, PutsOrReturns};
+    ghost use Rattle.uma_domain.specs.Tries.{CanSeal};
+    ghost use Rattle.uma_domain.specs.UnderLock.{PutsPlain, PutsLoose, PutsSealed, TakesPlain, FindsNoPlain, TakesOldestRipe, FindsNoneRipe, SealsLoose, TakesUnused, TakesEach, GivesUnderLock, Marks, CountsListed, TellsWorking};
 
     /// The next port of the domain's inbox, which pushed nothing.
     pub fn port<R: Wait>(&self, rt: &R) -> Port<T, H>
-        ensures origin { port_origin result ≡ origin_of (domain_identity self.now) }
-        ensures none { sent_by result ≡ [] }
+        ensures { IsNewPort (domain_identity self.now) result }
     {
         let mut guard = self.lists.lock(rt);
         guard.value.port(&self.inbox)
@@ -233,8 +210,7 @@ impl<T: Body, H: Host> Domain<T, H> {
     // Lists a bucket as the newest plain one.
     fn list_plain<R: Wait>(&self, rt: &R, bucket: Bucket<T>) -> Result<(), Bucket<T>>
         requires { IsPlainOf (domain_identity self.now).home bucket }
-        ensures back { IfErr result (λ back. back ≡ bucket) }
-        ensures put { OnOk result (PutsPlain self.now bucket) }
+        ensures { PutsOrReturns (PutsPlain self.now) bucket result }
     {
         let mut guard = self.lists.lock(rt);
         guard.value.lists.put_plain(bucket)
@@ -243,8 +219,7 @@ impl<T: Body, H: Host> Domain<T, H> {
     // Lists a bucket as the newest loose one.
     fn list_loose<R: Wait>(&self, rt: &R, bucket: Loose<T>) -> Result<(), Loose<T>>
         requires { IsLooseOf (domain_identity self.now).home bucket }
-        ensures back { IfErr result (λ back. back ≡ bucket) }
-        ensures put { OnOk result (PutsLoose self.now bucket) }
+        ensures { PutsOrReturns (PutsLoose self.now) bucket result }
     {
         let mut guard = self.lists.lock(rt);
         guard.value.lists.put_loose(bucket)
@@ -253,8 +228,7 @@ impl<T: Body, H: Host> Domain<T, H> {
     // Lists a bucket as the newest sealed one.
     fn list_sealed<R: Wait>(&self, rt: &R, bucket: Sealed<T, H>) -> Result<(), Sealed<T, H>>
         requires { IsSealedOf (domain_identity self.now) bucket }
-        ensures back { IfErr result (λ back. back ≡ bucket) }
-        ensures put { OnOk result (PutsSealed self.now bucket) }
+        ensures { PutsOrReturns (PutsSealed self.now) bucket result }
     {
         let mut guard = self.lists.lock(rt);
         guard.value.lists.put_sealed(bucket)
@@ -262,8 +236,7 @@ impl<T: Body, H: Host> Domain<T, H> {
 
     /// A share of the domain's book of misses that has no cause.
     pub fn open_misses<R: Wait>(&self, rt: &R) -> FailShare
-        ensures share { causes_in result ≡ [] }
-        ensures book { share_table result ≡ (domain_identity self.now).misses }
+        ensures { IsNewShare (domain_identity self.now) result }
     {
         let mut guard = self.lists.lock(rt);
         guard.value.lists.open_misses()
@@ -271,13 +244,8 @@ impl<T: Body, H: Host> Domain<T, H> {
 
     /// Takes the newest plain bucket. None where there was none, which is one more miss in the share.
     pub fn take_plain<R: Wait>(&self, rt: &R, share: &mut FailShare) -> Option<Bucket<T>>
-        requires plain { (domain_identity self.now).smr ≡ false }
-        requires share { share_table share.old ≡ (domain_identity self.now).misses }
-        ensures of_domain { IfSome result (IsPlainOf (domain_identity self.now).home) }
-        ensures hit { IfSome result (λ _. share.new ≡ share.old) }
-        ensures raised { IfNone result (IsRaised share.old share.new) }
-        ensures taken { IfSome result (TakesPlain self.now) }
-        ensures looked { IfNone result (FindsNoPlain self.now) }
+        requires { CanLook false (domain_identity self.now) share.old }
+        ensures { LooksUnderLock (IsPlainOf (domain_identity self.now).home) (TakesPlain self.now) (FindsNoPlain self.now) share.old result share.new }
     {
         let mut guard = self.lists.lock(rt);
         guard.value.lists.take_plain(share)
@@ -291,14 +259,8 @@ impl<T: Body, H: Host> Domain<T, H> {
         clock: &Clock<H>,
         share: &mut FailShare,
     ) -> Option<Ripe<T, H>>
-        requires smr { (domain_identity self.now).smr ≡ true }
-        requires here { clock_id clock.now ≡ (domain_identity self.now).clock }
-        requires share { share_table share.old ≡ (domain_identity self.now).misses }
-        ensures of_domain { IfSome result (IsRipeOf (domain_identity self.now)) }
-        ensures hit { IfSome result (λ _. share.new ≡ share.old) }
-        ensures raised { IfNone result (IsRaised share.old share.new) }
-        ensures taken { IfSome result (TakesOldestRipe self.now) }
-        ensures looked { IfNone result (FindsNoneRipe self.now) }
+        requires { CanPoll (domain_identity self.now) clock.now share.old }
+        ensures { LooksUnderLock (IsRipeOf (domain_identity self.now)) (TakesOldestRipe self.now) (FindsNoneRipe self.now) share.old result share.new }
     {
         let mut guard = self.lists.lock(rt);
         guard.value.lists.take_ripe(clock, share)
@@ -306,12 +268,8 @@ impl<T: Body, H: Host> Domain<T, H> {
 
     /// Each loose bucket tries once to be sealed, oldest first. Answers how many buckets were sealed.
     pub fn seal_loose<R: Wait>(&self, rt: &R, clock: &Clock<H>, pass: &mut Pass<H>) -> u32
-        requires here { clock_id clock.now ≡ (domain_identity self.now).clock }
-        requires pass { IsOf clock.now pass.old }
-        ensures pass { IsOf clock.now pass.new }
-        ensures phase { (holder pass.new).phase ≡ (holder pass.old).phase }
-        ensures seen { (holder pass.old).seen ≤ (holder pass.new).seen }
-        ensures host { (view pass.new).host ≡ (view pass.old).host }
+        requires { CanSeal (domain_identity self.now) clock.now pass.old }
+        ensures pass { KeepsPass clock.now pass.old pass.new }
         ensures tried { SealsLoose self.now H.copied (view pass.old) result (view pass.new) }
     {
         let mut guard = self.lists.lock(rt);
@@ -326,9 +284,7 @@ impl<T: Body, H: Host> Domain<T, H> {
         clock: &Clock<H>,
     ) -> Result<Taken<T, H>, Memory>
         requires { clock_id clock.now ≡ (domain_identity self.now).clock }
-        ensures of_domain { IfOk result (λ taken. All (IsTakenOf (domain_identity self.now)) (taken_in taken)) }
-        ensures taken { IfOk result (TakesUnused self.now) }
-        ensures unchanged { OnErr result (KeepsLists self.now) }
+        ensures { GivesUnderLock self.now (TakesUnused self.now) result }
     {
         let mut guard = self.lists.lock(rt);
         guard.value.lists.take_trim(alloc, clock)
@@ -342,9 +298,7 @@ impl<T: Body, H: Host> Domain<T, H> {
         clock: &Clock<H>,
     ) -> Result<Taken<T, H>, Memory>
         requires { clock_id clock.now ≡ (domain_identity self.now).clock }
-        ensures of_domain { IfOk result (λ taken. All (IsTakenOf (domain_identity self.now)) (taken_in taken)) }
-        ensures taken { IfOk result (TakesEach self.now) }
-        ensures unchanged { OnErr result (KeepsLists self.now) }
+        ensures { GivesUnderLock self.now (TakesEach self.now) result }
     {
         let mut guard = self.lists.lock(rt);
         guard.value.lists.take_all(alloc, clock)

@@ -42,20 +42,18 @@ pub struct Lists<T: Body, H: Host> {
 }
 
 impl<T: Body, H: Host> Lists<T, H> {
-    ghost use Rattle.std.specs.Prelude.{◌<◌, ◌-◌, ◌^◌, ◌∷◌, ◌++◌, [], ◌⊎◌, false, if◌then◌else◌, is_ok, IfErr, OnErr, OnOk, IfSome, IfNone};
-    ghost use Rattle.deed_book.specs.FailShare.{share_table, causes_in};
+    ghost use Rattle.std.specs.Prelude.{◌<◌, ◌^◌, [], false};
+    ghost use Rattle.uma_domain.specs.Frames.{KeepsAll, KeepsButPlain, KeepsButLoose, KeepsButSealed, KeepsButWorking};
     ghost use Rattle.uma_domain.specs.Listed.{plain_len, loose_len, sealed_len};
-    ghost use Rattle.uma_domain.specs.Lists.{lists_identity, plain_in, loose_in, sealed_in, working_in, missed_in, IsRaised};
-    ghost use Rattle.uma_domain.specs.Working.{after, begun};
+    ghost use Rattle.uma_domain.specs.Lists.{lists_identity, plain_in, loose_in, sealed_in, working_in, AreNew, HasItems, IsUnusedBook};
+    ghost use Rattle.uma_domain.specs.Looks.{CanLook, CountsMiss, IsNewShare, TakesNewestPlain};
+    ghost use Rattle.uma_domain.specs.Puts.{IsPlainFull, IsLooseFull, IsSealedFull, ListsNewest};
+    ghost use Rattle.uma_domain.specs.Working.{begun};
 
     /// Empty lists of the domain that the key names, with its book of misses, which has counted nothing.
     pub(crate) fn new(alloc: Global, key: &DomainKey<H>, misses: FailBook) -> Lists<T, H>
-        requires book { fail_book_table misses ≡ (key_identity key.now).misses }
-        requires none { causes_of misses ≡ [] }
-        ensures identity { lists_identity result ≡ key_identity key.now }
-        ensures empty { (plain_in result ≡ []) × (loose_in result ≡ []) × (sealed_in result ≡ []) }
-        ensures working { working_in result ≡ begun 0 }
-        ensures missed { missed_in result ≡ 0 }
+        requires { IsUnusedBook (key_identity key.now) misses }
+        ensures { AreNew (key_identity key.now) result }
     {
         Lists {
             key: Snapshot::of(key),
@@ -72,15 +70,8 @@ impl<T: Body, H: Host> Lists<T, H> {
     /// items or more would be listed.
     pub fn put_plain(&mut self, bucket: Bucket<T>) -> Result<(), Bucket<T>>
         requires { IsPlainOf (lists_identity self.old).home bucket }
-        ensures newest { plain_in self.new ≡ (if is_ok result then plain_in self.old ++ bucket ∷ [] else plain_in self.old) }
-        ensures working { working_in self.new ≡ (if is_ok result then after (working_in self.old) ((working_in self.old).count + plain_len bucket) else working_in self.old) }
-        ensures back { IfErr result (λ back. back ≡ bucket) }
-        ensures few { OnOk result ((working_in self.old).count + plain_len bucket < 2 ^ 32) }
-        ensures full { OnErr result ((working_in self.old).count + plain_len bucket < 2 ^ 32 → deque_capacity self.old.plain ≤ deque_len self.old.plain) }
-        ensures loose { loose_in self.new ≡ loose_in self.old }
-        ensures sealed { sealed_in self.new ≡ sealed_in self.old }
-        ensures missed { missed_in self.new ≡ missed_in self.old }
-        ensures identity { lists_identity self.new ≡ lists_identity self.old }
+        ensures lists { ListsNewest bucket (plain_len bucket) (IsPlainFull self.old) (plain_in self.old) (working_in self.old) result (plain_in self.new) (working_in self.new) }
+        ensures kept { KeepsButPlain self.old self.new }
     {
         let count = self.working.count + u64::from(bucket.len());
         if count > u64::from(u32::MAX) {
@@ -97,15 +88,8 @@ impl<T: Body, H: Host> Lists<T, H> {
     /// changes, where memory is wanting, or where 2^32 items or more would be listed.
     pub fn put_loose(&mut self, bucket: Loose<T>) -> Result<(), Loose<T>>
         requires { IsLooseOf (lists_identity self.old).home bucket }
-        ensures newest { loose_in self.new ≡ (if is_ok result then loose_in self.old ++ bucket ∷ [] else loose_in self.old) }
-        ensures working { working_in self.new ≡ (if is_ok result then after (working_in self.old) ((working_in self.old).count + loose_len bucket) else working_in self.old) }
-        ensures back { IfErr result (λ back. back ≡ bucket) }
-        ensures few { OnOk result ((working_in self.old).count + loose_len bucket < 2 ^ 32) }
-        ensures full { OnErr result ((working_in self.old).count + loose_len bucket < 2 ^ 32 → (deque_capacity self.old.loose ≤ deque_len self.old.loose) ⊎ (deque_capacity self.old.sealed < deque_len self.old.sealed + (deque_len self.old.loose + 1))) }
-        ensures plain { plain_in self.new ≡ plain_in self.old }
-        ensures sealed { sealed_in self.new ≡ sealed_in self.old }
-        ensures missed { missed_in self.new ≡ missed_in self.old }
-        ensures identity { lists_identity self.new ≡ lists_identity self.old }
+        ensures lists { ListsNewest bucket (loose_len bucket) (IsLooseFull self.old) (loose_in self.old) (working_in self.old) result (loose_in self.new) (working_in self.new) }
+        ensures kept { KeepsButLoose self.old self.new }
     {
         let count = self.working.count + u64::from(bucket.len());
         if count > u64::from(u32::MAX) {
@@ -126,15 +110,8 @@ impl<T: Body, H: Host> Lists<T, H> {
     /// items or more would be listed.
     pub fn put_sealed(&mut self, bucket: Sealed<T, H>) -> Result<(), Sealed<T, H>>
         requires { IsSealedOf (lists_identity self.old) bucket }
-        ensures newest { sealed_in self.new ≡ (if is_ok result then sealed_in self.old ++ bucket ∷ [] else sealed_in self.old) }
-        ensures working { working_in self.new ≡ (if is_ok result then after (working_in self.old) ((working_in self.old).count + sealed_len bucket) else working_in self.old) }
-        ensures back { IfErr result (λ back. back ≡ bucket) }
-        ensures few { OnOk result ((working_in self.old).count + sealed_len bucket < 2 ^ 32) }
-        ensures full { OnErr result ((working_in self.old).count + sealed_len bucket < 2 ^ 32 → deque_capacity self.old.sealed < deque_len self.old.sealed + (deque_len self.old.loose + 1)) }
-        ensures plain { plain_in self.new ≡ plain_in self.old }
-        ensures loose { loose_in self.new ≡ loose_in self.old }
-        ensures missed { missed_in self.new ≡ missed_in self.old }
-        ensures identity { lists_identity self.new ≡ lists_identity self.old }
+        ensures lists { ListsNewest bucket (sealed_len bucket) (IsSealedFull self.old) (sealed_in self.old) (working_in self.old) result (sealed_in self.new) (working_in self.new) }
+        ensures kept { KeepsButSealed self.old self.new }
     {
         let count = self.working.count + u64::from(bucket.len());
         if count > u64::from(u32::MAX) {
@@ -151,30 +128,16 @@ impl<T: Body, H: Host> Lists<T, H> {
 
     /// A share of the book of misses that has no cause.
     pub fn open_misses(&mut self) -> FailShare
-        ensures share { causes_in result ≡ [] }
-        ensures book { share_table result ≡ (lists_identity self.old).misses }
-        ensures kept { (plain_in self.new ≡ plain_in self.old) × (loose_in self.new ≡ loose_in self.old) × (sealed_in self.new ≡ sealed_in self.old) × (working_in self.new ≡ working_in self.old) }
-        ensures missed { missed_in self.new ≡ missed_in self.old }
-        ensures identity { lists_identity self.new ≡ lists_identity self.old }
+        ensures opened { IsNewShare (lists_identity self.old) result }
+        ensures kept { KeepsAll self.old self.new }
     {
         self.misses.new_share()
     }
 
     /// Takes the newest plain bucket. None exactly where there is none, which is one more miss in the book and in the share.
     pub fn take_plain(&mut self, share: &mut FailShare) -> Option<Bucket<T>>
-        requires plain { (lists_identity self.old).smr ≡ false }
-        requires share { share_table share.old ≡ (lists_identity self.old).misses }
-        ensures newest { IfSome result (λ bucket. plain_in self.old ≡ plain_in self.new ++ bucket ∷ []) }
-        ensures of_domain { IfSome result (IsPlainOf (lists_identity self.old).home) }
-        ensures working { IfSome result (λ bucket. working_in self.new ≡ after (working_in self.old) ((working_in self.old).count - plain_len bucket)) }
-        ensures hit { IfSome result (λ _. (missed_in self.new ≡ missed_in self.old) × (share.new ≡ share.old)) }
-        ensures none { IfNone result ((plain_in self.old ≡ []) × (plain_in self.new ≡ [])) }
-        ensures still { IfNone result (working_in self.new ≡ working_in self.old) }
-        ensures miss { IfNone result (missed_in self.new ≡ missed_in self.old + 1) }
-        ensures raised { IfNone result (IsRaised share.old share.new) }
-        ensures loose { loose_in self.new ≡ loose_in self.old }
-        ensures sealed { sealed_in self.new ≡ sealed_in self.old }
-        ensures identity { lists_identity self.new ≡ lists_identity self.old }
+        requires { CanLook false (lists_identity self.old) share.old }
+        ensures { TakesNewestPlain self.old share.old result self.new share.new }
     {
         let Some(bucket) = self.plain.pop_back() else {
             self.miss_plain(share);
@@ -187,13 +150,9 @@ impl<T: Body, H: Host> Lists<T, H> {
 
     /// Counts a look for a plain bucket where none is listed.
     pub(crate) fn miss_plain(&mut self, share: &mut FailShare)
-        requires plain { (lists_identity self.old).smr ≡ false }
+        requires look { CanLook false (lists_identity self.old) share.old }
         requires none { plain_in self.old ≡ [] }
-        requires share { share_table share.old ≡ (lists_identity self.old).misses }
-        ensures missed { missed_in self.new ≡ missed_in self.old + 1 }
-        ensures raised { IsRaised share.old share.new }
-        ensures kept { (plain_in self.new ≡ plain_in self.old) × (loose_in self.new ≡ loose_in self.old) × (sealed_in self.new ≡ sealed_in self.old) × (working_in self.new ≡ working_in self.old) }
-        ensures identity { lists_identity self.new ≡ lists_identity self.old }
+        ensures { CountsMiss self.old share.old self.new share.new }
     {
         self.missed.push(());
         self.misses.add(share, 0, 0, 0);
@@ -201,9 +160,7 @@ impl<T: Body, H: Host> Lists<T, H> {
 
     /// How many items are listed, below 2^32.
     pub fn count(&self) -> u64
-        ensures count { result ≡ (working_in self.now).count }
-        ensures all { result ≡ listed (plain_in self.now) (loose_in self.now) (sealed_in self.now) }
-        ensures few { result < 2 ^ 32 }
+        ensures { HasItems self.now result }
     {
         self.working.count
     }
@@ -219,9 +176,7 @@ impl<T: Body, H: Host> Lists<T, H> {
     /// Begins a new interval: the least and the greatest count are the count.
     pub fn mark(&mut self)
         ensures working { working_in self.new ≡ begun (working_in self.old).count }
-        ensures kept { (plain_in self.new ≡ plain_in self.old) × (loose_in self.new ≡ loose_in self.old) × (sealed_in self.new ≡ sealed_in self.old) }
-        ensures missed { missed_in self.new ≡ missed_in self.old }
-        ensures identity { lists_identity self.new ≡ lists_identity self.old }
+        ensures kept { KeepsButWorking self.old self.new }
     {
         self.working = Working::at(self.working.count);
     }

@@ -1,7 +1,5 @@
-ghost use Rattle.std.specs.Prelude.{◌≡◌, ◌≤◌, ◌+◌, sum_by};
-ghost use Rattle.std.specs.VecDeque.{deque_len, deque_capacity};
 ghost use Rattle.uma_domain.specs.Listed.{plain_len};
-ghost use Rattle.uma_domain.specs.Trim.{TrimsPlainInto};
+ghost use Rattle.uma_domain.specs.Trim.{HasRoomFor, StaysWithin, TrimsPlainInto};
 
 use crate::taken::TakenBucket;
 use smr_clock::Host;
@@ -17,11 +15,9 @@ pub(crate) fn trim_plain<T: Body, H: Host>(
     mut remain: u64,
     taken: &mut VecDeque<TakenBucket<T, H>>,
 ) -> u64
-    requires enough { sum_by plain_len plain.old.items ≤ remain }
-    requires room { deque_len taken.old + deque_len plain.old ≤ deque_capacity taken.old }
+    requires { HasRoomFor plain_len plain.old remain taken.old }
     ensures trimmed { TrimsPlainInto floor remain plain.old.items taken.old.items result plain.new.items taken.new.items }
-    ensures room { deque_len taken.new + deque_len plain.new ≤ deque_len taken.old + deque_len plain.old }
-    ensures capacity { deque_capacity taken.new ≡ deque_capacity taken.old }
+    ensures within { StaysWithin plain.old taken.old plain.new taken.new }
 {
     for _ in 0..plain.len() {
         let len = u64::from(plain[0].len());

@@ -1,11 +1,10 @@
-ghost use Rattle.std.specs.Prelude.{◌≡◌, ◌≤◌, ◌+◌, ◌-◌, ◌^◌, ◌<◌, true, IfSome, IfNone, length};
-ghost use Rattle.deed_book.specs.FailShare.{share_table};
-ghost use Rattle.smr_clock.specs.Belongs.{IsOf, clock_id, view, holder};
-ghost use Rattle.uma_domain.specs.Listed.{IsRipeOf, ripe_len};
-ghost use Rattle.uma_domain.specs.Lists.{lists_identity, plain_in, loose_in, sealed_in, working_in, missed_in, IsRaised};
-ghost use Rattle.uma_domain.specs.Scans.{AllStay, TakesRipe};
-ghost use Rattle.uma_domain.specs.Tries.{SealsEach};
-ghost use Rattle.uma_domain.specs.Working.{after};
+ghost use Rattle.std.specs.Prelude.{true};
+ghost use Rattle.smr_clock.specs.Belongs.{clock_id, view};
+ghost use Rattle.uma_domain.specs.Frames.{KeepsButTried};
+ghost use Rattle.uma_domain.specs.Lists.{lists_identity, loose_in, sealed_in};
+ghost use Rattle.uma_domain.specs.Looks.{CanLook, CanPoll, CountsMiss, TakesFirstRipe};
+ghost use Rattle.uma_domain.specs.Scans.{AllStay};
+ghost use Rattle.uma_domain.specs.Tries.{CanSeal, SealsEach};
 
 use crate::lists::Lists;
 use crate::scans::take_first_ripe;
@@ -23,20 +22,8 @@ impl<T: Body, H: Host> Lists<T, H> {
     /// those behind it aren't polled. None exactly where each listed one's poll says no, which is one more miss in the book
     /// and in the share.
     pub fn take_ripe(&mut self, clock: &Clock<H>, share: &mut FailShare) -> Option<Ripe<T, H>>
-        requires smr { (lists_identity self.old).smr ≡ true }
-        requires here { clock_id clock.now ≡ (lists_identity self.old).clock }
-        requires share { share_table share.old ≡ (lists_identity self.old).misses }
-        ensures oldest { IfSome result (λ ripe. TakesRipe (sealed_in self.old) ripe (sealed_in self.new)) }
-        ensures of_domain { IfSome result (IsRipeOf (lists_identity self.old)) }
-        ensures working { IfSome result (λ ripe. working_in self.new ≡ after (working_in self.old) ((working_in self.old).count - ripe_len ripe)) }
-        ensures hit { IfSome result (λ _. (missed_in self.new ≡ missed_in self.old) × (share.new ≡ share.old)) }
-        ensures none { IfNone result (AllStay (sealed_in self.old) (sealed_in self.new)) }
-        ensures still { IfNone result (working_in self.new ≡ working_in self.old) }
-        ensures miss { IfNone result (missed_in self.new ≡ missed_in self.old + 1) }
-        ensures raised { IfNone result (IsRaised share.old share.new) }
-        ensures plain { plain_in self.new ≡ plain_in self.old }
-        ensures loose { loose_in self.new ≡ loose_in self.old }
-        ensures identity { lists_identity self.new ≡ lists_identity self.old }
+        requires { CanPoll (lists_identity self.old) clock.now share.old }
+        ensures { TakesFirstRipe self.old share.old result self.new share.new }
     {
         let before = Snapshot::of(&self.sealed);
         let Some(ripe) = take_first_ripe(&mut self.sealed, clock) else {
@@ -55,13 +42,9 @@ impl<T: Body, H: Host> Lists<T, H> {
         before: Snapshot<VecDeque<Sealed<T, H>>>,
         share: &mut FailShare,
     )
-        requires smr { (lists_identity self.old).smr ≡ true }
+        requires look { CanLook true (lists_identity self.old) share.old }
         requires said_no { AllStay before.value.items (sealed_in self.old) }
-        requires share { share_table share.old ≡ (lists_identity self.old).misses }
-        ensures missed { missed_in self.new ≡ missed_in self.old + 1 }
-        ensures raised { IsRaised share.old share.new }
-        ensures kept { (plain_in self.new ≡ plain_in self.old) × (loose_in self.new ≡ loose_in self.old) × (sealed_in self.new ≡ sealed_in self.old) × (working_in self.new ≡ working_in self.old) }
-        ensures identity { lists_identity self.new ≡ lists_identity self.old }
+        ensures { CountsMiss self.old share.old self.new share.new }
     {
         self.missed.push(());
         self.misses.add(share, 0, 0, 0);
@@ -70,17 +53,9 @@ impl<T: Body, H: Host> Lists<T, H> {
     /// Each loose bucket tries once to be sealed, oldest first. Those that were sealed are the newest sealed ones, in that
     /// order, and the others stay loose in theirs. Answers how many buckets were sealed.
     pub fn seal_loose(&mut self, clock: &Clock<H>, pass: &mut Pass<H>) -> u32
-        requires here { clock_id clock.now ≡ (lists_identity self.old).clock }
-        requires pass { IsOf clock.now pass.old }
-        ensures pass { IsOf clock.now pass.new }
-        ensures phase { (holder pass.new).phase ≡ (holder pass.old).phase }
-        ensures seen { (holder pass.old).seen ≤ (holder pass.new).seen }
-        ensures host { (view pass.new).host ≡ (view pass.old).host }
+        requires { CanSeal (lists_identity self.old) clock.now pass.old }
         ensures tried { SealsEach H.copied (clock_id clock.now) (view pass.old) (loose_in self.old) (sealed_in self.old) result (loose_in self.new) (sealed_in self.new) (view pass.new) }
-        ensures plain { plain_in self.new ≡ plain_in self.old }
-        ensures working { working_in self.new ≡ working_in self.old }
-        ensures missed { missed_in self.new ≡ missed_in self.old }
-        ensures identity { lists_identity self.new ≡ lists_identity self.old }
+        ensures kept { KeepsButTried clock.now pass.old pass.new self.old self.new }
     {
         seal_each(&mut self.loose, &mut self.sealed, clock, pass)
     }

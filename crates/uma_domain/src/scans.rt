@@ -1,10 +1,8 @@
-ghost use Rattle.std.specs.Prelude.{◌≡◌, ◌≤◌, ◌<◌, ◌+◌, IfSome, IfNone, All, sum_by};
-ghost use Rattle.std.specs.VecDeque.{deque_len, deque_capacity};
+ghost use Rattle.std.specs.Prelude.{All};
 ghost use Rattle.smr_clock.specs.Belongs.{clock_id};
 ghost use Rattle.uma_bucket.specs.Sealed.{IsSealedAt};
-ghost use Rattle.uma_domain.specs.Listed.{sealed_len};
-ghost use Rattle.uma_domain.specs.Scans.{AllStay, TakesRipe, TriesAt};
-ghost use Rattle.uma_domain.specs.Trim.{TrimsSealedInto};
+ghost use Rattle.uma_domain.specs.Scans.{CanTryAt, LeavesTried, ScansForRipe, TriesAt};
+ghost use Rattle.uma_domain.specs.Trim.{CanTrimSealed, IsNoLonger, TrimsSealedInto};
 
 use crate::taken::TakenBucket;
 use smr_clock::{Clock, Host};
@@ -18,13 +16,9 @@ fn take_if_ripe<T: Body, H: Host>(
     at: usize,
     clock: &Clock<H>,
 ) -> Option<Ripe<T, H>>
-    requires within { at < deque_len sealed.old }
-    requires here { All (IsSealedAt (clock_id clock.now)) sealed.old.items }
+    requires { CanTryAt (clock_id clock.now) sealed.old at }
     ensures tried { TriesAt sealed.old.items at result sealed.new.items }
-    ensures here { All (IsSealedAt (clock_id clock.now)) sealed.new.items }
-    ensures some { IfSome result (λ _. deque_len sealed.new + 1 ≡ deque_len sealed.old) }
-    ensures none { IfNone result (deque_len sealed.new ≡ deque_len sealed.old) }
-    ensures capacity { deque_capacity sealed.new ≡ deque_capacity sealed.old }
+    ensures leaves { LeavesTried (clock_id clock.now) sealed.old result sealed.new }
 {
     if !sealed[at].poll(clock) {
         return None;
@@ -39,10 +33,7 @@ pub(crate) fn take_first_ripe<T: Body, H: Host>(
     clock: &Clock<H>,
 ) -> Option<Ripe<T, H>>
     requires { All (IsSealedAt (clock_id clock.now)) sealed.old.items }
-    ensures some { IfSome result (λ ripe. TakesRipe sealed.old.items ripe sealed.new.items) }
-    ensures none { IfNone result (AllStay sealed.old.items sealed.new.items) }
-    ensures fewer { deque_len sealed.new ≤ deque_len sealed.old }
-    ensures capacity { deque_capacity sealed.new ≡ deque_capacity sealed.old }
+    ensures { ScansForRipe sealed.old result sealed.new }
 {
     for at in 0..sealed.len() {
         if let Some(ripe) = take_if_ripe(sealed, at, clock) {
@@ -61,12 +52,9 @@ pub(crate) fn trim_sealed<T: Body, H: Host>(
     mut remain: u64,
     taken: &mut VecDeque<TakenBucket<T, H>>,
 ) -> u64
-    requires here { All (IsSealedAt (clock_id clock.now)) sealed.old.items }
-    requires enough { sum_by sealed_len sealed.old.items ≤ remain }
-    requires room { deque_len taken.old + deque_len sealed.old ≤ deque_capacity taken.old }
+    requires { CanTrimSealed (clock_id clock.now) sealed.old remain taken.old }
     ensures trimmed { TrimsSealedInto floor remain sealed.old.items taken.old.items result sealed.new.items taken.new.items }
-    ensures fewer { deque_len sealed.new ≤ deque_len sealed.old }
-    ensures capacity { deque_capacity sealed.new ≡ deque_capacity sealed.old }
+    ensures shorter { IsNoLonger sealed.old sealed.new }
 {
     let mut at = 0;
     while at < sealed.len() {

@@ -1,7 +1,4 @@
-ghost use Rattle.std.specs.Prelude.{◌^◌, ◌-◌};
-ghost use Rattle.uma_bucket.specs.Sums.{nothing_held, Adds, AreOfAtMost, Balance};
-ghost use Rattle.uma_domain.specs.Lists.{lists_identity, plain_in, loose_in, sealed_in};
-ghost use Rattle.uma_domain.specs.Sums.{times_listed, deferred_listed};
+ghost use Rattle.uma_domain.specs.Sums.{AreSumsOf};
 
 use crate::lists::Lists;
 use smr_clock::Host;
@@ -13,10 +10,7 @@ impl<T: Body, H: Host> Lists<T, H> {
     /// How often the items listed passed each hook, and how many of them are freed. In the domain's own zone the ctors
     /// exceed the dtors by those that are freed, and in every other zone they are equal, modulo 2^64. Each is below 2^96.
     pub fn sums(&self) -> Sums
-        ensures adds { Adds (times_listed (plain_in self.now) (loose_in self.now) (sealed_in self.now)) (deferred_listed (loose_in self.now) (sealed_in self.now)) nothing_held result }
-        ensures few { AreOfAtMost (2 ^ 32) result }
-        ensures below { AreOfAtMost (2 ^ 32 - 1) result }
-        ensures balance { Balance (lists_identity self.now).home.zone result }
+        ensures { AreSumsOf self.now result }
     {
         let mut sums = Sums::none();
         for plain_at in 0..self.plain.len() {

@@ -1,5 +1,4 @@
-ghost use Rattle.std.specs.Prelude.{◌≡◌, ◌≤◌, [], ◌∷◌, length, IfOk, IfSome, IfNone};
-ghost use Rattle.std.specs.VecDeque.{deque_len, deque_capacity};
+ghost use Rattle.std.specs.Prelude.{◌≡◌, [], ◌∷◌, length, IfOk, IfSome, IfNone};
 
 use smr_clock::Host;
 use std::alloc::{AllocError, Global};
@@ -21,13 +20,11 @@ pub struct Taken<T: Body, H: Host> {
 }
 
 impl<T: Body, H: Host> Taken<T, H> {
-    ghost use Rattle.uma_domain.specs.Taken.{taken_in, taken_room};
+    ghost use Rattle.uma_domain.specs.Taken.{taken_in, IsEmptyFor};
 
     /// An empty list with room for so many buckets.
     pub(crate) fn with_room(alloc: Global, buckets: usize) -> Result<Taken<T, H>, AllocError>
-        ensures empty { IfOk result (λ taken. taken_in taken ≡ []) }
-        ensures none { IfOk result (λ taken. deque_len taken.buckets ≡ 0) }
-        ensures room { IfOk result (λ taken. buckets ≤ taken_room taken) }
+        ensures { IfOk result (IsEmptyFor buckets) }
     {
         Ok(Taken {
             buckets: VecDeque::with_capacity(alloc, buckets)?,

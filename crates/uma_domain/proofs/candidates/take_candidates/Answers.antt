@@ -13,13 +13,14 @@ returns-clause-trims g c =
     both_kinds c.args.floor c.args.remain c.args.plain.now.items c.args.sealed.now.items c.args.taken.now.items c.trim_plain-left.result c.trim_plain-left.new.plain.items c.trim_plain-left.new.taken.items c.trim_sealed.result c.trim_sealed.new.sealed.items c.trim_sealed.new.taken.items
     c.requires.empty c.trim_plain-left.ensures.trimmed (omega (arith, none, c.trim_plain-left.new.plain.ok.0)) c.trim_sealed.ensures.trimmed
 
-pub returns-clause-left : goal.returns-clause-left
-returns-clause-left g c =
+pub returns-clause-leaves : goal.returns-clause-leaves
+returns-clause-leaves g c =
     let p = c.trim_plain-left.ensures.trimmed in
     let s = c.trim_sealed.ensures.trimmed in
     let plain : sum_by plain_len c.args.plain.now.items ≡ sum_by plain_len p.taken + sum_by plain_len c.trim_plain-left.new.plain.items = ap (sum_by plain_len) p.trims.split ∙ sum_by-append plain_len p.taken c.trim_plain-left.new.plain.items in
     let sealed = trims_sum c.args.floor c.trim_plain-left.result c.args.sealed.now.items s.ripe c.trim_sealed.new.sealed.items s.trims in
-    omega (arith, p.left, s.left, plain, sealed)
-
-pub returns-clause-bound : goal.returns-clause-bound
-returns-clause-bound g c = omega (arith, c.trim_plain-left.ensures.trimmed.left, c.trim_sealed.ensures.trimmed.left)
+    record {
+      left = omega (arith, p.left, s.left, plain, sealed);
+      bound = omega (arith, p.left, s.left);
+      shorter = c.trim_sealed.ensures.shorter;
+    }

@@ -1,4 +1,4 @@
-use Rattle.std.proofs.Common.{◌≡◌, ◌<◌, ◌∙◌, suc, length, set, take, drop, ap, subst, All, arith}
+use Rattle.std.proofs.Common.{◌≡◌, ◌<◌, ◌∙◌, suc, length, set, take, drop, ap, subst, All, arith, rules}
 use Rattle.std.proofs.lemmas.List.{get_or-set_same}
 use Rattle.std.proofs.lemmas.List.Elements.{All-append, All-drop, All-same, All-set, All-take}
 use Rattle.smr_clock.specs.Belongs.{clock_id}
@@ -20,10 +20,15 @@ returns-clause-tried g c =
     c.poll.ensures.same (subst (λ b. IsPolled c.index_mut.result.now b c.poll.new.self) c.if-not-poll.false c.poll.ensures.polled) c.poll.ensures.here
     (c.open.ensures.bucket ∙ ap sealed_bucket gone) (c.open.ensures.goal ∙ ap sealed_goal gone) (c.open.ensures.note ∙ ap sealed_note gone) c.in_ok-bucket.ensures.items
 
-pub returns-clause-here : goal.returns-clause-here
-returns-clause-here g c =
+pub returns-clause-leaves : goal.returns-clause-leaves
+returns-clause-leaves g c =
     let here = IsSealedAt (clock_id c.args.clock.now) in
     let polled = set c.args.sealed.now.items c.args.at c.poll.new.self in
     let all : All here polled = All-set here c.args.sealed.now.items c.args.at c.poll.new.self c.poll.ensures.here c.requires.here in
-    All-same here c.remove.new.self.items _ c.in_ok-bucket.ensures.items
-    (All-append here (take c.args.at polled) (drop (suc c.args.at) polled) (All-take here c.args.at polled all) (All-drop here (suc c.args.at) polled all))
+    record {
+      here = All-same here c.remove.new.self.items _ c.in_ok-bucket.ensures.items
+          (All-append here (take c.args.at polled) (drop (suc c.args.at) polled) (All-take here c.args.at polled all) (All-drop here (suc c.args.at) polled all));
+      some = search rules;
+      none = search rules;
+      capacity = search rules;
+    }

@@ -9,8 +9,8 @@ loop-at-init g c = record {
   within = omega arith;
   fewer = omega arith;
   capacity = search rules;
-  room = omega (arith, c.requires.room);
-  trimming = trim_begins c.args.floor c.args.remain c.args.sealed.now.items c.args.taken.now.items c.requires.enough;
+  room = omega (arith, c.requires.fits.room);
+  trimming = trim_begins c.args.floor c.args.remain c.args.sealed.now.items c.args.taken.now.items c.requires.fits.enough;
 }
 
 pub returns-then-remain-len-clause-trimmed : goal.returns-then-remain-len-clause-trimmed
@@ -34,11 +34,11 @@ loop-at-preserved-in-Some g c =
     let fits : sealed_len c.index.result.now ≤ c.loop-at.remain = next_fits c.args.floor c.args.remain c.args.sealed.now.items c.args.taken.now.items c.loop-at.at c.loop-at.remain c.loop-at.sealed.items c.loop-at.taken.items c.index.result.now within c.index.ensures c.loop-at.invariant.trimming in
     let at = c.loop-at.invariant in
     record {
-      here = c.in-Some.ensures.here;
-      within = omega (arith, within, c.loop-at.sealed.ok.0, c.in-Some.ensures.some);
-      fewer = omega (arith, at.fewer, c.in-Some.ensures.some);
-      capacity = c.in-Some.ensures.capacity ∙ at.capacity;
-      room = omega (arith, at.room, c.in-Some.ensures.some, c.push_back_reserved.ensures.len, c.push_back_reserved.ensures.capacity);
+      here = c.in-Some.ensures.leaves.here;
+      within = omega (arith, within, c.loop-at.sealed.ok.0, c.in-Some.ensures.leaves.some);
+      fewer = omega (arith, at.fewer, c.in-Some.ensures.leaves.some);
+      capacity = c.in-Some.ensures.leaves.capacity ∙ at.capacity;
+      room = omega (arith, at.room, c.in-Some.ensures.leaves.some, c.push_back_reserved.ensures.len, c.push_back_reserved.ensures.capacity);
       trimming = trim_takes c.args.floor c.args.remain c.args.sealed.now.items c.args.taken.now.items c.loop-at.at c.loop-at.remain c.loop-at.sealed.items c.loop-at.taken.items c.take_if_ripe.new.sealed.items c.from-len.result c.in-Some.bucket c.push_back_reserved.new.self.items
           within c.index.result.now c.index.ensures size (omega (arith, c.if-remain-len.false, fits, size)) at.trimming c.in-Some.ensures.tried c.push_back_reserved.ensures.items;
     }
@@ -50,11 +50,11 @@ loop-at-preserved g c =
     let fits : sealed_len c.index.result.now ≤ c.loop-at.remain = next_fits c.args.floor c.args.remain c.args.sealed.now.items c.args.taken.now.items c.loop-at.at c.loop-at.remain c.loop-at.sealed.items c.loop-at.taken.items c.index.result.now within c.index.ensures c.loop-at.invariant.trimming in
     let at = c.loop-at.invariant in
     record {
-      here = c.in-None.ensures.here;
-      within = omega (arith, within, c.loop-at.sealed.ok.0, c.in-None.ensures.none);
-      fewer = omega (arith, at.fewer, c.in-None.ensures.none);
-      capacity = c.in-None.ensures.capacity ∙ at.capacity;
-      room = omega (arith, at.room, c.in-None.ensures.none);
+      here = c.in-None.ensures.leaves.here;
+      within = omega (arith, within, c.loop-at.sealed.ok.0, c.in-None.ensures.leaves.none);
+      fewer = omega (arith, at.fewer, c.in-None.ensures.leaves.none);
+      capacity = c.in-None.ensures.leaves.capacity ∙ at.capacity;
+      room = omega (arith, at.room, c.in-None.ensures.leaves.none);
       trimming = trim_keeps c.args.floor c.args.remain c.args.sealed.now.items c.args.taken.now.items c.loop-at.at c.loop-at.remain c.loop-at.sealed.items c.loop-at.taken.items c.take_if_ripe.new.sealed.items c.from-len.result
           within c.index.result.now c.index.ensures size (omega (arith, c.if-remain-len.false, fits, size)) at.trimming c.in-None.ensures.tried;
     }

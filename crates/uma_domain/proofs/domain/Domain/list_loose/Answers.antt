@@ -3,5 +3,8 @@ use Rattle.uma_domain.specs.Lists.{lists_identity}
 use Rattle.uma_domain.proofs.UnderLock.{puts_loose}
 use Rattle.uma_domain.proofs.domain.Domain.list_loose.Goals as goal
 
-pub returns-clause-put : goal.returns-clause-put
-returns-clause-put g c = puts_loose c.args.self.now c.deref_mut.result.now.lists c.put_loose.new.self (ap (λ locked. lists_identity locked.lists) c.deref_mut.ensures.value ∙ c.lock-guard.ensures.kept) c.args.bucket c.put_loose.result c.put_loose.ensures.newest
+pub returns : goal.returns
+returns g c = record {
+  back = c.put_loose.ensures.lists.back;
+  put = puts_loose c.args.self.now c.deref_mut.result.now.lists c.put_loose.new.self (ap (λ locked. lists_identity locked.lists) c.deref_mut.ensures.value ∙ c.lock-guard.ensures.kept) c.args.bucket c.put_loose.result c.put_loose.ensures.lists.newest;
+}

@@ -1,10 +1,17 @@
-use Rattle.std.proofs.Common.{ap, ◌∙◌}
+use Rattle.std.proofs.Common.{◌≡◌, ap, ◌∙◌}
+use Rattle.uma_domain.specs.Domain.{domain_identity}
 use Rattle.uma_domain.specs.Lists.{lists_identity}
-use Rattle.uma_domain.proofs.UnderLock.{takes_each, keeps_lists}
+use Rattle.uma_domain.proofs.UnderLock.{takes_each, taken_own, keeps_lists}
 use Rattle.uma_domain.proofs.domain.Domain.take_all.Goals as goal
 
-pub returns-clause-taken : goal.returns-clause-taken
-returns-clause-taken g c = takes_each c.args.self.now c.deref_mut.result.now.lists c.take_all.new.self (ap (λ locked. lists_identity locked.lists) c.deref_mut.ensures.value ∙ c.lock-guard.ensures.kept) c.take_all.result c.take_all.ensures.all c.take_all.ensures.none_left c.take_all.ensures.loose c.take_all.ensures.working
-
-pub returns-clause-unchanged : goal.returns-clause-unchanged
-returns-clause-unchanged g c = keeps_lists c.args.self.now c.deref_mut.result.now.lists c.take_all.new.self (ap (λ locked. lists_identity locked.lists) c.deref_mut.ensures.value ∙ c.lock-guard.ensures.kept) c.take_all.result c.take_all.ensures.unchanged c.take_all.ensures.loose
+pub returns : goal.returns
+returns g c =
+    let was = c.deref_mut.result.now.lists in
+    let is = c.take_all.new.self in
+    let of : lists_identity was ≡ domain_identity c.args.self.now = ap (λ locked. lists_identity locked.lists) c.deref_mut.ensures.value ∙ c.lock-guard.ensures.kept in
+    let own = c.take_all.ensures.own in
+    record {
+      of_domain = taken_own c.args.self.now was is of c.take_all.result own.of_domain;
+      taken = takes_each c.args.self.now was is of c.take_all.result c.take_all.ensures.all own.loose;
+      unchanged = keeps_lists c.args.self.now was is of c.take_all.result own.unchanged own.loose;
+    }

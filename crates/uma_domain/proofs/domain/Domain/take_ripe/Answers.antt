@@ -1,10 +1,21 @@
-use Rattle.std.proofs.Common.{ap, ◌∙◌}
+use Rattle.std.proofs.Common.{◌≡◌, IfSome, ap, ◌∙◌, subst, rules}
+use Rattle.uma_domain.specs.Domain.{domain_identity}
+use Rattle.uma_domain.specs.Identity.{Identity}
+use Rattle.uma_domain.specs.Listed.{IsRipeOf}
 use Rattle.uma_domain.specs.Lists.{lists_identity}
 use Rattle.uma_domain.proofs.UnderLock.{takes_oldest, finds_none_ripe}
 use Rattle.uma_domain.proofs.domain.Domain.take_ripe.Goals as goal
 
-pub returns-clause-taken : goal.returns-clause-taken
-returns-clause-taken g c = takes_oldest c.args.self.now c.deref_mut.result.now.lists c.take_ripe.new.self (ap (λ locked. lists_identity locked.lists) c.deref_mut.ensures.value ∙ c.lock-guard.ensures.kept) c.take_ripe.result c.take_ripe.ensures.oldest
-
-pub returns-clause-looked : goal.returns-clause-looked
-returns-clause-looked g c = finds_none_ripe c.args.self.now c.deref_mut.result.now.lists c.take_ripe.new.self (ap (λ locked. lists_identity locked.lists) c.deref_mut.ensures.value ∙ c.lock-guard.ensures.kept) c.take_ripe.result c.take_ripe.ensures.none c.take_ripe.ensures.miss
+pub returns : goal.returns
+returns g c =
+    let was = c.deref_mut.result.now.lists in
+    let is = c.take_ripe.new.self in
+    let of : lists_identity was ≡ domain_identity c.args.self.now = ap (λ locked. lists_identity locked.lists) c.deref_mut.ensures.value ∙ c.lock-guard.ensures.kept in
+    let took = c.take_ripe.ensures in
+    record {
+      of_domain = subst (λ (id : Identity). IfSome c.take_ripe.result (IsRipeOf id)) of took.counts.of_domain;
+      hit = search rules;
+      raised = took.counts.raised;
+      taken = takes_oldest c.args.self.now was is of c.take_ripe.result took.oldest;
+      looked = finds_none_ripe c.args.self.now was is of c.take_ripe.result took.none took.counts.miss;
+    }

@@ -1,10 +1,17 @@
-use Rattle.std.proofs.Common.{ap, ◌∙◌}
+use Rattle.std.proofs.Common.{◌≡◌, ap, ◌∙◌}
+use Rattle.uma_domain.specs.Domain.{domain_identity}
 use Rattle.uma_domain.specs.Lists.{lists_identity}
-use Rattle.uma_domain.proofs.UnderLock.{takes_unused, keeps_lists}
+use Rattle.uma_domain.proofs.UnderLock.{takes_unused, taken_own, keeps_lists}
 use Rattle.uma_domain.proofs.domain.Domain.take_trim.Goals as goal
 
-pub returns-clause-taken : goal.returns-clause-taken
-returns-clause-taken g c = takes_unused c.args.self.now c.deref_mut.result.now.lists c.take_trim.new.self (ap (λ locked. lists_identity locked.lists) c.deref_mut.ensures.value ∙ c.lock-guard.ensures.kept) c.take_trim.result c.take_trim.ensures.trimmed c.take_trim.ensures.loose c.take_trim.ensures.working
-
-pub returns-clause-unchanged : goal.returns-clause-unchanged
-returns-clause-unchanged g c = keeps_lists c.args.self.now c.deref_mut.result.now.lists c.take_trim.new.self (ap (λ locked. lists_identity locked.lists) c.deref_mut.ensures.value ∙ c.lock-guard.ensures.kept) c.take_trim.result c.take_trim.ensures.unchanged c.take_trim.ensures.loose
+pub returns : goal.returns
+returns g c =
+    let was = c.deref_mut.result.now.lists in
+    let is = c.take_trim.new.self in
+    let of : lists_identity was ≡ domain_identity c.args.self.now = ap (λ locked. lists_identity locked.lists) c.deref_mut.ensures.value ∙ c.lock-guard.ensures.kept in
+    let own = c.take_trim.ensures.own in
+    record {
+      of_domain = taken_own c.args.self.now was is of c.take_trim.result own.of_domain;
+      taken = takes_unused c.args.self.now was is of c.take_trim.result c.take_trim.ensures.trimmed own.loose;
+      unchanged = keeps_lists c.args.self.now was is of c.take_trim.result own.unchanged own.loose;
+    }

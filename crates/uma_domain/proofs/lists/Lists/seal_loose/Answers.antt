@@ -8,11 +8,15 @@ use Rattle.uma_domain.specs.Tries.{Tries}
 use Rattle.uma_domain.proofs.Kept.{no_more, tries_of, tries_sum}
 use Rattle.uma_domain.proofs.lists.Lists.seal_loose.Goals as goal
 
-pub seal_each-requires-clause-few : goal.seal_each-requires-clause-few
-seal_each-requires-clause-few g c =
+pub seal_each-requires : goal.seal_each-requires
+seal_each-requires g c =
     let lists = c.args.self.now in
     let few = no_more (key_identity lists.key.value).home lists.loose.items lists.loose_here in
-    omega (arith, few, lists.loose.ok.0, lists.counted, lists.bounded.few, lists.bounded.below_greatest)
+    record {
+      here = c.requires.pass;
+      few = omega (arith, few, lists.loose.ok.0, lists.counted, lists.bounded.few, lists.bounded.below_greatest);
+      room = lists.room;
+    }
 
 pub invariant_of-self-clause-loose_here : goal.invariant_of-self-clause-loose_here
 invariant_of-self-clause-loose_here g c =

@@ -81,23 +81,15 @@ loop-sealed_at-preserved g c =
     sums_more sealed_times sealed_len sealed_len (λ hook. sum_by (plain_times hook) lists.plain.items + sum_by (loose_times hook) lists.loose.items) (sum_by loose_len lists.loose.items) (sum_by plain_len lists.plain.items + sum_by loose_len lists.loose.items) home.zone lists.sealed.items at c.index-in-loop-sealed_at.result.now c.loop-sealed_at.sums c.add_to-in-loop-sealed_at.new.sums within c.index-in-loop-sealed_at.ensures c.loop-sealed_at.invariant
     c.add_to-in-loop-sealed_at.ensures.adds c.add_to-in-loop-sealed_at.ensures.few (c.add_to-in-loop-sealed_at.ensures.balance home of.bucket.at_home)
 
-pub returns-clause-adds : goal.returns-clause-adds
-returns-clause-adds g c =
+pub returns : goal.returns
+returns g c =
     let lists = c.args.self.now in
     let past : length lists.sealed.items ≤ c.loop-sealed_at.sealed_at = omega (arith, c.loop-sealed_at-test.false, c.len-sealed_at-end.ensures, lists.sealed.ok.0) in
-    (sums_whole sealed_times sealed_len sealed_len (λ hook. sum_by (plain_times hook) lists.plain.items + sum_by (loose_times hook) lists.loose.items) (sum_by loose_len lists.loose.items) (sum_by plain_len lists.plain.items + sum_by loose_len lists.loose.items) (key_identity lists.key.value).home.zone lists.sealed.items c.loop-sealed_at.sealed_at c.loop-sealed_at.sums past c.loop-sealed_at.invariant).adds
-
-pub returns-clause-few : goal.returns-clause-few
-returns-clause-few g c =
-    let lists = c.args.self.now in
     let part = sum_by-take-le sealed_len lists.sealed.items c.loop-sealed_at.sealed_at in
-    of_more (sum_by plain_len lists.plain.items + sum_by loose_len lists.loose.items + sum_by sealed_len (take c.loop-sealed_at.sealed_at lists.sealed.items)) (2 ^ 32) c.loop-sealed_at.sums (omega (arith, part, lists.counted, lists.bounded.few, lists.bounded.below_greatest)) c.loop-sealed_at.invariant.few
-
-pub returns-clause-below : goal.returns-clause-below
-returns-clause-below g c =
-    let lists = c.args.self.now in
-    let part = sum_by-take-le sealed_len lists.sealed.items c.loop-sealed_at.sealed_at in
-    of_more (sum_by plain_len lists.plain.items + sum_by loose_len lists.loose.items + sum_by sealed_len (take c.loop-sealed_at.sealed_at lists.sealed.items)) (2 ^ 32 - 1) c.loop-sealed_at.sums (omega (arith, part, lists.counted, lists.bounded.few, lists.bounded.below_greatest)) c.loop-sealed_at.invariant.few
-
-pub returns-clause-balance : goal.returns-clause-balance
-returns-clause-balance g c = c.loop-sealed_at.invariant.balance
+    let count = sum_by plain_len lists.plain.items + sum_by loose_len lists.loose.items + sum_by sealed_len (take c.loop-sealed_at.sealed_at lists.sealed.items) in
+    record {
+      adds = (sums_whole sealed_times sealed_len sealed_len (λ hook. sum_by (plain_times hook) lists.plain.items + sum_by (loose_times hook) lists.loose.items) (sum_by loose_len lists.loose.items) (sum_by plain_len lists.plain.items + sum_by loose_len lists.loose.items) (key_identity lists.key.value).home.zone lists.sealed.items c.loop-sealed_at.sealed_at c.loop-sealed_at.sums past c.loop-sealed_at.invariant).adds;
+      few = of_more count (2 ^ 32) c.loop-sealed_at.sums (omega (arith, part, lists.counted, lists.bounded.few, lists.bounded.below_greatest)) c.loop-sealed_at.invariant.few;
+      below = of_more count (2 ^ 32 - 1) c.loop-sealed_at.sums (omega (arith, part, lists.counted, lists.bounded.few, lists.bounded.below_greatest)) c.loop-sealed_at.invariant.few;
+      balance = c.loop-sealed_at.invariant.balance;
+    }

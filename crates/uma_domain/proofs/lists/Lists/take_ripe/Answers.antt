@@ -1,4 +1,4 @@
-use Rattle.std.proofs.Common.{◌≡◌, ◌∙◌, ap, arith}
+use Rattle.std.proofs.Common.{◌≡◌, ◌∙◌, refl, ap, arith, rules}
 use Rattle.uma_domain.specs.Identity.{key_identity}
 use Rattle.uma_domain.specs.Listed.{ripe_len}
 use Rattle.uma_domain.proofs.Kept.{takes_ripe_of, takes_ripe_sum, all_stay_of, all_stay_sum}
@@ -21,5 +21,21 @@ invariant_of-self-2-clause-counted g c =
     let size : c.from.result ≡ ripe_len c.in-Some.ripe = c.from.ensures ∙ c.len.ensures.len in
     omega (arith, c.args.self.now.counted, fewer, size, ap (λ w. w.count) c.moved_to-self.ensures)
 
-pub returns-clause-of_domain : goal.returns-clause-of_domain
-returns-clause-of_domain g c = (takes_ripe_of (key_identity c.args.self.now.key.value) c.args.self.now.sealed.items c.in-Some.ripe c.take_first_ripe.new.sealed.items c.in-Some.ensures.some c.args.self.now.sealed_here).0
+pub returns : goal.returns
+returns g c =
+    let own = takes_ripe_of (key_identity c.args.self.now.key.value) c.args.self.now.sealed.items c.in-Some.ripe c.take_first_ripe.new.sealed.items c.in-Some.ensures.some c.args.self.now.sealed_here in
+    record {
+      oldest = c.in-Some.ensures.some;
+      none = tt;
+      counts = record {
+        of_domain = own.0;
+        working = search rules;
+        hit = search rules;
+        still = tt;
+        miss = tt;
+        raised = tt;
+        loose = refl;
+        identity = refl;
+      };
+      plain = refl;
+    }

@@ -1,4 +1,6 @@
+use Rattle.std.proofs.Common.{ℕ, refl, subst, rules}
 use Rattle.uma_domain.specs.Identity.{key_identity}
+use Rattle.uma_domain.specs.Trim.{Trims}
 use Rattle.uma_domain.proofs.Kept.{trim_of}
 use Rattle.uma_domain.proofs.lists.Lists.take_trim.Goals as goal
 
@@ -14,8 +16,23 @@ invariant_of-self-2-clause-sealed_here g c =
     let left = c.take_candidates-left in
     (trim_of (key_identity lists.key.value) _ _ _ _ left.new.taken.items left.new.plain.items left.new.sealed.items left.ensures.trims lists.plain_here lists.sealed_here).2
 
-pub returns-clause-of_domain : goal.returns-clause-of_domain
-returns-clause-of_domain g c =
+pub returns-clause-own : goal.returns-clause-own
+returns-clause-own g c =
     let lists = c.args.self.now in
     let left = c.take_candidates-left in
-    (trim_of (key_identity lists.key.value) _ _ _ _ left.new.taken.items left.new.plain.items left.new.sealed.items left.ensures.trims lists.plain_here lists.sealed_here).0
+    record {
+      of_domain = (trim_of (key_identity lists.key.value) _ _ _ _ left.new.taken.items left.new.plain.items left.new.sealed.items left.ensures.trims lists.plain_here lists.sealed_here).0;
+      unchanged = tt;
+      loose = refl;
+      missed = refl;
+      identity = refl;
+    }
+
+pub returns-clause-trimmed : goal.returns-clause-trimmed
+returns-clause-trimmed g c =
+    let lists = c.args.self.now in
+    let left = c.take_candidates-left in
+    record {
+      trims = subst (λ (floor : ℕ). Trims floor lists.working.count lists.plain.items lists.sealed.items left.new.taken.items left.new.plain.items left.new.sealed.items) c.set-floor.ensures left.ensures.trims;
+      begins = search rules;
+    }
