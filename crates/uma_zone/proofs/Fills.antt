@@ -1,10 +1,12 @@
 -- How a seat without a usable item gets some, or none.
-use Rattle.std.proofs.Common.{◌≡◌, ◌<◌, ℕ, Bool, true, cond, List, [], ◌∷◌, ◌++◌, length, Result, Ok, Err, IfErr, OnOk, inl, inr, refl, sym, ap, ◌∙◌, subst, arith}
+use Rattle.std.proofs.Common.{◌≡◌, ◌<◌, ℕ, Bool, true, false, cond, List, [], ◌∷◌, ◌++◌, length, Result, Ok, Err, IfErr, OnOk, inl, inr, refl, sym, ap, ◌∙◌, subst, arith}
 use Rattle.deed_book.specs.declared.fail_share.FailShare.{FailShare}
 use Rattle.deed_book.specs.FailViews.{cause}
 use Rattle.zone_stats.specs.LedgerSteps.{CountsTurned}
 use Rattle.smr_clock.specs.declared.view.View.{View}
 use Rattle.uma_life.specs.declared.cached.Cached.{Cached}
+use Rattle.uma_bucket.specs.declared.bucket.Bucket.{Bucket}
+use Rattle.uma_bucket.specs.Ripe.{ripe_knows}
 use Rattle.uma_domain.specs.Lists.{IsRaised}
 use Rattle.uma_seat.specs.declared.counts.Counts.{Counts}
 use Rattle.uma_seat.specs.declared.plain_row.PlainRow.{PlainRow}
@@ -18,9 +20,11 @@ use Rattle.uma_seat.specs.Stack.{stack_at}
 use Rattle.locked_keg.specs.Seating.{KeepsAllButTop}
 use Rattle.uma_zone.specs.Looked.{IsOfRipe}
 use Rattle.uma_zone.specs.OwnDomain.{AreFoundIn, FindsNothing}
+use Rattle.uma_zone.specs.Told.{TakesInNote}
 use Rattle.uma_zone.proofs.Looks.{none_behind}
 use Rattle.uma_zone.specs.declared.alloc_ask.AllocRefused.{AllocRefused}
 use Rattle.uma_zone.specs.declared.alloc_ask.AllocRefused.TheVariants.{Refused, Memory}
+use Rattle.uma_zone.specs.declared.domains.ZoneDomains.{ZoneDomains}
 use Rattle.uma_zone.specs.declared.zone.Zone.{Zone}
 use Rattle.uma_zone.specs.Zone.{zone_smr, zone_hooks}
 use Rattle.uma_zone.specs.Alloc.{IsFilled, RefusesToTake}
@@ -46,6 +50,14 @@ module _ {T H P : Type 0} {g h : _} where
   -- none is usable still, where the allocation bucket is empty and the others are as they were
   pub still_none : (old new : SeatCache T H P g h) → IsSameSeat old new → KeepsPlain old new → (top_of new).items ≡ [] → usable_of old ≡ [] → usable_of new ≡ []
   still_none old new same plain empty none = only_top old new same plain none ∙ empty
+
+  -- a look that found some took in the note of a ripe bucket, or did nothing by its pass
+  pub told_by_look : (them : ZoneDomains T H P g h) (merged : P → P → P) (leaves : T → ℕ → T → Type 0) (v mid v' : View P) (bucket : Bucket T g) (smr found : Bool) → found ≡ true → mid.host ≡ v.host → (smr ≡ true → found ≡ true → IsOfRipe them merged leaves mid bucket v') → (smr ≡ false → v' ≡ mid)
+      → TakesInNote merged v.host v'.host
+  told_by_look them merged leaves v mid v' bucket true found is same ripe plain =
+      let r = ripe refl is in
+      inr ((ripe_knows r.ripe).host, ap (λ (w : View P). w.host) r.absorbed ∙ ap (λ (p : P). merged p (ripe_knows r.ripe).host) same)
+  told_by_look them merged leaves v mid v' bucket false found is same ripe plain = inl (ap (λ (w : View P). w.host) (plain refl) ∙ same)
 
 module _ {T K H P : Type 0} {g k h : _} where
   -- the look found some

@@ -1,11 +1,11 @@
 -- What a flush did to the lists of a zone's domains.
-use Rattle.std.proofs.Common.{◌≡◌, ◌≤◌, ℕ, List, [], ◌∷◌, ◌++◌, length, Option, Some, None, IfSome, IfNone, Result, Ok, Err, OnOk, refl, sym, ap, ◌∙◌, subst, arith}
+use Rattle.std.proofs.Common.{◌≡◌, ◌≤◌, List, [], ◌∷◌, ◌++◌, length, Option, Some, None, IfSome, IfNone, refl, sym, ap, ◌∙◌, subst, arith}
 use Rattle.std.proofs.lemmas.List.{append-nil}
 use Rattle.smr_clock.specs.declared.view.View.{View}
 use Rattle.uma_bucket.specs.declared.shelved.Shelved.{Shelved}
 use Rattle.uma_zone.specs.declared.domains.ZoneDomains.{ZoneDomains}
 use Rattle.uma_zone.specs.Flushed.{TakesTried, in_order}
-use Rattle.uma_zone.specs.OwnDomain.{IsSent, SentEach, PutsFirst, TryEach, Flushes, IsFlushed}
+use Rattle.uma_zone.specs.OwnDomain.{SentEach, PutsFirst, TryEach, Flushes, IsFlushed}
 
 -- a list that isn't longer than none is empty
 none_long : {X : Type 0} (xs : List X) → length xs ≤ 0 → xs ≡ []
@@ -25,12 +25,6 @@ module _ {T H P : Type 0} {g h : _} where
     split = sym (append-nil (in_order None newest)) ∙ ap (λ (l : List (Shelved T H P g h)). in_order None newest ++ l) (sym none);
     each = each;
   }
-
-  -- this one went to its domain
-  pub sent_one : (them : ZoneDomains T H P g h) (sent sent' : List (List (Shelved T H P g h))) (some : Option (Shelved T H P g h)) (one : Shelved T H P g h) {E : Type 0} (result : Result (Unit {0}) E) → some ≡ Some one → OnOk result (IsSent them sent one sent')
-      → OnOk result (SentEach them sent (in_order None some) sent')
-  sent_one them sent sent' some one (Err e) is went = tt
-  sent_one them sent sent' some one (Ok done) is went = subst (λ (o : Option (Shelved T H P g h)). SentEach them sent (in_order None o) sent') (sym is) (sent', went, refl)
 
   -- the same of ports that had pushed as much
   pub puts_from : (them : ZoneDomains T H P g h) (was is : List (Shelved T H P g h)) (sent mid sent' : List (List (Shelved T H P g h))) → mid ≡ sent → PutsFirst them was is mid sent' → PutsFirst them was is sent sent'

@@ -42,6 +42,13 @@ last_goes xs ys x y e at =
     let same : Some x ≡ Some y = at ∙ ap (slice_get xs) n ∙ ap (λ (l : List _). slice_get l (length ys)) e ∙ at_end ys y in
     cc
 
+-- the number of the last element is the last of the numbers, the others being those of the rest
+pub next_goes : {X : Type 0} (f : X → ℕ) (all xs ys : List X) (x y : X) (n : ℕ) → xs ≡ ys ++ y ∷ [] → all ≡ xs → Some x ≡ slice_get all (length all - 1) → n ≡ f x → map f xs ≡ map f ys ++ n ∷ []
+next_goes f all xs ys x y n e here at is =
+    let last : Some x ≡ slice_get xs (length xs - 1) = at ∙ ap (λ (l : List _). slice_get l (length l - 1)) here in
+    let own : n ≡ f y = is ∙ ap f (last_goes xs ys x y e last) in
+    ap (map f) e ∙ map-append f ys (y ∷ []) ∙ ap (λ (m : ℕ). map f ys ++ m ∷ []) (sym own)
+
 -- a list that has a last element has numbers
 pub has_numbers : {X : Type 0} (f : X → ℕ) (xs : List X) (x : X) (n : ℕ) → Some x ≡ slice_get xs n → map f xs ≢ []
 has_numbers f [] x n at e = absurd (cc)

@@ -1,5 +1,5 @@
 -- How a request that took an item ends.
-use Rattle.std.proofs.Common.{◌≡◌, ℕ, Bool, List, [], ◌∷◌, ◌++◌, Result, Ok, Err, IfOk, IfErr, OnOk, inl, inr, sym, ◌∙◌, subst}
+use Rattle.std.proofs.Common.{◌≡◌, ℕ, Bool, List, [], ◌∷◌, ◌++◌, Result, Ok, Err, IfOk, IfErr, inl, inr, sym, ◌∙◌, subst}
 use Rattle.zone_stats.specs.declared.ledger.SeatLedger.{SeatLedger}
 use Rattle.zone_stats.specs.declared.refusal.Refusal.TheVariants.{Ctor}
 use Rattle.zone_stats.specs.LedgerSteps.{CountsAlloc, CountsCtor}
@@ -13,7 +13,8 @@ use Rattle.uma_zone.specs.declared.alloc_ask.AllocAsk.{AllocAsk}
 use Rattle.uma_zone.specs.declared.alloc_ask.AllocRefused.{AllocRefused}
 use Rattle.uma_zone.specs.declared.alloc_ask.AllocRefused.TheVariants.{Refused}
 use Rattle.uma_zone.specs.declared.zone.Zone.{Zone}
-use Rattle.uma_zone.specs.Alloc.{Takes, IsBuilt, Serves, PutsBack, Refuses}
+use Rattle.uma_zone.specs.Alloc.{Takes, PutsBack, Refuses}
+use Rattle.uma_zone.specs.Allocating.{ServesAtHome, BuildsAtHome}
 use Rattle.uma_zone.proofs.OneFetch.{one_still}
 
 module _ {T K H P : Type 0} {g k h : _} where
@@ -34,15 +35,18 @@ module _ {T K H P : Type 0} {g k h : _} where
 
   -- the item that was taken passed `ctor`
   pub served_by : (zone : Zone T K H P g k h) (ask : AllocAsk) (old mid new : SeatCache T H P g h) (item : Cached T g) (result : Result (Live T g) AllocRefused) → Takes zone ask.reserve old item (usable_of mid) mid → ledger_of mid ≡ ledger_of old
-      → fetches_of new ≡ fetches_of mid → KeepsMisses mid new → (top_of new).room ≡ (top_of mid).room → IsSameSeat mid new → IfOk result (IsBuilt zone ask.arg item) → OnOk result (CountsAlloc (ledger_of mid) (ledger_of new)) → OnOk result (usable_of new ≡ usable_of mid)
-      → IfOk result (λ live. Serves zone ask old live new)
-  served_by zone ask old mid new item (Ok live) takes ledger fetches misses room same built counted usable = record {
-    item = item;
-    takes = subst (λ (l : List (Cached T g)). Takes zone ask.reserve old item l new) (sym usable) (takes_still zone ask.reserve old mid new item (usable_of mid) fetches misses room same takes);
-    built = built;
-    counted = subst (λ (l : SeatLedger). CountsAlloc l (ledger_of new)) ledger counted;
+      → fetches_of new ≡ fetches_of mid → KeepsMisses mid new → (top_of new).room ≡ (top_of mid).room → IsSameSeat mid new → IfOk result (BuildsAtHome zone ask.arg item mid new)
+      → IfOk result (ServesAtHome zone ask old new)
+  served_by zone ask old mid new item (Ok live) takes ledger fetches misses room same built = record {
+    home = built.home;
+    serves = record {
+      item = item;
+      takes = subst (λ (l : List (Cached T g)). Takes zone ask.reserve old item l new) (sym built.usable) (takes_still zone ask.reserve old mid new item (usable_of mid) fetches misses room same takes);
+      built = built.built;
+      counted = subst (λ (l : SeatLedger). CountsAlloc l (ledger_of new)) ledger built.counted;
+    };
   }
-  served_by zone ask old mid new item (Err e) takes ledger fetches misses room same built counted usable = built
+  served_by zone ask old mid new item (Err e) takes ledger fetches misses room same built = built
 
   -- `ctor` refused the item that was taken
   ctor_refused : (zone : Zone T K H P g k h) (ask : AllocAsk) (old mid new : SeatCache T H P g h) (item : Cached T g) (why : AllocRefused) (code : ℕ) → Takes zone ask.reserve old item (usable_of mid) mid → ledger_of mid ≡ ledger_of old

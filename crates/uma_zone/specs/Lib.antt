@@ -1,10 +1,17 @@
 pub mod Alloc
+pub mod Allocating
+pub mod Asking
+pub mod AtDomain
+pub mod Calling
 pub mod Domains
 pub mod Fetch
 pub mod Flushed
+pub mod Flushing
 pub mod Frames
 pub mod Free
 pub mod Looked
+pub mod Looking
+pub mod Locking
 pub mod KegStates
 pub mod Making
 pub mod OneDomain
@@ -16,6 +23,7 @@ pub mod SafeReuse
 pub mod SealLaw
 pub mod Seat
 pub mod SetMax
+pub mod Settling
 pub mod Stopped
 pub mod Told
 pub mod TriesLaw

@@ -1,17 +1,28 @@
 -- Own: which zone a making gives, and why it gives none.
-use Rattle.std.specs.Prelude.{◌≡◌, ◌≢◌, ◌<◌, ◌≤◌, ◌⊎◌, ℕ, List, [], ◌∷◌}
+use Rattle.std.specs.Prelude.{◌≡◌, ◌≢◌, ◌<◌, ◌≤◌, ◌/◌, ◌⊎◌, ℕ, Bool, List, [], ◌∷◌, ◌++◌, All, Result, IfOk, map, min}
 use Rattle.smr_clock.specs.declared.setup.Setup.{Setup}
 use Rattle.smr_clock.specs.Belongs.{TableId}
+use Rattle.deed_book.specs.declared.deed.Deed.{Deed}
+use Rattle.deed_book.specs.Book.{book_table}
+use Rattle.deed_book.specs.Deed.{deed_table, no_of}
 use Rattle.uma_bucket.specs.Bucket.{IsOutOfRange}
+use Rattle.uma_domain.specs.Identity.{home_of}
+use Rattle.uma_keg.specs.declared.keg.Keg.{Keg}
+use Rattle.uma_keg.specs.Keg.{places_in, rights_in, table_in, size_in, reserve_in, fetches_in}
+use Rattle.uma_places.specs.Places.{IsNew}
 use Rattle.uma_places.specs.Refused.{IsItemSize, IsSlabCount}
 use Rattle.uma_places.specs.declared.refused.KegRefused.{KegRefused}
 use Rattle.uma_places.specs.declared.refused.KegRefused.TheVariants.{Size as KegSize, Slabs as KegSlabs, Memory as KegMemory}
+use Rattle.uma_zone.specs.declared.domains.ZoneDomains.{ZoneDomains}
+use Rattle.uma_zone.specs.declared.right.KeptRight.{KeptRight}
 use Rattle.uma_zone.specs.declared.zone.Zone.{Zone}
 use Rattle.uma_zone.specs.declared.zone_set.ZoneSet.{ZoneSet}
 use Rattle.uma_zone.specs.declared.zone_set.SecondSet.{SecondSet}
 use Rattle.uma_zone.specs.declared.zone_refused.ZoneRefused.{ZoneRefused}
 use Rattle.uma_zone.specs.declared.zone_refused.ZoneRefused.TheVariants.{Size, Slabs, Bucket, Domains, Zones, Memory}
-use Rattle.uma_zone.specs.Zone.{zone_key, zone_index, zone_clock, zone_smr, zone_domains, zone_hooks, zone_bucket, zone_limit, zone_size, zone_cap, zone_reserve, zone_rights}
+use Rattle.uma_zone.specs.Domains.{domains_home, domains_clock, domains_smr, domain_count}
+use Rattle.uma_zone.specs.Right.{right_table, right_no}
+use Rattle.uma_zone.specs.Zone.{zone_key, zone_index, zone_home, zone_clock, zone_smr, zone_domains, zone_hooks, zone_bucket, zone_limit, zone_size, zone_cap, zone_reserve, zone_rights}
 
 -- why no zone is made where its keg isn't
 abbrev pub as_zone : KegRefused → ZoneRefused
@@ -87,3 +98,52 @@ module _ {T K H P : Type 0} {g k h : _} where
     pub limit : zone_limit new ≡ zone_limit old
     pub hooks_kept : zone_hooks new ≡ zone_hooks old
     pub added : new.added ≡ old.added
+
+  -- A primary zone of these numbers, each in its range, over a new keg by these hooks of the keg, whose origin its items have.
+  pub record MakesPrimary (clock : TableId × Setup) (size : ℕ) (set : ZoneSet) (hooks keg_hooks : K) (zone : Zone T K H P g k h) : Type 0 where
+    pub numbers : IsPrimary clock size set hooks zone
+    pub origin : (zone_home zone).book.origin ≡ k.origin keg_hooks
+    pub accepted : AcceptsSet size set
+
+  -- a primary zone of these numbers over this keg
+  pub record IsOverKeg (clock : TableId × Setup) (keg : Keg T K g k) (set : ZoneSet) (hooks : K) (zone : Zone T K H P g k h) : Type 0 where
+    pub made : IsPrimary clock (size_in keg) set hooks zone
+    pub book : (zone_home zone).book ≡ table_in keg
+
+  -- a further zone of the keg, by the next of the rights that the primary one kept
+  pub record MakesSecondary (old : Zone T K H P g k h) (set : SecondSet) (hooks : K) (new zone : Zone T K H P g k h) : Type 0 where
+    pub numbers : IsSecondaryOf old set hooks zone
+    pub right : zone_rights old ≡ zone_rights new ++ zone_index zone ∷ []
+
+  -- why no further zone is made, which leaves the primary one its rights
+  pub record RefusesAndKeeps (old : Zone T K H P g k h) (set : SecondSet) (new : Zone T K H P g k h) (why : ZoneRefused) : Type 0 where
+    pub refused : RefusesSecondary (zone_rights old) set why
+    pub kept : zone_rights new ≡ zone_rights old
+
+  -- domains, if they are made, for the zone of this number over the same keg and clock
+  pub record MakesDomains {E : Type 0} (zone : Zone T K H P g k h) (index : ℕ) (deferred : Bool) (end : Result (ZoneDomains T H P g h) E) : Type 0 where
+    pub home : IfOk end (λ made. domains_home made ≡ home_of (zone_home zone).book index (zone_home zone).domains)
+    pub clock : IfOk end (λ made. domains_clock made ≡ zone_clock zone)
+    pub smr : IfOk end (λ made. domains_smr made ≡ deferred)
+    pub count : IfOk end (λ made. domain_count made ≡ zone_domains zone)
+
+module _ {T K : Type 0} {g k : _} where
+  -- A new keg of these numbers, with the rights to its eight zones that came with it, the primary one's at the end. Nothing was fetched of it, and bucket and domains are in their ranges.
+  pub record IsNewKeg (set : ZoneSet) (keg : Keg T K g k) (rights : List Deed) : Type 0 where
+    pub bucket : IsBucketSize set.bucket
+    pub domains : IsDomainCount set.domains
+    pub numbered : map no_of rights ≡ 7 ∷ 6 ∷ 5 ∷ 4 ∷ 3 ∷ 2 ∷ 1 ∷ 0 ∷ []
+    pub of_keg : All (λ right. deed_table right ≡ book_table (rights_in keg)) rights
+    pub new : IsNew (min 256 (4096 / size_in keg)) set.slabs (places_in keg)
+    pub fetches : (zone : ℕ) → fetches_in keg zone ≡ []
+    pub reserve : reserve_in keg ≡ set.reserve
+
+  -- these are rights to zones of the keg
+  pub record AreRightsOf (keg : Keg T K g k) (rights : List Deed) : Type 0 where
+    pub of_keg : All (λ right. deed_table right ≡ book_table (rights_in keg)) rights
+    pub below : All (λ right. no_of right < 8) rights
+
+  -- these rights of the keg are kept, in their order
+  pub record KeepsRights (keg : Keg T K g k) (rights : List Deed) (kept : List KeptRight) : Type 0 where
+    pub numbers : map right_no kept ≡ map no_of rights
+    pub of_keg : All (λ right. right_table right ≡ book_table (rights_in keg)) kept

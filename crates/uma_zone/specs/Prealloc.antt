@@ -1,5 +1,5 @@
 -- Own: how many slabs so many items fill, that they came in, and why no further slab does.
-use Rattle.std.specs.Prelude.{◌≡◌, ◌/◌, ℕ, min}
+use Rattle.std.specs.Prelude.{◌≡◌, ◌/◌, ℕ, min, Result, IfOk, IfErr}
 use Rattle.std.specs.Int.{div_ceil}
 use Rattle.uma_keg.specs.declared.fetch_refused.FetchRefused.{FetchRefused}
 use Rattle.uma_keg.specs.declared.keg.Keg.{Keg}
@@ -28,3 +28,9 @@ module _ {T K H P : Type 0} {g k h : _} where
     pub of_zone : table_in was ≡ (zone_home zone).book
     pub cap : (places_in was).cap ≡ zone_cap zone
     pub stops : StopsBringing was domain (slabs_for items (min 256 (4096 / zone_size zone))) why is
+
+  -- All slabs that so many items fill came in so, or the next one was refused so.
+  pub record PreallocsItems (zone : Zone T K H P g k h) (items domain : ℕ) (end : Result ℕ FetchRefused) : Type 0 where
+    pub count : IfOk end (λ slabs. slabs ≡ slabs_for items (min 256 (4096 / zone_size zone)))
+    pub brought : IfOk end (Preallocs zone domain)
+    pub refused : IfErr end (RefusesPrealloc zone items domain)

@@ -4,6 +4,7 @@ use Rattle.std.specs.List.{Contains}
 use Rattle.smr_clock.specs.declared.host.Host.{Ghosts as HostGhosts}
 use Rattle.smr_clock.specs.Goals.{number_of}
 use Rattle.uma_life.specs.declared.body.Body.{Ghosts}
+use Rattle.uma_life.specs.declared.hooks.Hooks.{Ghosts as HooksGhosts}
 use Rattle.uma_life.specs.declared.live.Live.{Live}
 use Rattle.uma_life.specs.declared.ticket.Ticket.{Ticket}
 use Rattle.uma_life.specs.Cached.{cached_ticket}
@@ -109,3 +110,12 @@ abbrev pub FreedWait : (T H P : Type 0) (g : Ghosts T) (h : HostGhosts H P) → 
 FreedWait T H P g h =
     (item : Ticket) (old new : ℕ → List Ticket) (calls : List (Call T H P g h)) → (IsUsable old item → ⊥) → Happen old calls new
     → IsUsable new item ⊎ HandsOut calls item → FindsRipe calls item ⊎ GetsFromKeg calls item
+
+-- ---- the law
+
+-- each call on a seat balances so, and over any calls a freed item waits
+pub record ReusesSafely (T K H P : Type 0) (g : Ghosts T) (k : HooksGhosts K T) (h : HostGhosts H P) : Type 0 where
+  pub served : (zone : Zone T K H P g k h) → ServedBalances zone
+  pub refused : (zone : Zone T K H P g k h) → RefusedBalances zone
+  pub kept : (old new : SeatCache T H P g h) → KeptBalances old new
+  pub sequence : FreedWait T H P g h

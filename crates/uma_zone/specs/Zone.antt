@@ -1,5 +1,5 @@
 -- Own: what contracts see of a zone.
-use Rattle.std.specs.Prelude.{◌≡◌, ℕ, Bool, Option, List, map}
+use Rattle.std.specs.Prelude.{◌≡◌, ℕ, Bool, Option, Some, List, map}
 use Rattle.std.specs.Arc.{arc_value}
 use Rattle.deed_book.specs.Deed.{TableId}
 use Rattle.deed_book.specs.FailShare.{share_table}
@@ -10,7 +10,7 @@ use Rattle.uma_domain.specs.declared.domain.Domain.{Domain}
 use Rattle.uma_seat.specs.declared.seat.SeatCache.{SeatCache}
 use Rattle.uma_seat.specs.Seat.{seat_fails}
 use Rattle.locked_keg.specs.declared.key.KegKey.{KegKey}
-use Rattle.uma_zone.specs.Domains.{domains_home, domains_clock, domains_smr, domain_count, domain_at, IsSeatOf as IsSeatOfDomains}
+use Rattle.uma_zone.specs.Domains.{domains_home, domains_clock, domains_smr, domain_count, domain_at, IsDomainOf, IsSeatOf as IsSeatOfDomains}
 use Rattle.uma_zone.specs.declared.domains.ZoneDomains.{ZoneDomains}
 use Rattle.uma_zone.specs.declared.zone.Zone.{Zone}
 use Rattle.uma_zone.specs.Right.{right_no}
@@ -80,3 +80,8 @@ module _ {T K H P : Type 0} {g k h : _} where
   pub record IsSeatOf (zone : Zone T K H P g k h) (seat : SeatCache T H P g h) : Type 0 where
     pub of_domains : IsSeatOfDomains zone.domains seat
     pub fails : seat_fails seat ≡ zone_fails zone
+
+  -- this is the zone's memory domain of this number
+  pub record IsDomainAt (zone : Zone T K H P g k h) (number : ℕ) (domain : Domain T H P g h) : Type 0 where
+    pub of_zone : IsDomainOf (zone_clock zone) (zone_home zone) (zone_smr zone) domain
+    pub named : zone_domain zone number ≡ Some domain

@@ -1,10 +1,7 @@
-ghost use Rattle.std.specs.Prelude.{◌≡◌, ◌≤◌, ◌<◌, Some, [], length, All};
+ghost use Rattle.std.specs.Prelude.{◌≡◌, ◌≤◌, ◌<◌, length, All};
 ghost use Rattle.deed_book.specs.Book.{book_table};
-ghost use Rattle.deed_book.specs.FailShare.{share_table, causes_in};
 ghost use Rattle.smr_clock.specs.Belongs.{clock_id};
-ghost use Rattle.uma_domain.specs.Domain.{domain_identity};
 ghost use Rattle.uma_domain.specs.Identity.{home_of};
-ghost use Rattle.uma_seat.specs.Seating.{home_of as seating_home, clock_of as seating_clock};
 ghost use Rattle.uma_zone.specs.OneDomain.{IsDomainOf};
 
 use deed_book::{Book, FailShare};
@@ -31,13 +28,12 @@ pub struct ZoneDomains<T: Body, H: Host> {
 }
 
 impl<T: Body, H: Host> ZoneDomains<T, H> {
-    ghost use Rattle.uma_zone.specs.Domains.{domains_home, domains_clock, domains_smr, domain_count, domain_at, misses_at};
+    ghost use Rattle.uma_zone.specs.AtDomain.{IsCountOf, IsDomainAt, CanSeat, IsSeatingOf, OpensMisses};
+    ghost use Rattle.uma_zone.specs.Domains.{domains_clock, domains_smr, domain_count};
 
     /// How many domains there are, 1 to 4.
     pub(crate) fn count(&self) -> u8
-        ensures count { result ≡ domain_count self.now }
-        ensures some { 1 ≤ result }
-        ensures few { result ≤ 4 }
+        ensures { IsCountOf self.now result }
     {
         self.domains.len() as u8
     }
@@ -59,21 +55,15 @@ impl<T: Body, H: Host> ZoneDomains<T, H> {
     /// The domain with this number.
     pub(crate) fn get(&self, domain: u8) -> &Domain<T, H>
         requires { domain < domain_count self.now }
-        ensures of_zone { IsDomainOf (domains_clock self.now) (domains_home self.now) (domains_smr self.now) result.now }
-        ensures misses { misses_at self.now domain ≡ Some (domain_identity result.now).misses }
-        ensures named { domain_at self.now domain ≡ Some result.now }
+        ensures { IsDomainAt self.now domain result.now }
     {
         &self.domains[domain as usize]
     }
 
     /// For what a seat of this domain is made. The book is that of the keg's item numbers.
     pub(crate) fn seating(&self, book: &Book, domain: u8) -> Seating<H>
-        requires domain { domain < domain_count self.now }
-        requires book { book_table book.now ≡ (domains_home self.now).book }
-        ensures home { seating_home result ≡ domains_home self.now }
-        ensures clock { seating_clock result ≡ domains_clock self.now }
-        ensures smr { result.smr ≡ domains_smr self.now }
-        ensures own { result.domain ≡ domain }
+        requires { CanSeat self.now book.now domain }
+        ensures { IsSeatingOf self.now domain result }
     {
         Seating {
             clock: Snapshot::of(&self.clock),
@@ -88,8 +78,7 @@ impl<T: Body, H: Host> ZoneDomains<T, H> {
     /// A share of the domain's book of misses that has no cause. Waits until it has the domain's lock.
     pub(crate) fn open_misses<R: Wait>(&self, rt: &R, domain: u8) -> FailShare
         requires { domain < domain_count self.now }
-        ensures share { causes_in result ≡ [] }
-        ensures book { misses_at self.now domain ≡ Some (share_table result) }
+        ensures { OpensMisses self.now domain result }
     {
         self.get(domain).open_misses(rt)
     }

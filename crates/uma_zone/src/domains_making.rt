@@ -1,8 +1,6 @@
-ghost use Rattle.std.specs.Prelude.{◌≡◌, ◌≤◌, IfOk};
-ghost use Rattle.deed_book.specs.Book.{book_table};
-ghost use Rattle.smr_clock.specs.Belongs.{clock_id};
-ghost use Rattle.uma_domain.specs.Identity.{home_of};
-ghost use Rattle.uma_zone.specs.Domains.{domains_home, domains_clock, domains_smr, domain_count};
+ghost use Rattle.std.specs.Prelude.{IfOk};
+ghost use Rattle.uma_zone.specs.AtDomain.{AreMade};
+ghost use Rattle.uma_zone.specs.Making.{IsDomainCount};
 
 use crate::domains::ZoneDomains;
 use deed_book::{Book, Memory};
@@ -23,12 +21,8 @@ impl<T: Body + Drop, H: Host> ZoneDomains<T, H> {
         domains: u8,
         smr: bool,
     ) -> Result<ZoneDomains<T, H>, Memory>
-        requires some { 1 ≤ domains }
-        requires few { domains ≤ 4 }
-        ensures home { IfOk result (λ made. domains_home made ≡ home_of (book_table book.now) zone domains) }
-        ensures clock { IfOk result (λ made. domains_clock made ≡ clock_id clock.now) }
-        ensures smr { IfOk result (λ made. domains_smr made ≡ smr) }
-        ensures count { IfOk result (λ made. domain_count made ≡ domains) }
+        requires { IsDomainCount domains }
+        ensures { IfOk result (AreMade clock.now book.now zone domains smr) }
     {
         let Ok(handle) = clock.share(alloc) else {
             return Err(Memory);

@@ -1,5 +1,4 @@
-ghost use Rattle.std.specs.Prelude.{◌≡◌, [], IfErr, OnOk};
-ghost use Rattle.zone_stats.specs.LedgerSteps.{HasRoom};
+ghost use Rattle.std.specs.Prelude.{IfErr, OnOk};
 
 use crate::alloc_ask::AllocRefused;
 use crate::zone::Zone;
@@ -11,9 +10,8 @@ use uma_life::{Body, Hooks};
 use uma_seat::SeatCache;
 
 impl<T: Body, K: Hooks<T>, H: Host> Zone<T, K, H> {
-    ghost use Rattle.uma_seat.specs.Seat.{top_of, ledger_of};
-    ghost use Rattle.locked_keg.specs.Seating.{KeepsAllButTop};
-    ghost use Rattle.uma_zone.specs.Zone.{IsSeatOf};
+    ghost use Rattle.uma_zone.specs.Asking.{CanFetch};
+    ghost use Rattle.uma_zone.specs.Allocating.{KeepsInFetch};
     ghost use Rattle.uma_zone.specs.Fetch.{HasFetched, FetchRefuses};
 
     /// Fetches up to a bucket's worth of items from the keg, for a seat whose allocation bucket is empty. It is one fetch
@@ -28,13 +26,10 @@ impl<T: Body, K: Hooks<T>, H: Host> Zone<T, K, H> {
         seat: &mut SeatCache<T, H>,
         reserve: bool,
     ) -> Result<(), AllocRefused>
-        requires seat { IsSeatOf self.now seat.old }
-        requires empty { (top_of seat.old).items ≡ [] }
-        requires room { HasRoom (ledger_of seat.old) }
-        ensures seat { IsSeatOf self.now seat.new }
+        requires { CanFetch self.now seat.old }
         ensures fetched { OnOk result (HasFetched self.now reserve seat.old seat.new) }
         ensures refused { IfErr result (FetchRefuses self.now reserve seat.old seat.new) }
-        ensures rest { KeepsAllButTop seat.old seat.new }
+        ensures kept { KeepsInFetch self.now seat.old seat.new }
     {
         let ask = FetchAsk {
             zone: self.index,

@@ -1,11 +1,9 @@
-ghost use Rattle.std.specs.Prelude.{◌≡◌, ◌≤◌, ◌<◌, ◌+◌, ◌∷◌, ◌++◌, [], length, map, None, Some, IfSome, IfNone, IfErr, OnOk, OnErr};
-ghost use Rattle.smr_clock.specs.Belongs.{IsOf, clock_id, view};
-ghost use Rattle.uma_seat.specs.Seat.{seat_home, seat_clock, spares_of, shelf_of, KeepsRack, KeepsPorts};
-ghost use Rattle.uma_zone.specs.Domains.{domains_home, domains_clock, IsSeatOf};
-ghost use Rattle.uma_zone.specs.Flushed.{bound_of, HasLastOf, TakesTried, in_order, AreLastOf, CanBePut};
-ghost use Rattle.uma_zone.specs.Frames.{KeepsPass, KeepsItems};
-ghost use Rattle.uma_zone.specs.OwnDomain.{IsSent, SentEach, PutsFirst, Flushes};
-ghost use Rattle.uma_zone.specs.Ports.{HasPorts, sent_of};
+ghost use Rattle.std.specs.Prelude.{◌≡◌, [], None, Some, OnErr};
+ghost use Rattle.uma_seat.specs.Seat.{seat_clock, shelf_of};
+ghost use Rattle.uma_zone.specs.Calling.{IsBy, CanFlush};
+ghost use Rattle.uma_zone.specs.Domains.{IsSeatOf};
+ghost use Rattle.uma_zone.specs.Flushed.{in_order, AreLastOf};
+ghost use Rattle.uma_zone.specs.Flushing.{FlushesSeat, MakesRoom, TakesOldest, CanPutOne, PutsOne, CanPutInOrder, PutsInOrder, CanPutBack, PutsBackOn, AddsSpares};
 
 use crate::domains::ZoneDomains;
 use deed_book::Memory;
@@ -30,17 +28,8 @@ impl<T: Body + Drop, H: Host> ZoneDomains<T, H> {
         pass: &mut Pass<H>,
         seat: &mut SeatCache<T, H>,
     ) -> Result<(), Memory>
-        requires clock { clock_id clock.now ≡ domains_clock self.now }
-        requires pass { IsOf clock.now pass.old }
-        requires seat { IsSeatOf self.now seat.old }
-        ensures pass { KeepsPass clock.now pass.old pass.new }
-        ensures seat { IsSeatOf self.now seat.new }
-        ensures flushed { OnOk result (shelf_of seat.new ≡ []) }
-        ensures stay { OnErr result (HasLastOf (shelf_of seat.old) (shelf_of seat.new)) }
-        ensures some_stay { OnErr result (0 < length (shelf_of seat.new)) }
-        ensures spares { spares_of seat.new ≡ spares_of seat.old }
-        ensures kept { KeepsItems seat.old seat.new }
-        ensures flushes { Flushes self.now H.copied (shelf_of seat.old) (shelf_of seat.new) (sent_of seat.old) (sent_of seat.new) (view pass.old) (view pass.new) }
+        requires { CanFlush self.now clock.now pass.old seat.old }
+        ensures { FlushesSeat (IsSeatOf self.now) self.now H.copied clock.now pass.old seat.old result pass.new seat.new }
     {
         let oldest = take_tried(clock, pass, seat);
         let newest = take_tried(clock, pass, seat);
@@ -56,17 +45,8 @@ impl<T: Body + Drop, H: Host> ZoneDomains<T, H> {
         pass: &mut Pass<H>,
         seat: &mut SeatCache<T, H>,
     ) -> Result<(), Memory>
-        requires clock { clock_id clock.now ≡ domains_clock self.now }
-        requires pass { IsOf clock.now pass.old }
-        requires seat { IsSeatOf self.now seat.old }
-        ensures pass { KeepsPass clock.now pass.old pass.new }
-        ensures seat { IsSeatOf self.now seat.new }
-        ensures two { OnOk result (length (spares_of seat.new) ≡ 2) }
-        ensures flushed { OnOk result (shelf_of seat.new ≡ []) }
-        ensures spares { length (spares_of seat.old) ≤ length (spares_of seat.new) }
-        ensures stay { OnErr result (HasLastOf (shelf_of seat.old) (shelf_of seat.new)) }
-        ensures kept { KeepsItems seat.old seat.new }
-        ensures flushes { Flushes self.now H.copied (shelf_of seat.old) (shelf_of seat.new) (sent_of seat.old) (sent_of seat.new) (view pass.old) (view pass.new) }
+        requires { CanFlush self.now clock.now pass.old seat.old }
+        ensures { MakesRoom (IsSeatOf self.now) self.now H.copied clock.now pass.old seat.old result pass.new seat.new }
     {
         self.flush(rt, clock, pass, seat)?;
         add_spares(alloc, seat)
@@ -80,20 +60,9 @@ impl<T: Body + Drop, H: Host> ZoneDomains<T, H> {
         oldest: Option<Shelved<T, H>>,
         newest: Option<Shelved<T, H>>,
     ) -> Result<(), Memory>
-        requires home { seat_home seat.old ≡ domains_home self.now }
-        requires clock { seat_clock seat.old ≡ domains_clock self.now }
-        requires ports { HasPorts self.now seat.old }
-        requires shelf { shelf_of seat.old ≡ [] }
-        requires places { length (spares_of seat.old) + length (in_order oldest newest) ≤ 2 }
-        requires oldest { IfSome oldest (CanBePut (domains_home self.now) (domains_clock self.now)) }
-        requires newest { IfSome newest (CanBePut (domains_home self.now) (domains_clock self.now)) }
-        ensures flushed { OnOk result (shelf_of seat.new ≡ []) }
+        requires { CanPutInOrder self.now seat.old oldest newest }
+        ensures done { PutsInOrder self.now (in_order oldest newest) seat.old result seat.new }
         ensures stay { OnErr result (AreLastOf (in_order oldest newest) (shelf_of seat.new)) }
-        ensures some_stay { OnErr result (0 < length (shelf_of seat.new)) }
-        ensures ports { HasPorts self.now seat.new }
-        ensures spares { spares_of seat.new ≡ spares_of seat.old }
-        ensures kept { KeepsItems seat.old seat.new }
-        ensures puts { PutsFirst self.now (in_order oldest newest) (shelf_of seat.new) (sent_of seat.old) (sent_of seat.new) }
     {
         match self.put_if_some(rt, seat, oldest) {
             Ok(()) => self.put_newest(rt, seat, newest),
@@ -112,19 +81,9 @@ impl<T: Body + Drop, H: Host> ZoneDomains<T, H> {
         seat: &mut SeatCache<T, H>,
         newest: Option<Shelved<T, H>>,
     ) -> Result<(), Memory>
-        requires home { seat_home seat.old ≡ domains_home self.now }
-        requires clock { seat_clock seat.old ≡ domains_clock self.now }
-        requires ports { HasPorts self.now seat.old }
-        requires shelf { shelf_of seat.old ≡ [] }
-        requires places { length (spares_of seat.old) + length (in_order None newest) ≤ 2 }
-        requires newest { IfSome newest (CanBePut (domains_home self.now) (domains_clock self.now)) }
-        ensures flushed { OnOk result (shelf_of seat.new ≡ []) }
+        requires { CanPutInOrder self.now seat.old None newest }
+        ensures done { PutsInOrder self.now (in_order None newest) seat.old result seat.new }
         ensures stay { OnErr result (shelf_of seat.new ≡ in_order None newest) }
-        ensures some_stay { OnErr result (0 < length (shelf_of seat.new)) }
-        ensures ports { HasPorts self.now seat.new }
-        ensures spares { spares_of seat.new ≡ spares_of seat.old }
-        ensures kept { KeepsItems seat.old seat.new }
-        ensures puts { PutsFirst self.now (in_order None newest) (shelf_of seat.new) (sent_of seat.old) (sent_of seat.new) }
     {
         match self.put_if_some(rt, seat, newest) {
             Ok(()) => Ok(()),
@@ -141,15 +100,8 @@ impl<T: Body + Drop, H: Host> ZoneDomains<T, H> {
         seat: &mut SeatCache<T, H>,
         shelved: Option<Shelved<T, H>>,
     ) -> Result<(), Shelved<T, H>>
-        requires home { seat_home seat.old ≡ domains_home self.now }
-        requires ports { HasPorts self.now seat.old }
-        requires can { IfSome shelved (CanBePut (domains_home self.now) (domains_clock self.now)) }
-        ensures back { IfErr result (λ back. shelved ≡ Some back) }
-        ensures ports { HasPorts self.now seat.new }
-        ensures sent { OnOk result (SentEach self.now (sent_of seat.old) (in_order None shelved) (sent_of seat.new)) }
-        ensures still { OnErr result (sent_of seat.new ≡ sent_of seat.old) }
-        ensures kept { KeepsItems seat.old seat.new }
-        ensures rack { KeepsRack seat.old seat.new }
+        requires { CanPutOne self.now seat.old shelved }
+        ensures { PutsOne self.now seat.old shelved result seat.new }
     {
         match shelved {
             Some(shelved) => self.put(rt, seat, shelved),
@@ -164,15 +116,8 @@ impl<T: Body + Drop, H: Host> ZoneDomains<T, H> {
         seat: &mut SeatCache<T, H>,
         shelved: Shelved<T, H>,
     ) -> Result<(), Shelved<T, H>>
-        requires home { seat_home seat.old ≡ domains_home self.now }
-        requires ports { HasPorts self.now seat.old }
-        requires can { CanBePut (domains_home self.now) (domains_clock self.now) shelved }
-        ensures back { IfErr result (λ back. back ≡ shelved) }
-        ensures ports { HasPorts self.now seat.new }
-        ensures sent { OnOk result (IsSent self.now (sent_of seat.old) shelved (sent_of seat.new)) }
-        ensures still { OnErr result (sent_of seat.new ≡ sent_of seat.old) }
-        ensures kept { KeepsItems seat.old seat.new }
-        ensures rack { KeepsRack seat.old seat.new }
+        requires { CanPutOne self.now seat.old (Some shelved) }
+        ensures { PutsOne self.now seat.old (Some shelved) result seat.new }
     {
         match shelved {
             Shelved::Plain { domain, bucket } => match self
@@ -206,18 +151,8 @@ fn take_tried<T: Body, H: Host>(
     pass: &mut Pass<H>,
     seat: &mut SeatCache<T, H>,
 ) -> Option<Shelved<T, H>>
-    requires clock { clock_id clock.now ≡ seat_clock seat.old }
-    requires pass { IsOf clock.now pass.old }
-    ensures pass { KeepsPass clock.now pass.old pass.new }
-    ensures tried { IfSome result (λ tried. TakesTried H.copied (view pass.old) (shelf_of seat.old) tried (shelf_of seat.new) (view pass.new)) }
-    ensures bound { IfSome result (λ tried. map bound_of (shelf_of seat.old) ≡ bound_of tried ∷ map bound_of (shelf_of seat.new)) }
-    ensures can { IfSome result (CanBePut (seat_home seat.old) (seat_clock seat.old)) }
-    ensures none { IfNone result (shelf_of seat.old ≡ []) }
-    ensures unchanged { IfNone result (shelf_of seat.new ≡ []) }
-    ensures unseen { IfNone result (view pass.new ≡ view pass.old) }
-    ensures spares { spares_of seat.new ≡ spares_of seat.old }
-    ensures kept { KeepsItems seat.old seat.new }
-    ensures ports { KeepsPorts seat.old seat.new }
+    requires { IsBy (seat_clock seat.old) clock.now pass.old }
+    ensures { TakesOldest H.copied clock.now pass.old seat.old result pass.new seat.new }
 {
     match seat.take_shelf()? {
         Shelved::Loose { domain, bucket } => Some(try_to_seal(clock, pass, domain, bucket)),
@@ -227,13 +162,8 @@ fn take_tried<T: Body, H: Host>(
 
 // Puts a bucket back on the seat's shelf, where there is one.
 fn put_back<T: Body, H: Host>(seat: &mut SeatCache<T, H>, shelved: Option<Shelved<T, H>>)
-    requires places { length (spares_of seat.old) + length (in_order None shelved) ≤ 2 }
-    requires shelf { shelf_of seat.old ≡ [] }
-    requires can { IfSome shelved (CanBePut (seat_home seat.old) (seat_clock seat.old)) }
-    ensures shelf { shelf_of seat.new ≡ in_order None shelved }
-    ensures spares { spares_of seat.new ≡ spares_of seat.old }
-    ensures kept { KeepsItems seat.old seat.new }
-    ensures ports { KeepsPorts seat.old seat.new }
+    requires { CanPutBack seat.old shelved }
+    ensures { PutsBackOn seat.old shelved seat.new }
 {
     match shelved {
         Some(shelved) => seat.put_shelf(shelved),
@@ -244,11 +174,7 @@ fn put_back<T: Body, H: Host>(seat: &mut SeatCache<T, H>, shelved: Option<Shelve
 // Makes spare buckets until there are two.
 fn add_spares<T: Body, H: Host>(alloc: Global, seat: &mut SeatCache<T, H>) -> Result<(), Memory>
     requires { shelf_of seat.old ≡ [] }
-    ensures two { OnOk result (length (spares_of seat.new) ≡ 2) }
-    ensures more { length (spares_of seat.old) ≤ length (spares_of seat.new) }
-    ensures shelf { shelf_of seat.new ≡ [] }
-    ensures kept { KeepsItems seat.old seat.new }
-    ensures ports { KeepsPorts seat.old seat.new }
+    ensures { AddsSpares seat.old result seat.new }
 {
     for _ in seat.spare()..2 {
         seat.add_spare(alloc)?;

@@ -1,4 +1,4 @@
-ghost use Rattle.std.specs.Prelude.{◌≡◌, ◌≤◌, ◌<◌, length};
+ghost use Rattle.std.specs.Prelude.{◌≤◌};
 ghost use Rattle.uma_life.specs.Cached.{cached_ticket};
 ghost use Rattle.uma_bucket.specs.Bucket.{items_of, tickets_of};
 ghost use Rattle.uma_bucket.specs.Home.{IsHome, AreHome};
@@ -10,15 +10,14 @@ use uma_bucket::Bucket;
 use uma_life::{Body, Cached, Hooks};
 
 impl<T: Body, K: Hooks<T>, H: Host> Zone<T, K, H> {
-    ghost use Rattle.uma_zone.specs.KegStates.{GivesItems, GivesItem, FreesSlabsOf};
+    ghost use Rattle.uma_zone.specs.KegStates.{GivesCounted, GivesItem, FreesSlabsOf};
     ghost use Rattle.uma_zone.specs.Zone.{zone_home, zone_cap};
 
     /// Gives each item of a bucket back to the keg, past this zone's `zone_fini` where the zone is secondary, and answers
     /// how many they were. Waits until it has the keg's lock.
     pub fn give<R: Wait>(&self, rt: &R, bucket: Bucket<T>) -> u32
         requires { AreHome (zone_home self.now) (tickets_of bucket) }
-        ensures count { result ≡ length (items_of bucket) }
-        ensures given { GivesItems self.now (items_of bucket) }
+        ensures { GivesCounted self.now (items_of bucket) result }
     {
         let mut guard = self.lock(rt);
         guard.value.give_all(&self.hooks, bucket)

@@ -1,8 +1,6 @@
 //! What follows from the contracts of a zone's calls. A call here does nothing: its contract is the law.
 
-ghost use Rattle.uma_seat.specs.declared.seat.SeatCache.{SeatCache};
-ghost use Rattle.uma_zone.specs.declared.zone.Zone.{Zone};
-ghost use Rattle.uma_zone.specs.SafeReuse.{ServedBalances, RefusedBalances, KeptBalances, FreedWait};
+ghost use Rattle.uma_zone.specs.SafeReuse.{ReusesSafely};
 ghost use Rattle.uma_zone.specs.SealLaw.{GoalsAreLater};
 ghost use Rattle.uma_zone.specs.TriesLaw.{TriesLoseNone};
 ghost use Rattle.uma_zone.specs.TrimLaw.{TrimsKeepFloor, DrainsLoseNone};
@@ -20,10 +18,7 @@ use uma_life::{Body, Hooks};
 /// No freed item goes into the keg: only a cached one can be given there, and a freed one becomes cached where its bucket
 /// is ripe.
 pub fn freed_items_wait<T: Body, K: Hooks<T>, H: Host>()
-    ensures served { (zone : Zone T K H H.Part T.Body K.Hooks H.Host) → ServedBalances zone }
-    ensures refused { (zone : Zone T K H H.Part T.Body K.Hooks H.Host) → RefusedBalances zone }
-    ensures kept { (old : SeatCache T H H.Part T.Body H.Host) → (new : SeatCache T H H.Part T.Body H.Host) → KeptBalances old new }
-    ensures sequence { FreedWait T H H.Part T.Body H.Host }
+    ensures { ReusesSafely T K H H.Part T.Body K.Hooks H.Host }
 {}
 
 /// What a trim leaves listed of a domain is at least its working set, where it takes any bucket, and it stops at the first

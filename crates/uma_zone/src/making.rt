@@ -1,16 +1,10 @@
-ghost use Rattle.std.specs.Prelude.{◌≡◌, ◌≤◌, ◌<◌, ◌/◌, ◌⊎◌, ◌∷◌, ◌++◌, ℕ, [], All, IfOk, IfErr, OnOk, OnErr, Err, Some, map, min};
-ghost use Rattle.deed_book.specs.Book.{book_table};
+ghost use Rattle.std.specs.Prelude.{◌≡◌, ◌<◌, ◌⊎◌, IfOk, IfErr, OnOk, Err, Some};
 ghost use Rattle.deed_book.specs.Deed.{deed_table, no_of};
 ghost use Rattle.deed_book.specs.FailShare.{share_table};
 ghost use Rattle.smr_clock.specs.Belongs.{clock_id};
 ghost use Rattle.uma_bucket.specs.Bucket.{IsOutOfRange};
-ghost use Rattle.uma_domain.specs.Identity.{home_of};
-ghost use Rattle.uma_keg.specs.Keg.{places_in, rights_in, table_in, size_in, reserve_in, fetches_in};
-ghost use Rattle.uma_places.specs.Places.{IsNew};
 ghost use Rattle.locked_keg.specs.Key.{key_rights, key_fails};
-ghost use Rattle.uma_zone.specs.Domains.{domains_home, domains_clock, domains_smr, domain_count};
-ghost use Rattle.uma_zone.specs.Making.{IsBucketSize, IsDomainCount};
-ghost use Rattle.uma_zone.specs.Right.{right_table, right_no};
+ghost use Rattle.uma_zone.specs.Making.{IsBucketSize, IsDomainCount, AreRightsOf, KeepsRights};
 
 use crate::domains::ZoneDomains;
 use crate::right::KeptRight;
@@ -38,8 +32,8 @@ const MOST_DOMAINS: u8 = 4;
 const MOST_ZONES: u8 = 8;
 
 impl<T: Body + Drop, K: Hooks<T>, H: Host> Zone<T, K, H> {
-    ghost use Rattle.uma_zone.specs.Zone.{zone_key, zone_index, zone_home, zone_clock, zone_domains, zone_rights};
-    ghost use Rattle.uma_zone.specs.Making.{IsPrimary, IsSecondaryOf, IsSameZone, RefusesPrimary, RefusesSecondary, AcceptsSet};
+    ghost use Rattle.uma_zone.specs.Zone.{zone_key, zone_index};
+    ghost use Rattle.uma_zone.specs.Making.{IsNewKeg, IsOverKeg, IsSameZone, MakesDomains, MakesPrimary, MakesSecondary, RefusesAndKeeps, RefusesPrimary};
 
     /// A zone over a keg of its own, whose items have `size` bytes. The keg runs the hooks of items that come and go with
     /// their slabs, by `keg_hooks`, of whose origin they are; the zone runs `ctor` and `dtor`, by `hooks`. The clock is that
@@ -58,9 +52,7 @@ impl<T: Body + Drop, K: Hooks<T>, H: Host> Zone<T, K, H> {
         hooks: K,
         keg_hooks: K,
     ) -> Result<Zone<T, K, H>, ZoneRefused>
-        ensures made { IfOk result (IsPrimary (clock_id clock.now) size set hooks) }
-        ensures origin { IfOk result (λ zone. (zone_home zone).book.origin ≡ K.origin keg_hooks) }
-        ensures accepted { OnOk result (AcceptsSet size set) }
+        ensures made { IfOk result (MakesPrimary (clock_id clock.now) size set hooks keg_hooks) }
         ensures refused { IfErr result (RefusesPrimary size set) }
     {
         let (keg, rights) = match Keg::new(alloc, size, set.slabs, set.reserve, keg_hooks) {
@@ -87,17 +79,8 @@ impl<T: Body + Drop, K: Hooks<T>, H: Host> Zone<T, K, H> {
         keg: Keg<T, K>,
         mut rights: Vec<Deed>,
     ) -> Result<Zone<T, K, H>, Memory>
-        requires least { 4 ≤ set.bucket }
-        requires most { set.bucket ≤ 64 }
-        requires some { 1 ≤ set.domains }
-        requires few { set.domains ≤ 4 }
-        requires numbered { map no_of rights.items ≡ 7 ∷ 6 ∷ 5 ∷ 4 ∷ 3 ∷ 2 ∷ 1 ∷ 0 ∷ [] }
-        requires of_keg { All (λ right. deed_table right ≡ book_table (rights_in keg)) rights.items }
-        requires new { IsNew (min 256 (4096 / size_in keg)) set.slabs (places_in keg) }
-        requires fetches { (zone : ℕ) → fetches_in keg zone ≡ [] }
-        requires reserve { reserve_in keg ≡ set.reserve }
-        ensures made { IfOk result (IsPrimary (clock_id clock.now) (size_in keg) set hooks) }
-        ensures book { IfOk result (λ zone. (zone_home zone).book ≡ table_in keg) }
+        requires { IsNewKeg set keg rights.items }
+        ensures { IfOk result (IsOverKeg (clock_id clock.now) keg set hooks) }
     {
         let Some(right) = rights.pop() else {
             unreachable!()
@@ -136,10 +119,8 @@ impl<T: Body + Drop, K: Hooks<T>, H: Host> Zone<T, K, H> {
         hooks: K,
     ) -> Result<Zone<T, K, H>, ZoneRefused>
         requires { zone_index self.old ≡ 0 }
-        ensures made { IfOk result (IsSecondaryOf self.old set hooks) }
-        ensures right { IfOk result (λ zone. zone_rights self.old ≡ zone_rights self.new ++ zone_index zone ∷ []) }
-        ensures kept { OnErr result (zone_rights self.new ≡ zone_rights self.old) }
-        ensures refused { IfErr result (RefusesSecondary (zone_rights self.old) set) }
+        ensures made { IfOk result (MakesSecondary self.old set hooks self.new) }
+        ensures refused { IfErr result (RefusesAndKeeps self.old set self.new) }
         ensures out_of_range { IsOutOfRange set.bucket → result ≡ Err (ZoneRefused.Bucket set.bucket) }
         ensures same { IsSameZone self.old self.new }
     {
@@ -174,10 +155,7 @@ impl<T: Body + Drop, K: Hooks<T>, H: Host> Zone<T, K, H> {
         index: u8,
         smr: bool,
     ) -> Result<ZoneDomains<T, H>, Memory>
-        ensures home { IfOk result (λ made. domains_home made ≡ home_of (zone_home self.now).book index (zone_home self.now).domains) }
-        ensures clock { IfOk result (λ made. domains_clock made ≡ zone_clock self.now) }
-        ensures smr { IfOk result (λ made. domains_smr made ≡ smr) }
-        ensures count { IfOk result (λ made. domain_count made ≡ zone_domains self.now) }
+        ensures { MakesDomains self.now index smr result }
     {
         let guard = self.lock(rt);
         let book = guard.value.numbers();
@@ -208,10 +186,8 @@ fn keep_rights<T: Body, K: Hooks<T>>(
     keg: &Keg<T, K>,
     rights: Vec<Deed>,
 ) -> Result<Vec<KeptRight>, Memory>
-    requires of_keg { All (λ right. deed_table right ≡ book_table (rights_in keg.now)) rights.items }
-    requires below { All (λ right. no_of right < 8) rights.items }
-    ensures numbers { IfOk result (λ kept. map right_no kept.items ≡ map no_of rights.items) }
-    ensures of_keg { IfOk result (λ kept. All (λ right. right_table right ≡ book_table (rights_in keg.now)) kept.items) }
+    requires { AreRightsOf keg.now rights.items }
+    ensures { IfOk result (λ kept. KeepsRights keg.now rights.items kept.items) }
 {
     let mut kept = Vec::new(alloc);
     for right in rights {

@@ -1,6 +1,5 @@
-ghost use Rattle.std.specs.Prelude.{◌≡◌, [], IfOk};
-ghost use Rattle.std.specs.List.{All};
-ghost use Rattle.uma_zone.specs.Ports.{inboxes_of, origins_of, pushed_by};
+ghost use Rattle.std.specs.Prelude.{IfOk};
+ghost use Rattle.uma_zone.specs.AtDomain.{OpensPorts};
 
 use crate::domains::ZoneDomains;
 use deed_book::Memory;
@@ -17,8 +16,7 @@ impl<T: Body, H: Host> ZoneDomains<T, H> {
         rt: &R,
         alloc: Global,
     ) -> Result<Vec<Port<T, H>>, Memory>
-        ensures ports { IfOk result (λ ports. origins_of ports.items ≡ inboxes_of self.now) }
-        ensures new { IfOk result (λ ports. All (λ pushed. pushed ≡ []) (pushed_by ports.items)) }
+        ensures { IfOk result (λ ports. OpensPorts self.now ports.items) }
     {
         let count = self.count();
         let mut ports = Vec::with_capacity(alloc, count as usize)?;

@@ -1,5 +1,3 @@
-ghost use Rattle.std.specs.Prelude.{◌≡◌, ◌≤◌, ◌<◌, ◌/◌, IfOk, IfErr, min};
-
 use crate::zone::Zone;
 use smr_clock::Host;
 use std::alloc::Global;
@@ -8,8 +6,8 @@ use uma_keg::{FetchRefused, KegCounts};
 use uma_life::{Body, Hooks};
 
 impl<T: Body, K: Hooks<T>, H: Host> Zone<T, K, H> {
-    ghost use Rattle.uma_zone.specs.Zone.{zone_domains, zone_size};
-    ghost use Rattle.uma_zone.specs.Prealloc.{slabs_for, Preallocs, RefusesPrealloc};
+    ghost use Rattle.uma_zone.specs.Asking.{CanPrealloc};
+    ghost use Rattle.uma_zone.specs.Prealloc.{PreallocsItems};
 
     /// Brings in the slabs that so many items fill, rounded up, of a memory domain, and answers how many. Waits until it has
     /// the keg's lock.
@@ -24,11 +22,8 @@ impl<T: Body, K: Hooks<T>, H: Host> Zone<T, K, H> {
         items: u64,
         domain: u8,
     ) -> Result<u32, FetchRefused>
-        requires items { items ≤ 262144 }
-        requires domain { domain < zone_domains self.now }
-        ensures count { IfOk result (λ slabs. slabs ≡ slabs_for items (min 256 (4096 / zone_size self.now))) }
-        ensures brought { IfOk result (Preallocs self.now domain) }
-        ensures refused { IfErr result (RefusesPrealloc self.now items domain) }
+        requires { CanPrealloc self.now items domain }
+        ensures { PreallocsItems self.now items domain result }
     {
         let mut guard = self.lock(rt);
         let KegCounts { per_slab, .. } = guard.value.counts();

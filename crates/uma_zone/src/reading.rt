@@ -1,11 +1,8 @@
-ghost use Rattle.std.specs.Prelude.{◌≡◌, ◌≢◌, ◌≤◌, ◌<◌, ◌^◌, ℕ, All, IfOk, IfErr, Some, min, ◌/◌, false};
+ghost use Rattle.std.specs.Prelude.{◌≡◌, ◌<◌, ◌^◌, All, IfOk, false};
 ghost use Rattle.uma_life.specs.Live.{live_table};
 ghost use Rattle.uma_bucket.specs.Sums.{AreOfAtMost, Balance};
-ghost use Rattle.uma_keg.specs.Census.{census_counts, census_out, census_table};
 ghost use Rattle.uma_keg.specs.Keg.{HasZone};
-ghost use Rattle.uma_keg.specs.Lent.{all_seen, lent_of};
 ghost use Rattle.locked_keg.specs.LockedKeg.{keg_in};
-ghost use Rattle.uma_zone.specs.OneDomain.{IsDomainOf};
 
 use crate::zone::Zone;
 use deed_book::Memory;
@@ -34,8 +31,8 @@ impl<T: Body + Drop, K: Hooks<T>, H: Host> Zone<T, K, H> {
 }
 
 impl<T: Body, K: Hooks<T>, H: Host> Zone<T, K, H> {
-    ghost use Rattle.uma_zone.specs.Zone.{zone_home, zone_clock, zone_smr, zone_domains, zone_domain, zone_hooks, zone_size, zone_cap, zone_reserve, zone_rights};
-    ghost use Rattle.uma_zone.specs.KegStates.{CountsKeg};
+    ghost use Rattle.uma_zone.specs.Zone.{zone_home, zone_smr, zone_domains, zone_hooks, zone_rights, IsDomainAt};
+    ghost use Rattle.uma_zone.specs.KegStates.{CountsKeg, HasKegNumbers, TakesCensus};
 
     /// How many memory domains there are, 1 to 4.
     pub fn domains(&self) -> u8
@@ -47,8 +44,7 @@ impl<T: Body, K: Hooks<T>, H: Host> Zone<T, K, H> {
     /// The memory domain of this number.
     pub fn domain(&self, domain: u8) -> &Domain<T, H>
         requires { domain < zone_domains self.now }
-        ensures of_zone { IsDomainOf (zone_clock self.now) (zone_home self.now) (zone_smr self.now) result.now }
-        ensures named { zone_domain self.now domain ≡ Some result.now }
+        ensures { IsDomainAt self.now domain result.now }
     {
         self.domains.get(domain)
     }
@@ -70,9 +66,7 @@ impl<T: Body, K: Hooks<T>, H: Host> Zone<T, K, H> {
     /// How the keg stands. Waits until it has the keg's lock.
     pub fn counts<R: Wait>(&self, rt: &R) -> KegCounts
         ensures stands { CountsKeg self.now result }
-        ensures cap { result.cap ≡ zone_cap self.now }
-        ensures reserve { result.reserve ≡ zone_reserve self.now }
-        ensures per_slab { result.per_slab ≡ min 256 (4096 / zone_size self.now) }
+        ensures numbers { HasKegNumbers self.now result }
     {
         let guard = self.lock(rt);
         guard.value.counts()
@@ -90,14 +84,7 @@ impl<T: Body, K: Hooks<T>, H: Host> Zone<T, K, H> {
         lives: Lives<T>,
     ) -> Result<(Census, Lives<T>), Lives<T>>
         requires { All (λ item. live_table item ≡ (zone_home self.now).book) lives }
-        ensures table { IfOk result (λ (census, back). census_table census ≡ (zone_home self.now).book) }
-        ensures cap { IfOk result (λ (census, back). (census_counts census).cap ≡ zone_cap self.now) }
-        ensures reserve { IfOk result (λ (census, back). (census_counts census).reserve ≡ zone_reserve self.now) }
-        ensures per_slab { IfOk result (λ (census, back). (census_counts census).per_slab ≡ min 256 (4096 / zone_size self.now)) }
-        ensures lent { IfOk result (λ (census, back). (zone : ℕ) → zone < 8 → lent_of lives zone ≤ census_out census zone) }
-        ensures absent { IfOk result (λ (census, back). All (λ zone. census_out census zone ≡ 0) (zone_rights self.now)) }
-        ensures items { IfOk result (λ (census, back). all_seen back ≡ all_seen lives) }
-        ensures refused { IfErr result (λ back. back ≡ lives) }
+        ensures { TakesCensus self.now lives result }
     {
         let mut guard = self.lock(rt);
         if self.keeps_used_right(&guard.value) {

@@ -38,14 +38,12 @@ pub struct KeptRight {
 }
 
 impl KeptRight {
-    ghost use Rattle.uma_zone.specs.Right.{right_table, right_no};
+    ghost use Rattle.uma_zone.specs.Right.{right_table, right_no, IsRightOf, KeepsRight};
 
     /// Keeps a right of the keg with these rights.
     pub fn new(alloc: Global, rights: Snapshot<Book>, right: Deed) -> Result<KeptRight, Memory>
-        requires table { deed_table right ≡ book_table rights.value }
-        requires below { no_of right < 8 }
-        ensures table { IfOk result (λ kept. right_table kept ≡ deed_table right) }
-        ensures no { IfOk result (λ kept. right_no kept ≡ no_of right) }
+        requires { IsRightOf rights.value right }
+        ensures { IfOk result (KeepsRight right) }
     {
         let no = right.no() as u8;
         let key = RightKey { rights, no };

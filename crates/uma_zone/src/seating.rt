@@ -1,5 +1,4 @@
-ghost use Rattle.std.specs.Prelude.{◌≡◌, ◌<◌, [], Some, IfOk};
-ghost use Rattle.deed_book.specs.FailShare.{share_table, causes_in};
+ghost use Rattle.std.specs.Prelude.{◌<◌, IfOk};
 
 use crate::zone::Zone;
 use deed_book::{FailShare, Memory};
@@ -10,9 +9,8 @@ use uma_life::{Body, Hooks};
 use uma_seat::{SeatCache, Seating};
 
 impl<T: Body + Drop, K: Hooks<T>, H: Host> Zone<T, K, H> {
-    ghost use Rattle.uma_seat.specs.Seating.{home_of, clock_of};
-    ghost use Rattle.uma_zone.specs.Zone.{zone_home, zone_clock, zone_smr, zone_domains, zone_bucket, zone_fails, IsSeatOf};
-    ghost use Rattle.uma_zone.specs.Seat.{IsFresh};
+    ghost use Rattle.uma_zone.specs.Zone.{zone_domains};
+    ghost use Rattle.uma_zone.specs.Seat.{MakesSeat, IsSeatingOf};
 
     /// A new seat of this zone in a memory domain, with a port of each domain's inbox. It is for one worker at a time. Waits
     /// until it has the locks of the keg and of the domains.
@@ -26,8 +24,7 @@ impl<T: Body + Drop, K: Hooks<T>, H: Host> Zone<T, K, H> {
         domain: u8,
     ) -> Result<SeatCache<T, H>, Memory>
         requires { domain < zone_domains self.now }
-        ensures seat { IfOk result (IsSeatOf self.now) }
-        ensures fresh { IfOk result (IsFresh (zone_bucket self.now) domain) }
+        ensures { MakesSeat self.now domain result }
     {
         let (seating, share) = self.open(rt, domain)?;
         let misses = self.domains.open_misses(rt, domain);
@@ -41,12 +38,7 @@ impl<T: Body + Drop, K: Hooks<T>, H: Host> Zone<T, K, H> {
     // For what a seat of the domain is made, and a share of the zone's fail book for it.
     fn open<R: Wait>(&self, rt: &R, domain: u8) -> Result<(Seating<H>, FailShare), Memory>
         requires { domain < zone_domains self.now }
-        ensures home { IfOk result (λ (seating, share). home_of seating ≡ zone_home self.now) }
-        ensures clock { IfOk result (λ (seating, share). clock_of seating ≡ zone_clock self.now) }
-        ensures smr { IfOk result (λ (seating, share). seating.smr ≡ zone_smr self.now) }
-        ensures own { IfOk result (λ (seating, share). seating.domain ≡ domain) }
-        ensures share { IfOk result (λ (seating, share). share_table share ≡ zone_fails self.now) }
-        ensures none { IfOk result (λ (seating, share). causes_in share ≡ []) }
+        ensures { IfOk result (λ (seating, share). IsSeatingOf self.now domain seating share) }
     {
         let mut guard = self.lock(rt);
         if !guard.value.has_zone(self.index) {

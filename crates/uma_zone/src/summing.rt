@@ -1,5 +1,5 @@
-ghost use Rattle.std.specs.Prelude.{◌^◌, IfOk};
-ghost use Rattle.uma_bucket.specs.Sums.{AreOfAtMost, Balance};
+ghost use Rattle.std.specs.Prelude.{IfOk};
+ghost use Rattle.uma_zone.specs.AtDomain.{AreHeldBy};
 ghost use Rattle.uma_zone.specs.Domains.{domains_home};
 
 use crate::domains::ZoneDomains;
@@ -15,8 +15,7 @@ impl<T: Body + Drop, H: Host> ZoneDomains<T, H> {
     /// modulo 2^64. Waits until it has each domain's lock,
     /// and settles the inboxes into the lists; `Memory` where memory is wanting for that.
     pub(crate) fn sums<R: Wait>(&self, rt: &R) -> Result<Sums, Memory>
-        ensures few { IfOk result (AreOfAtMost (2 ^ 34)) }
-        ensures balance { IfOk result (Balance (domains_home self.now).zone) }
+        ensures { IfOk result (AreHeldBy (domains_home self.now).zone) }
     {
         let mut sums = Sums::none();
         for domain in &self.domains {

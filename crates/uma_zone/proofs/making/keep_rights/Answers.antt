@@ -20,14 +20,11 @@ loop-right-init g c =
       of_keg = subst (All P) (sym c.new-kept.ensures.items) (All-nil P);
     }
 
-pub new-requires-clause-table : goal.new-requires-clause-table
-new-requires-clause-table g c =
+pub new-requires : goal.new-requires
+new-requires g c =
     let rights = c.args.rights.items in
     let turn = YieldsList-turn (YieldsList-from_vec rights (cc) (cc)) c.loop-right.yielded c.loop-right.right-iterator c.loop-right.yielded_by c.next.result c.next.new.self c.in-Some.right c.in-Some.is c.next.ensures.steps in
-    All-at (λ (right : Deed). deed_table right ≡ book_table (rights_in c.args.keg.now)) rights (length c.loop-right.yielded) c.in-Some.right c.requires.of_keg turn.0 turn.1 ∙ ap book_table (sym c.rights.ensures)
-
-pub new-requires-clause-below : goal.new-requires-clause-below
-new-requires-clause-below g c =
-    let rights = c.args.rights.items in
-    let turn = YieldsList-turn (YieldsList-from_vec rights (cc) (cc)) c.loop-right.yielded c.loop-right.right-iterator c.loop-right.yielded_by c.next.result c.next.new.self c.in-Some.right c.in-Some.is c.next.ensures.steps in
-    All-at (λ (right : Deed). no_of right < 8) rights (length c.loop-right.yielded) c.in-Some.right c.requires.below turn.0 turn.1
+    record {
+      table = All-at (λ (right : Deed). deed_table right ≡ book_table (rights_in c.args.keg.now)) rights (length c.loop-right.yielded) c.in-Some.right c.requires.of_keg turn.0 turn.1 ∙ ap book_table (sym c.rights.ensures);
+      below = All-at (λ (right : Deed). no_of right < 8) rights (length c.loop-right.yielded) c.in-Some.right c.requires.below turn.0 turn.1;
+    }

@@ -1,4 +1,4 @@
-use Rattle.std.proofs.Common.{◌≤◌, ℕ, List, [], cond, length, ap, ◌∙◌, subst}
+use Rattle.std.proofs.Common.{rules, ◌≤◌, ℕ, List, [], cond, length, ap, ◌∙◌, subst}
 use Rattle.uma_bucket.specs.Bucket.{items_of}
 use Rattle.uma_seat.specs.Rack.{spares_in}
 use Rattle.uma_seat.specs.Seat.{seat_smr, free_bucket, top_of, spares_of, shelf_of}
@@ -11,15 +11,19 @@ refill-requires g c =
     let seat = c.args.seat.now in
     ap items_of c.take_plain.ensures.kept.top ∙ none_behind (cond (seat_smr seat) [] (free_bucket seat).items) (items_of seat.top) c.requires.none
 
-pub returns-in-Some-clause-seat : goal.returns-in-Some-clause-seat
-returns-in-Some-clause-seat g c =
-    refilled_seat c.args.self.now c.take_plain.new.seat c.refill.new.self c.in-Some.bucket c.refill.ensures.same.0 c.refill.ensures.misses c.refill.ensures.ports c.refill.ensures.top c.in-Some.ensures.of_zone.at_home c.take_plain.ensures.seat
-
-pub returns-in-Some-clause-spares : goal.returns-in-Some-clause-spares
-returns-in-Some-clause-spares g c =
+pub returns-in-Some : goal.returns-in-Some
+returns-in-Some g c =
     let mid = c.take_plain.new.seat in
-    subst (λ (l : List ℕ). length l ≤ length (spares_of c.refill.new.self)) (ap spares_in c.take_plain.ensures.kept.rack)
-    (spares_left (spares_of mid) (spares_of c.refill.new.self) (length (shelf_of mid)) (top_of mid).room c.refill.ensures.spare c.refill.ensures.no_place)
-
-pub returns-in-Some-clause-own : goal.returns-in-Some-clause-own
-returns-in-Some-clause-own g c _ = record { bucket = c.in-Some.bucket; taken = c.in-Some.ensures.own; all = ap items_of c.refill.ensures.top }
+    record {
+      seat = refilled_seat c.args.self.now c.take_plain.new.seat c.refill.new.self c.in-Some.bucket c.refill.ensures.same.0 c.refill.ensures.misses c.refill.ensures.ports c.refill.ensures.top c.in-Some.ensures.of_zone.at_home c.take_plain.ensures.seat;
+      found = search rules;
+      hit = search rules;
+      missed = search rules;
+      no_top = search rules;
+      no_rack = search rules;
+      spares = subst (λ (l : List ℕ). length l ≤ length (spares_of c.refill.new.self)) (ap spares_in c.take_plain.ensures.kept.rack)
+          (spares_left (spares_of mid) (spares_of c.refill.new.self) (length (shelf_of mid)) (top_of mid).room c.refill.ensures.spare c.refill.ensures.no_place);
+      kept = search rules;
+      own = λ _. record { bucket = c.in-Some.bucket; taken = c.in-Some.ensures.own; all = ap items_of c.refill.ensures.top };
+      looked = search rules;
+    }

@@ -1,4 +1,4 @@
-use Rattle.std.proofs.Common.{◌≡◌, ℕ, List, [], ◌∷◌, ◌++◌, All, length, sym, ap, ◌∙◌, subst, arith}
+use Rattle.std.proofs.Common.{rules, ◌≡◌, ℕ, List, [], ◌∷◌, ◌++◌, All, length, sym, ap, ◌∙◌, subst, arith}
 use Rattle.std.proofs.lemmas.List.{length-append}
 use Rattle.std.proofs.lemmas.List.Elements.{All-nil, All-push}
 use Rattle.deed_book.specs.declared.book.Book.{Book}
@@ -44,16 +44,18 @@ invariant_of-result g c =
     ap (λ (m : ℕ). home_of (book_table c.args.book.now) c.args.zone m) n ∙ ap (λ (b : Book). home_of (book_table b) c.args.zone (length c.loop.made.items)) (sym c.of-2.ensures) in
     let same : clock_id c.args.clock.now ≡ clock_id c.in-Ok.handle = sym c.in-Ok.ensures in
     record {
-      some = omega (arith, n, c.requires.some);
-      few = omega (arith, n, c.requires.few);
+      some = omega (arith, n, c.requires.low);
+      few = omega (arith, n, c.requires.high);
       of_zone = subst (λ (id : TableId × Setup). All (IsDomainOf id (home_of (book_table c.of-2.result.value) c.args.zone (length c.loop.made.items)) c.args.smr) c.loop.made.items) same
           (subst (λ (x : Home). All (IsDomainOf (clock_id c.args.clock.now) x c.args.smr) c.loop.made.items) home c.loop.invariant.of_zone);
     }
 
-pub returns-clause-home : goal.returns-clause-home
-returns-clause-home g c =
+pub returns : goal.returns
+returns g c =
     let n : length c.loop.made.items ≡ c.args.domains = omega (arith, c.loop.invariant.count, c.loop.auto.counter-end, c.loop-test.false) in
-    ap (λ (b : Book). home_of (book_table b) c.args.zone (length c.loop.made.items)) c.of-2.ensures ∙ ap (λ (m : ℕ). home_of (book_table c.args.book.now) c.args.zone m) n
-
-pub returns-clause-count : goal.returns-clause-count
-returns-clause-count g c = omega (arith, c.loop.invariant.count, c.loop.auto.counter-end, c.loop-test.false)
+    record {
+      home = ap (λ (b : Book). home_of (book_table b) c.args.zone (length c.loop.made.items)) c.of-2.ensures ∙ ap (λ (m : ℕ). home_of (book_table c.args.book.now) c.args.zone m) n;
+      clock = search rules;
+      smr = search rules;
+      count = n;
+    }

@@ -1,4 +1,4 @@
-use Rattle.std.proofs.Common.{◌≡◌, ◌<◌, ◌+◌, ◌∷◌, ◌++◌, [], List, length, map, take, sym, ap, ◌∙◌, subst, arith}
+use Rattle.std.proofs.Common.{◌≡◌, ◌∷◌, ◌++◌, [], length, ap, arith}
 use Rattle.std.proofs.lemmas.List.{length-append}
 use Rattle.uma_zone.specs.Ports.{origins_of}
 use Rattle.uma_zone.proofs.Opened.{origins_more, none_begun, none_more, origins_all}
@@ -29,5 +29,8 @@ loop-domain-preserved g c =
       none = none_more ports now c.port.result put.items c.port.ensures.none before.none;
     }
 
-pub returns-clause-ports : goal.returns-clause-ports
-returns-clause-ports g c = origins_all c.args.self.now c.loop-domain.ports.items c.loop-domain.domain (omega (arith, c.loop-domain-test.false, c.count-count.ensures.count)) c.loop-domain.invariant.origins
+pub returns : goal.returns
+returns g c = record {
+  ports = origins_all c.args.self.now c.loop-domain.ports.items c.loop-domain.domain (omega (arith, c.loop-domain-test.false, c.count-count.ensures.count)) c.loop-domain.invariant.origins;
+  new = c.loop-domain.invariant.none;
+}

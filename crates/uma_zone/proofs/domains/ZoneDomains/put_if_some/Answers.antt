@@ -1,7 +1,7 @@
-use Rattle.std.proofs.Common.{refl, sym, subst}
-use Rattle.uma_zone.specs.Ports.{sent_of}
-use Rattle.uma_zone.proofs.Listings.{sent_one}
+use Rattle.std.proofs.Common.{Option, sym, subst}
+use Rattle.uma_bucket.specs.declared.shelved.Shelved.{Shelved}
+use Rattle.uma_zone.specs.Flushing.{PutsOne}
 use Rattle.uma_zone.proofs.domains.ZoneDomains.put_if_some.Goals as goal
 
-pub returns-in-Some-clause-sent : goal.returns-in-Some-clause-sent
-returns-in-Some-clause-sent g c = sent_one c.args.self.now (sent_of c.args.seat.now) (sent_of c.put.new.seat) c.args.shelved c.in-Some.shelved c.put.result c.in-Some.is c.put.ensures.sent
+pub returns-in-Some : goal.returns-in-Some
+returns-in-Some g c = subst (λ (o : Option (Shelved _ _ _ _ _)). PutsOne c.args.self.now c.args.seat.now o c.put.result c.put.new.seat) (sym c.in-Some.is) c.put.ensures

@@ -1,4 +1,4 @@
-use Rattle.std.proofs.Common.{◌∷◌, List, sym, ap, ◌∙◌, subst}
+use Rattle.std.proofs.Common.{rules, ◌∷◌, List, sym, ap, ◌∙◌, subst}
 use Rattle.std.specs.declared.vec.Vec.{Vec}
 use Rattle.uma_bucket.specs.declared.shelved.Shelved.{Shelved}
 use Rattle.uma_seat.specs.Seat.{shelf_of}
@@ -15,15 +15,24 @@ returns-in-Ok-clause-stay g c =
 pub returns-in-Err-clause-stay : goal.returns-in-Err-clause-stay
 returns-in-Err-clause-stay g c = both_back c.args.oldest c.args.newest c.in-Err.oldest (shelf_of c.put_back.new.seat) (shelf_of c.put_shelf.new.self) c.in-Err.ensures.back c.put_back.ensures.shelf c.put_shelf.ensures.oldest
 
-pub returns-in-Err-clause-ports : goal.returns-in-Err-clause-ports
-returns-in-Err-clause-ports g c = ap (λ (v : Vec _ _). origins_of v.items) (c.put_shelf.ensures.ports ∙ c.put_back.ensures.ports) ∙ c.put_if_some.ensures.ports
+pub returns-in-Ok-clause-done : goal.returns-in-Ok-clause-done
+returns-in-Ok-clause-done g c = record {
+  flushed = search rules;
+  some_stay = search rules;
+  ports = search rules;
+  spares = search rules;
+  kept = search rules;
+  puts = put_both c.args.self.now c.args.oldest c.args.newest (shelf_of c.put_newest.new.seat) (sent_of c.args.seat.now) (sent_of c.put_if_some.new.seat) (sent_of c.put_newest.new.seat) c.in-Ok.ensures.sent c.put_newest.ensures.done.puts;
+}
 
-pub returns-in-Ok-clause-puts : goal.returns-in-Ok-clause-puts
-returns-in-Ok-clause-puts g c =
-    put_both c.args.self.now c.args.oldest c.args.newest (shelf_of c.put_newest.new.seat) (sent_of c.args.seat.now) (sent_of c.put_if_some.new.seat) (sent_of c.put_newest.new.seat) c.in-Ok.ensures.sent c.put_newest.ensures.puts
-
-pub returns-in-Err-clause-puts : goal.returns-in-Err-clause-puts
-returns-in-Err-clause-puts g c =
-    put_none c.args.self.now (in_order c.args.oldest c.args.newest) (shelf_of c.put_shelf.new.self) (sent_of c.args.seat.now) (sent_of c.put_shelf.new.self)
-    (oldest_first c.args.oldest c.args.newest c.in-Err.oldest c.in-Err.ensures.back ∙ ap (λ (l : List (Shelved _ _ _ _ _)). c.in-Err.oldest ∷ l) (sym c.put_back.ensures.shelf) ∙ sym c.put_shelf.ensures.oldest)
-    (ap (λ (v : Vec _ _). pushed_by v.items) (c.put_shelf.ensures.ports ∙ c.put_back.ensures.ports) ∙ c.in-Err.ensures.still)
+pub returns-in-Err-clause-done : goal.returns-in-Err-clause-done
+returns-in-Err-clause-done g c = record {
+  flushed = tt;
+  some_stay = search rules;
+  ports = ap (λ (v : Vec _ _). origins_of v.items) (c.put_shelf.ensures.ports ∙ c.put_back.ensures.ports) ∙ c.put_if_some.ensures.ports;
+  spares = search rules;
+  kept = search rules;
+  puts = put_none c.args.self.now (in_order c.args.oldest c.args.newest) (shelf_of c.put_shelf.new.self) (sent_of c.args.seat.now) (sent_of c.put_shelf.new.self)
+      (oldest_first c.args.oldest c.args.newest c.in-Err.oldest c.in-Err.ensures.back ∙ ap (λ (l : List (Shelved _ _ _ _ _)). c.in-Err.oldest ∷ l) (sym c.put_back.ensures.shelf) ∙ sym c.put_shelf.ensures.oldest)
+      (ap (λ (v : Vec _ _). pushed_by v.items) (c.put_shelf.ensures.ports ∙ c.put_back.ensures.ports) ∙ c.in-Err.ensures.still);
+}

@@ -1,4 +1,4 @@
-use Rattle.std.proofs.Common.{◌≡◌, ◌<◌, refl, sym, ◌∙◌, subst, rules, arith}
+use Rattle.std.proofs.Common.{◌<◌, refl, sym, ◌∙◌, subst, rules, arith}
 use Rattle.smr_clock.specs.declared.view.View.{View}
 use Rattle.smr_clock.specs.Belongs.{view}
 use Rattle.uma_zone.specs.Domains.{domain_count}
@@ -22,8 +22,8 @@ loop-domain-preserved g c =
       settled = settled_more c.args.self.now g.H.Host.copied (view c.args.pass.now) (view c.loop-domain.pass) (view c.settle.new.pass) c.loop-domain.domain before.settled c.in_ok-settle.ensures.settled;
     }
 
-pub returns-in_err-settle-clause-stopped : goal.returns-in_err-settle-clause-stopped
-returns-in_err-settle-clause-stopped g c =
+pub returns-in_err-settle : goal.returns-in_err-settle
+returns-in_err-settle g c =
     let few : c.loop-domain.domain < domain_count c.args.self.now = search rules in
     let stops : StopsSettling c.args.self.now g.H.Host.copied (view c.args.pass.now) (view c.settle.new.pass) = record {
       count = c.loop-domain.domain;
@@ -31,4 +31,4 @@ returns-in_err-settle-clause-stopped g c =
       before = subst (λ (v : View _). SettlesFirst c.args.self.now g.H.Host.copied (view c.args.pass.now) c.loop-domain.domain v) (sym c.in_err-settle.ensures.unseen) c.loop-domain.invariant.settled;
       here = c.in_err-settle.ensures.part;
     } in
-    at_err _ stops
+    record { pass = search rules; settled = search rules; stopped = at_err _ stops }

@@ -35,11 +35,11 @@ loop-domain-preserved g c =
       balance = c.add_sums.ensures.balance (domains_home them).zone c.loop-domain.invariant.balance (subst (λ (x : Home). Balance x.zone c.in_ok-more.more) of.same_home c.in_ok-more.ensures.balance);
     }
 
-pub returns-clause-few : goal.returns-clause-few
-returns-clause-few g c =
+pub returns : goal.returns
+returns g c =
     let at = c.loop-domain.domain-index in
     let same : length c.deref-domain-items.result.now ≡ length c.args.self.now.domains.items = ap length c.deref-domain-items.ensures.value in
-    fewer c.loop-domain.sums (at * 2 ^ 32) (2 ^ 34) (omega (arith, same, c.loop-domain.auto.domain-index-end, c.args.self.now.few)) c.loop-domain.invariant.few
-
-pub returns-clause-balance : goal.returns-clause-balance
-returns-clause-balance g c = c.loop-domain.invariant.balance
+    record {
+      few = fewer c.loop-domain.sums (at * 2 ^ 32) (2 ^ 34) (omega (arith, same, c.loop-domain.auto.domain-index-end, c.args.self.now.few)) c.loop-domain.invariant.few;
+      balance = c.loop-domain.invariant.balance;
+    }

@@ -1,4 +1,9 @@
+use Rattle.std.proofs.Common.{rules}
 use Rattle.uma_zone.proofs.domains.ZoneDomains.try_listed.Goals as goal
 
-pub returns-clause-own : goal.returns-clause-own
-returns-clause-own g c _ = record { domain = c.get.result.now; named = c.get.ensures.named; count = c.seal_loose.result; seals = c.seal_loose.ensures.tried }
+pub returns : goal.returns
+returns g c = record {
+  pass = search rules;
+  own = λ _. record { domain = c.get.result.now; named = c.get.ensures.named; count = c.seal_loose.result; seals = c.seal_loose.ensures.tried };
+  no_own = search rules;
+}

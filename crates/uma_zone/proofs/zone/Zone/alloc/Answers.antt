@@ -12,27 +12,39 @@ use Rattle.uma_zone.proofs.zone.Zone.alloc.Goals as goal
 
 pub returns-clause-served : goal.returns-clause-served
 returns-clause-served g c =
-    let taken = c.in_ok-item.ensures in
-    let build = c.build.ensures in
-    served_by c.args.self.now c.args.ask c.args.seat.now c.take.new.seat c.build.new.seat c.in_ok-item.item c.build.result taken.takes taken.ledger build.fetches build.misses build.kept_room build.same build.built build.counted build.usable
+    let item = c.in_ok-item.ensures.taken in
+    let kept = c.build.ensures.kept in
+    served_by c.args.self.now c.args.ask c.args.seat.now c.take.new.seat c.build.new.seat c.in_ok-item.item c.build.result item.takes item.ledger kept.fetches kept.misses kept.kept_room kept.same c.build.ensures.built
 
 pub returns-clause-refused : goal.returns-clause-refused
 returns-clause-refused g c =
-    let taken = c.in_ok-item.ensures in
-    let build = c.build.ensures in
-    refused_by c.args.self.now c.args.ask c.args.seat.now c.take.new.seat c.build.new.seat c.in_ok-item.item c.build.result taken.takes taken.ledger build.fetches build.misses build.kept_room build.same build.refused
+    let item = c.in_ok-item.ensures.taken in
+    let kept = c.build.ensures.kept in
+    refused_by c.args.self.now c.args.ask c.args.seat.now c.take.new.seat c.build.new.seat c.in_ok-item.item c.build.result item.takes item.ledger kept.fetches kept.misses kept.kept_room kept.same c.build.ensures.refused
 
-pub returns-clause-flushed : goal.returns-clause-flushed
-returns-clause-flushed g c none =
-    flushed_between _ g.H.Host.copied _ _ (shelf_of c.take.new.seat) _ _ _ (sent_of c.take.new.seat) _ _ refl (ap shelf_in c.build.ensures.rack) refl (ap (λ (v : Vec _ _). pushed_by v.items) c.build.ensures.ports) (c.take.ensures.flushed none)
-
-pub returns-in_err-item-clause-settled : goal.returns-in_err-item-clause-settled
-returns-in_err-item-clause-settled g c none other =
+pub returns-in_err-item-clause-flushes : goal.returns-in_err-item-clause-flushes
+returns-in_err-item-clause-flushes g c =
     let told = err_from_is_err_and c.from_residual.result c.from_residual.ensures.1 in
-    c.in_err-item.ensures.settled none (λ same. other (told.1 ∙ ap (λ (e : AllocRefused). Err e) told.2 ∙ as_err _ _ same))
+    let before = c.in_err-item.ensures.flushes in
+    record {
+      flushed = before.flushed;
+      settled = λ none other. before.settled none (λ same. other (told.1 ∙ ap (λ (e : AllocRefused). Err e) told.2 ∙ as_err _ _ same));
+      unflushed = before.unflushed;
+      unpushed = before.unpushed;
+      unseen = before.unseen;
+    }
 
-pub returns-clause-settled : goal.returns-clause-settled
-returns-clause-settled g c none _ = c.in_ok-item.ensures.settled none (not_err _ _)
+pub returns-clause-flushes : goal.returns-clause-flushes
+returns-clause-flushes g c =
+    let before = c.in_ok-item.ensures.flushes in
+    let kept = c.build.ensures.kept in
+    record {
+      flushed = λ none. flushed_between _ g.H.Host.copied _ _ (shelf_of c.take.new.seat) _ _ _ (sent_of c.take.new.seat) _ _ refl (ap shelf_in kept.rack) refl (ap (λ (v : Vec _ _). pushed_by v.items) kept.ports) (before.flushed none);
+      settled = λ none _. before.settled none (not_err _ _);
+      unflushed = λ some. kept.rack ∙ before.unflushed some;
+      unpushed = λ some. kept.ports ∙ before.unpushed some;
+      unseen = before.unseen;
+    }
 
 pub returns-in_err-item-clause-unheard : goal.returns-in_err-item-clause-unheard
 returns-in_err-item-clause-unheard g c _ = c.in_err-item.ensures.unheard

@@ -18,15 +18,14 @@ use Rattle.uma_zone.proofs.zone.Zone.over.Goals as goal
 use Rattle.uma_zone.specs.Right.{right_table}
 use Rattle.uma_zone.specs.declared.right.KeptRight.{KeptRight}
 
-pub keep_rights-requires-clause-of_keg : goal.keep_rights-requires-clause-of_keg
-keep_rights-requires-clause-of_keg g c =
-    (All-pop (λ (right : Deed). deed_table right ≡ book_table (rights_in c.args.keg)) c.args.rights.items c.pop.new.self.items (Some c.in-Some.right) c.in-Some.ensures.items c.requires.of_keg).0
-
-pub keep_rights-requires-clause-below : goal.keep_rights-requires-clause-below
-keep_rights-requires-clause-below g c =
+pub keep_rights-requires : goal.keep_rights-requires
+keep_rights-requires g c =
     let rest = c.pop.new.self.items in
     let numbered : map no_of (rest ++ c.in-Some.right ∷ []) ≡ 7 ∷ 6 ∷ 5 ∷ 4 ∷ 3 ∷ 2 ∷ 1 ∷ 0 ∷ [] = ap (map no_of) (sym {A = List Deed} c.in-Some.ensures.items) ∙ c.requires.numbered in
-    below_eight no_of rest (split_last no_of rest c.in-Some.right (7 ∷ 6 ∷ 5 ∷ 4 ∷ 3 ∷ 2 ∷ 1 ∷ []) 0 numbered).1
+    record {
+      of_keg = (All-pop (λ (right : Deed). deed_table right ≡ book_table (rights_in c.args.keg)) c.args.rights.items c.pop.new.self.items (Some c.in-Some.right) c.in-Some.ensures.items c.requires.of_keg).0;
+      below = below_eight no_of rest (split_last no_of rest c.in-Some.right (7 ∷ 6 ∷ 5 ∷ 4 ∷ 3 ∷ 2 ∷ 1 ∷ []) 0 numbered).1;
+    }
 
 pub add_zone-index-requires : goal.add_zone-index-requires
 add_zone-index-requires g c =
@@ -73,25 +72,25 @@ invariant_of-result-clause-rights_of_keg g c =
     let key = key_is g c in
     All-weaker (λ (right : KeptRight). right_table right ≡ book_table (rights_in c.args.keg)) (λ (right : KeptRight). right_table right ≡ key_rights (lock_key (arc_value c.in-Ok.keg))) (λ right of. of ∙ sym key.rights) c.in_ok-rights.rights.items c.in_ok-rights.ensures.of_keg
 
-pub returns-clause-book : goal.returns-clause-book
-returns-clause-book g c = ap (λ (home : Home). home.book) c.in_ok-domains.ensures.home ∙ ap book_table c.numbers.ensures
-
-pub returns-clause-made : goal.returns-clause-made
-returns-clause-made g c =
+pub returns : goal.returns
+returns g c =
     let of : IsKeyOf c.args.keg c.args.set.domains (lock_key (arc_value c.in-Ok.keg)) =
     key_of c.args.keg (keg_in c.in_ok-keg.keg) (keg_in c.add_zone-index.new.self) c.args.set.domains (lock_key c.in_ok-lock_up.field-0) (lock_key (arc_value c.in-Ok.keg)) (ap lock_key c.in-Ok.ensures.ok)
     c.in_ok-lock_up.ensures.key c.add_zone-index.ensures.same c.in_ok-keg.ensures.keg in
     let numbers = split_last no_of c.pop.new.self.items c.in-Some.right (7 ∷ 6 ∷ 5 ∷ 4 ∷ 3 ∷ 2 ∷ 1 ∷ []) 0 (ap (map no_of) (sym {A = List Deed} c.in-Some.ensures.items) ∙ c.requires.numbered) in
     record {
-      index = c.add_zone-index.ensures.index ∙ numbers.0;
-      same_clock = c.in_ok-domains.ensures.clock;
-      size_kept = of.size;
-      cap = of.cap ∙ c.requires.new.cap;
-      reserve = of.reserve ∙ c.requires.reserve;
-      bucket = refl;
-      limit = refl;
-      domains = c.in_ok-domains.ensures.count;
-      smr = c.in_ok-domains.ensures.smr;
-      hooks_kept = refl;
-      rights = c.in_ok-rights.ensures.numbers ∙ numbers.1;
+      made = record {
+        index = c.add_zone-index.ensures.index ∙ numbers.0;
+        same_clock = c.in_ok-domains.ensures.clock;
+        size_kept = of.size;
+        cap = of.cap ∙ c.requires.new.cap;
+        reserve = of.reserve ∙ c.requires.reserve;
+        bucket = refl;
+        limit = refl;
+        domains = c.in_ok-domains.ensures.count;
+        smr = c.in_ok-domains.ensures.smr;
+        hooks_kept = refl;
+        rights = c.in_ok-rights.ensures.numbers ∙ numbers.1;
+      };
+      book = ap (λ (home : Home). home.book) c.in_ok-domains.ensures.home ∙ ap book_table c.numbers.ensures;
     }

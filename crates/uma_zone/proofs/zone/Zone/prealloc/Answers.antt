@@ -10,13 +10,12 @@ drop-guard-requires g c =
     let key = guard_key c.lock-guard.result in
     c.bring_slabs.ensures.keeps key (below_key c.args.self.now key c.args.domain c.lock-guard.ensures.key c.requires.domain) c.lock-guard.ensures.kept
 
-pub returns-clause-brought : goal.returns-clause-brought
-returns-clause-brought g c =
+pub returns : goal.returns
+returns g c =
     let done = c.bring_slabs.ensures in
-    preallocs c.args.self.now (keg_in c.lock-guard.result.value) (keg_in c.bring_slabs.new.self) c.args.domain _ c.bring_slabs.result c.lock-guard.ensures.numbers done.count done.brings
-
-pub returns-clause-refused : goal.returns-clause-refused
-returns-clause-refused g c =
-    let done = c.bring_slabs.ensures in
-    refuses_prealloc c.args.self.now (keg_in c.lock-guard.result.value) (keg_in c.bring_slabs.new.self) c.args.items c.args.domain _ c.bring_slabs.result c.lock-guard.ensures.numbers c.lock-guard.ensures.cap
-    (search rules) done.refused
+    record {
+      count = search rules;
+      brought = preallocs c.args.self.now (keg_in c.lock-guard.result.value) (keg_in c.bring_slabs.new.self) c.args.domain _ c.bring_slabs.result c.lock-guard.ensures.numbers done.count done.brings;
+      refused = refuses_prealloc c.args.self.now (keg_in c.lock-guard.result.value) (keg_in c.bring_slabs.new.self) c.args.items c.args.domain _ c.bring_slabs.result c.lock-guard.ensures.numbers c.lock-guard.ensures.cap
+          (search rules) done.refused;
+    }
