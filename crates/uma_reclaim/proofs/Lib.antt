@@ -3,4 +3,5 @@ mod Seats
 mod Shelves
 mod Taken
 mod Told
+mod Passes
 pub mod Turns

@@ -1,5 +1,5 @@
 -- What a seat has cached where an item is taken, and that it stays one of its zone.
-use Rattle.std.proofs.Common.{◌≡◌, ◌≢◌, ◌<◌, ◌+◌, ◌==◌, ◌&&◌, ℕ, Bool, true, false, not, cond, Option, Some, None, IfNone, List, [], ◌∷◌, ◌++◌, length, sum_by, slice_set, inl, inr, refl, sym, ap, ◌∙◌, subst, arith}
+use Rattle.std.proofs.Common.{◌≡◌, ◌≢◌, ◌<◌, ◌+◌, ◌==◌, ◌&&◌, ℕ, Bool, true, false, not, cond, Option, Some, None, IfSome, IfNone, List, [], ◌∷◌, ◌++◌, length, sum_by, slice_set, inl, inr, refl, sym, ap, ◌∙◌, subst, arith}
 use Rattle.std.proofs.lemmas.Bool.{cases_eq, eqb-true}
 use Rattle.std.proofs.lemmas.List.{length-append, length-map}
 use Rattle.std.proofs.lemmas.List.Sums.{sum_by-set}
@@ -47,9 +47,10 @@ pub none_both : {X : Type 0} (result : Option X) {A B C : Type 0} → IfNone res
 none_both None a b f = f a b
 none_both (Some x) a b f = tt
 
-pub none_then : {X : Type 0} (result : Option X) {A B : Type 0} → IfNone result A → (A → B) → IfNone result B
-none_then None a f = f a
-none_then (Some x) a f = tt
+-- and where there is one
+pub some_both : {X : Type 0} (result : Option X) {A B C : X → Type 0} → IfSome result A → IfSome result B → ((x : X) → A x → B x → C x) → IfSome result C
+some_both None a b f = tt
+some_both (Some x) a b f = f x a b
 
 module _ {T H P : Type 0} {g h : _} where
   -- the exchange moves no item away

@@ -1,4 +1,6 @@
 pub mod Given
 pub mod Cached
 pub mod Told
+pub mod Frames
+pub mod Emptied
 pub mod Reclaimed

@@ -1,12 +1,7 @@
-ghost use Rattle.std.specs.Prelude.{◌≡◌, ◌<◌, sum_by, fold, flat_map, IfOk, OnErr};
-ghost use Rattle.std.specs.List.{All};
-ghost use Rattle.smr_clock.specs.Belongs.{IsOf, clock_id, view};
-ghost use Rattle.uma_domain.specs.Taken.{taken_in};
-ghost use Rattle.uma_zone.specs.Frames.{GoesOn};
-ghost use Rattle.uma_zone.specs.Zone.{zone_clock, zone_domains};
-ghost use Rattle.uma_reclaim.specs.Given.{IsFromZone, AreGiven, items_in, counted};
-ghost use Rattle.uma_reclaim.specs.Told.{notes_in, TakesInNotes};
-ghost use Rattle.uma_reclaim.specs.Reclaimed.{takes_of, ComesFrom, IsTakenAt, TakesInTurn, KeepsListsAt, StopsTaking};
+ghost use Rattle.std.specs.Prelude.{IfOk, OnErr};
+ghost use Rattle.smr_clock.specs.Belongs.{view};
+ghost use Rattle.uma_reclaim.specs.Frames.{IsPassFor, MayTake, TakesIn};
+ghost use Rattle.uma_reclaim.specs.Reclaimed.{GivesItemsOnly, KeepsListsAt, StopsTaking, TakesAt};
 
 use crate::extent::Extent;
 use crate::giving::give_taken;
@@ -32,16 +27,9 @@ pub(crate) fn give_back<T: Body, K: Hooks<T>, H: Host, R: Wait>(
     pass: &mut Pass<H>,
     extent: Extent,
 ) -> Result<Reclaimed<T, H>, Memory>
-    requires clock { clock_id clock.now ≡ zone_clock zone.now }
-    requires pass { IsOf clock.now pass.old }
-    ensures pass { GoesOn clock.now pass.old pass.new }
-    ensures host { TakesInNotes H.merged (view pass.old).host (view pass.new).host }
-    ensures told { IfOk result (λ done. (view pass.new).host ≡ fold H.merged (view pass.old).host (flat_map notes_in (takes_of done))) }
-    ensures from { IfOk result (λ done. ComesFrom zone.now (takes_of done)) }
-    ensures own { IfOk result (λ done. TakesInTurn zone.now extent 0 (takes_of done)) }
-    ensures items { IfOk result (λ done. done.items ≡ counted (sum_by items_in (takes_of done))) }
-    ensures given { IfOk result (λ done. AreGiven zone.now (takes_of done)) }
-    ensures slabs { IfOk result (λ done. done.slabs ≡ 0) }
+    requires { IsPassFor zone.now clock.now pass.old }
+    ensures kept { TakesIn H.merged clock.now pass.old pass.new }
+    ensures gives { IfOk result (GivesItemsOnly zone.now extent H.merged (view pass.old).host (view pass.new).host) }
     ensures stopped { OnErr result (StopsTaking zone.now extent H.merged (view pass.old).host (view pass.new).host) }
 {
     let mut items = 0u64;
@@ -68,10 +56,8 @@ fn take_from<T: Body, K: Hooks<T>, H: Host, R: Wait>(
     domain: u8,
     extent: Extent,
 ) -> Result<Taken<T, H>, Memory>
-    requires clock { clock_id clock.now ≡ zone_clock zone.now }
-    requires domain { domain < zone_domains zone.now }
-    ensures of_zone { IfOk result (λ taken. All (IsFromZone zone.now) (taken_in taken)) }
-    ensures own { IfOk result (λ taken. IsTakenAt zone.now extent domain (taken_in taken)) }
+    requires { MayTake zone.now clock.now domain }
+    ensures takes { IfOk result (TakesAt zone.now extent domain) }
     ensures keeps { OnErr result (KeepsListsAt zone.now domain) }
 {
     match extent {

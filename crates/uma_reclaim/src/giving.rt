@@ -1,11 +1,8 @@
-ghost use Rattle.std.specs.Prelude.{◌≡◌, fold};
 ghost use Rattle.std.specs.List.{All};
-ghost use Rattle.smr_clock.specs.Belongs.{IsOf, clock_id, view};
 ghost use Rattle.uma_domain.specs.Taken.{taken_in};
-ghost use Rattle.uma_zone.specs.Frames.{GoesOn};
-ghost use Rattle.uma_zone.specs.Zone.{zone_clock};
-ghost use Rattle.uma_reclaim.specs.Given.{IsFromZone, GivesBucket, bucket_len, items_in, counted};
-ghost use Rattle.uma_reclaim.specs.Told.{notes_of, notes_in};
+ghost use Rattle.uma_reclaim.specs.Emptied.{GivesOne, GivesTaken};
+ghost use Rattle.uma_reclaim.specs.Frames.{IsPassFor};
+ghost use Rattle.uma_reclaim.specs.Given.{IsFromZone};
 
 use smr_clock::{Clock, Host, Pass};
 use std::sync::Wait;
@@ -22,13 +19,9 @@ pub(crate) fn give_taken<T: Body, K: Hooks<T>, H: Host, R: Wait>(
     pass: &mut Pass<H>,
     mut taken: Taken<T, H>,
 ) -> u64
-    requires clock { clock_id clock.now ≡ zone_clock zone.now }
-    requires pass { IsOf clock.now pass.old }
+    requires pass { IsPassFor zone.now clock.now pass.old }
     requires of_zone { All (IsFromZone zone.now) (taken_in taken) }
-    ensures pass { GoesOn clock.now pass.old pass.new }
-    ensures told { (view pass.new).host ≡ fold H.merged (view pass.old).host (notes_in (taken_in taken)) }
-    ensures count { result ≡ counted (items_in (taken_in taken)) }
-    ensures given { All (GivesBucket zone.now) (taken_in taken) }
+    ensures { GivesTaken zone.now H.merged clock.now (taken_in taken) pass.old result pass.new }
 {
     let mut count = 0u64;
     while let Some(bucket) = taken.pop() {
@@ -48,13 +41,9 @@ fn give_bucket<T: Body, K: Hooks<T>, H: Host, R: Wait>(
     pass: &mut Pass<H>,
     bucket: TakenBucket<T, H>,
 ) -> u32
-    requires clock { clock_id clock.now ≡ zone_clock zone.now }
-    requires pass { IsOf clock.now pass.old }
+    requires pass { IsPassFor zone.now clock.now pass.old }
     requires of_zone { IsFromZone zone.now bucket }
-    ensures pass { GoesOn clock.now pass.old pass.new }
-    ensures told { (view pass.new).host ≡ fold H.merged (view pass.old).host (notes_of bucket) }
-    ensures count { result ≡ bucket_len bucket }
-    ensures given { GivesBucket zone.now bucket }
+    ensures { GivesOne zone.now H.merged clock.now bucket pass.old result pass.new }
 {
     match bucket {
         TakenBucket::Plain { bucket } => zone.give(rt, bucket),

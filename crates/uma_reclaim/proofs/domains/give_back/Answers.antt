@@ -30,8 +30,8 @@ loop-domain-preserved g c =
     let items = ap (λ (l : List (Snapshot _)). sum_by items_in (map taken_by l)) all ∙ sum_more taken_by items_in takes take in
     record {
       each = (let e = ap length all in omega (arith, e, length-append takes (take ∷ []), before.each));
-      of_zone = subst (λ (l : List (Snapshot _)). All Of (map taken_by l)) (sym all) (all_more taken_by Of takes take before.of_zone (subst Of (sym same) c.in_ok-taken.ensures.of_zone));
-      own = subst (λ (l : List (Snapshot _)). TakesInTurn c.args.zone.now c.args.extent 0 (map taken_by l)) (sym all) (turn_more c.args.zone.now c.args.extent taken_by takes take c.loop-domain.domain before.each before.own (subst (IsTakenAt c.args.zone.now c.args.extent c.loop-domain.domain) (sym same) c.in_ok-taken.ensures.own));
+      of_zone = subst (λ (l : List (Snapshot _)). All Of (map taken_by l)) (sym all) (all_more taken_by Of takes take before.of_zone (subst Of (sym same) c.in_ok-taken.ensures.takes.of_zone));
+      own = subst (λ (l : List (Snapshot _)). TakesInTurn c.args.zone.now c.args.extent 0 (map taken_by l)) (sym all) (turn_more c.args.zone.now c.args.extent taken_by takes take c.loop-domain.domain before.each before.own (subst (IsTakenAt c.args.zone.now c.args.extent c.loop-domain.domain) (sym same) c.in_ok-taken.ensures.takes.own));
       gave = subst (λ (l : List (Snapshot _)). All Gives (map taken_by l)) (sym all) (all_more taken_by Gives takes take before.gave (subst Gives (sym same) gave.given));
       given =
           counted_sum (sum_by items_in (map taken_by takes)) (items_in (taken_by take)) c.loop-domain.items c.give_taken-given.result c.saturating_add-items.result before.given (gave.count ∙ ap (λ (l : List (TakenBucket _ _ _ _ _)). counted (items_in l)) (sym same)) c.saturating_add-items.ensures
@@ -41,6 +41,16 @@ loop-domain-preserved g c =
           told_more merged notes_in taken_by start was (view c.give_taken-given.new.pass).host takes take before.told (gave.told ∙ ap (λ (l : List (TakenBucket _ _ _ _ _)). fold merged was (notes_in l)) (sym same))
           ∙ ap (λ (l : List (Snapshot _)). fold merged start (flat_map notes_in (map taken_by l))) (sym all);
     }
+
+pub returns-in_err-taken-clause-kept : goal.returns-in_err-taken-clause-kept
+returns-in_err-taken-clause-kept g c =
+    let before = c.loop-domain.invariant in
+    record { pass = before.pass; host = record { notes = flat_map notes_in (map taken_by c.loop-domain.takes); told = before.told } }
+
+pub returns-clause-kept : goal.returns-clause-kept
+returns-clause-kept g c =
+    let before = c.loop-domain.invariant in
+    record { pass = before.pass; host = record { notes = flat_map notes_in (map taken_by c.loop-domain.takes); told = before.told } }
 
 pub returns-in_err-taken-clause-stopped : goal.returns-in_err-taken-clause-stopped
 returns-in_err-taken-clause-stopped g c =

@@ -1,4 +1,4 @@
-use Rattle.std.proofs.Common.{◌≡◌, ◌≤◌, All, length, map, sum_by, fold, flat_map}
+use Rattle.std.proofs.Common.{◌≡◌, All, length, map, sum_by, fold, flat_map}
 use Rattle.smr_clock.specs.Belongs.{view}
 use Rattle.uma_zone.specs.Frames.{GoesOn}
 use Rattle.uma_reclaim.specs.Given.{IsFromZone, AreGiven, items_in, counted}

@@ -1,4 +1,4 @@
-use Rattle.std.proofs.Common.{[], ◌∷◌, ◌++◌, length-append, refl, ◌∙◌, arith}
+use Rattle.std.proofs.Common.{rules, [], ◌∷◌, ◌++◌, length-append, refl, ◌∙◌, arith}
 use Rattle.std.proofs.lemmas.List.Elements.{All-nil, All-push}
 use Rattle.uma_zone.specs.KegStates.{GivesItem}
 use Rattle.uma_reclaim.specs.Cached.{cached_in}
@@ -17,9 +17,9 @@ loop-item-init g c = record {
 pub loop-item-preserved : goal.loop-item-preserved
 loop-item-preserved g c =
     let before = c.loop-item.invariant in
-    let took = c.take_cached.ensures in
+    let took = c.take_cached.ensures.kept in
     let now = c.take_cached.new.seat in
-    let one = c.in-Some.ensures.one in
+    let one = c.in-Some.ensures.takes.one in
     record {
       seat = took.seat;
       fewer = omega (arith, one, before.fewer);
@@ -39,10 +39,15 @@ loop-item-preserved g c =
       };
     }
 
-pub returns-clause-count : goal.returns-clause-count
-returns-clause-count g c = omega (arith, c.in_default.ensures.none, c.loop-item.invariant.given)
-
-pub returns-clause-given : goal.returns-clause-given
-returns-clause-given g c =
+pub returns : goal.returns
+returns g c =
+    let none = c.in_default.ensures.none in
     let gave = c.loop-item.invariant.gave in
-    record { items = gave.items; as_many = omega (arith, c.in_default.ensures.none, gave.as_many); given = gave.given }
+    record {
+      count = omega (arith, none.none, c.loop-item.invariant.given);
+      given = record { items = gave.items; as_many = omega (arith, none.none, gave.as_many); given = gave.given };
+      no_usable = none.no_usable;
+      no_cross = none.no_cross;
+      seat = search rules;
+      kept = search rules;
+    }

@@ -31,16 +31,13 @@ loop-bucket-preserved g c =
           c.in-Some.ensures.first gave.told;
     }
 
-pub returns-clause-count : goal.returns-clause-count
-returns-clause-count g c =
-    let none : items_in (taken_in c.loop-bucket.taken) ≡ 0 = ap items_in c.in_default.ensures.none.0 in
-    omega (arith, none, c.loop-bucket.invariant.given)
-
-pub returns-clause-told : goal.returns-clause-told
-returns-clause-told g c =
-    told_all g.H.Host.merged notes_of (view c.args.pass.now).host (view c.loop-bucket.pass).host (taken_in c.args.taken) (taken_in c.loop-bucket.taken) c.loop-bucket.invariant.told c.in_default.ensures.none.0
-
-pub returns-clause-given : goal.returns-clause-given
-returns-clause-given g c =
+pub returns : goal.returns
+returns g c =
     let Gives = GivesBucket c.args.zone.now in
-    c.loop-bucket.invariant.gave (subst (λ l. All Gives l) (sym c.in_default.ensures.none.0) (All-nil Gives))
+    let none : items_in (taken_in c.loop-bucket.taken) ≡ 0 = ap items_in c.in_default.ensures.none.0 in
+    record {
+      pass = c.loop-bucket.invariant.pass;
+      told = told_all g.H.Host.merged notes_of (view c.args.pass.now).host (view c.loop-bucket.pass).host (taken_in c.args.taken) (taken_in c.loop-bucket.taken) c.loop-bucket.invariant.told c.in_default.ensures.none.0;
+      count = omega (arith, none, c.loop-bucket.invariant.given);
+      given = c.loop-bucket.invariant.gave (subst (λ l. All Gives l) (sym c.in_default.ensures.none.0) (All-nil Gives));
+    }
