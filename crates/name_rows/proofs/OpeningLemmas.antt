@@ -150,6 +150,16 @@ module _ (a : Setup) (version : ℕ) where
       plus_zero : (m : ℕ) → m ≡ m + 0
       plus_zero m = omega arith
 
+  -- a clock that is made so has a word for each row, and two for each entry
+  pub words_fit : (more : List ℕ) (b : Setup) (words : ℕ) → more ≡ names_words → b ≡ a → words ≡ place_after_seats a.about + length more → key_place b b.plan.1 ≤ words
+  words_fit more b words is same many =
+      let long : length more ≡ length names_words = ap length is in
+      let both : length (replicate a.plan.0 (version * 2 ^ 20) ++ replicate (2 * a.plan.1) 0) ≡ length (replicate a.plan.0 (version * 2 ^ 20)) + length (replicate {A = ℕ} (2 * a.plan.1) 0) = length-append (replicate a.plan.0 (version * 2 ^ 20)) (replicate (2 * a.plan.1) 0) in
+      let rows : length (replicate a.plan.0 (version * 2 ^ 20)) ≡ a.plan.0 = length-replicate a.plan.0 (version * 2 ^ 20) in
+      let entries : length (replicate {A = ℕ} (2 * a.plan.1) 0) ≡ 2 * a.plan.1 = length-replicate (2 * a.plan.1) 0 in
+      let room : key_place a a.plan.1 ≤ words = omega arith in
+      subst (λ (s : Setup). key_place s s.plan.1 ≤ words) (sym same) room
+
   pub names_opens : version < 2 ^ 44 → IsPlan a.plan.0 a.plan.1 → (more : List ℕ) → more ≡ names_words → Opens Named a (first_part a) more
   names_opens low plan more is range =
       subst (λ (m : List ℕ). Named a (first_words a m) (first_view a (first_part a) ∷ [])) (sym is)

@@ -13,5 +13,9 @@ pub mod Entries
 pub mod Rows
 pub mod RootStates
 pub mod Roots
+pub mod Types
+pub mod Finding
+pub mod RowCalls
+pub mod SeatCalls
 pub mod Opening
 pub mod WordsStand

@@ -1,13 +1,13 @@
 -- What stamping an entry, and finding it ripe or unripe, come to.
 use Rattle.std.specs.Prelude.{◌≡◌, ℕ, ◌+◌, ◌<◌, ◌≤◌, ◌⊎◌, Bool, true, false}
 use Rattle.smr_clock.specs.declared.view.View.{View}
-use Rattle.smr_clock.specs.Steps.{IsWriteFound, write_looking}
+use Rattle.smr_clock.specs.Steps.{IsWriteFound, IsReadFound, write_looking}
 use Rattle.name_rows.specs.declared.entry_state.EntryState.{EntryState}
 use Rattle.name_rows.specs.declared.entry_state.EntryState.TheVariants.{Clean, Linked, Unlinked, Stamped}
 use Rattle.name_rows.specs.declared.owned.Owned.{Owned}
 use Rattle.name_rows.specs.declared.part.Part.{Part}
 use Rattle.name_rows.specs.declared.unripe.Unripe.{Unripe}
-use Rattle.name_rows.specs.Writing.{stamped}
+use Rattle.name_rows.specs.Writing.{stamped, ripened}
 
 -- the entry is in no row
 abbrev pub is_loose : EntryState → Bool
@@ -32,6 +32,12 @@ abbrev pub StampsIfUnlinked : View Part → Owned → View Part → Owned → Ty
 StampsIfUnlinked v o v' o' =
     (is_settled o'.state ≡ true)
     × (((o.state ≡ Unlinked) × StampsAt v o v' o') ⊎ ((is_settled o.state ≡ true) × (o' ≡ o) × (v' ≡ v)))
+
+-- The read hand was loaded. The entry is clean where it has no stamp above that hand, and else as it was.
+pub record LoadsReadHand (read : ℕ) (v : View Part) (o : Owned) (v' : View Part) (o' : Owned) : Type 0 where
+  pub found : IsReadFound v.holder read
+  pub floor : v'.holder.floor ≡ read
+  pub kept : o' ≡ ripened read o
 
 -- The entry is clean. Where it had, or was given, a stamp, the read hand is known to have come to it.
 pub record IsRipe (v : View Part) (o : Owned) (v' : View Part) (o' : Owned) : Type 0 where

@@ -1,5 +1,5 @@
 -- What contracts see of rows.
-use Rattle.std.specs.Prelude.{◌≡◌, ℕ, ◌%◌, List, Option, Some, None}
+use Rattle.std.specs.Prelude.{◌≡◌, ℕ, ◌%◌, ◌<◌, ◌^◌, List, Option, Some, None}
 use Rattle.smr_clock.specs.declared.clock.Clock.{Clock}
 use Rattle.smr_clock.specs.Notes.{IsSeatOf, seat_knows}
 use Rattle.name_rows.specs.declared.records.Record.{Record}
@@ -18,6 +18,11 @@ IsRowOf clock row = IsSeatOf clock row.seat
 -- the row's last record, alone
 abbrev pub row_last : Row → List Record
 row_last row = last_told (seat_knows row.seat).host.rows
+
+-- this is the version of its last record
+pub record IsVersionOf (row : Row) (last : ℕ) : Type 0 where
+  pub version : last ≡ row.version
+  pub low : last < 2 ^ 44
 
 abbrev pub key_in : Option Guest → Option ℕ
 key_in None = None

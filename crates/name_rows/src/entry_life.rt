@@ -1,6 +1,6 @@
-ghost use Rattle.std.specs.Prelude.{◌≡◌, None, IsSome, IfOk, IfErr};
+ghost use Rattle.std.specs.Prelude.{◌≡◌, IfOk, IfErr};
 ghost use Rattle.uma_life.specs.Hook.{KegInit, ZoneInit, Ctor, Dtor, ZoneFini, KegFini, MayPass, base_phase};
-ghost use Rattle.name_rows.specs.Entries.{entry_life, Passes};
+ghost use Rattle.name_rows.specs.Entries.{entry_life, Passes, Begins, RefusesToBegin};
 
 use crate::entry::Entry;
 use uma_life::BodyPhase;
@@ -26,10 +26,8 @@ impl Entry {
     /// changes. So no entry without words is ever built.
     pub fn keg_init(&mut self) -> Result<(), u8>
         requires { MayPass KegInit (entry_life self.old) }
-        ensures passed { IfOk result (λ _. Passes KegInit self.old self.new) }
-        ensures accepts { IfOk result (λ _. IsSome self.old.words) }
-        ensures refuses { IfErr result (λ code. (code ≡ 255) × (self.old.words ≡ None)) }
-        ensures unchanged { IfErr result (λ _. self.new ≡ self.old) }
+        ensures begins { IfOk result (λ _. Begins self.old self.new) }
+        ensures refuses { IfErr result (λ code. RefusesToBegin self.old code self.new) }
     {
         if self.words.is_none() {
             return Err(NO_WORDS);

@@ -1,9 +1,8 @@
-ghost use Rattle.std.specs.Prelude.{◌≡◌, ◌<◌, ◌%◌, ◌^◌};
-ghost use Rattle.smr_core.specs.declared.phase.Phase.{Phase};
-ghost use Rattle.smr_clock.specs.Belongs.{IsOf, view, holder, setup_of};
+ghost use Rattle.std.specs.Prelude.{◌≡◌, ◌%◌, ◌^◌};
+ghost use Rattle.smr_clock.specs.Belongs.{IsOf, view, setup_of};
 ghost use Rattle.name_rows.specs.Belongs.{IsNamesClock};
-ghost use Rattle.name_rows.specs.declared.records.Bound.{Bound};
-ghost use Rattle.name_rows.specs.Reading.{Finds, ReadsRecord, HoldsOpen, slot_entry};
+ghost use Rattle.name_rows.specs.Finding.{CanFind, CanLoadRow, CanLoadEntry, LoadsEntry, IsRowOfKey};
+ghost use Rattle.name_rows.specs.Reading.{Finds, ReadsRecord, slot_entry};
 
 use crate::names::Names;
 use crate::places::{key_place, row_place, value_place};
@@ -30,8 +29,7 @@ impl HostPlay<Names> for ReadsEntry {
 // The row of a key.
 pub(crate) fn row_of(clock: &Clock<Names>, key: u64) -> u32
     requires names { IsNamesClock clock.now }
-    ensures row { result ≡ key % (setup_of clock.now).plan.0 }
-    ensures below { result < (setup_of clock.now).plan.0 }
+    ensures { IsRowOfKey (setup_of clock.now) key result }
 {
     (key % u64::from(clock.plan().0)) as u32
 }
@@ -46,10 +44,7 @@ fn entry_of(word: u64) -> Option<u32>
 
 // The entry that the row's word names.
 fn load_row(clock: &Clock<Names>, pass: &mut Pass<Names>, row: u32) -> Option<u32>
-    requires here { IsOf clock.now pass.old }
-    requires names { IsNamesClock clock.now }
-    requires inside { (holder pass.old).phase ≡ Phase.Inside }
-    requires row { row < (setup_of clock.now).plan.0 }
+    requires { CanLoadRow clock.now pass.old row }
     ensures here { IsOf clock.now pass.new }
     ensures reads { ReadsRecord (view pass.old) row result (view pass.new) }
 {
@@ -58,23 +53,15 @@ fn load_row(clock: &Clock<Names>, pass: &mut Pass<Names>, row: u32) -> Option<u3
 }
 
 fn load_key(clock: &Clock<Names>, pass: &mut Pass<Names>, entry: u32) -> u64
-    requires here { IsOf clock.now pass.old }
-    requires names { IsNamesClock clock.now }
-    requires entry { entry < (setup_of clock.now).plan.1 }
-    ensures here { IsOf clock.now pass.new }
-    ensures same { view pass.new ≡ view pass.old }
-    ensures held { (b : Bound) → HoldsOpen (view pass.old) b → b.entry ≡ entry → result ≡ b.key }
+    requires { CanLoadEntry clock.now pass.old entry }
+    ensures { LoadsEntry (λ b. b.key) clock.now pass.old entry result pass.new }
 {
     clock.host_step::<ReadsEntry>(pass, key_place(clock, entry), HostAct::Load)
 }
 
 fn load_value(clock: &Clock<Names>, pass: &mut Pass<Names>, entry: u32) -> u64
-    requires here { IsOf clock.now pass.old }
-    requires names { IsNamesClock clock.now }
-    requires entry { entry < (setup_of clock.now).plan.1 }
-    ensures here { IsOf clock.now pass.new }
-    ensures same { view pass.new ≡ view pass.old }
-    ensures held { (b : Bound) → HoldsOpen (view pass.old) b → b.entry ≡ entry → result ≡ b.value }
+    requires { CanLoadEntry clock.now pass.old entry }
+    ensures { LoadsEntry (λ b. b.value) clock.now pass.old entry result pass.new }
 {
     clock.host_step::<ReadsEntry>(pass, value_place(clock, entry), HostAct::Load)
 }
@@ -82,9 +69,7 @@ fn load_value(clock: &Clock<Names>, pass: &mut Pass<Names>, entry: u32) -> u64
 /// The value that the key's row binds to the key at the load of the row's word in this call. The pass is inside a
 /// section: as long as it is, the entry that the word names isn't written again. Waits for nobody.
 pub fn find(clock: &Clock<Names>, pass: &mut Pass<Names>, key: u64) -> Option<u64>
-    requires here { IsOf clock.now pass.old }
-    requires names { IsNamesClock clock.now }
-    requires inside { (holder pass.old).phase ≡ Phase.Inside }
+    requires { CanFind clock.now pass.old }
     ensures here { IsOf clock.now pass.new }
     ensures finds { Finds (view pass.old) (view pass.new) key result }
 {

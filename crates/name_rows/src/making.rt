@@ -1,13 +1,6 @@
-ghost use Rattle.std.specs.Prelude.{◌≡◌, ◌≤◌, ◌<◌, ◌^◌, ◌*◌, ◌++◌, ℕ, [], ◌∷◌, Some, None, IfOk, IfErr, OnOk, length, replicate, slice_index_or};
-ghost use Rattle.smr_core.specs.ClockState.{IsInRange};
-ghost use Rattle.smr_clock.specs.Belongs.{setup_of};
-ghost use Rattle.smr_clock.specs.Making.{setup, AreWorkers};
-ghost use Rattle.smr_clock.specs.Notes.{IsSeatOf, seat_knows};
-ghost use Rattle.name_rows.specs.Belongs.{IsNamesClock};
-ghost use Rattle.name_rows.specs.NamesLaw.{IsPlan};
-ghost use Rattle.name_rows.specs.Opening.{AreOpenRows, RefusesNames};
-ghost use Rattle.name_rows.specs.Records.{first_part, fresh_entry, rows_from, told};
-ghost use Rattle.name_rows.specs.Roots.{IsRootOf, root_kept};
+ghost use Rattle.std.specs.Prelude.{◌≡◌, ◌^◌, ◌*◌, ◌++◌, [], ◌∷◌, IfOk, IfErr, OnOk, replicate};
+ghost use Rattle.smr_clock.specs.Making.{setup};
+ghost use Rattle.name_rows.specs.Opening.{RefusesNames, FitsPlan, AcceptsNames, AreFreshEntries, IsOpenedWith, CanSplitRows, SplitsRows};
 
 use crate::entry_state::EntryState;
 use crate::names::Names;
@@ -29,9 +22,7 @@ const MOST_ENTRIES: u32 = 65536;
 
 // Tests the numbers, in order.
 fn check(about: (u32, u64, u64), rows: u32, entries: u32, version: u64) -> Result<(), NamesRefused>
-    ensures clock { OnOk result (IsInRange (setup about.0 about.1 about.2 (rows, entries)).about) }
-    ensures plan { OnOk result (IsPlan rows entries) }
-    ensures version { OnOk result (version < 2 ^ 44) }
+    ensures accepted { OnOk result (AcceptsNames (setup about.0 about.1 about.2 (rows, entries)).about rows entries version) }
     ensures refused { IfErr result (RefusesNames (setup about.0 about.1 about.2 (rows, entries)).about rows entries version) }
 {
     if let Err(refused) = About::checked(about.0, about.1, about.2) {
@@ -56,8 +47,7 @@ fn opening_words(
     entries: u32,
     version: u64,
 ) -> Result<Vec<u64>, AllocError>
-    requires plan { IsPlan rows entries }
-    requires version { version < 2 ^ 44 }
+    requires { FitsPlan rows entries version }
     ensures { IfOk result (λ words. words.items ≡ replicate rows (version * 2 ^ 20) ++ replicate (2 * entries) 0) }
 {
     let mut words = vec![in alloc; version * (1 << 20); rows as usize]?;
@@ -67,8 +57,7 @@ fn opening_words(
 
 // The root's table of clean entries.
 fn fresh_entries(alloc: Global, entries: u32) -> Result<Vec<Option<Owned>>, AllocError>
-    ensures long { IfOk result (λ kept. length kept.items ≡ entries) }
-    ensures fresh { IfOk result (λ kept. (n : ℕ) → n < entries → slice_index_or kept.items n None ≡ Some (fresh_entry n)) }
+    ensures { IfOk result (λ kept. AreFreshEntries entries kept.items) }
 {
     let mut kept = Vec::new(alloc);
     for entry in 0..entries {
@@ -98,15 +87,8 @@ fn split_rows(
     root: &mut HostSeat<Names>,
     version: u64,
 ) -> Result<Vec<Row>, Memory>
-    requires here { IsSeatOf clock.now root.old }
-    requires names { IsNamesClock clock.now }
-    requires rows { (seat_knows root.old).host.rows ≡ rows_from 0 (setup_of clock.now).plan.0 }
-    requires low { version < 2 ^ 44 }
-    ensures here { IfOk result (λ _. IsSeatOf clock.now root.new) }
-    ensures rest { IfOk result (λ _. (seat_knows root.new).host.rows ≡ []) }
-    ensures owned { IfOk result (λ _. (seat_knows root.new).host.owned ≡ (seat_knows root.old).host.owned) }
-    ensures long { IfOk result (λ rows. length rows.items ≡ (setup_of clock.now).plan.0) }
-    ensures rows { IfOk result (λ rows. AreOpenRows clock.now version rows.items) }
+    requires { CanSplitRows clock.now root.old version }
+    ensures { IfOk result (λ rows. SplitsRows clock.now root.old version rows.items root.new) }
 {
     let mut rows = Vec::new(alloc);
     for number in 0..clock.plan().0 {
@@ -133,13 +115,7 @@ pub fn make(
     entries: u32,
     version: u64,
 ) -> Result<Opened, NamesRefused>
-    ensures clock { IfOk result (λ opened. setup_of opened.clock ≡ setup seats start window (rows, entries)) }
-    ensures names { IfOk result (λ opened. IsNamesClock opened.clock) }
-    ensures passes { IfOk result (λ opened. AreWorkers opened.clock told (first_part (setup seats start window (rows, entries))) opened.passes) }
-    ensures long { IfOk result (λ opened. length opened.rows ≡ rows) }
-    ensures rows { IfOk result (λ opened. AreOpenRows opened.clock version opened.rows) }
-    ensures root { IfOk result (λ opened. IsRootOf opened.clock opened.root) }
-    ensures entries { IfOk result (λ opened. (n : ℕ) → n < entries → slice_index_or (root_kept opened.root) n None ≡ Some (fresh_entry n)) }
+    ensures made { IfOk result (IsOpenedWith (setup seats start window (rows, entries)) version) }
     ensures refused { IfErr result (RefusesNames (setup seats start window (rows, entries)).about rows entries version) }
 {
     check((seats, start, window), rows, entries, version)?;

@@ -1,11 +1,6 @@
 // The steps of a making.
-ghost use Rattle.std.specs.Prelude.{◌≡◌, ◌<◌, ◌^◌, ◌+◌, ◌-◌, [], ◌∷◌, None, IfOk};
-ghost use Rattle.smr_clock.specs.Belongs.{setup_of};
-ghost use Rattle.smr_clock.specs.Notes.{IsSeatOf, seat_knows};
-ghost use Rattle.name_rows.specs.Belongs.{IsNamesClock};
-ghost use Rattle.name_rows.specs.Records.{fresh_row, rows_from};
-ghost use Rattle.name_rows.specs.Linking.{row_record};
-ghost use Rattle.name_rows.specs.Rows.{IsRowOf, row_last};
+ghost use Rattle.std.specs.Prelude.{IfOk};
+ghost use Rattle.name_rows.specs.Opening.{CanSplitRow, SplitsRow, CanOpenRow, IsOpenRow};
 
 use crate::names::Names;
 use crate::places::row_place;
@@ -38,15 +33,8 @@ pub(crate) fn split_row(
     root: &mut HostSeat<Names>,
     number: u32,
 ) -> HostSeat<Names>
-    requires here { IsSeatOf clock.now root.old }
-    requires number { number < (setup_of clock.now).plan.0 }
-    requires rows { (seat_knows root.old).host.rows ≡ rows_from number ((setup_of clock.now).plan.0 - number) }
-    ensures here { IsSeatOf clock.now root.new }
-    ensures row_here { IsSeatOf clock.now result }
-    ensures rows { (seat_knows root.new).host.rows ≡ rows_from (number + 1) ((setup_of clock.now).plan.0 - (number + 1)) }
-    ensures owned { (seat_knows root.new).host.owned ≡ (seat_knows root.old).host.owned }
-    ensures row { (seat_knows result).host.rows ≡ fresh_row number ∷ [] }
-    ensures none { (seat_knows result).host.owned ≡ [] }
+    requires { CanSplitRow clock.now root.old number }
+    ensures { SplitsRow clock.now root.old number result root.new }
 {
     clock.seat_split::<GivesRow>(root)
 }
@@ -59,15 +47,8 @@ pub(crate) fn open_row(
     number: u32,
     version: u64,
 ) -> Result<Row, Memory>
-    requires here { IsSeatOf clock.now seat }
-    requires names { IsNamesClock clock.now }
-    requires number { number < (setup_of clock.now).plan.0 }
-    requires row { (seat_knows seat).host.rows ≡ fresh_row number ∷ [] }
-    requires none { (seat_knows seat).host.owned ≡ [] }
-    requires low { version < 2 ^ 44 }
-    ensures here { IfOk result (λ row. IsRowOf clock.now row) }
-    ensures row { IfOk result (λ row. (row.number ≡ number) × (row.version ≡ version) × (row.guest ≡ None)) }
-    ensures last { IfOk result (λ row. row_last row ≡ row_record number version None None ∷ []) }
+    requires { CanOpenRow clock.now seat number version }
+    ensures { IfOk result (IsOpenRow clock.now number version) }
 {
     let mut seat = seat;
     let place = row_place(clock, number);

@@ -1,12 +1,6 @@
-ghost use Rattle.std.specs.Prelude.{◌≡◌, ◌⊎◌, ◌<◌, Some, None, length, slice_index_or, slice_set};
-ghost use Rattle.smr_clock.specs.Belongs.{setup_of};
-ghost use Rattle.smr_clock.specs.Notes.{IsSeatOf};
-ghost use Rattle.uma_life.specs.Life.{raw_life, no_tally};
-ghost use Rattle.uma_life.specs.declared.body_phase.BodyPhase.TheVariants.{Raw, Gone};
-ghost use Rattle.name_rows.specs.Belongs.{IsNamesClock};
-ghost use Rattle.name_rows.specs.Entries.{IsEntryOf, entry_life};
-ghost use Rattle.name_rows.specs.Roots.{IsRootOf, kept_in, root_kept};
-ghost use Rattle.name_rows.specs.RootStates.{put_back};
+ghost use Rattle.std.specs.Prelude.{◌≡◌, Some, None, slice_index_or, slice_set};
+ghost use Rattle.uma_life.specs.Life.{no_tally};
+ghost use Rattle.name_rows.specs.Roots.{root_kept, RootHas, CanSplitOff, SplitsOff, CanRaise, RaisesEntry, CanTakeBack, CanLower, LowersEntry};
 
 use crate::entry::Entry;
 use crate::names::Names;
@@ -73,13 +67,8 @@ fn no_tally() -> Tally
 
 // The words of an entry that the root has.
 fn split_off(clock: &Clock<Names>, root: &mut Root, no: u32, owned: Owned) -> Words
-    requires here { IsRootOf clock.now root.old }
-    requires names { IsNamesClock clock.now }
-    requires kept { slice_index_or (root_kept root.old) no None ≡ Some owned }
-    ensures here { IsRootOf clock.now root.new }
-    ensures words_here { IsSeatOf clock.now result.seat }
-    ensures words { (result.kept ≡ owned) × (owned.entry ≡ no) }
-    ensures root { root_kept root.new ≡ slice_set (root_kept root.old) no None }
+    requires { CanSplitOff clock.now root.old no owned }
+    ensures { SplitsOff clock.now root.old no owned result root.new }
 {
     let place = key_place(clock, no);
     clock.seat_step::<NamesNext>(&mut root.seat, place, HostAct::Load);
@@ -91,13 +80,8 @@ fn split_off(clock: &Clock<Names>, root: &mut Root, no: u32, owned: Owned) -> Wo
 /// An entry of this number that passed no hook. Where the root has the number, its words and its state come with it, and
 /// the root hasn't the number any more; else, and only then, the entry has no words. Waits for nobody.
 pub fn raise(clock: &Clock<Names>, root: &mut Root, no: u32) -> Entry
-    requires here { IsRootOf clock.now root.old }
-    requires names { IsNamesClock clock.now }
-    ensures here { IsRootOf clock.now root.new }
-    ensures entry_here { IsEntryOf clock.now result }
-    ensures life { entry_life result ≡ raw_life no }
-    ensures words { kept_in result.words ≡ slice_index_or (root_kept root.old) no None }
-    ensures root { root_kept root.new ≡ slice_set (root_kept root.old) no None }
+    requires { CanRaise clock.now root.old }
+    ensures { RaisesEntry clock.now root.old no result root.new }
 {
     let words = match kept_at(&root.kept, no) {
         Some(owned) => Some(split_off(clock, root, no, owned)),
@@ -113,10 +97,8 @@ pub fn raise(clock: &Clock<Names>, root: &mut Root, no: u32) -> Entry
 
 // The root has the entry of these words again.
 fn take_back(clock: &Clock<Names>, root: &mut Root, words: Words)
-    requires here { IsRootOf clock.now root.old }
-    requires words_here { IsSeatOf clock.now words.seat }
-    ensures here { IsRootOf clock.now root.new }
-    ensures root { root_kept root.new ≡ slice_set (root_kept root.old) words.kept.entry (Some words.kept) }
+    requires { CanTakeBack clock.now root.old words }
+    ensures { RootHas clock.now root.new (slice_set (root_kept root.old) words.kept.entry (Some words.kept)) }
 {
     let Words { seat, kept } = words;
     clock.seat_join::<TakesBack>(&mut root.seat, seat);
@@ -126,12 +108,8 @@ fn take_back(clock: &Clock<Names>, root: &mut Root, words: Words)
 /// Ends an entry that passed no hook, or all, and answers its tally. The root has its number again, with the entry's
 /// state, where the entry has words. Waits for nobody.
 pub fn lower(clock: &Clock<Names>, root: &mut Root, entry: Entry) -> Tally
-    requires here { IsRootOf clock.now root.old }
-    requires entry_here { IsEntryOf clock.now entry }
-    requires over { ((entry_life entry).phase ≡ Raw) ⊎ ((entry_life entry).phase ≡ Gone) }
-    ensures here { IsRootOf clock.now root.new }
-    ensures tally { result ≡ (entry_life entry).tally }
-    ensures root { root_kept root.new ≡ put_back (kept_in entry.words) (root_kept root.old) }
+    requires { CanLower clock.now root.old entry }
+    ensures { LowersEntry clock.now root.old entry result root.new }
 {
     let Entry {
         no: _,

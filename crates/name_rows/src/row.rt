@@ -22,7 +22,7 @@ pub struct Row {
 }
 
 impl Row {
-    ghost use Rattle.name_rows.specs.Rows.{key_in, value_in};
+    ghost use Rattle.name_rows.specs.Rows.{key_in, value_in, IsVersionOf};
 
     /// The row's number.
     pub fn number(&self) -> u32
@@ -33,8 +33,7 @@ impl Row {
 
     /// The version of its last record, below 2^44.
     pub fn version(&self) -> u64
-        ensures version { result ≡ self.now.version }
-        ensures low { result < 2 ^ 44 }
+        ensures { IsVersionOf self.now result }
     {
         self.version
     }

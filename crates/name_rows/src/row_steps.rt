@@ -1,14 +1,11 @@
 // The steps of a row's seat.
-ghost use Rattle.std.specs.Prelude.{◌≡◌, ℕ, ◌<◌, ◌+◌, ◌%◌, ◌^◌, [], ◌∷◌, Some};
-ghost use Rattle.smr_clock.specs.Belongs.{setup_of};
-ghost use Rattle.smr_clock.specs.HostSteps.{HostSplits, with_host};
+ghost use Rattle.std.specs.Prelude.{◌≡◌, ℕ};
+ghost use Rattle.smr_clock.specs.HostSteps.{with_host};
 ghost use Rattle.smr_clock.specs.Notes.{IsSeatOf, seat_knows};
 ghost use Rattle.smr_clock.specs.Steps.{joined_view};
-ghost use Rattle.name_rows.specs.Belongs.{IsNamesClock};
-ghost use Rattle.name_rows.specs.Guests.{bound_of};
-ghost use Rattle.name_rows.specs.Linking.{last_version, linking, unlinking, written_in};
+ghost use Rattle.name_rows.specs.Linking.{linking, unlinking};
 ghost use Rattle.name_rows.specs.Moving.{taken, linked_rest, unlinked_entry};
-ghost use Rattle.name_rows.specs.declared.entry_state.EntryState.{EntryState};
+ghost use Rattle.name_rows.specs.SeatCalls.{CanTakeIn, SeatHas, SplitsSeat, CanStore, CanStoreLink};
 
 use crate::guest::Guest;
 use crate::names::Names;
@@ -55,11 +52,8 @@ impl HostPlay<Names> for Unlinks {
 }
 
 pub(crate) fn take_in(clock: &Clock<Names>, seat: &mut HostSeat<Names>, words: Words)
-    requires here { IsSeatOf clock.now seat.old }
-    requires words_here { IsSeatOf clock.now words.seat }
-    requires written { words.kept.state ≡ EntryState.Written }
-    ensures here { IsSeatOf clock.now seat.new }
-    ensures view { seat_knows seat.new ≡ joined_view taken (seat_knows seat.old) (seat_knows words.seat) }
+    requires { CanTakeIn clock.now seat.old words }
+    ensures { SeatHas clock.now seat.new (joined_view taken (seat_knows seat.old) (seat_knows words.seat)) }
 {
     let Words {
         seat: other,
@@ -70,9 +64,7 @@ pub(crate) fn take_in(clock: &Clock<Names>, seat: &mut HostSeat<Names>, words: W
 
 pub(crate) fn give_out(clock: &Clock<Names>, seat: &mut HostSeat<Names>) -> HostSeat<Names>
     requires here { IsSeatOf clock.now seat.old }
-    ensures here { IsSeatOf clock.now seat.new }
-    ensures other_here { IsSeatOf clock.now result }
-    ensures splits { HostSplits linked_rest unlinked_entry (seat_knows seat.old) (seat_knows seat.new) (seat_knows result) }
+    ensures { SplitsSeat clock.now linked_rest unlinked_entry seat.old seat.new result }
 {
     clock.seat_split::<GivesOut>(seat)
 }
@@ -85,14 +77,7 @@ pub(crate) fn store_link(
     version: u64,
     guest: &Guest,
 )
-    requires here { IsSeatOf clock.now seat.old }
-    requires names { IsNamesClock clock.now }
-    requires number { number < (setup_of clock.now).plan.0 }
-    requires seen { last_version (seat_knows seat.old).host.rows ≡ Some (number, version) }
-    requires low { version + 1 < 2 ^ 44 }
-    requires entry { guest.now.no < (setup_of clock.now).plan.1 }
-    requires written { written_in (seat_knows seat.old).host.owned ≡ Some (bound_of guest.now) }
-    requires of_row { guest.now.key % (setup_of clock.now).plan.0 ≡ number }
+    requires { CanStoreLink clock.now seat.old number version guest.now }
     ensures here { IsSeatOf clock.now seat.new }
     ensures view { (found : ℕ) × (seat_knows seat.new ≡ with_host (seat_knows seat.old) (linking found (seat_knows seat.old).host)) }
 {
@@ -108,11 +93,7 @@ pub(crate) fn store_unlink(
     number: u32,
     version: u64,
 )
-    requires here { IsSeatOf clock.now seat.old }
-    requires names { IsNamesClock clock.now }
-    requires number { number < (setup_of clock.now).plan.0 }
-    requires seen { last_version (seat_knows seat.old).host.rows ≡ Some (number, version) }
-    requires low { version + 1 < 2 ^ 44 }
+    requires { CanStore clock.now seat.old number version }
     ensures here { IsSeatOf clock.now seat.new }
     ensures view { (found : ℕ) × (seat_knows seat.new ≡ with_host (seat_knows seat.old) (unlinking found (seat_knows seat.old).host)) }
 {

@@ -1,10 +1,7 @@
-ghost use Rattle.std.specs.Prelude.{◌≡◌, ◌<◌, ◌≤◌, [], ◌∷◌, true, IfErr, OnOk};
+ghost use Rattle.std.specs.Prelude.{◌≡◌, ◌<◌, [], ◌∷◌, true, IfErr, OnOk};
 ghost use Rattle.smr_clock.specs.Notes.{IsSeatOf, seat_knows};
-ghost use Rattle.name_rows.specs.Belongs.{IsNamesClock};
-ghost use Rattle.name_rows.specs.declared.entry_state.EntryState.{EntryState};
-ghost use Rattle.name_rows.specs.Ripening.{is_loose, is_settled, StampsAt, StampsIfUnlinked, IsRipe, IsUnripe};
-ghost use Rattle.smr_clock.specs.Steps.{IsReadFound};
-ghost use Rattle.name_rows.specs.Writing.{keyed, valued, ripened, ripe_state};
+ghost use Rattle.name_rows.specs.Ripening.{is_loose, StampsAt, StampsIfUnlinked, LoadsReadHand, IsRipe, IsUnripe};
+ghost use Rattle.name_rows.specs.Writing.{keyed, valued, ripe_state};
 
 use crate::entry_state::EntryState;
 use crate::names::Names;
@@ -62,13 +59,12 @@ pub struct Words {
 }
 
 impl Words {
+    ghost use Rattle.name_rows.specs.Entries.{CanWriteWords, CanStampWords, CanRipenWords, KeepsEntry};
+
     /// Writes both words of a clean entry.
     pub(crate) fn write(&mut self, clock: &Clock<Names>, key: u64, value: u64)
-        requires here { IsSeatOf clock.now self.old.seat }
-        requires names { IsNamesClock clock.now }
-        requires clean { self.old.kept.state ≡ EntryState.Clean }
-        ensures here { IsSeatOf clock.now self.new.seat }
-        ensures entry { self.new.kept.entry ≡ self.old.kept.entry }
+        requires { CanWriteWords clock.now self.old }
+        ensures same { KeepsEntry clock.now self.old self.new }
         ensures kept { self.new.kept ≡ valued value (keyed key self.old.kept) }
     {
         self.write_key(clock, key);
@@ -76,10 +72,8 @@ impl Words {
     }
 
     fn write_key(&mut self, clock: &Clock<Names>, key: u64)
-        requires here { IsSeatOf clock.now self.old.seat }
-        requires names { IsNamesClock clock.now }
-        requires clean { self.old.kept.state ≡ EntryState.Clean }
-        ensures here { IsSeatOf clock.now self.new.seat }
+        requires { CanWriteWords clock.now self.old }
+        ensures same { KeepsEntry clock.now self.old self.new }
         ensures kept { self.new.kept ≡ keyed key self.old.kept }
     {
         let place = key_place(clock, self.kept.entry);
@@ -88,10 +82,8 @@ impl Words {
     }
 
     fn write_value(&mut self, clock: &Clock<Names>, value: u64)
-        requires here { IsSeatOf clock.now self.old.seat }
-        requires names { IsNamesClock clock.now }
-        requires clean { self.old.kept.state ≡ EntryState.Clean }
-        ensures here { IsSeatOf clock.now self.new.seat }
+        requires { CanWriteWords clock.now self.old }
+        ensures same { KeepsEntry clock.now self.old self.new }
         ensures kept { self.new.kept ≡ valued value self.old.kept }
     {
         let place = value_place(clock, self.kept.entry);
@@ -102,10 +94,8 @@ impl Words {
 
     /// Stamps an unlinked entry: two above the write hand that it loads.
     pub(crate) fn stamp(&mut self, clock: &Clock<Names>)
-        requires here { IsSeatOf clock.now self.old.seat }
-        requires unlinked { self.old.kept.state ≡ EntryState.Unlinked }
-        ensures here { IsSeatOf clock.now self.new.seat }
-        ensures entry { self.new.kept.entry ≡ self.old.kept.entry }
+        requires { CanStampWords clock.now self.old }
+        ensures same { KeepsEntry clock.now self.old self.new }
         ensures stamped { StampsAt (seat_knows self.old.seat) self.old.kept (seat_knows self.new.seat) self.new.kept }
     {
         let write = clock.seat_step::<Stamps>(&mut self.seat, WRITE_PLACE as u32, HostAct::Load);
@@ -114,8 +104,7 @@ impl Words {
 
     fn stamp_unlinked(&mut self, clock: &Clock<Names>)
         requires here { IsSeatOf clock.now self.old.seat }
-        ensures here { IsSeatOf clock.now self.new.seat }
-        ensures entry { self.new.kept.entry ≡ self.old.kept.entry }
+        ensures same { KeepsEntry clock.now self.old self.new }
         ensures stamped { StampsIfUnlinked (seat_knows self.old.seat) self.old.kept (seat_knows self.new.seat) self.new.kept }
     {
         if self.kept.state == EntryState::Unlinked {
@@ -125,12 +114,9 @@ impl Words {
 
     // The read hand that it loads. The entry is clean after it where it has no stamp that is above that hand.
     fn load_read_hand(&mut self, clock: &Clock<Names>) -> u64
-        requires here { IsSeatOf clock.now self.old.seat }
-        requires stamped { is_settled self.old.kept.state ≡ true }
-        ensures here { IsSeatOf clock.now self.new.seat }
-        ensures found { IsReadFound (seat_knows self.old.seat).holder result }
-        ensures floor { (seat_knows self.new.seat).holder.floor ≡ result }
-        ensures kept { self.new.kept ≡ ripened result self.old.kept }
+        requires { CanRipenWords clock.now self.old }
+        ensures same { KeepsEntry clock.now self.old self.new }
+        ensures loaded { LoadsReadHand result (seat_knows self.old.seat) self.old.kept (seat_knows self.new.seat) self.new.kept }
     {
         let read = clock.seat_step::<Ripens>(&mut self.seat, READ_PLACE as u32, HostAct::Load);
         self.kept.state = ripe_state(self.kept.state, read);
@@ -140,8 +126,7 @@ impl Words {
     /// Cleans an entry that no section may still read.
     pub(crate) fn ripe(&mut self, clock: &Clock<Names>) -> Result<(), Unripe>
         requires here { IsSeatOf clock.now self.old.seat }
-        ensures here { IsSeatOf clock.now self.new.seat }
-        ensures entry { self.new.kept.entry ≡ self.old.kept.entry }
+        ensures same { KeepsEntry clock.now self.old self.new }
         ensures ripe { OnOk result (IsRipe (seat_knows self.old.seat) self.old.kept (seat_knows self.new.seat) self.new.kept) }
         ensures unripe { IfErr result (λ unripe. IsUnripe unripe (seat_knows self.old.seat) self.old.kept (seat_knows self.new.seat) self.new.kept) }
     {

@@ -1,4 +1,4 @@
-use Rattle.std.proofs.Common.{arith, ◌∙◌, ap, sym}
+use Rattle.std.proofs.Common.{rules, arith, ◌∙◌, ap, sym}
 use Rattle.smr_clock.specs.Belongs.{TableId}
 use Rattle.smr_clock.specs.declared.setup.Setup.{Setup}
 use Rattle.smr_clock.specs.declared.host_act.HostAct.TheVariants.{Load}
@@ -10,9 +10,10 @@ use Rattle.name_rows.proofs.finding.load_key.Goals as goal
 pub host_step-requires-clause-keeps : goal.host_step-requires-clause-keeps
 host_step-requires-clause-keeps c = reads_entry-keeps _ _ _ (ap (λ (p : TableId × Setup). p.1) c.requires.here) _ (let e = c.key_place.ensures in omega arith)
 
-pub returns-clause-same : goal.returns-clause-same
-returns-clause-same c = entry_read _ _ _ Load _ c.host_step.ensures.stepped
-
-pub returns-clause-held : goal.returns-clause-held
-returns-clause-held c =
-    key_read _ _ _ _ Load _ (c.key_place.ensures ∙ ap (λ (s : Setup). key_place s c.args.entry) (sym (ap (λ (p : TableId × Setup). p.1) c.requires.here))) c.host_step.ensures.stepped
+pub returns : goal.returns
+returns c =
+    record {
+      here = search rules;
+      same = entry_read _ _ _ Load _ c.host_step.ensures.stepped;
+      held = key_read _ _ _ _ Load _ (c.key_place.ensures ∙ ap (λ (s : Setup). key_place s c.args.entry) (sym (ap (λ (p : TableId × Setup). p.1) c.requires.here))) c.host_step.ensures.stepped;
+    }

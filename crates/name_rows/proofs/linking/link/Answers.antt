@@ -1,4 +1,4 @@
-use Rattle.std.proofs.Common.{◌+◌, ◌<◌, arith, ap, sym, subst, ◌∙◌}
+use Rattle.std.proofs.Common.{rules, ◌+◌, ◌<◌, arith, ap, sym, subst, ◌∙◌}
 use Rattle.smr_clock.specs.declared.setup.Setup.{Setup}
 use Rattle.smr_clock.specs.Belongs.{setup_of}
 use Rattle.smr_clock.specs.Notes.{seat_knows}
@@ -6,12 +6,18 @@ use Rattle.name_rows.specs.Guests.{bound_of, content_of}
 use Rattle.name_rows.proofs.RowCalls.{words_below, words_written, row_below, written_one, linked_seen, linked_alone, rest_seen, rest_owned}
 use Rattle.name_rows.proofs.linking.link.Goals as goal
 
-pub store_link-requires-clause-entry : goal.store_link-requires-clause-entry
-store_link-requires-clause-entry c = words_below c.args.clock.now c.args.entry.words c.in-Some.words c.in-Some.is c.requires.entry_here
-
-pub store_link-requires-clause-written : goal.store_link-requires-clause-written
-store_link-requires-clause-written c =
-    written_one (seat_knows c.args.row.now.seat) (seat_knows c.in-Some.words.seat) (seat_knows c.take_in.new.seat) c.args.row.now.number c.args.row.now.version (content_of c.args.row.now.guest) c.in-Some.words.kept c.args.row.now.seen c.args.row.now.owned c.in-Some.words.no_rows c.in-Some.words.owns (words_written c.args.entry.words c.in-Some.words c.in-Some.is c.requires.written) c.take_in.ensures.view
+pub store_link-requires : goal.store_link-requires
+store_link-requires c =
+    record {
+      here = c.take_in.ensures.here;
+      names = c.requires.names;
+      number = search rules;
+      seen = search rules;
+      low = search rules;
+      entry = words_below c.args.clock.now c.args.entry.words c.in-Some.words c.in-Some.is c.requires.entry_here;
+      written = written_one (seat_knows c.args.row.now.seat) (seat_knows c.in-Some.words.seat) (seat_knows c.take_in.new.seat) c.args.row.now.number c.args.row.now.version (content_of c.args.row.now.guest) c.in-Some.words.kept c.args.row.now.seen c.args.row.now.owned c.in-Some.words.no_rows c.in-Some.words.owns (words_written c.args.entry.words c.in-Some.words c.in-Some.is c.requires.written) c.take_in.ensures.view;
+      of_row = search rules;
+    }
 
 pub invariant_of-row : goal.invariant_of-row
 invariant_of-row c =

@@ -1,4 +1,4 @@
-use Rattle.std.proofs.Common.{List, ap, sym, subst, ◌∙◌}
+use Rattle.std.proofs.Common.{rules, List, ap, sym, subst, ◌∙◌}
 use Rattle.smr_clock.specs.declared.setup.Setup.{Setup}
 use Rattle.smr_clock.specs.declared.view.View.{View}
 use Rattle.smr_clock.specs.Making.{setup}
@@ -7,13 +7,13 @@ use Rattle.name_rows.specs.declared.part.Part.{Part}
 use Rattle.name_rows.specs.declared.row.Row.{Row}
 use Rattle.name_rows.specs.Moving.{found, entry_no}
 use Rattle.name_rows.specs.Opening.{AreOpenRows}
-use Rattle.name_rows.proofs.OpeningLemmas.{names_opens, table_owns, table_loose}
+use Rattle.name_rows.proofs.OpeningLemmas.{names_opens, words_fit, table_owns, table_loose}
 use Rattle.name_rows.proofs.making.make.Goals as goal
 
 pub hosted-requires : goal.hosted-requires
 hosted-requires c =
     record {
-      opens = names_opens (setup c.args.seats c.args.start c.args.window (c.args.rows, c.args.entries)) c.args.version c.in_ok-check.ensures.version c.in_ok-check.ensures.plan c.in-Ok.more.items c.in-Ok.ensures;
+      opens = names_opens (setup c.args.seats c.args.start c.args.window (c.args.rows, c.args.entries)) c.args.version c.in_ok-check.ensures.accepted.version c.in_ok-check.ensures.accepted.plan c.in-Ok.more.items c.in-Ok.ensures;
     }
 
 pub invariant_of-root : goal.invariant_of-root
@@ -28,5 +28,19 @@ invariant_of-root c =
       all = long ∙ sym (ap (λ (s : Setup). s.plan.1) (c.in-Ok-split_rows.ensures.here.1 ∙ c.in-Ok-hosted.ensures.clock));
     }
 
-pub returns-clause-rows : goal.returns-clause-rows
-returns-clause-rows c = subst (λ (l : List Row). AreOpenRows c.in-Ok-hosted.clock c.args.version l) (sym c.from_vec-2.ensures) c.in-Ok-split_rows.ensures.rows
+pub returns-clause-made : goal.returns-clause-made
+returns-clause-made c =
+    let made = setup c.args.seats c.args.start c.args.window (c.args.rows, c.args.entries) in
+    record {
+      clock = search rules;
+      names = record {
+        seats = search rules;
+        plan = search rules;
+        room = words_fit made c.args.version c.in-Ok.more.items _ _ c.in-Ok.ensures c.in-Ok-hosted.ensures.clock c.in-Ok-hosted.ensures.words;
+      };
+      passes = search rules;
+      long = search rules;
+      rows = subst (λ (l : List Row). AreOpenRows c.in-Ok-hosted.clock c.args.version l) (sym c.from_vec-2.ensures) c.in-Ok-split_rows.ensures.rows;
+      root = search rules;
+      entries = search rules;
+    }

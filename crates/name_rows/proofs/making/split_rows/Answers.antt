@@ -1,4 +1,4 @@
-use Rattle.std.proofs.Common.{ℕ, ap, ◌∙◌, arith}
+use Rattle.std.proofs.Common.{rules, ℕ, ap, ◌∙◌, arith}
 use Rattle.smr_clock.specs.Belongs.{setup_of}
 use Rattle.name_rows.proofs.OpeningLemmas.{rows_done}
 use Rattle.name_rows.proofs.MakingSteps.{one_row_more, one_longer}
@@ -15,7 +15,13 @@ loop-number-preserved c =
           c.in_ok-row.ensures.here c.in_ok-row.ensures.row.0 c.in_ok-row.ensures.row.1 c.in_ok-row.ensures.row.2 c.in_ok-row.ensures.last;
     }
 
-pub returns-clause-rest : goal.returns-clause-rest
-returns-clause-rest c =
-    c.loop-number.invariant.left
-    ∙ rows_done c.loop-number.number (setup_of c.args.clock.now).plan.0 (let e = ap (λ (p : ℕ × ℕ). p.0) c.plan-number-end.ensures in let f = c.loop-number-test.false in omega arith)
+pub returns : goal.returns
+returns c =
+    record {
+      here = c.loop-number.invariant.here;
+      rest = c.loop-number.invariant.left
+          ∙ rows_done c.loop-number.number (setup_of c.args.clock.now).plan.0 (let e = ap (λ (p : ℕ × ℕ). p.0) c.plan-number-end.ensures in let f = c.loop-number-test.false in omega arith);
+      owned = c.loop-number.invariant.owned;
+      long = search rules;
+      rows = c.loop-number.invariant.rows;
+    }

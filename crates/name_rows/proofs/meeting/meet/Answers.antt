@@ -1,4 +1,4 @@
-use Rattle.std.proofs.Common.{ap, ◌∙◌}
+use Rattle.std.proofs.Common.{rules, ap, ◌∙◌}
 use Rattle.smr_clock.specs.declared.view.View.{View}
 use Rattle.smr_clock.specs.Belongs.{view}
 use Rattle.smr_clock.specs.Notes.{seat_knows}
@@ -21,10 +21,20 @@ seat_step-requires-clause-keeps c =
 pub seat_split-told-requires-clause-keeps : goal.seat_split-told-requires-clause-keeps
 seat_split-told-requires-clause-keeps c = tell_keeps _ _ _ c.seat_step.ensures.here.1
 
-pub returns-clause-newest : goal.returns-clause-newest
-returns-clause-newest c =
-    newest_known (seat_knows c.args.row.now.seat) (view c.args.pass.now) (seat_knows c.into_host-note.result) (seat_knows c.seat_join.new.seat)
-    c.args.row.now.number c.args.row.now.version (content_of c.args.row.now.guest) c.seat_join.ensures.view
-    (ap (λ (v : View Part). v.host.known) c.into_host-note.ensures.view ∙ ap (λ (v : View Part). v.host.known) c.note.ensures.notes.split ∙ ap (λ (v : View Part). v.host.known) c.note.ensures.notes.after)
-    (ap (λ (v : View Part). last_seen v.host.rows) c.seat_join.ensures.view ∙ c.args.row.now.seen)
-    c.seat_step.ensures.stepped.2.1
+pub returns : goal.returns
+returns c =
+    record {
+      here = search rules;
+      pass_here = search rules;
+      row = search rules;
+      last = search rules;
+      newest = newest_known (seat_knows c.args.row.now.seat) (view c.args.pass.now) (seat_knows c.into_host-note.result) (seat_knows c.seat_join.new.seat)
+          c.args.row.now.number c.args.row.now.version (content_of c.args.row.now.guest) c.seat_join.ensures.view
+          (ap (λ (v : View Part). v.host.known) c.into_host-note.ensures.view ∙ ap (λ (v : View Part). v.host.known) c.note.ensures.notes.split ∙ ap (λ (v : View Part). v.host.known) c.note.ensures.notes.after)
+          (ap (λ (v : View Part). last_seen v.host.rows) c.seat_join.ensures.view ∙ c.args.row.now.seen)
+          c.seat_step.ensures.stepped.2.1;
+      known = search rules;
+      hold = search rules;
+      phase = search rules;
+      seen = search rules;
+    }

@@ -1,4 +1,4 @@
-use Rattle.std.proofs.Common.{ℕ, ◌<◌, ap, sym, subst, ◌∙◌, length-set, None, refl}
+use Rattle.std.proofs.Common.{rules, ℕ, ◌<◌, ap, sym, subst, ◌∙◌, length-set, None, refl}
 use Rattle.smr_clock.specs.declared.setup.Setup.{Setup}
 use Rattle.smr_clock.specs.Belongs.{setup_of}
 use Rattle.smr_clock.specs.Notes.{seat_knows}
@@ -48,10 +48,15 @@ invariant_of-result c =
       loose = out_loose c.args.root.now.kept.items c.args.no c.args.owned c.args.root.now.loose c.requires.kept;
     }
 
-pub returns-clause-words : goal.returns-clause-words
-returns-clause-words c =
-    let named = next_named (setup_of c.args.clock.now) (seat_knows c.args.root.now.seat) (seat_knows c.seat_step.new.seat) c.args.no c.key_place-place.result c.seat_step.result Load c.requires.here.1 c.key_place-place.ensures c.seat_step.ensures.stepped in (
-      refl,
-      out_no (seat_knows c.args.root.now.seat) (seat_knows c.seat_step.new.seat) (seat_knows c.seat_split-seat.new.seat) (seat_knows c.seat_split-seat.result) c.args.no c.args.owned c.args.root.now.kept.items
-          c.args.root.now.no_rows c.args.root.now.owns c.requires.kept named c.seat_split-seat.ensures.splits,
-    )
+pub returns : goal.returns
+returns c =
+    let named = next_named (setup_of c.args.clock.now) (seat_knows c.args.root.now.seat) (seat_knows c.seat_step.new.seat) c.args.no c.key_place-place.result c.seat_step.result Load c.requires.here.1 c.key_place-place.ensures c.seat_step.ensures.stepped in
+    record {
+      root = search rules;
+      words_here = search rules;
+      words = (
+        refl,
+        out_no (seat_knows c.args.root.now.seat) (seat_knows c.seat_step.new.seat) (seat_knows c.seat_split-seat.new.seat) (seat_knows c.seat_split-seat.result) c.args.no c.args.owned c.args.root.now.kept.items
+            c.args.root.now.no_rows c.args.root.now.owns c.requires.kept named c.seat_split-seat.ensures.splits,
+      );
+    }
