@@ -1,11 +1,14 @@
 -- What contracts see of a home.
-use Rattle.std.specs.Prelude.{◌≡◌, ℕ, List, None, slice_index_or, slice_set}
+use Rattle.std.specs.Prelude.{◌≡◌, ◌⊎◌, ℕ, List, None, slice_index_or, slice_set}
 use Rattle.smr_clock.specs.declared.clock.Clock.{Clock}
 use Rattle.smr_clock.specs.Belongs.{clock_id}
+use Rattle.uma_life.specs.Life.{raw_life}
+use Rattle.uma_life.specs.declared.body_phase.BodyPhase.TheVariants.{Raw, Gone}
 use Rattle.name_rows.specs.declared.entry.Entry.{Entry}
 use Rattle.name_rows.specs.declared.names.Names.{Names}
 use Rattle.name_rows.specs.declared.part.Part.{Part}
 use Rattle.name_rows.specs.declared.root.Root.{Root}
+use Rattle.name_rows.specs.Entries.{IsEntryOf, entry_life}
 use Rattle.name_rows.specs.Roots.{IsRootOf, kept_in, root_kept}
 use Rattle.name_rows.specs.RootStates.{put_back}
 use Rattle.name_cache.specs.declared.home.Home.{Home}
@@ -33,3 +36,13 @@ pub record LowersInto (clock : Clock Names Part) (entry : Entry) : Type 0 where
   pub is : Root
   pub of_clock : IsRootOf clock was
   pub back : root_kept is ≡ put_back (kept_in entry.words) (root_kept was)
+
+-- the entry is of this clock and this number, and passed no hook
+pub record IsNewEntry (clock : Clock Names Part) (number : ℕ) (entry : Entry) : Type 0 where
+  pub here : IsEntryOf clock entry
+  pub life : entry_life entry ≡ raw_life number
+
+-- the entry is of this clock, and passed no hook, or all
+pub record MayEnd (clock : Clock Names Part) (entry : Entry) : Type 0 where
+  pub here : IsEntryOf clock entry
+  pub over : ((entry_life entry).phase ≡ Raw) ⊎ ((entry_life entry).phase ≡ Gone)

@@ -1,5 +1,6 @@
 pub mod Bind
 pub mod Cache
+pub mod Calls
 pub mod Deferred
 pub mod Frames
 pub mod Homes

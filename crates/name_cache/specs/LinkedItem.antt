@@ -1,5 +1,5 @@
 -- Own: what a row keeps of its linked entry, and how that agrees with the row of names.
-use Rattle.std.specs.Prelude.{◌≡◌, Some}
+use Rattle.std.specs.Prelude.{◌≡◌, Option, Some, IfSome, is_some}
 use Rattle.std.specs.Arc.{arc_value}
 use Rattle.smr_clock.specs.declared.setup.Setup.{Setup}
 use Rattle.smr_clock.specs.Belongs.{TableId, clock_id}
@@ -15,6 +15,7 @@ use Rattle.name_rows.specs.declared.words.Words.{Words}
 use Rattle.name_rows.specs.Entries.{entry_life}
 use Rattle.name_cache.specs.Homes.{home_clock, home_origin}
 use Rattle.name_cache.specs.declared.linked_item.LinkedItem.{LinkedItem}
+use Rattle.name_cache.specs.declared.parts.EntryParts.{EntryParts}
 
 -- the life of the linked entry
 abbrev pub guest_life : Guest → Life
@@ -35,3 +36,13 @@ pub record FitsItem (entry : Entry) (item : LinkedItem) : Type 0 where
   pub numbered : (entry_life entry).no ≡ ticket_no item.ticket
   pub built : IsAt (Built (ticket_zone item.ticket)) (entry_life entry)
   pub of_origin : home_origin (arc_value item.home) ≡ (ticket_table item.ticket).origin
+
+-- There are parts exactly where there was an entry: the entry, with the home and the ticket that the row kept of it.
+pub record AreRejoined (entry : Option Entry) (item : Option LinkedItem) (parts : Option EntryParts) : Type 0 where
+  pub both : is_some parts ≡ is_some entry
+  pub some : IfSome parts (λ p. (entry ≡ Some p.entry) × ((other : LinkedItem) → item ≡ Some other → (p.home ≡ other.home) × (p.ticket ≡ other.ticket)))
+
+-- There is an item exactly where there is an entry, and they agree.
+pub record CanRejoin (entry : Option Entry) (item : Option LinkedItem) : Type 0 where
+  pub both : is_some item ≡ is_some entry
+  pub fits : (one : Entry) (other : LinkedItem) → entry ≡ Some one → item ≡ Some other → FitsItem one other

@@ -1,5 +1,5 @@
 -- Own: what contracts see of a row under its lock, and what becomes of it there.
-use Rattle.std.specs.Prelude.{◌≡◌, ◌≤◌, ◌<◌, ◌+◌, ◌^◌, ℕ, [], ◌∷◌, Option, Some, None, IfSome}
+use Rattle.std.specs.Prelude.{◌≡◌, ◌≤◌, ◌<◌, ◌+◌, ◌%◌, ◌^◌, ℕ, [], ◌∷◌, Option, Some, None, IfSome}
 use Rattle.smr_clock.specs.declared.clock.Clock.{Clock}
 use Rattle.smr_clock.specs.declared.setup.Setup.{Setup}
 use Rattle.smr_clock.specs.declared.view.View.{View}
@@ -24,11 +24,13 @@ use Rattle.name_rows.specs.Roots.{kept_in}
 use Rattle.name_rows.specs.Rows.{IsKeyOf, pair_in, row_last}
 use Rattle.name_cache.specs.declared.bind_refused.BindRefused.{BindRefused}
 use Rattle.name_cache.specs.declared.bind_refused.BindRefused.TheVariants.{Zone, Worn, Unripe as Unripe', Memory}
+use Rattle.name_cache.specs.declared.key.RowKey.{RowKey}
 use Rattle.name_cache.specs.declared.locked_row.LockedRow.{LockedRow}
 use Rattle.name_cache.specs.declared.parts.EntryParts.{EntryParts}
 use Rattle.name_cache.specs.declared.rebound.Rebound.{Rebound}
 use Rattle.name_cache.specs.declared.rebound.Rebound.TheVariants.{Done, Refused}
 use Rattle.name_cache.specs.declared.receipt.Receipt.{Receipt}
+use Rattle.name_cache.specs.Making.{IsFreshRow}
 use Rattle.name_cache.specs.Known.{known_in, Meets, KnowsBound, KnowsTaken, StillKnows}
 use Rattle.name_cache.specs.Parts.{parts_clock, IsSameItem}
 use Rattle.name_cache.specs.RowKey.{Identity, key_identity}
@@ -40,6 +42,16 @@ row_identity locked = key_identity locked.key.value
 -- the row of names
 abbrev pub names_row : LockedRow → Row
 names_row locked = locked.row
+
+-- the row is empty, and is the one that the key names, at its version
+pub record IsNamedBy (key : RowKey) (row : Row) : Type 0 where
+  pub fresh : IsFreshRow key.clock.value key.number row
+  pub version : row.version ≡ key.version
+
+-- the row is this, under that key
+pub record KeepsUnder (key : RowKey) (own : Row) (locked : LockedRow) : Type 0 where
+  pub identity : row_identity locked ≡ key_identity key
+  pub row : names_row locked ≡ own
 
 -- the clock is the row's, and one of names
 pub record IsRowClock (locked : LockedRow) (clock : Clock Names Part) : Type 0 where
@@ -87,6 +99,11 @@ pub record StaysAs (row : ℕ) (last : Record) : Type 0 where
 abbrev pub IsItemOf : TableId × Setup → Home → EntryParts → Type 0
 IsItemOf clock home parts = (parts_clock parts ≡ clock) × IsHome home parts.ticket
 
+-- These parts are an item of the row's clock, at home there, and the key is of the row.
+pub record CanBind (clock : Clock Names Part) (locked : LockedRow) (parts : EntryParts) (key : ℕ) : Type 0 where
+  pub item : IsItemOf (row_identity locked).clock (row_identity locked).home parts
+  pub of_row : key % (setup_of clock).plan.0 ≡ (names_row locked).number
+
 -- The entry that the row named is out, as it was, and is unlinked. There is none exactly where the row was empty.
 abbrev pub IsOut : TableId × Setup → Home → Option Guest → Option EntryParts → Type 0
 IsOut clock home None None = Unit {0}
@@ -94,8 +111,9 @@ IsOut clock home None (Some parts) = ⊥
 IsOut clock home (Some g) None = ⊥
 IsOut clock home (Some g) (Some parts) = (guest_of parts.entry ≡ Some g) × (entry_state parts.entry ≡ Some Unlinked) × IsItemOf clock home parts
 
--- The entry can go into the row, under a key of this row: it is written, of the row's clock and at home there. The row has two more versions.
+-- The clock is the row's. The entry can go into the row, under a key of this row: it is written, of the row's clock and at home there. The row has two more versions.
 pub record CanLink (clock : Clock Names Part) (locked : LockedRow) (parts : EntryParts) : Type 0 where
+  pub here : IsRowClock locked clock
   pub item : IsItemOf (row_identity locked).clock (row_identity locked).home parts
   pub written : entry_state parts.entry ≡ Some Written
   pub of_row : IsKeyOf (setup_of clock).plan.0 locked.row.number (guest_of parts.entry)

@@ -44,6 +44,11 @@ pub record FitsOpened (opened : Opened) (set : ZoneSet) : Type 0 where
   pub smr : set.smr ≡ true
   pub entries : 64 * set.slabs ≤ (setup_of opened.clock).plan.1
 
+-- so the cache can be made
+pub record CanMake (from : Opened) (set : ZoneSet) : Type 0 where
+  pub opened : IsOpened from
+  pub fits : FitsOpened from set
+
 -- The first number that is out of its range, as the zone's making says; or memory was wanting.
 abbrev pub RefusesCache : ZoneSet → ZoneRefused → Type 0
 RefusesCache set Memory = Unit {0}

@@ -3,6 +3,7 @@ use Rattle.std.specs.Prelude.{◌≡◌, Option, Some}
 use Rattle.std.specs.Arc.{arc_value}
 use Rattle.smr_clock.specs.declared.clock.Clock.{Clock}
 use Rattle.smr_clock.specs.declared.setup.Setup.{Setup}
+use Rattle.smr_clock.specs.declared.view.View.{View}
 use Rattle.smr_clock.specs.Belongs.{TableId, clock_id}
 use Rattle.uma_life.specs.Live.{live_body, live_ticket}
 use Rattle.name_rows.specs.declared.names.Names.{Names}
@@ -10,9 +11,10 @@ use Rattle.name_rows.specs.declared.owned.Owned.{Owned}
 use Rattle.name_rows.specs.declared.part.Part.{Part}
 use Rattle.name_rows.specs.declared.words.Words.{Words}
 use Rattle.name_rows.specs.Belongs.{IsNamesClock}
-use Rattle.name_rows.specs.Entries.{entry_life, entry_state}
+use Rattle.name_rows.specs.Entries.{OnWords, entry_life, entry_state}
 use Rattle.name_rows.specs.declared.entry_state.EntryState.{EntryState}
 use Rattle.name_rows.specs.declared.entry_state.EntryState.TheVariants.{Clean, Unlinked}
+use Rattle.name_rows.specs.Ripening.{IsRipe}
 use Rattle.name_rows.specs.Roots.{kept_in}
 use Rattle.name_cache.specs.Homes.{home_clock}
 use Rattle.name_cache.specs.Raised.{raised_entry, raised_home}
@@ -59,3 +61,13 @@ pub record IsSameItem (was is : EntryParts) : Type 0 where
 -- the state of the entry
 abbrev pub state_of : LiveEntry → Option EntryState
 state_of live = entry_state (raised_entry (live_body live))
+
+-- the entry was ripe, and is clean
+pub record IsCleaned (was is : EntryParts) : Type 0 where
+  pub ripe : OnWords IsRipe was.entry.words is.entry.words
+  pub clean : entry_state is.entry ≡ Some Clean
+
+-- the words went on so, and all else is as it was
+pub record ChangesWords (how : View Part → Owned → View Part → Owned → Type 0) (was is : EntryParts) : Type 0 where
+  pub made : OnWords how was.entry.words is.entry.words
+  pub same : IsSameItem was is

@@ -4,10 +4,10 @@ use Rattle.std.specs.Arc.{arc_value}
 use Rattle.uma_life.specs.Life.{Life}
 use Rattle.name_rows.specs.declared.entry.Entry.{Entry}
 use Rattle.name_rows.specs.declared.words.Words.{Words}
-use Rattle.name_rows.specs.Entries.{entry_life}
+use Rattle.name_rows.specs.Entries.{IsEntryOf, entry_life}
 use Rattle.name_cache.specs.declared.home.Home.{Home}
 use Rattle.name_cache.specs.declared.raised_entry.RaisedEntry.{RaisedEntry}
-use Rattle.name_cache.specs.Homes.{home_origin}
+use Rattle.name_cache.specs.Homes.{home_clock, home_origin}
 
 abbrev pub raised_entry : RaisedEntry → Entry
 raised_entry raised = raised.entry
@@ -31,3 +31,14 @@ abbrev pub refusal_of : ℕ → Option Words → Option ℕ
 refusal_of zero None = Some 255
 refusal_of zero (Some w) = None
 refusal_of (suc zone) words = None
+
+-- these are the entry and its home, and the entry is of the home's clock
+pub record AreHalvesOf (raised : RaisedEntry) (one : Entry) (other : Home) : Type 0 where
+  pub entry : one ≡ raised_entry raised
+  pub home : other ≡ raised_home raised
+  pub here : IsEntryOf (home_clock (raised_home raised)) one
+
+-- this is the entry, which is of its home's clock
+pub record IsEntryIn (raised : RaisedEntry) (one : Entry) : Type 0 where
+  pub entry : one ≡ raised_entry raised
+  pub here : IsEntryOf (home_clock (raised_home raised)) one

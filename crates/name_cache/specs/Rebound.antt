@@ -1,11 +1,15 @@
 -- Own: what the steps of a bind and of an unbind come to.
 use Rattle.std.specs.Prelude.{◌≡◌, ◌%◌, ◌<◌, ℕ, [], false, Option, Some, None}
+use Rattle.smr_clock.specs.declared.clock.Clock.{Clock}
 use Rattle.smr_clock.specs.declared.view.View.{View}
+use Rattle.smr_clock.specs.Belongs.{view}
 use Rattle.zone_stats.specs.LedgerSteps.{CountsAlloc}
 use Rattle.uma_life.specs.Live.{live_body, live_ticket}
 use Rattle.uma_seat.specs.Seat.{ledger_of, shelf_of}
 use Rattle.uma_zone.specs.Alloc.{Serves, TurnsAway, WantsMemory}
+use Rattle.uma_zone.specs.Frames.{GoesOn}
 use Rattle.uma_zone.specs.Ports.{sent_of}
+use Rattle.name_rows.specs.declared.names.Names.{Names}
 use Rattle.name_rows.specs.declared.part.Part.{Part}
 use Rattle.name_cache.specs.Raised.{raised_entry}
 use Rattle.name_cache.specs.declared.bind_refused.BindRefused.{BindRefused}
@@ -16,10 +20,11 @@ use Rattle.name_cache.specs.declared.parts.EntryParts.{EntryParts}
 use Rattle.name_cache.specs.declared.rebound.Rebound.{Rebound}
 use Rattle.name_cache.specs.declared.rebound.Rebound.TheVariants.{Done, Refused}
 use Rattle.name_cache.specs.declared.receipt.Receipt.{Receipt}
-use Rattle.name_cache.specs.Types.{ZoneOfEntries, EntrySeat, LiveEntry}
+use Rattle.name_cache.specs.Types.{ZoneOfEntries, EntrySeat, LiveEntry, NamesPass}
 use Rattle.name_cache.specs.Cache.{cache_zone, cache_clock, cache_home, row_count, first_version}
+use Rattle.name_cache.specs.Frames.{KeepsKnown}
 use Rattle.name_cache.specs.Known.{StillKnows}
-use Rattle.name_cache.specs.LockedRow.{RebindsRow, UnbindsInRow, HasNotKey, IsItemOf, HasItemOf}
+use Rattle.name_cache.specs.LockedRow.{row_identity, LeavesMet, MeetsRow, UnlinksInRow, RebindsRow, UnbindsInRow, HasNotKey, IsItemOf, HasItemOf}
 use Rattle.name_cache.specs.Parts.{words_of}
 use Rattle.name_cache.specs.Room.{entry_ask}
 use Rattle.name_cache.specs.Deferred.{Frees}
@@ -109,3 +114,19 @@ pub record FreesParts (v : View Part) (old : EntrySeat) (parts : EntryParts) (v'
 abbrev pub FreesEvicted : View Part → EntrySeat → Option EntryParts → View Part → EntrySeat → Type 0
 FreesEvicted v old None v' new = new ≡ old
 FreesEvicted v old (Some parts) v' new = FreesParts v old parts v' new
+
+-- the row is the same, and the pass goes on and knows what it knew
+pub record KeepsRowAndPass (clock : Clock Names Part) (old new : LockedRow) (was is : NamesPass) : Type 0 where
+  pub identity : row_identity new ≡ row_identity old
+  pub pass : KeepsKnown clock was is
+
+-- the pass has met the row, which is as it was, and goes on
+pub record MeetsOn (clock : Clock Names Part) (old new : LockedRow) (was is : NamesPass) : Type 0 where
+  pub met : LeavesMet (view was) old new (view is)
+  pub pass : GoesOn clock was is
+
+-- the row's entry is out, and the pass has met the row then, and goes on
+pub record TakesEntry (clock : Clock Names Part) (old : LockedRow) (out : Option EntryParts) (new : LockedRow) (was is : NamesPass) : Type 0 where
+  pub unlinks : UnlinksInRow old out new
+  pub told : MeetsRow (view was) new (view is)
+  pub pass : GoesOn clock was is

@@ -1,16 +1,13 @@
-ghost use Rattle.std.specs.Prelude.{◌≡◌, ◌<◌, ◌%◌, IfOk, IfErr, IfSome, Err};
+ghost use Rattle.std.specs.Prelude.{◌≡◌, ◌%◌, IfOk, IfErr, Some, Err};
 ghost use Rattle.keyed_lock.specs.KeyedGuard.{guard_key};
 ghost use Rattle.smr_clock.specs.Belongs.{view};
-ghost use Rattle.zone_stats.specs.LedgerSteps.{HasRoom};
 ghost use Rattle.uma_life.specs.Live.{live_ticket};
 ghost use Rattle.uma_bucket.specs.Home.{IsHome};
-ghost use Rattle.uma_seat.specs.Seat.{ledger_of};
-ghost use Rattle.uma_zone.specs.Frames.{GoesOn, KeepsPass};
-ghost use Rattle.name_cache.specs.Bind.{HasRoomToBind, Binds, RefusesToBind, IsOnlyFlushed};
+ghost use Rattle.name_cache.specs.Bind.{RefusesToBind, IsOnlyFlushed};
 ghost use Rattle.name_cache.specs.Cache.{cache_zone, cache_clock, cache_home, row_count, first_version};
-ghost use Rattle.name_cache.specs.Frames.{IsWorkerOf, CanFree, KeepsKnown, KeepsSeat, KeepsDeferred};
-ghost use Rattle.name_cache.specs.Known.{IsAbove, StillKnows};
-ghost use Rattle.name_cache.specs.LockedRow.{row_identity, IsItemOf};
+ghost use Rattle.name_cache.specs.Calls.{MayBind, BindsKey, CanFreeParts};
+ghost use Rattle.name_cache.specs.Frames.{CanRequest, KeepsWorker, KeepsFreeing, KeepsRequesting};
+ghost use Rattle.name_cache.specs.LockedRow.{row_identity};
 ghost use Rattle.name_cache.specs.Rebound.{HandsEntry, HandsOutNone, SendsNothing, TakesApart, Rebinds, FreesParts, FreesEvicted};
 ghost use Rattle.name_cache.specs.RowKey.{identity, key_identity};
 
@@ -61,16 +58,11 @@ impl NameCache {
         key: u64,
         value: u64,
     ) -> Result<Receipt, BindRefused>
-        requires worker { IsWorkerOf self.now clock.now pass.old seat.old }
-        requires room { HasRoomToBind (ledger_of seat.old) }
-        ensures bound { IfOk result (λ receipt. Binds (cache_zone self.now) (row_count self.now) key value (view pass.old) seat.old receipt (view pass.new) seat.new) }
-        ensures above { IfOk result (λ receipt. IsAbove receipt.row receipt.version (view pass.old)) }
-        ensures since { IfOk result (λ receipt. first_version self.now (key % row_count self.now) < receipt.version) }
+        requires { MayBind self.now clock.now pass.old seat.old }
+        ensures bound { IfOk result (λ receipt. BindsKey self.now key value (view pass.old) seat.old receipt (view pass.new) seat.new) }
         ensures refused { IfErr result (RefusesToBind (cache_zone self.now) (row_count self.now) key (view pass.old) seat.old (view pass.new) seat.new) }
         ensures flushed { result ≡ Err BindRefused.Memory → IsOnlyFlushed (cache_zone self.now) seat.old seat.new (view pass.old) (view pass.new) }
-        ensures still { StillKnows (view pass.old) (view pass.new) }
-        ensures pass { GoesOn clock.now pass.old pass.new }
-        ensures seat { KeepsSeat self.now seat.old seat.new }
+        ensures kept { KeepsWorker self.now clock.now pass.old pass.new seat.old seat.new }
     {
         if self.zone.make_room(rt, alloc, clock, pass, seat).is_err() {
             return Err(BindRefused::Memory);
@@ -99,13 +91,11 @@ impl NameCache {
         key: u64,
         value: u64,
     ) -> Result<Rebound, BindRefused>
-        requires worker { IsWorkerOf self.now clock.now pass.old seat.old }
-        requires room { HasRoom (ledger_of seat.old) }
+        requires { CanRequest self.now clock.now pass.old seat.old }
         ensures rebound { IfOk result (λ rebound. Rebinds self.now key value (view pass.old) seat.old rebound (view pass.new) seat.new) }
         ensures refused { IfErr result (HandsOutNone (cache_zone self.now) seat.old seat.new) }
         ensures memory { result ≡ Err BindRefused.Memory → SendsNothing seat.old seat.new (view pass.old) (view pass.new) }
-        ensures pass { KeepsKnown clock.now pass.old pass.new }
-        ensures seat { KeepsDeferred self.now seat.old seat.new }
+        ensures kept { KeepsRequesting self.now clock.now pass.old pass.new seat.old seat.new }
     {
         let mut guard = self.lock_row(rt, key);
         let entry = self.take_entry(rt, alloc, clock, pass, seat)?;
@@ -134,13 +124,11 @@ impl NameCache {
         pass: &mut Pass<Names>,
         seat: &mut SeatCache<RaisedEntry, Names>,
     ) -> Result<EntryParts, BindRefused>
-        requires worker { IsWorkerOf self.now clock.now pass.old seat.old }
-        requires room { HasRoom (ledger_of seat.old) }
+        requires { CanRequest self.now clock.now pass.old seat.old }
         ensures handed { IfOk result (λ parts. HandsEntry self.now seat.old parts seat.new) }
         ensures refused { IfErr result (HandsOutNone (cache_zone self.now) seat.old seat.new) }
         ensures memory { result ≡ Err BindRefused.Memory → SendsNothing seat.old seat.new (view pass.old) (view pass.new) }
-        ensures pass { KeepsKnown clock.now pass.old pass.new }
-        ensures seat { KeepsDeferred self.now seat.old seat.new }
+        ensures kept { KeepsRequesting self.now clock.now pass.old pass.new seat.old seat.new }
     {
         let live = self.zone.alloc(rt, alloc, clock, pass, seat, ASK)?;
         Ok(self.parts_of(live))
@@ -162,12 +150,9 @@ impl NameCache {
         seat: &mut SeatCache<RaisedEntry, Names>,
         evicted: Option<EntryParts>,
     )
-        requires worker { IsWorkerOf self.now clock.now pass.old seat.old }
-        requires places { CanFree seat.old }
-        requires item { IfSome evicted (IsItemOf (cache_clock self.now) (cache_home self.now)) }
+        requires { CanFreeParts self.now clock.now pass.old seat.old evicted }
         ensures frees { FreesEvicted (view pass.old) seat.old evicted (view pass.new) seat.new }
-        ensures pass { KeepsPass clock.now pass.old pass.new }
-        ensures seat { KeepsSeat self.now seat.old seat.new }
+        ensures kept { KeepsFreeing self.now clock.now pass.old pass.new seat.old seat.new }
     {
         if let Some(evicted) = evicted {
             self.free(clock, pass, seat, evicted);
@@ -182,12 +167,9 @@ impl NameCache {
         seat: &mut SeatCache<RaisedEntry, Names>,
         entry: EntryParts,
     )
-        requires worker { IsWorkerOf self.now clock.now pass.old seat.old }
-        requires places { CanFree seat.old }
-        requires item { IsItemOf (cache_clock self.now) (cache_home self.now) entry }
+        requires { CanFreeParts self.now clock.now pass.old seat.old (Some entry) }
         ensures frees { FreesParts (view pass.old) seat.old entry (view pass.new) seat.new }
-        ensures pass { KeepsPass clock.now pass.old pass.new }
-        ensures seat { KeepsSeat self.now seat.old seat.new }
+        ensures kept { KeepsFreeing self.now clock.now pass.old pass.new seat.old seat.new }
     {
         self.zone.free_smr(clock, pass, seat, entry.into_live());
     }

@@ -1,8 +1,6 @@
 ghost use Rattle.std.specs.Prelude.{◌≡◌, ◌⊎◌, None, IfOk};
-ghost use Rattle.smr_clock.specs.Belongs.{clock_id};
 ghost use Rattle.uma_life.specs.declared.body_phase.BodyPhase.TheVariants.{Raw, Gone};
-ghost use Rattle.name_rows.specs.Belongs.{IsNamesClock};
-ghost use Rattle.name_rows.specs.Roots.{IsRootOf};
+ghost use Rattle.name_rows.specs.Roots.{CanRaise};
 ghost use Rattle.name_cache.specs.Hooked.{RaisesAtHome};
 ghost use Rattle.name_cache.specs.Raised.{KeepsWords, refusal_of};
 
@@ -22,8 +20,7 @@ pub struct EntryHooks {
 }
 
 impl EntryHooks {
-    ghost use Rattle.name_cache.specs.Hooked.{hooks_home};
-    ghost use Rattle.name_cache.specs.Homes.{home_clock};
+    ghost use Rattle.name_cache.specs.Hooked.{hooks_home, AreHooksOf};
 
     /// Two with the same root.
     ///
@@ -35,10 +32,8 @@ impl EntryHooks {
         clock: &Clock<Names>,
         root: Root,
     ) -> Result<(EntryHooks, EntryHooks), Memory>
-        requires here { IsRootOf clock.now root }
-        requires names { IsNamesClock clock.now }
-        ensures clock { IfOk result (λ (one, other). clock_id (home_clock (hooks_home one)) ≡ clock_id clock.now) }
-        ensures same_root { IfOk result (λ (one, other). hooks_home one ≡ hooks_home other) }
+        requires { CanRaise clock.now root }
+        ensures { IfOk result (λ (one, other). AreHooksOf clock.now one other) }
     {
         let home = Home::new(alloc, clock, root)?;
         let one = Arc::new(alloc, home).map_err(|_| Memory)?;

@@ -1,11 +1,9 @@
-ghost use Rattle.std.specs.Prelude.{◌≡◌, ◌⊎◌, IfOk};
+ghost use Rattle.std.specs.Prelude.{◌≡◌, IfOk};
 ghost use Rattle.keyed_lock.specs.KeyedLock.{lock_key};
 ghost use Rattle.smr_clock.specs.Belongs.{clock_id};
-ghost use Rattle.uma_life.specs.Life.{raw_life};
-ghost use Rattle.uma_life.specs.declared.body_phase.BodyPhase.TheVariants.{Raw, Gone};
 ghost use Rattle.name_rows.specs.Belongs.{IsNamesClock};
-ghost use Rattle.name_rows.specs.Entries.{IsEntryOf, entry_life};
-ghost use Rattle.name_rows.specs.Roots.{IsRootOf};
+ghost use Rattle.name_rows.specs.Entries.{entry_life};
+ghost use Rattle.name_rows.specs.Roots.{CanRaise};
 
 use keyed_lock::{KeyedLock, LockRule};
 use name_rows::{Entry, Names, Root, lower, raise};
@@ -42,12 +40,11 @@ pub struct Home {
 }
 
 impl Home {
-    ghost use Rattle.name_cache.specs.Homes.{home_clock, RaisesFrom, LowersInto};
+    ghost use Rattle.name_cache.specs.Homes.{home_clock, IsNewEntry, RaisesFrom, MayEnd, LowersInto};
 
     /// A home of this root. The clock gets a handle more.
     pub fn new(alloc: Global, clock: &Clock<Names>, root: Root) -> Result<Home, Memory>
-        requires here { IsRootOf clock.now root }
-        requires names { IsNamesClock clock.now }
+        requires { CanRaise clock.now root }
         ensures { IfOk result (λ home. clock_id (home_clock home) ≡ clock_id clock.now) }
     {
         let handle = clock.share(alloc).map_err(|_| Memory)?;
@@ -72,8 +69,7 @@ impl Home {
     /// An entry of this number that passed no hook. It has words exactly where the root, as it stands under the lock, has the
     /// number, which it then hasn't any more. Waits until it has the lock.
     pub fn raise<R: Wait>(&self, rt: &R, no: u32) -> Entry
-        ensures here { IsEntryOf (home_clock self.now) result }
-        ensures life { entry_life result ≡ raw_life no }
+        ensures new { IsNewEntry (home_clock self.now) no result }
         ensures raised { RaisesFrom (home_clock self.now) no result }
     {
         let mut guard = self.root.lock(rt);
@@ -83,8 +79,7 @@ impl Home {
     /// Ends an entry, and answers its tally. The root has its number again, with the entry's state, where the entry has words.
     /// Waits until it has the lock.
     pub fn lower<R: Wait>(&self, rt: &R, entry: Entry) -> Tally
-        requires here { IsEntryOf (home_clock self.now) entry }
-        requires over { ((entry_life entry).phase ≡ Raw) ⊎ ((entry_life entry).phase ≡ Gone) }
+        requires { MayEnd (home_clock self.now) entry }
         ensures tally { result ≡ (entry_life entry).tally }
         ensures lowered { LowersInto (home_clock self.now) entry }
     {

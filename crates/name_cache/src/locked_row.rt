@@ -1,8 +1,7 @@
-ghost use Rattle.std.specs.Prelude.{◌≡◌, ◌≤◌, ◌<◌, ◌+◌, ◌%◌, ◌^◌, [], ◌∷◌, map, is_some, Some, None, IfSome, IfNone};
-ghost use Rattle.name_rows.specs.declared.entry.Entry.{Entry};
+ghost use Rattle.std.specs.Prelude.{◌≡◌, ◌≤◌, ◌<◌, ◌+◌, ◌^◌, [], ◌∷◌, map, is_some, Some, IfSome, IfNone};
 ghost use Rattle.name_rows.specs.Rows.{IsRowOf, row_last};
 ghost use Rattle.name_rows.specs.declared.guest.Guest.{Guest};
-ghost use Rattle.name_cache.specs.LinkedItem.{IsLinkedAs, FitsItem};
+ghost use Rattle.name_cache.specs.LinkedItem.{IsLinkedAs, CanRejoin, AreRejoined};
 ghost use Rattle.name_cache.specs.RowKey.{key_identity};
 ghost use Rattle.name_cache.specs.declared.linked_item.LinkedItem.{LinkedItem};
 
@@ -43,22 +42,18 @@ pub(crate) struct LockedRow {
 }
 
 impl LockedRow {
-    ghost use Rattle.smr_clock.specs.Belongs.{view, setup_of};
+    ghost use Rattle.smr_clock.specs.Belongs.{view};
     ghost use Rattle.uma_life.specs.Hook.{Hook};
     ghost use Rattle.uma_life.specs.Sum.{sum_of, AreBelow};
-    ghost use Rattle.uma_zone.specs.Frames.{GoesOn};
-    ghost use Rattle.name_cache.specs.Frames.{KeepsKnown};
-    ghost use Rattle.name_cache.specs.LockedRow.{row_identity, names_row, IsRowClock, IsRowPass, LeavesMet, MeetsRow, IsItemOf, CanLink, LinksInRow, UnlinksInRow, IsStamped, HasItemOf, RebindsRow, GivesOut, HasNotKey};
-    ghost use Rattle.name_cache.specs.Making.{IsFreshRow};
+    ghost use Rattle.name_cache.specs.Rebound.{KeepsRowAndPass, MeetsOn, TakesEntry};
+    ghost use Rattle.name_cache.specs.LockedRow.{row_identity, names_row, IsNamedBy, KeepsUnder, IsRowClock, IsRowPass, CanBind, CanLink, LinksInRow, UnlinksInRow, IsStamped, HasItemOf, RebindsRow, GivesOut, HasNotKey};
     ghost use Rattle.name_cache.specs.Parts.{CanStamp};
     ghost use Rattle.name_cache.specs.Sums.{AddsLinked};
 
     /// An empty row, which the key names.
     pub fn new(row: Row, key: &RowKey) -> LockedRow
-        requires fresh { IsFreshRow key.now.clock.value key.now.number row }
-        requires version { row.version ≡ key.now.version }
-        ensures identity { row_identity result ≡ key_identity key.now }
-        ensures row { names_row result ≡ row }
+        requires { IsNamedBy key.now row }
+        ensures { KeepsUnder key.now row result }
     {
         LockedRow {
             row,
@@ -70,8 +65,7 @@ impl LockedRow {
     // The pass knows the row's last record then, and knew none of the row that is newer.
     fn meet(&mut self, clock: &Clock<Names>, pass: &mut Pass<Names>)
         requires here { IsRowPass self.old clock.now pass.old }
-        ensures met { LeavesMet (view pass.old) self.old self.new (view pass.new) }
-        ensures pass { GoesOn clock.now pass.old pass.new }
+        ensures { MeetsOn clock.now self.old self.new pass.old pass.new }
     {
         meet(clock, &mut self.row, pass);
     }
@@ -88,12 +82,10 @@ impl LockedRow {
         value: u64,
     ) -> Rebound
         requires here { IsRowPass self.old clock.now pass.old }
-        requires item { IsItemOf (row_identity self.old).clock (row_identity self.old).home parts }
-        requires of_row { key % (setup_of clock.now).plan.0 ≡ (names_row self.old).number }
-        ensures identity { row_identity self.new ≡ row_identity self.old }
+        requires binds { CanBind clock.now self.old parts key }
         ensures ends { RebindsRow key value (view pass.old) self.old parts result self.new (view pass.new) }
         ensures out { HasItemOf (row_identity self.old).clock (row_identity self.old).home result }
-        ensures pass { KeepsKnown clock.now pass.old pass.new }
+        ensures kept { KeepsRowAndPass clock.now self.old self.new pass.old pass.new }
     {
         self.meet(clock, pass);
         if let Err(Unripe { read, stamp }) = parts.ripe(clock) {
@@ -131,10 +123,9 @@ impl LockedRow {
         key: u64,
     ) -> Option<(u64, Receipt, EntryParts)>
         requires here { IsRowPass self.old clock.now pass.old }
-        ensures identity { row_identity self.new ≡ row_identity self.old }
         ensures unbound { IfSome result (λ (value, receipt, out). GivesOut key value (view pass.old) self.old receipt out self.new (view pass.new)) }
         ensures none { IfNone result (HasNotKey key (view pass.old) self.old self.new (view pass.new)) }
-        ensures pass { KeepsKnown clock.now pass.old pass.new }
+        ensures kept { KeepsRowAndPass clock.now self.old self.new pass.old pass.new }
     {
         self.meet(clock, pass);
         if self.row.key() != Some(key) {
@@ -160,8 +151,7 @@ impl LockedRow {
 
     // Links a written entry, with the next version. The entry that was there is out, unlinked and without a stamp.
     fn link(&mut self, clock: &Clock<Names>, parts: EntryParts) -> Option<EntryParts>
-        requires here { IsRowClock self.old clock.now }
-        requires entry { CanLink clock.now self.old parts }
+        requires { CanLink clock.now self.old parts }
         ensures { LinksInRow self.old parts result self.new }
     {
         let EntryParts {
@@ -182,9 +172,7 @@ impl LockedRow {
     /// Unlinks the row's entry, and tells the pass. It is out, unlinked and without a stamp. An empty row stays as it is.
     pub fn take(&mut self, clock: &Clock<Names>, pass: &mut Pass<Names>) -> Option<EntryParts>
         requires here { IsRowPass self.old clock.now pass.old }
-        ensures unlinks { UnlinksInRow self.old result self.new }
-        ensures told { MeetsRow (view pass.old) self.new (view pass.new) }
-        ensures pass { GoesOn clock.now pass.old pass.new }
+        ensures { TakesEntry clock.now self.old result self.new pass.old pass.new }
     {
         let out = self.unlink(clock);
         self.meet(clock, pass);
@@ -216,10 +204,8 @@ impl LockedRow {
 
 // The parts of the entry that a row gave out.
 fn rejoined(entry: Option<Entry>, item: Option<LinkedItem>) -> Option<EntryParts>
-    requires both { is_some item ≡ is_some entry }
-    requires fits { (one : Entry) (other : LinkedItem) → entry ≡ Some one → item ≡ Some other → FitsItem one other }
-    ensures both { is_some result ≡ is_some entry }
-    ensures some { IfSome result (λ parts. (entry ≡ Some parts.entry) × ((other : LinkedItem) → item ≡ Some other → (parts.home ≡ other.home) × (parts.ticket ≡ other.ticket))) }
+    requires { CanRejoin entry item }
+    ensures { AreRejoined entry item result }
 {
     let entry = entry?;
     let Some(item) = item else { unreachable!() };

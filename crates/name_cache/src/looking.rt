@@ -1,16 +1,12 @@
-ghost use Rattle.std.specs.Prelude.{◌≡◌, ◌≤◌, ◌+◌, ◌^◌, ℕ, IfOk, IfErr};
+ghost use Rattle.std.specs.Prelude.{◌≤◌, ◌+◌, ◌^◌, ℕ, IfOk, IfErr};
 ghost use Rattle.uma_bucket.specs.Sums.{AreOfAtMost};
-ghost use Rattle.keyed_lock.specs.KeyedLock.{lock_key};
-ghost use Rattle.smr_core.specs.declared.phase.Phase.{Phase};
-ghost use Rattle.smr_clock.specs.Belongs.{view, holder};
+ghost use Rattle.smr_clock.specs.Belongs.{view};
 ghost use Rattle.smr_clock.specs.Sections.{Misses};
-ghost use Rattle.uma_zone.specs.Frames.{GoesOn};
 ghost use Rattle.name_cache.specs.Cache.{row_count};
-ghost use Rattle.name_cache.specs.Frames.{IsCachePass};
+ghost use Rattle.name_cache.specs.Frames.{CanLook, StaysOutside};
 ghost use Rattle.name_cache.specs.Look.{Looks};
 ghost use Rattle.name_cache.specs.Made.{IsCensusOf};
-ghost use Rattle.name_cache.specs.RowKey.{key_identity};
-ghost use Rattle.name_cache.specs.Sums.{HasLinked};
+ghost use Rattle.name_cache.specs.Sums.{HasLinked, CanAddRow};
 
 use crate::cache::NameCache;
 use crate::rule::RowLock;
@@ -35,12 +31,10 @@ impl NameCache {
         pass: &mut Pass<Names>,
         key: u64,
     ) -> Result<Option<u64>, Overtaken>
-        requires pass { IsCachePass self.now clock.now pass.old }
-        requires outside { (holder pass.old).phase ≡ Phase.Outside }
+        requires { CanLook self.now clock.now pass.old }
         ensures looked { IfOk result (λ found. Looks key (view pass.old) found (view pass.new)) }
         ensures late { IfErr result (λ late. Misses (view pass.old) late (view pass.new)) }
-        ensures pass { GoesOn clock.now pass.old pass.new }
-        ensures outside { (holder pass.new).phase ≡ Phase.Outside }
+        ensures pass { StaysOutside clock.now pass.old pass.new }
     {
         clock.enter(pass)?;
         let found = find(clock, pass, key);
@@ -82,8 +76,7 @@ impl NameCache {
 
 // Adds the tally of a row's entry, if it has one.
 fn add_row<R: Wait>(rt: &R, row: &RowLock, sums: &mut Sums)
-    requires primary { (key_identity (lock_key row.now)).home.zone ≡ 0 }
-    requires few { AreOfAtMost (2 ^ 35) sums.old }
+    requires { CanAddRow row.now sums.old }
     ensures few { (count : ℕ) → AreOfAtMost count sums.old → AreOfAtMost (count + 1) sums.new }
     ensures linked { (linked : ℕ) → HasLinked linked sums.old → (more : ℕ) × (more ≤ 1) × HasLinked (linked + more) sums.new }
 {

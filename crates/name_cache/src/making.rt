@@ -2,11 +2,11 @@ ghost use Rattle.std.specs.Prelude.{◌≡◌, ◌<◌, ◌++◌, ◌∷◌, [],
 ghost use Rattle.keyed_lock.specs.KeyedLock.{lock_key};
 ghost use Rattle.smr_clock.specs.Belongs.{clock_id};
 ghost use Rattle.uma_zone.specs.Making.{AcceptsSet};
-ghost use Rattle.uma_zone.specs.Seat.{IsFresh};
-ghost use Rattle.uma_zone.specs.Zone.{zone_home, zone_bucket};
-ghost use Rattle.name_cache.specs.Cache.{cache_zone, cache_domains, IsCacheSeat};
+ghost use Rattle.uma_zone.specs.Zone.{zone_home};
+ghost use Rattle.name_cache.specs.Cache.{cache_domains};
+ghost use Rattle.name_cache.specs.Calls.{IsNewSeat};
 ghost use Rattle.name_cache.specs.Made.{IsMadeOf, AreLocksOf};
-ghost use Rattle.name_cache.specs.Making.{IsOpened, FitsOpened, RefusesCache, AreFreshRows, IsFreshRow};
+ghost use Rattle.name_cache.specs.Making.{CanMake, RefusesCache, AreFreshRows, IsFreshRow};
 ghost use Rattle.name_cache.specs.RowKey.{key_identity, identity};
 
 use crate::cache::{EntryZone, NameCache};
@@ -40,8 +40,7 @@ impl NameCache {
         opened: Opened,
         set: ZoneSet,
     ) -> Result<(NameCache, Clock<Names>, Vec<Pass<Names>>), ZoneRefused>
-        requires opened { IsOpened opened }
-        requires fits { FitsOpened opened set }
+        requires { CanMake opened set }
         ensures made { IfOk result (λ (cache, clock, passes). IsMadeOf opened set cache clock passes.items) }
         ensures accepted { OnOk result (AcceptsSet 64 set) }
         ensures refused { IfErr result (RefusesCache set) }
@@ -67,8 +66,7 @@ impl NameCache {
         domain: u8,
     ) -> Result<SeatCache<RaisedEntry, Names>, Memory>
         requires { domain < cache_domains self.now }
-        ensures seat { IfOk result (IsCacheSeat self.now) }
-        ensures fresh { IfOk result (IsFresh (zone_bucket (cache_zone self.now)) domain) }
+        ensures { IfOk result (IsNewSeat self.now domain) }
     {
         self.zone.seat(rt, alloc, domain)
     }

@@ -28,11 +28,10 @@ pub(crate) struct EntryParts {
 }
 
 impl EntryParts {
-    ghost use Rattle.name_rows.specs.Entries.{OnWords, entry_state};
-    ghost use Rattle.name_rows.specs.Ripening.{StampsAt, IsRipe, IsUnripe};
+    ghost use Rattle.name_rows.specs.Entries.{OnWords};
+    ghost use Rattle.name_rows.specs.Ripening.{StampsAt, IsUnripe};
     ghost use Rattle.name_rows.specs.Writing.{Writes};
-    ghost use Rattle.name_rows.specs.declared.entry_state.EntryState.{EntryState};
-    ghost use Rattle.name_cache.specs.Parts.{parts_clock, ArePartsOf, CanWrite, CanStamp, IsSameItem};
+    ghost use Rattle.name_cache.specs.Parts.{parts_clock, ArePartsOf, CanWrite, CanStamp, ChangesWords, IsCleaned, IsSameItem};
 
     /// The parts of an item.
     pub fn of(live: Live<RaisedEntry>) -> EntryParts
@@ -62,8 +61,7 @@ impl EntryParts {
     /// Cleans the entry, where no section may still read it.
     pub fn ripe(&mut self, clock: &Clock<Names>) -> Result<(), Unripe>
         requires here { parts_clock self.old ≡ clock_id clock.now }
-        ensures ripe { OnOk result (OnWords IsRipe self.old.entry.words self.new.entry.words) }
-        ensures clean { OnOk result (entry_state self.new.entry ≡ Some EntryState.Clean) }
+        ensures cleaned { OnOk result (IsCleaned self.old self.new) }
         ensures unripe { IfErr result (λ unripe. OnWords (IsUnripe unripe) self.old.entry.words self.new.entry.words) }
         ensures same { IsSameItem self.old self.new }
     {
@@ -73,8 +71,7 @@ impl EntryParts {
     /// Writes the words of a clean entry.
     pub fn write(&mut self, clock: &Clock<Names>, key: u64, value: u64)
         requires { CanWrite clock.now self.old }
-        ensures written { OnWords (Writes key value) self.old.entry.words self.new.entry.words }
-        ensures same { IsSameItem self.old self.new }
+        ensures { ChangesWords (Writes key value) self.old self.new }
     {
         write(clock, &mut self.entry, key, value);
     }
@@ -82,8 +79,7 @@ impl EntryParts {
     /// Stamps an unlinked entry.
     pub fn stamp(&mut self, clock: &Clock<Names>)
         requires { CanStamp clock.now self.old }
-        ensures stamped { OnWords StampsAt self.old.entry.words self.new.entry.words }
-        ensures same { IsSameItem self.old self.new }
+        ensures { ChangesWords StampsAt self.old self.new }
     {
         stamp(clock, &mut self.entry);
     }

@@ -19,12 +19,11 @@ pub struct RaisedEntry {
 impl RaisedEntry {
     ghost use Rattle.name_rows.specs.Entries.{IsEntryOf};
     ghost use Rattle.name_cache.specs.Homes.{home_clock};
-    ghost use Rattle.name_cache.specs.Raised.{raised_entry, raised_home};
+    ghost use Rattle.name_cache.specs.Raised.{raised_entry, raised_home, IsEntryIn, AreHalvesOf};
 
     /// The entry, to be read alone: it is written and linked only after `into_parts`.
     pub fn entry(&self) -> &Entry
-        ensures entry { result.now ≡ raised_entry self.now }
-        ensures here { IsEntryOf (home_clock (raised_home self.now)) result.now }
+        ensures { IsEntryIn self.now result.now }
     {
         &self.entry
     }
@@ -38,9 +37,7 @@ impl RaisedEntry {
 
     /// The entry, whose words the caller may write, and the handle of its home.
     pub fn into_parts(self) -> (Entry, Arc<Home>)
-        ensures entry { result.0 ≡ raised_entry self }
-        ensures home { arc_value result.1 ≡ raised_home self }
-        ensures here { IsEntryOf (home_clock (raised_home self)) result.0 }
+        ensures { AreHalvesOf self result.0 (arc_value result.1) }
     {
         (self.entry, self.home)
     }

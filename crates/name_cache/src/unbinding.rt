@@ -1,14 +1,10 @@
-ghost use Rattle.std.specs.Prelude.{◌%◌, ◌<◌, OnErr, IfOk, IfSome, IfNone};
+ghost use Rattle.std.specs.Prelude.{OnErr, IfOk, IfSome, IfNone};
 ghost use Rattle.smr_clock.specs.Belongs.{view};
-ghost use Rattle.zone_stats.specs.LedgerSteps.{HasRoom};
-ghost use Rattle.uma_seat.specs.Seat.{ledger_of};
-ghost use Rattle.uma_zone.specs.Frames.{GoesOn};
-ghost use Rattle.name_cache.specs.Bind.{WantsMemory, IsOnlyFlushed};
-ghost use Rattle.name_cache.specs.Cache.{cache_zone, row_count, first_version};
-ghost use Rattle.name_cache.specs.Frames.{IsCachePass, IsWorkerOf, KeepsKnown, KeepsSeat};
-ghost use Rattle.name_cache.specs.Known.{IsAbove, StillKnows};
+ghost use Rattle.name_cache.specs.Cache.{row_count};
+ghost use Rattle.name_cache.specs.Calls.{UnbindsKey, WantsRoom};
+ghost use Rattle.name_cache.specs.Frames.{IsCachePass, CanRequest, KeepsKnown, KeepsWorker};
 ghost use Rattle.name_cache.specs.Rebound.{TakesOut, HasFoundNone};
-ghost use Rattle.name_cache.specs.Unbind.{Unbinds, FindsUnbound};
+ghost use Rattle.name_cache.specs.Unbind.{FindsUnbound};
 
 use crate::RaisedEntry;
 use crate::cache::NameCache;
@@ -37,17 +33,11 @@ impl NameCache {
         seat: &mut SeatCache<RaisedEntry, Names>,
         key: u64,
     ) -> Result<Option<(u64, Receipt)>, Memory>
-        requires worker { IsWorkerOf self.now clock.now pass.old seat.old }
-        requires room { HasRoom (ledger_of seat.old) }
-        ensures unbound { IfOk result (λ found. IfSome found (λ (value, receipt). Unbinds (row_count self.now) key value (view pass.old) seat.old receipt (view pass.new) seat.new)) }
-        ensures above { IfOk result (λ found. IfSome found (λ (value, receipt). IsAbove receipt.row receipt.version (view pass.old))) }
-        ensures since { IfOk result (λ found. IfSome found (λ (value, receipt). first_version self.now (key % row_count self.now) < receipt.version)) }
+        requires { CanRequest self.now clock.now pass.old seat.old }
+        ensures unbound { IfOk result (λ found. IfSome found (λ (value, receipt). UnbindsKey self.now key value (view pass.old) seat.old receipt (view pass.new) seat.new)) }
         ensures none { IfOk result (λ found. IfNone found (FindsUnbound (row_count self.now) key (view pass.old) seat.old (view pass.new) seat.new)) }
-        ensures memory { OnErr result (WantsMemory seat.old seat.new) }
-        ensures flushed { OnErr result (IsOnlyFlushed (cache_zone self.now) seat.old seat.new (view pass.old) (view pass.new)) }
-        ensures still { StillKnows (view pass.old) (view pass.new) }
-        ensures pass { GoesOn clock.now pass.old pass.new }
-        ensures seat { KeepsSeat self.now seat.old seat.new }
+        ensures memory { OnErr result (WantsRoom self.now seat.old seat.new (view pass.old) (view pass.new)) }
+        ensures kept { KeepsWorker self.now clock.now pass.old pass.new seat.old seat.new }
     {
         self.zone.make_room(rt, alloc, clock, pass, seat)?;
         match self.take_out(rt, clock, pass, key) {

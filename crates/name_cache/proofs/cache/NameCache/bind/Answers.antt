@@ -20,8 +20,9 @@ use Rattle.name_cache.specs.Room.{MakesRoom}
 use Rattle.name_cache.proofs.Ends.{binds, refuses, refuses_none}
 use Rattle.name_cache.proofs.Linked.{done_item}
 use Rattle.name_cache.proofs.Rooms.{wants_room, flushed_still}
+use Rattle.name_cache.proofs.Passes.{known_then, known_host, same_then}
 use Rattle.name_cache.proofs.Taking.{room_left}
-use Rattle.name_cache.proofs.Telling.{still_then, still_host, above_next}
+use Rattle.name_cache.proofs.Telling.{still_host, above_next}
 use Rattle.name_cache.proofs.Wanting.{same_err, not_err, row_not_memory}
 use Rattle.name_cache.proofs.cache.NameCache.bind.Goals as goal
 
@@ -31,8 +32,13 @@ returns-then-is_err-clause-refused g c =
     let stay : HasLastOf (shelf_of c.args.seat.now) (shelf_of c.make_room.new.seat) = search rules in
     wants_room c.args.seat.now c.make_room.new.seat made.kept.same made.kept.top made.kept.plain made.kept.freed made.kept.counts stay
 
-pub rebind-requires-clause-room : goal.rebind-requires-clause-room
-rebind-requires-clause-room g c = subst (λ (l : SeatLedger). HasRoom l) (ap ledger_in (sym c.make_room.ensures.kept.counts)) c.requires.room.now
+pub rebind-requires : goal.rebind-requires
+rebind-requires g c =
+    let made = c.make_room.ensures in
+    record {
+      worker = search rules;
+      room = subst (λ (l : SeatLedger). HasRoom l) (ap ledger_in (sym c.make_room.ensures.kept.counts)) c.requires.room.now;
+    }
 
 pub returns-in_err-receipt-clause-refused : goal.returns-in_err-receipt-clause-refused
 returns-in_err-receipt-clause-refused g c =
@@ -49,23 +55,23 @@ returns-in_err-receipt-clause-refused g c =
     let p = err_from_is_err_and c.from_residual.result c.from_residual.ensures.1 in
     rw (p.1, p.2)
     (refuses_none (cache_zone cache) (row_count cache) c.args.key c.args.value v v1 v2 v2 c.args.seat.now one left left made (still_host v v1 room.pass.host) c.in_err-receipt.field-0.0
-    room.kept.same c.rebind.ensures.seat.freed c.rebind.ensures.seat.shelf c.in_err-receipt.ensures.refused)
+    room.kept.same c.rebind.ensures.kept.seat.freed c.rebind.ensures.kept.seat.shelf c.in_err-receipt.ensures.refused)
 
-pub free_evicted-requires-clause-places : goal.free_evicted-requires-clause-places
-free_evicted-requires-clause-places g c =
+pub free_evicted-requires : goal.free_evicted-requires
+free_evicted-requires g c =
     let left = c.rebind.new.seat in
     let two : length (spares_of c.make_room.new.seat) ≡ 2 = search rules in
-    let more = c.rebind.ensures.seat.spare in
-    record {
-      spare = omega (arith, two, more);
-      room = room_left (ledger_of c.args.seat.now) (ledger_of left) c.requires.room (subst (λ (l : SeatLedger). CountsAlloc l (ledger_of left)) (ap ledger_in c.make_room.ensures.kept.counts) c.in_ok-receipt.ensures.rebound.counted);
-    }
-
-pub free_evicted-requires-clause-item : goal.free_evicted-requires-clause-item
-free_evicted-requires-clause-item g c =
+    let more = c.rebind.ensures.kept.seat.spare in
     let clock = cache_clock c.args.self.now in
     let home = cache_home c.args.self.now in
-    done_item clock home c.in-Done.receipt c.in-Done.evicted (subst (λ (r : Rebound). HasItemOf clock home r) c.in-Done.is c.in_ok-receipt.ensures.rebound.items)
+    record {
+      worker = record { same_clock = c.requires.worker.same_clock; of_clock = c.rebind.ensures.kept.pass.goes_on.own; of_zone = c.rebind.ensures.kept.seat.of_zone };
+      places = record {
+        spare = omega (arith, two, more);
+        room = room_left (ledger_of c.args.seat.now) (ledger_of left) c.requires.room (subst (λ (l : SeatLedger). CountsAlloc l (ledger_of left)) (ap ledger_in c.make_room.ensures.kept.counts) c.in_ok-receipt.ensures.rebound.counted);
+      };
+      item = done_item clock home c.in-Done.receipt c.in-Done.evicted (subst (λ (r : Rebound). HasItemOf clock home r) c.in-Done.is c.in_ok-receipt.ensures.rebound.items);
+    }
 
 binds_so : (g : _) (c : goal.After-free_evicted g) → Binds (cache_zone c.args.self.now) (row_count c.args.self.now) c.args.key c.args.value (view c.args.pass.now) c.args.seat.now c.in-Done.receipt (view c.free_evicted.new.pass) c.free_evicted.new.seat
 binds_so g c =
@@ -77,34 +83,38 @@ binds_so g c =
     let spares : length (spares_of one) ≡ 2 = search rules in
     let made : MakesRoom c.args.seat.now one = record { shelf = shelf; spares = spares; same = room.kept.same; top = room.kept.top; plain = room.kept.plain; freed = room.kept.freed; counts = room.kept.counts; misses = room.kept.misses } in
     let done = c.in_ok-receipt.ensures.rebound in
-    let kept = c.rebind.ensures.seat in
+    let kept = c.rebind.ensures.kept.seat in
     let v = view c.args.pass.now in
     let v1 = view c.make_room.new.pass in
     let v2 = view c.rebind.new.pass in
     let h = subst (λ (r : Rebound). HasRebound (cache_zone cache) (row_count cache) c.args.key c.args.value v1 one r v2 two) c.in-Done.is done.in_row in
     binds (cache_zone cache) (row_count cache) c.args.key c.args.value v v1 v2 (view c.free_evicted.new.pass) c.args.seat.now one two c.free_evicted.new.seat made (still_host v v1 room.pass.host)
-    c.in-Done.receipt c.in-Done.evicted h done.counted kept.freed kept.shelf c.free_evicted.ensures.frees c.free_evicted.ensures.pass.host
+    c.in-Done.receipt c.in-Done.evicted h done.counted kept.freed kept.shelf c.free_evicted.ensures.frees c.free_evicted.ensures.kept.pass.host
 
 pub returns-in-Done-clause-bound : goal.returns-in-Done-clause-bound
-returns-in-Done-clause-bound g c = binds_so g c
-
-pub returns-in-Done-clause-above : goal.returns-in-Done-clause-above
-returns-in-Done-clause-above g c =
+returns-in-Done-clause-bound g c =
     let b = binds_so g c in
-    above_next (view c.args.pass.now) (view c.free_evicted.new.pass) c.in-Done.receipt b.before b.met b.next
-
-pub free-requires-clause-places : goal.free-requires-clause-places
-free-requires-clause-places g c =
-    let left = c.rebind.new.seat in
-    let two : length (spares_of c.make_room.new.seat) ≡ 2 = search rules in
-    let more = c.rebind.ensures.seat.spare in
     record {
-      spare = omega (arith, two, more);
-      room = room_left (ledger_of c.args.seat.now) (ledger_of left) c.requires.room (subst (λ (l : SeatLedger). CountsAlloc l (ledger_of left)) (ap ledger_in c.make_room.ensures.kept.counts) c.in_ok-receipt.ensures.rebound.counted);
+      binds = b;
+      above = above_next (view c.args.pass.now) (view c.free_evicted.new.pass) c.in-Done.receipt b.before b.met b.next;
+      since = subst (λ (r : Rebound). IsBoundAbove (first_version c.args.self.now (c.args.key % row_count c.args.self.now)) r) c.in-Done.is c.in_ok-receipt.ensures.rebound.since;
     }
 
-pub returns-in-Done-clause-since : goal.returns-in-Done-clause-since
-returns-in-Done-clause-since g c = subst (λ (r : Rebound). IsBoundAbove (first_version c.args.self.now (c.args.key % row_count c.args.self.now)) r) c.in-Done.is c.in_ok-receipt.ensures.rebound.since
+pub free-requires : goal.free-requires
+free-requires g c =
+    let left = c.rebind.new.seat in
+    let two : length (spares_of c.make_room.new.seat) ≡ 2 = search rules in
+    let more = c.rebind.ensures.kept.seat.spare in
+    let clock = cache_clock c.args.self.now in
+    let home = cache_home c.args.self.now in
+    record {
+      worker = record { same_clock = c.requires.worker.same_clock; of_clock = c.rebind.ensures.kept.pass.goes_on.own; of_zone = c.rebind.ensures.kept.seat.of_zone };
+      places = record {
+        spare = omega (arith, two, more);
+        room = room_left (ledger_of c.args.seat.now) (ledger_of left) c.requires.room (subst (λ (l : SeatLedger). CountsAlloc l (ledger_of left)) (ap ledger_in c.make_room.ensures.kept.counts) c.in_ok-receipt.ensures.rebound.counted);
+      };
+      item = subst (λ (r : Rebound). HasItemOf clock home r) c.in-Refused.is c.in_ok-receipt.ensures.rebound.items;
+    }
 
 pub returns-in-Refused-clause-refused : goal.returns-in-Refused-clause-refused
 returns-in-Refused-clause-refused g c =
@@ -116,46 +126,62 @@ returns-in-Refused-clause-refused g c =
     let spares : length (spares_of one) ≡ 2 = search rules in
     let made : MakesRoom c.args.seat.now one = record { shelf = shelf; spares = spares; same = room.kept.same; top = room.kept.top; plain = room.kept.plain; freed = room.kept.freed; counts = room.kept.counts; misses = room.kept.misses } in
     let done = c.in_ok-receipt.ensures.rebound in
-    let kept = c.rebind.ensures.seat in
+    let kept = c.rebind.ensures.kept.seat in
     let v = view c.args.pass.now in
     let v1 = view c.make_room.new.pass in
     let v2 = view c.rebind.new.pass in
     let h = subst (λ (r : Rebound). HasRebound (cache_zone cache) (row_count cache) c.args.key c.args.value v1 one r v2 two) c.in-Refused.is done.in_row in
     refuses (cache_zone cache) (row_count cache) c.args.key c.args.value v v1 v2 (view c.free.new.pass) c.args.seat.now one two c.free.new.seat made (still_host v v1 room.pass.host)
-    c.in-Refused.entry c.free.ensures.frees done.counted kept.freed kept.shelf c.free.ensures.pass.host c.in-Refused.refused h
-
-pub free-requires-clause-item : goal.free-requires-clause-item
-free-requires-clause-item g c =
-    let clock = cache_clock c.args.self.now in
-    let home = cache_home c.args.self.now in
-    subst (λ (r : Rebound). HasItemOf clock home r) c.in-Refused.is c.in_ok-receipt.ensures.rebound.items
+    c.in-Refused.entry c.free.ensures.frees done.counted kept.freed kept.shelf c.free.ensures.kept.pass.host c.in-Refused.refused h
 
 -- ---- what the pass still knows
 
-pub returns-then-is_err-clause-still : goal.returns-then-is_err-clause-still
-returns-then-is_err-clause-still g c = still_host (view c.args.pass.now) (view c.make_room.new.pass) c.make_room.ensures.pass.host
+pub returns-then-is_err-clause-kept : goal.returns-then-is_err-clause-kept
+returns-then-is_err-clause-kept g c = record {
+  pass = known_host c.args.clock.now c.args.pass.now c.make_room.new.pass c.make_room.ensures.pass;
+  seat = record { of_zone = search rules; same = c.make_room.ensures.kept.same };
+}
 
-pub returns-in_err-receipt-clause-still : goal.returns-in_err-receipt-clause-still
-returns-in_err-receipt-clause-still g c =
-    let v = view c.args.pass.now in
-    let v1 = view c.make_room.new.pass in
-    still_then v v1 (view c.rebind.new.pass) (still_host v v1 c.make_room.ensures.pass.host) c.rebind.ensures.pass.still
+pub returns-in_err-receipt-clause-kept : goal.returns-in_err-receipt-clause-kept
+returns-in_err-receipt-clause-kept g c =
+    let clock = c.args.clock.now in
+    let p = c.args.pass.now in
+    let p1 = c.make_room.new.pass in
+    let left = c.rebind.ensures.kept.seat in
+    record {
+      pass = known_then clock p p1 c.rebind.new.pass (known_host clock p p1 c.make_room.ensures.pass) c.rebind.ensures.kept.pass;
+      seat = record { of_zone = left.of_zone; same = same_then c.args.seat.now c.make_room.new.seat c.rebind.new.seat c.make_room.ensures.kept.same left.same };
+    }
 
-pub returns-in-Done-clause-still : goal.returns-in-Done-clause-still
-returns-in-Done-clause-still g c =
-    let v = view c.args.pass.now in
-    let v1 = view c.make_room.new.pass in
-    let v2 = view c.rebind.new.pass in
-    let v3 = view c.free_evicted.new.pass in
-    still_then v v2 v3 (still_then v v1 v2 (still_host v v1 c.make_room.ensures.pass.host) c.rebind.ensures.pass.still) (still_host v2 v3 c.free_evicted.ensures.pass.host)
+pub returns-in-Done-clause-kept : goal.returns-in-Done-clause-kept
+returns-in-Done-clause-kept g c =
+    let clock = c.args.clock.now in
+    let p = c.args.pass.now in
+    let p1 = c.make_room.new.pass in
+    let p2 = c.rebind.new.pass in
+    let p3 = c.free_evicted.new.pass in
+    let s = c.args.seat.now in
+    let s2 = c.rebind.new.seat in
+    let freed = c.free_evicted.ensures.kept in
+    record {
+      pass = known_then clock p p2 p3 (known_then clock p p1 p2 (known_host clock p p1 c.make_room.ensures.pass) c.rebind.ensures.kept.pass) (known_host clock p2 p3 freed.pass);
+      seat = record { of_zone = freed.seat.of_zone; same = same_then s s2 c.free_evicted.new.seat (same_then s c.make_room.new.seat s2 c.make_room.ensures.kept.same c.rebind.ensures.kept.seat.same) freed.seat.same };
+    }
 
-pub returns-in-Refused-clause-still : goal.returns-in-Refused-clause-still
-returns-in-Refused-clause-still g c =
-    let v = view c.args.pass.now in
-    let v1 = view c.make_room.new.pass in
-    let v2 = view c.rebind.new.pass in
-    let v3 = view c.free.new.pass in
-    still_then v v2 v3 (still_then v v1 v2 (still_host v v1 c.make_room.ensures.pass.host) c.rebind.ensures.pass.still) (still_host v2 v3 c.free.ensures.pass.host)
+pub returns-in-Refused-clause-kept : goal.returns-in-Refused-clause-kept
+returns-in-Refused-clause-kept g c =
+    let clock = c.args.clock.now in
+    let p = c.args.pass.now in
+    let p1 = c.make_room.new.pass in
+    let p2 = c.rebind.new.pass in
+    let p3 = c.free.new.pass in
+    let s = c.args.seat.now in
+    let s2 = c.rebind.new.seat in
+    let freed = c.free.ensures.kept in
+    record {
+      pass = known_then clock p p2 p3 (known_then clock p p1 p2 (known_host clock p p1 c.make_room.ensures.pass) c.rebind.ensures.kept.pass) (known_host clock p2 p3 freed.pass);
+      seat = record { of_zone = freed.seat.of_zone; same = same_then s s2 c.free.new.seat (same_then s c.make_room.new.seat s2 c.make_room.ensures.kept.same c.rebind.ensures.kept.seat.same) freed.seat.same };
+    }
 
 -- ---- where memory was wanting
 
@@ -168,7 +194,7 @@ returns-in_err-receipt-clause-flushed g c memory =
     let two = c.rebind.new.seat in
     let shelf : shelf_of one ≡ [] = search rules in
     let p = err_from_is_err_and c.from_residual.result c.from_residual.ensures.1 in
-    let none = flushed_still (shelf_of one) (shelf_of two) shelf c.rebind.ensures.seat.shelf in
+    let none = flushed_still (shelf_of one) (shelf_of two) shelf c.rebind.ensures.kept.seat.shelf in
     let wants = c.in_err-receipt.ensures.memory (same_err c.from_residual.result p.0 _ _ p.1 p.2 memory) in
     record {
       flushed = still_flushed (lists_of (cache_zone c.args.self.now)) told (shelf_of c.args.seat.now) (shelf_of one) (shelf_of two) (sent_of c.args.seat.now) (sent_of one) (sent_of two) (view c.args.pass.now) (none ∙ sym shelf)

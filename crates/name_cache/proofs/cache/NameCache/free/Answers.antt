@@ -18,14 +18,14 @@ returns-clause-frees c =
       frees = record {
         within = within_freed seat (cache_home cache) live c.requires.worker.of_zone.of_domains.same_home (c.requires.worker.of_zone.of_domains.same_smr ∙ cache.smr)
             (subst (λ (t : Ticket). IsHome (cache_home cache) t) (sym c.into_live.ensures.ticket) c.requires.item.1);
-        put = freed.put;
-        rack = freed.rack;
-        full = freed.full;
-        free = freed.ledger;
-        fetches = freed.fetches;
-        same = freed.same;
-        top = freed.top;
-        plain = freed.plain;
-        misses = freed.misses;
+        put = freed.defers.put;
+        rack = freed.defers.rack;
+        full = freed.defers.full;
+        free = freed.counted.ledger;
+        fetches = freed.counted.fetches;
+        same = freed.counted.same;
+        top = freed.counted.top;
+        plain = freed.defers.plain;
+        misses = freed.counted.misses;
       };
     }

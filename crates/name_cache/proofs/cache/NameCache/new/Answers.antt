@@ -16,14 +16,14 @@ lock_rows-requires c = record { rows = subst (λ (l : List Row). AreFreshRows c.
 pub invariant_of-result : goal.invariant_of-result
 invariant_of-result c =
     let zone = c.in_ok-zone.zone in
-    let made = c.in_ok-zone.ensures.made in
+    let made = c.in_ok-zone.ensures.made.numbers in
     let hooks = c.in_ok-hooks.ensures in
     let rows = c.in_ok-rows.rows in
     let clock = sym made.same_clock in
     record {
       primary = made.index;
       smr = made.smr ∙ c.requires.fits.smr;
-      raised = c.in_ok-zone.ensures.origin ∙ ap home_origin (sym hooks.same_root) ∙ ap clock_numbers (hooks.clock ∙ clock);
+      raised = c.in_ok-zone.ensures.made.origin ∙ ap home_origin (sym hooks.same_root) ∙ ap clock_numbers (hooks.clock ∙ clock);
       names = subst (λ (id : TableId × Setup). FitsNames id.1 id.0.words) clock c.requires.opened.names;
       long = c.in_ok-rows.ensures.long ∙ ap length c.into_vec.ensures ∙ c.requires.opened.all_rows ∙ ap (λ (id : TableId × Setup). id.1.plan.0) clock;
       named = subst (λ (id : TableId × Setup). AreNamed id (zone_home zone) rows.items) clock c.in_ok-rows.ensures.named;

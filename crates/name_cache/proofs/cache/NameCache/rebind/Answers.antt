@@ -10,14 +10,14 @@ use Rattle.name_cache.proofs.Since.{rebound_above}
 use Rattle.name_cache.proofs.Wanting.{same_err, not_err}
 use Rattle.name_cache.proofs.cache.NameCache.rebind.Goals as goal
 
-pub bind-requires-clause-item : goal.bind-requires-clause-item
-bind-requires-clause-item g c = subst (λ (id : Identity). IsItemOf id.clock id.home c.in_ok-entry.entry) (sym c.lock_row-guard.ensures.row) c.in_ok-entry.ensures.handed.item
-
-pub bind-requires-clause-of_row : goal.bind-requires-clause-of_row
-bind-requires-clause-of_row g c =
+pub bind-requires-clause-binds : goal.bind-requires-clause-binds
+bind-requires-clause-binds g c =
     let row = c.lock_row-guard.result.value in
     let numbered : row.row.number ≡ c.args.key % row_count c.args.self.now = row.number ∙ ap (λ (id : Identity). id.number) c.lock_row-guard.ensures.row in
-    ap (λ (id : TableId × Setup). c.args.key % id.1.plan.0) c.requires.worker.same_clock ∙ sym numbered
+    record {
+      item = subst (λ (id : Identity). IsItemOf id.clock id.home c.in_ok-entry.entry) (sym c.lock_row-guard.ensures.row) c.in_ok-entry.ensures.handed.item;
+      of_row = ap (λ (id : TableId × Setup). c.args.key % id.1.plan.0) c.requires.worker.same_clock ∙ sym numbered;
+    }
 
 pub returns-clause-rebound : goal.returns-clause-rebound
 returns-clause-rebound g c =
@@ -31,7 +31,7 @@ returns-clause-rebound g c =
         parts = c.in_ok-entry.entry;
         hands_out = entry.out;
         between = view c.take_entry.new.pass;
-        knew = c.take_entry.ensures.pass.still;
+        knew = c.take_entry.ensures.kept.pass.still;
         ends = c.bind.ensures.ends;
       };
       since = rebound_above (view c.take_entry.new.pass) (view c.bind.new.pass) row c.bind.new.self c.in_ok-entry.entry c.args.key c.args.value c.bind.result (first_version c.args.self.now (c.args.key % row_count c.args.self.now))
@@ -40,8 +40,11 @@ returns-clause-rebound g c =
       counted = entry.counted;
     }
 
-pub returns-clause-pass : goal.returns-clause-pass
-returns-clause-pass g c = known_then c.args.clock.now c.args.pass.now c.take_entry.new.pass c.bind.new.pass c.take_entry.ensures.pass c.bind.ensures.pass
+pub returns-clause-kept : goal.returns-clause-kept
+returns-clause-kept g c = record {
+  pass = known_then c.args.clock.now c.args.pass.now c.take_entry.new.pass c.bind.new.pass c.take_entry.ensures.kept.pass c.bind.ensures.kept.pass;
+  seat = c.take_entry.ensures.kept.seat;
+}
 
 pub returns-in_err-entry-clause-memory : goal.returns-in_err-entry-clause-memory
 returns-in_err-entry-clause-memory g c memory =

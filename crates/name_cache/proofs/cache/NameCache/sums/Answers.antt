@@ -16,19 +16,17 @@ loop-row-init g c =
       linked = (0, omega arith, linked_none c.in_ok-sums.sums (subst (λ (zone : ℕ). Balance zone c.in_ok-sums.sums) c.args.self.now.primary c.in_ok-sums.ensures.balance));
     }
 
-pub add_row-requires-clause-primary : goal.add_row-requires-clause-primary
-add_row-requires-clause-primary g c =
+pub add_row-requires : goal.add_row-requires
+add_row-requires g c =
     let cache = c.args.self.now in
     let i = c.loop-row.row-index in
     let locks = c.deref-row-items.result.now in
     let there = at_index locks i c.row-item.result (omega arith) c.row-item.is in
     let named = cache.named i c.row-item.result (subst (λ (l : List RowLock). get_elem? l i ≡ some c.row-item.result) c.deref-row-items.ensures.value there) in
-    ap (λ (id : Identity). id.home.zone) named ∙ ap (λ (h : Home). h.zone) cache.zone.home ∙ cache.primary
-
-pub add_row-requires-clause-few : goal.add_row-requires-clause-few
-add_row-requires-clause-few g c =
-    let cache = c.args.self.now in
-    few_more (2 ^ 34 + c.loop-row.row-index) (2 ^ 35) c.loop-row.sums (let long = cache.long in let most = cache.names.plan.few_rows in omega arith) c.loop-row.invariant.few
+    record {
+      primary = ap (λ (id : Identity). id.home.zone) named ∙ ap (λ (h : Home). h.zone) cache.zone.home ∙ cache.primary;
+      few = few_more (2 ^ 34 + c.loop-row.row-index) (2 ^ 35) c.loop-row.sums (let long = cache.long in let most = cache.names.plan.few_rows in omega arith) c.loop-row.invariant.few;
+    }
 
 pub loop-row-preserved : goal.loop-row-preserved
 loop-row-preserved g c =

@@ -1,4 +1,4 @@
-use Rattle.std.proofs.Common.{Err, ap}
+use Rattle.std.proofs.Common.{rules, Err, ap}
 use Rattle.std.proofs.lemmas.Result.{err_from_is_err_and}
 use Rattle.smr_clock.specs.Belongs.{view}
 use Rattle.uma_seat.specs.Seat.{shelf_of}
@@ -10,23 +10,29 @@ use Rattle.name_cache.proofs.Wanting.{memory_of, not_err, nothing_sent, none_usa
 use Rattle.name_cache.proofs.Telling.{still_taken}
 use Rattle.name_cache.proofs.cache.NameCache.take_entry.Goals as goal
 
-pub returns-in_err-live-clause-pass : goal.returns-in_err-live-clause-pass
-returns-in_err-live-clause-pass g c = record {
-  goes_on = record { own = c.alloc.ensures.pass; phase = c.alloc.ensures.phase; seen = c.alloc.ensures.seen };
-  still = still_taken (view c.args.pass.now) (view c.alloc.new.pass) c.alloc.ensures.host;
+pub returns-in_err-live-clause-kept : goal.returns-in_err-live-clause-kept
+returns-in_err-live-clause-kept g c = record {
+  pass = record {
+    goes_on = c.alloc.ensures.kept.pass;
+    still = still_taken (view c.args.pass.now) (view c.alloc.new.pass) c.alloc.ensures.kept.host;
+  };
+  seat = record { of_zone = search rules; same = search rules; freed = search rules; spare = search rules; shelf = search rules };
 }
 
-pub returns-clause-pass : goal.returns-clause-pass
-returns-clause-pass g c = record {
-  goes_on = record { own = c.alloc.ensures.pass; phase = c.alloc.ensures.phase; seen = c.alloc.ensures.seen };
-  still = still_taken (view c.args.pass.now) (view c.alloc.new.pass) c.alloc.ensures.host;
+pub returns-clause-kept : goal.returns-clause-kept
+returns-clause-kept g c = record {
+  pass = record {
+    goes_on = c.alloc.ensures.kept.pass;
+    still = still_taken (view c.args.pass.now) (view c.alloc.new.pass) c.alloc.ensures.kept.host;
+  };
+  seat = record { of_zone = search rules; same = search rules; freed = search rules; spare = search rules; shelf = search rules };
 }
 
 pub returns-clause-handed : goal.returns-clause-handed
 returns-clause-handed g c = record {
-  out = record { handed = c.in_ok-live.live; served = c.in_ok-live.ensures.served; words = c.parts_of.ensures.words; ticket = c.parts_of.ensures.ticket };
+  out = record { handed = c.in_ok-live.live; served = c.in_ok-live.ensures.served.serves; words = c.parts_of.ensures.words; ticket = c.parts_of.ensures.ticket };
   item = c.parts_of.ensures.item;
-  counted = c.in_ok-live.ensures.served.counted;
+  counted = c.in_ok-live.ensures.served.serves.counted;
 }
 
 pub returns-in_err-live-clause-memory : goal.returns-in_err-live-clause-memory
@@ -35,7 +41,7 @@ returns-in_err-live-clause-memory g c memory =
     let why = memory_of c.from_residual.result p.0 c.in_err-live.field-0.0 p.1 p.2 memory in
     let wants = none_usable (cache_zone c.args.self.now) c.args.seat.now c.alloc.new.seat c.in_err-live.field-0.0 why c.in_err-live.ensures.refused in
     record {
-      unsent = λ none. nothing_sent (lists_of (cache_zone c.args.self.now)) told (shelf_of c.args.seat.now) (shelf_of c.alloc.new.seat) (sent_of c.args.seat.now) (sent_of c.alloc.new.seat) (view c.args.pass.now) none (c.alloc.ensures.flushed wants.empty);
+      unsent = λ none. nothing_sent (lists_of (cache_zone c.args.self.now)) told (shelf_of c.args.seat.now) (shelf_of c.alloc.new.seat) (sent_of c.args.seat.now) (sent_of c.alloc.new.seat) (view c.args.pass.now) none (c.alloc.ensures.flushes.flushed wants.empty);
       unheard = c.in_err-live.ensures.unheard (ap Err why);
     }
 

@@ -10,5 +10,5 @@ returns-clause-lowered g c =
       was = root;
       is = c.lower.new.root;
       of_clock = root_too (lock_key home.root).clock.value home.clock home.same_clock root c.lock-guard.ensures.kept;
-      back = c.lower.ensures.root;
+      back = c.lower.ensures.root.kept;
     }

@@ -11,5 +11,5 @@ returns-clause-raised g c =
       is = c.raise.new.root;
       of_clock = root_too (lock_key home.root).clock.value home.clock home.same_clock root c.lock-guard.ensures.kept;
       words = c.raise.ensures.words;
-      rest = c.raise.ensures.root;
+      rest = c.raise.ensures.root.kept;
     }

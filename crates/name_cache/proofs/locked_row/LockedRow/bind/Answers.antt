@@ -21,10 +21,13 @@ returns-clause-ends c =
     let low : one.row.version + 2 < 2 ^ 44 = let below = c.if-version-ge-WORN.false in let is = c.version-version.ensures.version in omega arith in
     binds_in_row v v1 c.args.self.now one met.meets met.same met.identity v2 c.link.new.self c.meet-2.new.self link.identity link.version again.meets again.same receipt c.number-row.ensures c.version-version-2.ensures.version
     c.args.key c.args.value c.args.parts written c.link.result c.stamped-evicted.result (c.write.ensures.same.ticket ∙ c.ripe.ensures.same.ticket)
-    (written_guest written.entry c.args.key c.args.value c.ripe.new.self.entry.words written.entry.words c.write.ensures.written) link.guest low link.evicted c.stamped-evicted.ensures
+    (written_guest written.entry c.args.key c.args.value c.ripe.new.self.entry.words written.entry.words c.write.ensures.made) link.guest low link.evicted c.stamped-evicted.ensures
 
-pub returns-clause-pass : goal.returns-clause-pass
-returns-clause-pass c = record {
-  goes_on = goes_on_then c.args.clock.now c.args.pass.now c.meet.new.pass c.meet-2.new.pass c.meet.ensures.pass c.meet-2.ensures.pass;
-  still = still_then (view c.args.pass.now) (view c.meet.new.pass) (view c.meet-2.new.pass) c.meet.ensures.met.meets.still c.meet-2.ensures.met.meets.still;
+pub returns-clause-kept : goal.returns-clause-kept
+returns-clause-kept c = record {
+  identity = c.meet-2.ensures.met.identity ∙ c.link.ensures.identity ∙ c.meet.ensures.met.identity;
+  pass = record {
+    goes_on = goes_on_then c.args.clock.now c.args.pass.now c.meet.new.pass c.meet-2.new.pass c.meet.ensures.pass c.meet-2.ensures.pass;
+    still = still_then (view c.args.pass.now) (view c.meet.new.pass) (view c.meet-2.new.pass) c.meet.ensures.met.meets.still c.meet-2.ensures.met.meets.still;
+  };
 }

@@ -6,13 +6,17 @@ use Rattle.name_cache.specs.LockedRow.{row_identity}
 use Rattle.name_cache.proofs.Linked.{fits_out, evicted_both, is_out}
 use Rattle.name_cache.proofs.locked_row.LockedRow.link.Goals as goal
 
-pub rejoined-requires-clause-fits : goal.rejoined-requires-clause-fits
-rejoined-requires-clause-fits c =
+pub rejoined-requires : goal.rejoined-requires
+rejoined-requires c =
     let was = c.args.self.now in
     let id = row_identity was in
-    fits_out c.args.clock.now id.clock id.home was.row.guest c.link-version.result.1 c.replace-item.result c.requires.here.same_clock
-    (λ guest item is kept. was.fits guest item is (sym c.replace-item.ensures.value ∙ kept))
-    c.link-version.ensures.other_here c.link-version.ensures.evicted
+    let out = c.link-version.ensures in
+    record {
+      both = ap is_some c.replace-item.ensures.value ∙ was.paired ∙ evicted_both was.row.guest c.link-version.result.1 out.evicted;
+      fits = fits_out c.args.clock.now id.clock id.home was.row.guest c.link-version.result.1 c.replace-item.result c.requires.here.same_clock
+          (λ guest item is kept. was.fits guest item is (sym c.replace-item.ensures.value ∙ kept))
+          out.other_here out.evicted;
+    }
 
 pub returns : goal.returns
 returns c =

@@ -19,15 +19,18 @@ invariant_of-self c =
       since = subst (λ (n : ℕ). was.key.value.version ≤ n) (sym met.row.1) was.since;
     }
 
-pub returns-clause-met : goal.returns-clause-met
-returns-clause-met c =
+pub returns : goal.returns
+returns c =
     let was = c.args.self.now in
     let met = c.meet.ensures in
     let v = view c.args.pass.now in
     record {
-      identity = refl;
-      same = record { last = met.last; version = met.row.1; guest = met.row.2; linked = refl };
-      meets = has_met v (view c.meet.new.pass) was
-          (met.known ∙ ap (λ (l : List Record). v.host.known ++ l) met.last)
-          (λ r i same. subst (λ (n : ℕ). r.version ≤ n) met.row.1 (met.newest r i (same ∙ sym met.row.0)));
+      met = record {
+        identity = refl;
+        same = record { last = met.last; version = met.row.1; guest = met.row.2; linked = refl };
+        meets = has_met v (view c.meet.new.pass) was
+            (met.known ∙ ap (λ (l : List Record). v.host.known ++ l) met.last)
+            (λ r i same. subst (λ (n : ℕ). r.version ≤ n) met.row.1 (met.newest r i (same ∙ sym met.row.0)));
+      };
+      pass = record { own = met.pass_here; phase = met.phase.0; seen = met.seen };
     }

@@ -28,12 +28,15 @@ returns-clause-unbound c =
     let of = out_of one_id.clock one_id.home one.row.guest raw taken.evicted in
     record {
       unbound = unbinds_in_row v v1 c.args.self.now one met.meets met.same met.identity v2 two two taken.identity taken.version told (same_row two) receipt (c.number-row.ensures ∙ same_number one two taken.identity) c.version-version.ensures.version
-          c.args.key c.in_ok-value.value raw c.stamp.new.self key_is (sym c.value.ensures ∙ c.in_ok-value.was) taken.guest taken.last taken.evicted c.stamp.ensures.stamped;
+          c.args.key c.in_ok-value.value raw c.stamp.new.self key_is (sym c.value.ensures ∙ c.in_ok-value.was) taken.guest taken.last taken.evicted c.stamp.ensures.made;
       item = item_still old_id.clock old_id.home raw c.stamp.new.self c.stamp.ensures.same (subst (λ (id : Identity). IsItemOf id.clock id.home raw) met.identity of);
     }
 
-pub returns-clause-pass : goal.returns-clause-pass
-returns-clause-pass c = record {
-  goes_on = goes_on_then c.args.clock.now c.args.pass.now c.meet.new.pass c.take.new.pass c.meet.ensures.pass c.take.ensures.pass;
-  still = still_then (view c.args.pass.now) (view c.meet.new.pass) (view c.take.new.pass) c.meet.ensures.met.meets.still c.in_ok-out.ensures.told.still;
+pub returns-clause-kept : goal.returns-clause-kept
+returns-clause-kept c = record {
+  identity = c.in_ok-out.ensures.unlinks.identity ∙ c.meet.ensures.met.identity;
+  pass = record {
+    goes_on = goes_on_then c.args.clock.now c.args.pass.now c.meet.new.pass c.take.new.pass c.meet.ensures.pass c.take.ensures.pass;
+    still = still_then (view c.args.pass.now) (view c.meet.new.pass) (view c.take.new.pass) c.meet.ensures.met.meets.still c.in_ok-out.ensures.told.still;
+  };
 }

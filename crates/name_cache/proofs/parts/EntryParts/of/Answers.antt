@@ -17,7 +17,7 @@ invariant_of-result c =
     let parts = c.into_parts-entry in
     record {
       ours = ours_too (home_clock (raised_home item.result.0)) (home_clock (arc_value parts.result.1)) (ap (λ (h : _). clock_id (home_clock h)) (sym parts.ensures.home)) parts.result.0.words parts.ensures.here;
-      numbered = ap (λ (e : _). (entry_life e).no) parts.ensures.entry ∙ item.ensures.number;
-      built = subst (λ (l : Life). IsAt (Built (ticket_zone item.result.1)) l) (ap entry_life (sym parts.ensures.entry)) item.ensures.at;
-      of_origin = ap home_origin parts.ensures.home ∙ item.ensures.origin;
+      numbered = ap (λ (e : _). (entry_life e).no) parts.ensures.entry ∙ item.ensures.agree.number;
+      built = subst (λ (l : Life). IsAt (Built (ticket_zone item.result.1)) l) (ap entry_life (sym parts.ensures.entry)) item.ensures.agree.at;
+      of_origin = ap home_origin parts.ensures.home ∙ item.ensures.agree.origin;
     }
