@@ -63,6 +63,18 @@ module _ {N H C S P : Type 0} {h : Ghosts H P} (names : NameGhosts N H C S P) (c
     pub seat : names.IsSeat cache naming.seat
     pub rooms : HasNameRooms names naming
 
+  -- what a `look` line needs: there is no section, or an open one, and each count of sections can be one more
+  pub record CanLook (by : Clock H P) (w : Worker H P h) (naming : Naming N H C S P) : Type 0 where
+    pub can : CanName by w naming
+    pub between : IsBetween w
+    pub rooms : HasRooms w
+
+  -- the same outside a section
+  pub record CanLookOutside (by : Clock H P) (w : Worker H P h) (naming : Naming N H C S P) : Type 0 where
+    pub can : CanName by w naming
+    pub outside : phase_of w ≡ Outside
+    pub rooms : HasRooms w
+
   -- what it leaves: the pass is the clock's, and the seat the cache's
   pub record StaysNamed (by : Clock H P) (w : Worker H P h) (naming : Naming N H C S P) : Type 0 where
     pub pass : IsOf by w.pass

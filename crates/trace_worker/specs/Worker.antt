@@ -1,5 +1,5 @@
 -- What belongs to which zone and to which clock (own). Zones and clock are values that threads share, so identity is an equation.
-use Rattle.std.specs.Prelude.{◌≡◌, ◌<◌, ◌^◌, ℕ, List, All, length, Some, slice_get}
+use Rattle.std.specs.Prelude.{◌≡◌, ◌<◌, ◌≤◌, ◌^◌, ℕ, List, All, length, None, Some, slice_get}
 use Rattle.smr_clock.specs.declared.clock.Clock.{Clock}
 use Rattle.smr_clock.specs.declared.host.Host.{Ghosts}
 use Rattle.smr_core.specs.declared.phase.Phase.{Phase}
@@ -55,6 +55,18 @@ module _ {H P : Type 0} {h : Ghosts H P} where
     pub clock : AreOfClock by zones
     pub fits : Fits zones by w
     pub rooms : HasRooms w
+
+  -- The same, with a zone at this place, and an empty slot.
+  pub record CanAlloc (zones : List (CountedZone H P h)) (by : Clock H P) (w : Worker H P h) (place free : ℕ) : Type 0 where
+    pub zone : place < length zones
+    pub empty : slot_at w.slots free ≡ None
+    pub can : CanWork zones by w
+
+  -- a seat of each zone, one of them at this place, and no more items than a line may bring in
+  pub record CanPrealloc (zones : List (CountedZone H P h)) (w : Worker H P h) (place count : ℕ) : Type 0 where
+    pub zone : place < length zones
+    pub items : count ≤ 262144
+    pub seats : HasSeats zones w.seats.items
 
   -- The zones go by this clock, the worker fits them, and one of them stands at this place.
   pub record CanReclaim (zones : List (CountedZone H P h)) (by : Clock H P) (w : Worker H P h) (place : ℕ) : Type 0 where

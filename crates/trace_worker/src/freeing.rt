@@ -1,11 +1,6 @@
-ghost use Rattle.std.specs.Prelude.{◌<◌, length, OnOk};
+ghost use Rattle.std.specs.Prelude.{OnOk};
 ghost use Rattle.smr_clock.specs.Belongs.{view};
-ghost use Rattle.uma_bucket.specs.Home.{IsHome};
-ghost use Rattle.uma_life.specs.Live.{live_ticket};
-ghost use Rattle.uma_seat.specs.Seat.{ledger_of, spares_of};
-ghost use Rattle.uma_zone.specs.Zone.{zone_home};
-ghost use Rattle.zone_stats.specs.LedgerSteps.{HasRoom};
-ghost use Rattle.trace_worker.specs.Calling.{CanCall, StaysOf};
+ghost use Rattle.trace_worker.specs.Calling.{CanCall, CanGiveBack, CanRelease, StaysOf};
 ghost use Rattle.trace_worker.specs.Performs.{FreesSlot};
 ghost use Rattle.trace_worker.specs.Requests.{IsGivenBack, MakesReady, ReadiesSeat, Releases, ReleasesBy};
 ghost use Rattle.trace_worker.specs.Worker.{CanWork, Fits};
@@ -64,9 +59,7 @@ fn give_back<H: Host, R: Wait>(
     seat: &mut CountedSeat<H>,
     item: Live<Counted>,
 ) -> Result<(), Memory>
-    requires can { CanCall zone.now clock.now pass.old seat.old }
-    requires room { HasRoom (ledger_of seat.old) }
-    requires home { IsHome (zone_home zone.now) (live_ticket item) }
+    requires { CanGiveBack zone.now clock.now pass.old seat.old item }
     ensures stays { OnOk result (StaysOf zone.now clock.now pass.old pass.new seat.new) }
     ensures gives_back { OnOk result (IsGivenBack zone.now (view pass.old) seat.old item seat.new (view pass.new)) }
 {
@@ -106,10 +99,7 @@ fn release<H: Host>(
     seat: &mut CountedSeat<H>,
     item: Live<Counted>,
 )
-    requires can { CanCall zone.now clock.now pass.old seat.old }
-    requires spare { 0 < length (spares_of seat.old) }
-    requires room { HasRoom (ledger_of seat.old) }
-    requires home { IsHome (zone_home zone.now) (live_ticket item) }
+    requires { CanRelease zone.now clock.now pass.old seat.old item }
     ensures stays { StaysOf zone.now clock.now pass.old pass.new seat.new }
     ensures released { Releases zone.now seat.old item seat.new }
     ensures by { ReleasesBy zone.now (view pass.old) seat.old item seat.new (view pass.new) }

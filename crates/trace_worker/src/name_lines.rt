@@ -1,9 +1,8 @@
 ghost use Rattle.std.specs.Prelude.{◌≡◌, ◌⊎◌, OnOk};
 ghost use Rattle.smr_core.specs.declared.phase.Phase.{Phase};
-ghost use Rattle.trace_worker.specs.NameLines.{Acts, BindsLine, CanAct, CanGoOn, CanName, FindsLine, LookEnds, LooksLine, StaysFit, StaysNamed, UnbindsLine, doing_there};
+ghost use Rattle.trace_worker.specs.NameLines.{Acts, BindsLine, CanAct, CanGoOn, CanLook, CanLookOutside, CanName, FindsLine, LookEnds, LooksLine, StaysFit, StaysNamed, UnbindsLine, doing_there};
 ghost use Rattle.trace_worker.specs.Naming.{CountsAnswer, CountsBind, CountsFew, CountsUnbind};
-ghost use Rattle.trace_worker.specs.Performs.{IsBetween};
-ghost use Rattle.trace_worker.specs.Worker.{HasRooms, phase_of};
+ghost use Rattle.trace_worker.specs.Worker.{phase_of};
 
 use crate::Memory;
 use crate::items::CountedZone;
@@ -116,9 +115,7 @@ impl<N: NameCalls> Naming<N> {
         clock: &Clock<N::H>,
         key: u64,
     )
-        requires can { CanName N.NameCalls cache.now clock.now worker.old self.old }
-        requires between { IsBetween worker.old }
-        requires rooms { HasRooms worker.old }
+        requires { CanLook N.NameCalls cache.now clock.now worker.old self.old }
         ensures stays { StaysNamed N.NameCalls cache.now clock.now worker.new self.new }
         ensures looks { LooksLine N.NameCalls cache.now (doing_there worker.old self.old) key (doing_there worker.new self.new) }
     {
@@ -156,9 +153,7 @@ impl<N: NameCalls> Naming<N> {
         clock: &Clock<N::H>,
         key: u64,
     )
-        requires can { CanName N.NameCalls cache.now clock.now worker.old self.old }
-        requires outside { phase_of worker.old ≡ Phase.Outside }
-        requires rooms { HasRooms worker.old }
+        requires { CanLookOutside N.NameCalls cache.now clock.now worker.old self.old }
         ensures stays { StaysNamed N.NameCalls cache.now clock.now worker.new self.new }
         ensures looks { LookEnds N.NameCalls cache.now (doing_there worker.old self.old) key (doing_there worker.new self.new) }
     {

@@ -1,7 +1,7 @@
-ghost use Rattle.std.specs.Prelude.{◌<◌, ◌≤◌, length, OnOk};
+ghost use Rattle.std.specs.Prelude.{◌≤◌, OnOk};
 ghost use Rattle.trace_worker.specs.Performs.{BringsIn, CanPerform, Performs};
 ghost use Rattle.trace_worker.specs.Requests.{BringsItems};
-ghost use Rattle.trace_worker.specs.Worker.{CanWork, Fits, HasSeats};
+ghost use Rattle.trace_worker.specs.Worker.{CanPrealloc, CanWork, Fits};
 ghost use Rattle.uma_seat.specs.Seat.{seat_domain};
 ghost use Rattle.uma_zone.specs.Zone.{IsSeatOf};
 
@@ -71,9 +71,7 @@ impl<H: Host> Worker<H> {
         zone: u32,
         items: u64,
     ) -> Result<(), Memory>
-        requires zone { zone < length zones.now }
-        requires items { items ≤ 262144 }
-        requires seats { HasSeats zones.now self.now.seats.items }
+        requires { CanPrealloc zones.now self.now zone items }
         ensures brings { OnOk result (BringsIn zones.now self.now zone items self.now) }
     {
         let place = zone as usize;

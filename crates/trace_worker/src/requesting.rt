@@ -1,4 +1,4 @@
-ghost use Rattle.std.specs.Prelude.{◌≡◌, ◌<◌, None, IfOk, OnOk, length, option_map};
+ghost use Rattle.std.specs.Prelude.{◌≡◌, IfOk, OnOk, option_map};
 ghost use Rattle.smr_clock.specs.Belongs.{view};
 ghost use Rattle.uma_seat.specs.Seat.{ledger_of};
 ghost use Rattle.zone_stats.specs.LedgerSteps.{HasRoom};
@@ -6,8 +6,8 @@ ghost use Rattle.trace_worker.specs.Calling.{CanCall, StaysOf};
 ghost use Rattle.trace_worker.specs.Performs.{Allocs};
 ghost use Rattle.trace_worker.specs.Requests.{Reaches, Requests};
 ghost use Rattle.trace_worker.specs.Live.{holding};
-ghost use Rattle.trace_worker.specs.Slots.{slot_at, filled};
-ghost use Rattle.trace_worker.specs.Worker.{CanWork, Fits};
+ghost use Rattle.trace_worker.specs.Slots.{filled};
+ghost use Rattle.trace_worker.specs.Worker.{CanAlloc, Fits};
 
 use crate::Memory;
 use crate::counted::Counted;
@@ -36,9 +36,7 @@ impl<H: Host> Worker<H> {
         slot: u32,
         ask: AllocAsk,
     ) -> Result<(), Memory>
-        requires zone { zone < length zones.now }
-        requires empty { slot_at self.old.slots slot ≡ None }
-        requires can { CanWork zones.now clock.now self.old }
+        requires { CanAlloc zones.now clock.now self.old zone slot }
         ensures fits { OnOk result (Fits zones.now clock.now self.new) }
         ensures allocs { OnOk result (Allocs zones.now self.old zone slot ask self.new) }
     {

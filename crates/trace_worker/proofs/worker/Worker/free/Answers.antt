@@ -30,25 +30,16 @@ bounds-zones-place g c =
     let holds : slot_at c.args.self.now.slots c.args.slot ≡ Some it = sym c.take.ensures.taken ∙ c.in-Some.is in
     held_below c.args.zones.now it (c.requires.fits.slots c.args.slot it holds)
 
-pub give_back-requires-clause-can : goal.give_back-requires-clause-can
-give_back-requires-clause-can g c =
+pub give_back-requires : goal.give_back-requires
+give_back-requires g c =
     let it = c.in-Some.held in
     let holds : slot_at c.args.self.now.slots c.args.slot ≡ Some it = sym c.take.ensures.taken ∙ c.in-Some.is in
     let below : it.zone < length c.args.zones.now = held_below c.args.zones.now it (c.requires.fits.slots c.args.slot it holds) in
-    can_call_at c.args.zones.now c.args.clock.now c.args.self.now it.zone c.index-zones-place.result c.index_mut-seat.result.now c.requires.clock c.requires.fits below c.index-zones-place.is c.index_mut-seat.ensures.value
-
-pub give_back-requires-clause-room : goal.give_back-requires-clause-room
-give_back-requires-clause-room g c =
-    let it = c.in-Some.held in
-    let holds : slot_at c.args.self.now.slots c.args.slot ≡ Some it = sym c.take.ensures.taken ∙ c.in-Some.is in
-    let below : it.zone < length c.args.zones.now = held_below c.args.zones.now it (c.requires.fits.slots c.args.slot it holds) in
-    room_at c.args.self.now.seats.items c.in-Some.held.zone c.index_mut-seat.result.now c.requires.rooms.ledgers (below_as below c.requires.fits.seats.count) c.index_mut-seat.ensures.value
-
-pub give_back-requires-clause-home : goal.give_back-requires-clause-home
-give_back-requires-clause-home g c =
-    let it = c.in-Some.held in
-    let holds : slot_at c.args.self.now.slots c.args.slot ≡ Some it = sym c.take.ensures.taken ∙ c.in-Some.is in
-    home_at c.args.zones.now it c.index-zones-place.result (c.requires.fits.slots c.args.slot it holds) c.index-zones-place.is
+    record {
+      can = can_call_at c.args.zones.now c.args.clock.now c.args.self.now it.zone c.index-zones-place.result c.index_mut-seat.result.now c.requires.clock c.requires.fits below c.index-zones-place.is c.index_mut-seat.ensures.value;
+      room = room_at c.args.self.now.seats.items it.zone c.index_mut-seat.result.now c.requires.rooms.ledgers (below_as below c.requires.fits.seats.count) c.index_mut-seat.ensures.value;
+      home = home_at c.args.zones.now it c.index-zones-place.result (c.requires.fits.slots c.args.slot it holds) c.index-zones-place.is;
+    }
 
 pub returns-clause-fits : goal.returns-clause-fits
 returns-clause-fits g c =
