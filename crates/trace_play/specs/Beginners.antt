@@ -1,15 +1,26 @@
 -- Workers before the first line (own).
-use Rattle.std.specs.Prelude.{◌≡◌, ◌%◌, ℕ, List, [], length, Some, slice_get}
+use Rattle.std.specs.Prelude.{◌≡◌, ◌≤◌, ◌%◌, ℕ, All, List, [], length, Some, slice_get}
 use Rattle.smr_clock.specs.declared.clock.Clock.{Clock}
 use Rattle.smr_clock.specs.declared.host.Host.{Ghosts}
+use Rattle.smr_clock.specs.declared.pass.Pass.{Pass}
+use Rattle.trace_text.specs.Limits.{IsWithin}
 use Rattle.uma_seat.specs.Seat.{seat_domain, usable_of, ledger_of}
 use Rattle.zone_stats.specs.LedgerSteps.{IsNew}
+use Rattle.uma_zone.specs.Zone.{zone_domains}
 use Rattle.trace_worker.specs.declared.worker.Worker.{Worker}
+use Rattle.trace_worker.specs.Clocks.{ArePasses}
 use Rattle.trace_worker.specs.Items.{CountedSeat, CountedZone}
 use Rattle.trace_worker.specs.Stands.{Stands}
 use Rattle.trace_worker.specs.Worker.{Fits}
 
 module _ {H P : Type 0} {h : Ghosts H P} where
+  -- so few passes of this clock, and zones with so many domains
+  pub record CanMakeWorkers (count : ℕ) (all : List (CountedZone H P h)) (by : Clock H P) (each : List (Pass H P h)) : Type 0 where
+    pub domains : IsWithin 1 4 count
+    pub few : length each ≤ 16
+    pub zones : All (λ zone. zone_domains zone ≡ count) all
+    pub passes : ArePasses (length each) by each
+
   -- a seat in this memory domain of which no item is usable, and that counted nothing
   pub record IsUnused (domain : ℕ) (seat : CountedSeat H P h) : Type 0 where
     pub own : seat_domain seat ≡ domain

@@ -29,6 +29,19 @@ module _ {H P : Type 0} {h : Ghosts H P} where
     pub at : n < length workers
     pub here : AreHere clock workers
 
+  -- a first worker and others whose passes are this clock's, and the clock's window
+  pub record CanLookAt (by : Clock H P) (workers : List (Worker H P h)) (gap : ℕ) : Type 0 where
+    pub at : 0 < length workers
+    pub here : AreHere by workers
+    pub window : gap ≡ (setup_of by).about.window
+
+  -- the same, and a note of the clock's beginning
+  pub record CanReadHands (by : Clock H P) (workers : List (Worker H P h)) (note : Note H P h) (gap : ℕ) : Type 0 where
+    pub some : 0 < length workers
+    pub here : AreHere by workers
+    pub begun : KnowsBeginning by note
+    pub window : gap ≡ (setup_of by).about.window
+
   -- Worker 0's pass took in what each other worker's knew, and then loaded both hands: `write` is the write hand, `read` its floor.
   pub record ReadsHands (clock : Clock H P) (workers : List (Worker H P h)) (read write : ℕ) : Type 0 where
     pub first : (w : Worker H P h) → slice_get workers 0 ≡ Some w → (seen_of w ≡ write) × (floor_of w ≡ read)

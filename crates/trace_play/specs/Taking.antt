@@ -1,5 +1,5 @@
 -- The kegs that were taken so far: their censuses, and their hooks' sums (own).
-use Rattle.std.specs.Prelude.{◌≡◌, ◌+◌, ◌^◌, ◌==◌, ℕ, Bool, List, length, Some, slice_get}
+use Rattle.std.specs.Prelude.{◌≡◌, ◌≤◌, ◌+◌, ◌^◌, ◌==◌, ℕ, Bool, List, length, Some, slice_get}
 use Rattle.smr_clock.specs.declared.clock.Clock.{Clock}
 use Rattle.smr_clock.specs.declared.host.Host.{Ghosts}
 use Rattle.trace_text.specs.declared.head.Head.{Head}
@@ -8,7 +8,7 @@ use Rattle.trace_text.specs.Valid.{HeadFits}
 use Rattle.uma_keg.specs.declared.census.Census.{Census}
 use Rattle.uma_life.specs.declared.tally_sum.TallySum.{TallySum}
 use Rattle.uma_life.specs.Hook.{Hook}
-use Rattle.uma_life.specs.Sum.{sum_of}
+use Rattle.uma_life.specs.Sum.{AreBelow, sum_of}
 use Rattle.uma_bucket.specs.declared.sums.Sums.{Sums}
 use Rattle.uma_bucket.specs.Sums.{AreOfAtMost}
 use Rattle.trace_worker.specs.declared.worker.Worker.{Worker}
@@ -26,6 +26,13 @@ is_of_keg p z line = keg_place z line == p
 -- how often a hook was passed by what is summed up of the keg's zones
 abbrev pub keg_sums : Hook → ℕ → List ZoneHead → List Sums → ℕ
 keg_sums hook p lines sums = picked (is_of_keg p) (λ s. sum_of s.tally hook) 0 lines sums
+
+-- the sums of each zone of at most 16 lines, none of which counts too much, and a tally that has room for them
+pub record CanAddZones (lines : List ZoneHead) (all : List Sums) (begun : TallySum) : Type 0 where
+  pub count : length all ≡ length lines
+  pub most : length lines ≤ 16
+  pub small : (n : ℕ) (s : Sums) → slice_get all n ≡ Some s → AreOfAtMost (2 ^ 35) s
+  pub room : AreBelow (2 ^ 126) begun
 
 -- the sums of so many zones, none of which counts too much
 pub record AreZoneSums (zone_count : ℕ) (sums : List Sums) : Type 0 where

@@ -1,12 +1,13 @@
 -- The zones of the first lines, while they are made one after another (own).
-use Rattle.std.specs.Prelude.{◌≡◌, ◌++◌, ℕ, List, [], ◌∷◌, Some, slice_get, take}
+use Rattle.std.specs.Prelude.{◌≡◌, ◌≢◌, ◌<◌, ◌++◌, ℕ, List, [], ◌∷◌, Some, length, slice_get, take}
 use Rattle.smr_clock.specs.declared.clock.Clock.{Clock}
 use Rattle.smr_clock.specs.declared.host.Host.{Ghosts}
 use Rattle.smr_clock.specs.declared.setup.Setup.{Setup}
 use Rattle.smr_clock.specs.Belongs.{TableId}
 use Rattle.trace_text.specs.declared.head.Head.{Head}
 use Rattle.trace_text.specs.declared.head.ZoneHead.{ZoneHead}
-use Rattle.trace_text.specs.Valid.{HeadFits}
+use Rattle.trace_text.specs.Limits.{IsWithin}
+use Rattle.trace_text.specs.Valid.{HeadFits, PrimaryFits}
 use Rattle.uma_zone.specs.Making.{IsSameZone}
 use Rattle.uma_zone.specs.Zone.{zone_key, zone_index, zone_clock, zone_smr, zone_domains, zone_bucket, zone_limit, zone_rights}
 use Rattle.trace_worker.specs.Items.{CountedZone}
@@ -21,12 +22,30 @@ with_lines lines head = record head { zones = lines }
 abbrev pub cut : ℕ → Head → Head
 cut count head = with_lines (take count head.zones) head
 
+-- a line whose numbers a primary zone may have, in a trace with so many domains
+pub record CanMakeFirst (count : ℕ) (line : ZoneHead) : Type 0 where
+  pub domains : IsWithin 1 4 count
+  pub keg : PrimaryFits line
+  pub bucket : IsWithin 4 64 line.bucket
+
 module _ {H P : Type 0} {h : Ghosts H P} where
   -- this is the line at a place of a head that fits, and the zones of the lines before it are made
   pub record IsNextLine (head : Head) (clock : Clock H P) (place : ℕ) (next : ZoneHead) (zones : List (CountedZone H P h)) : Type 0 where
     pub fits : HeadFits head
     pub line : slice_get head.zones place ≡ Some next
     pub so_far : AreZones (cut place head) clock zones
+
+  -- a place of a head that fits, and the zones of the lines before it are made
+  pub record CanAddZone (head : Head) (by : Clock H P) (at : ℕ) (made : List (CountedZone H P h)) : Type 0 where
+    pub fits : HeadFits head
+    pub place : at < length head.zones
+    pub so_far : AreZones (cut at head) by made
+
+  -- a line whose numbers a further zone may have, over a primary zone that has a right left
+  pub record CanMakeFurther (primary : CountedZone H P h) (line : ZoneHead) : Type 0 where
+    pub index : zone_index primary ≡ 0
+    pub right : zone_rights primary ≢ []
+    pub bucket : IsWithin 4 64 line.bucket
 
   -- the zone of a `zone` line: the first of its keg, of readers by this clock
   pub record IsFirst (clock : TableId × Setup) (domains : ℕ) (line : ZoneHead) (zone : CountedZone H P h) : Type 0 where

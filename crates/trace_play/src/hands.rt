@@ -1,8 +1,7 @@
 ghost use Rattle.std.specs.Prelude.{◌≡◌, ◌<◌, length};
 ghost use Rattle.smr_clock.specs.Belongs.{IsOf, setup_of};
 ghost use Rattle.smr_clock.specs.Notes.{IsNoteOf};
-ghost use Rattle.trace_worker.specs.Clocks.{KnowsBeginning};
-ghost use Rattle.trace_play.specs.Clock.{AllLearn, AreHere, CanGather, Gathers, HasWorker, Knows, Learns, Looks, LooksAt, NotesAt, PassesOn, ReadsHands, TakesAt, Tells};
+ghost use Rattle.trace_play.specs.Clock.{AllLearn, AreHere, CanGather, CanLookAt, CanReadHands, Gathers, HasWorker, Knows, Learns, Looks, LooksAt, NotesAt, PassesOn, ReadsHands, TakesAt, Tells};
 
 use smr_clock::{Clock, Host, Note};
 use trace_worker::Worker;
@@ -16,10 +15,7 @@ pub fn read_hands<H: Host>(
     begun: Note<H>,
     window: u64,
 ) -> (u64, u64)
-    requires some { 0 < length workers.old }
-    requires here { AreHere clock.now workers.old }
-    requires begun { KnowsBeginning clock.now begun }
-    requires window { window ≡ (setup_of clock.now).about.window }
+    requires { CanReadHands clock.now workers.old begun window }
     ensures reads { ReadsHands clock.now workers.new result.0 result.1 }
     ensures learn { AllLearn clock.now workers.old workers.new }
 {
@@ -67,9 +63,7 @@ fn take_at<H: Host>(clock: &Clock<H>, workers: &mut [Worker<H>], number: usize, 
 
 /// The hands, by worker 0's pass.
 fn look_at<H: Host>(clock: &Clock<H>, workers: &mut [Worker<H>], window: u64) -> (u64, u64)
-    requires at { 0 < length workers.old }
-    requires here { AreHere clock.now workers.old }
-    requires window { window ≡ (setup_of clock.now).about.window }
+    requires { CanLookAt clock.now workers.old window }
     ensures { LooksAt clock.now workers.old result.0 result.1 workers.new }
 {
     look(clock, &mut workers[0], window)

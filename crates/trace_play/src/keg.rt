@@ -1,12 +1,11 @@
 //! A keg when all lines are done.
-ghost use Rattle.std.specs.Prelude.{◌≡◌, ◌≤◌, ◌<◌, ◌+◌, ◌^◌, ℕ, Some, IfOk, OnOk, cond, length, slice_get};
+ghost use Rattle.std.specs.Prelude.{◌≡◌, ◌<◌, ◌+◌, ◌^◌, IfOk, OnOk, cond, length};
 ghost use Rattle.uma_life.specs.Hook.{Hook};
 ghost use Rattle.uma_life.specs.Sum.{AreBelow, sum_of};
-ghost use Rattle.uma_bucket.specs.declared.sums.Sums.{Sums};
 ghost use Rattle.uma_bucket.specs.Sums.{AreOfAtMost};
 ghost use Rattle.trace_play.specs.Kegs.{keg_place};
 ghost use Rattle.trace_play.specs.Lending.{KeepsWorkers};
-ghost use Rattle.trace_play.specs.Taking.{is_of_keg, keg_sums, AreZoneSums, CanTake, TakesKeg};
+ghost use Rattle.trace_play.specs.Taking.{is_of_keg, keg_sums, AreZoneSums, CanAddZones, CanTake, TakesKeg};
 
 use crate::census::take_census;
 use smr_clock::{Clock, Host};
@@ -43,10 +42,7 @@ pub(crate) fn take_keg<H: Host, R: Wait>(
 
 /// The tally with the sums of each zone of the keg whose primary zone stands at this place.
 fn with_zones(lines: &[ZoneHead], sums: &[Sums], place: usize, tally: TallySum) -> TallySum
-    requires count { length sums.now ≡ length lines.now }
-    requires most { length lines.now ≤ 16 }
-    requires small { (n : ℕ) (s : Sums) → slice_get sums.now n ≡ Some s → AreOfAtMost (2 ^ 35) s }
-    requires room { AreBelow (2 ^ 126) tally }
+    requires { CanAddZones lines.now sums.now tally }
     ensures { (hook : Hook) → sum_of result hook ≡ sum_of tally hook + keg_sums hook place lines.now sums.now }
 {
     let mut all = tally;

@@ -1,8 +1,7 @@
 ghost use Rattle.std.specs.Prelude.{◌≡◌, IfOk};
 ghost use Rattle.smr_clock.specs.Belongs.{setup_of};
 ghost use Rattle.trace_text.specs.Valid.{IsValid};
-ghost use Rattle.trace_worker.specs.Clocks.{ArePasses, IsClockOf};
-ghost use Rattle.trace_play.specs.Setting.{IsSetUp};
+ghost use Rattle.trace_play.specs.Setting.{CanSetUp, IsSetUp};
 
 use crate::Memory;
 use crate::clock::{make_clock, note_beginning};
@@ -45,9 +44,7 @@ pub fn set_up_with<H: Host, R: Wait>(
     clock: Clock<H>,
     mut passes: Vec<Pass<H>>,
 ) -> Result<Setting<H>, Memory>
-    requires valid { IsValid trace.now }
-    requires clock { IsClockOf trace.now.head clock }
-    requires passes { ArePasses trace.now.head.workers clock passes.items }
+    requires { CanSetUp trace.now clock passes.items }
     ensures clock { IfOk result (λ setting. setting.clock ≡ clock) }
     ensures set_up { IfOk result (IsSetUp trace.now) }
 {

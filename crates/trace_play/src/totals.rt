@@ -1,9 +1,7 @@
 ghost use Rattle.std.specs.Prelude.{◌≡◌, ◌≤◌, ℕ, Some, IfOk, OnOk, length, map, slice_get};
-ghost use Rattle.trace_text.specs.Valid.{HeadFits};
 ghost use Rattle.trace_worker.specs.declared.worker.Worker.{Worker};
 ghost use Rattle.trace_worker.specs.Items.{CountedZone};
-ghost use Rattle.trace_play.specs.Zones.{AreZones};
-ghost use Rattle.trace_play.specs.Lending.{AllFit, AreFew, KeepsWorkers};
+ghost use Rattle.trace_play.specs.Lending.{KeepsWorkers};
 ghost use Rattle.trace_play.specs.Closes.{AllClose};
 ghost use Rattle.trace_play.specs.Summing.{HasSeat};
 ghost use Rattle.trace_play.specs.Taking.{AllSumUp, AreZoneSums, CanTake, TakesKegs};
@@ -48,10 +46,7 @@ pub fn take_totals<H: Host, R: Wait>(
     clock: &Clock<H>,
     workers: &mut [Worker<H>],
 ) -> Result<Totals, Memory>
-    requires head { HeadFits head.now }
-    requires zones { AreZones head.now clock.now zones.now }
-    requires fits { AllFit zones.now clock.now workers.old }
-    requires few { AreFew workers.old }
+    requires { CanTake head.now clock.now zones.now workers.old }
     ensures closes { IfOk result (λ t. AllClose head.now zones.now workers.new t.censuses.items t.tallies.items t.deferred.items) }
     ensures workers { OnOk result (KeepsWorkers workers.old workers.new) }
 {

@@ -1,8 +1,7 @@
 ghost use Rattle.std.specs.Prelude.{◌≡◌, ◌<◌, ◌≤◌, ◌%◌, All, length, IfOk, Some, slice_get};
 ghost use Rattle.smr_clock.specs.Belongs.{IsOf};
 ghost use Rattle.uma_zone.specs.Zone.{zone_domains};
-ghost use Rattle.trace_text.specs.Limits.{IsWithin};
-ghost use Rattle.trace_play.specs.Beginners.{IsBeginner, AreBeginners};
+ghost use Rattle.trace_play.specs.Beginners.{CanMakeWorkers, IsBeginner, AreBeginners};
 ghost use Rattle.trace_worker.specs.Clocks.{IsNewPass, ArePasses};
 
 use crate::Memory;
@@ -21,10 +20,7 @@ pub fn make_workers<H: Host, R: Wait>(
     clock: &Clock<H>,
     passes: Vec<Pass<H>>,
 ) -> Result<Vec<Worker<H>>, Memory>
-    requires domains { IsWithin 1 4 domains }
-    requires few { length passes.items ≤ 16 }
-    requires zones { All (λ zone. zone_domains zone ≡ domains) zones.now }
-    requires passes { ArePasses (length passes.items) clock.now passes.items }
+    requires { CanMakeWorkers domains zones.now clock.now passes.items }
     ensures { IfOk result (λ workers. AreBeginners zones.now clock.now domains (length passes.items) workers.items) }
 {
     let mut workers = Vec::with_capacity(alloc, passes.len())?;

@@ -5,7 +5,7 @@ ghost use Rattle.uma_zone.specs.Zone.{zone_index, zone_rights};
 ghost use Rattle.trace_text.specs.Limits.{IsWithin};
 ghost use Rattle.trace_text.specs.Valid.{HeadFits, PrimaryFits, sharer_count};
 ghost use Rattle.trace_play.specs.Zones.{AreZones, is_smr as is_smr_kind};
-ghost use Rattle.trace_play.specs.ZonesSoFar.{cut, IsFirst, IsFurther, IsNextLine};
+ghost use Rattle.trace_play.specs.ZonesSoFar.{cut, CanAddZone, CanMakeFirst, CanMakeFurther, IsFirst, IsFurther, IsNextLine};
 
 use crate::Memory;
 use smr_clock::{Clock, Host};
@@ -43,9 +43,7 @@ fn add_zone<H: Host, R: Wait>(
     place: usize,
     zones: &mut Vec<CountedZone<H>>,
 ) -> Result<(), Memory>
-    requires fits { HeadFits head.now }
-    requires place { place < length head.now.zones }
-    requires so_far { AreZones (cut place head.now) clock.now zones.old.items }
+    requires { CanAddZone head.now clock.now place zones.old.items }
     ensures { OnOk result (AreZones (cut (place + 1) head.now) clock.now zones.new.items) }
 {
     let line = &head.zones.as_slice()[place];
@@ -100,9 +98,7 @@ fn make_first<H: Host>(
     domains: u8,
     line: &ZoneHead,
 ) -> Result<CountedZone<H>, Memory>
-    requires domains { IsWithin 1 4 domains }
-    requires keg { PrimaryFits line.now }
-    requires bucket { IsWithin 4 64 line.now.bucket }
+    requires { CanMakeFirst domains line.now }
     ensures { IfOk result (IsFirst (clock_id clock.now) domains line.now) }
 {
     let set = ZoneSet {
@@ -127,9 +123,7 @@ fn make_further<H: Host, R: Wait>(
     primary: &mut CountedZone<H>,
     line: &ZoneHead,
 ) -> Result<CountedZone<H>, Memory>
-    requires index { zone_index primary.old ≡ 0 }
-    requires right { zone_rights primary.old ≢ [] }
-    requires bucket { IsWithin 4 64 line.now.bucket }
+    requires { CanMakeFurther primary.old line.now }
     ensures { IfOk result (IsFurther line.now primary.old primary.new) }
 {
     let set = SecondSet {

@@ -1,12 +1,16 @@
-use Rattle.std.proofs.Common.{◌≡◌}
+use Rattle.std.proofs.Common.{rules, ◌≡◌}
 use Rattle.std.proofs.lemmas.Result.{IfOk-weaker}
 use Rattle.smr_clock.specs.Belongs.{setup_of}
 use Rattle.trace_play.specs.declared.setting.Setting.{Setting}
 use Rattle.trace_play.proofs.SetUp.{clock_of, plan_of}
 use Rattle.trace_play.proofs.setting.set_up.Goals as goal
 
-pub set_up_with-requires-clause-clock : goal.set_up_with-requires-clause-clock
-set_up_with-requires-clause-clock g c = clock_of (0, 0) c.args.trace.now.head c.in_ok-clock.clock c.in_ok-clock.ensures.clock
+pub set_up_with-requires : goal.set_up_with-requires
+set_up_with-requires g c = record {
+  valid = search rules;
+  clock = clock_of (0, 0) c.args.trace.now.head c.in_ok-clock.clock c.in_ok-clock.ensures.clock;
+  passes = search rules;
+}
 
 pub returns-clause-plan : goal.returns-clause-plan
 returns-clause-plan g c =

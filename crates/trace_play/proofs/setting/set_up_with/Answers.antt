@@ -1,4 +1,4 @@
-use Rattle.std.proofs.Common.{◌≡◌, ◌∙◌, List, length, sym, subst}
+use Rattle.std.proofs.Common.{rules, ◌≡◌, ◌∙◌, List, length, sym, subst}
 use Rattle.std.specs.Prelude.{All}
 use Rattle.uma_zone.specs.Zone.{zone_domains}
 use Rattle.trace_worker.specs.Items.{CountedZone}
@@ -6,10 +6,15 @@ use Rattle.trace_play.specs.Beginners.{AreBeginners}
 use Rattle.trace_play.proofs.SetUp.{zones_in, set_up_of}
 use Rattle.trace_play.proofs.setting.set_up_with.Goals as goal
 
-pub make_workers-requires-clause-zones : goal.make_workers-requires-clause-zones
-make_workers-requires-clause-zones g c =
+pub make_workers-requires : goal.make_workers-requires
+make_workers-requires g c =
     let head = c.args.trace.now.head in
-    subst (All (λ (zone : CountedZone _ _ _). zone_domains zone ≡ head.domains)) (sym c.as_slice.ensures.value) (zones_in head c.args.clock c.in_ok-zones.zones.items c.in_ok-zones.ensures)
+    record {
+      domains = search rules;
+      few = search rules;
+      zones = subst (All (λ (zone : CountedZone _ _ _). zone_domains zone ≡ head.domains)) (sym c.as_slice.ensures.value) (zones_in head c.args.clock c.in_ok-zones.zones.items c.in_ok-zones.ensures);
+      passes = search rules;
+    }
 
 pub returns-clause-set_up : goal.returns-clause-set_up
 returns-clause-set_up g c =

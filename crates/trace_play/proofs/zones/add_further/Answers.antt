@@ -1,15 +1,17 @@
+use Rattle.std.proofs.Common.{rules}
 use Rattle.trace_play.proofs.MoreZones.{parent_index, parent_right, further_more}
 use Rattle.trace_play.proofs.zones.add_further.Goals as goal
 
-pub make_further-requires-clause-index : goal.make_further-requires-clause-index
-make_further-requires-clause-index g c =
-    parent_index c.args.head.now c.args.clock.now c.args.place c.args.parent c.args.line.now c.args.zones.now.items c.index_mut.result.now c.requires.next.fits c.requires.next.line c.requires.parent
-    c.requires.next.so_far c.index_mut.ensures.value
-
-pub make_further-requires-clause-right : goal.make_further-requires-clause-right
-make_further-requires-clause-right g c =
-    parent_right c.args.head.now c.args.clock.now c.args.place c.args.parent c.args.line.now c.args.zones.now.items c.index_mut.result.now c.requires.next.fits c.requires.next.line c.requires.parent
-    c.requires.next.so_far c.index_mut.ensures.value
+pub make_further-requires : goal.make_further-requires
+make_further-requires g c = record {
+  index =
+      parent_index c.args.head.now c.args.clock.now c.args.place c.args.parent c.args.line.now c.args.zones.now.items c.index_mut.result.now c.requires.next.fits c.requires.next.line c.requires.parent
+      c.requires.next.so_far c.index_mut.ensures.value;
+  right =
+      parent_right c.args.head.now c.args.clock.now c.args.place c.args.parent c.args.line.now c.args.zones.now.items c.index_mut.result.now c.requires.next.fits c.requires.next.line c.requires.parent
+      c.requires.next.so_far c.index_mut.ensures.value;
+  bucket = search rules;
+}
 
 pub returns : goal.returns
 returns g c =
