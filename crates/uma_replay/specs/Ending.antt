@@ -34,11 +34,12 @@ module _ {H P : Type 0} {h : Ghosts H P} where
     pub closes : AllClose t.head zones new end.totals.censuses.items end.totals.tallies.items end.totals.deferred.items
 
 module _ {N H C S P : Type 0} {h : Ghosts H P} (names : NameGhosts N H C S P) where
-  -- What a replay by this clock made: a report that stands for the trace, and its hall. In the rounds each worker gave up waiting as the gate's visits say.
+  -- What a replay by this clock made: a report that stands for the trace, and its hall. In the rounds each worker gave up waiting as the gate's visits say, and under a free gate none did.
   pub record IsReplayOf {G V : Type 0} (gates : GateGhosts G V) (gate : G) (t : Trace) (by : Clock H P) (played : Played N H C S P h) : Type 0 where
     pub stands : StandsFor t played.report
     pub hall : HallStands names t played.report played.hall
     pub clock : played.hall.clock ≡ by
+    pub free : gates.is_free gate → played.report.gave_up ≡ 0
     pub asks : AreGivenUp gates gate t.rounds played.hall.gave_ups
 
   -- All lines of a valid trace of few lines are done, by these zones and workers, with this of the names. So often each worker gave up waiting.

@@ -8,3 +8,4 @@ pub mod Playing
 pub mod Report
 pub mod Reporting
 pub mod Hall
+pub mod Replaying

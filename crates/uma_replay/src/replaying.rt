@@ -1,17 +1,14 @@
 ghost use Rattle.std.specs.Prelude.{◌≡◌, ◌≤◌, IfOk, IfSome, IsTrue, is_some, length};
-ghost use Rattle.smr_clock.specs.Belongs.{clock_id, setup_of};
+ghost use Rattle.smr_clock.specs.Belongs.{clock_id};
 ghost use Rattle.trace_play.specs.Asks.{AllAsk};
 ghost use Rattle.trace_play.specs.Rounds.{GaveUpAsBefore, IsBegun, Suits};
 ghost use Rattle.trace_play.specs.Setting.{IsSetUp};
 ghost use Rattle.trace_text.specs.Lines.{lines_of};
 ghost use Rattle.trace_text.specs.Valid.{IsValid};
 ghost use Rattle.trace_worker.specs.NameSizes.{sizes_for};
-ghost use Rattle.uma_replay.specs.Asked.{AreGivenUp};
 ghost use Rattle.uma_replay.specs.Ending.{IsReplayOf};
-ghost use Rattle.uma_replay.specs.Hall.{HallStands};
-ghost use Rattle.uma_replay.specs.Headline.{Headline};
 ghost use Rattle.uma_replay.specs.Playing.{AreEnded};
-ghost use Rattle.uma_replay.specs.Report.{StandsFor};
+ghost use Rattle.uma_replay.specs.Replaying.{HasReplayed};
 
 use crate::Memory;
 use crate::ending::{close, dismiss};
@@ -48,12 +45,7 @@ pub fn replay<
     requires valid { IsValid trace.now }
     requires serves { N.serves ≡ is_some trace.now.head.names }
     requires few { length (lines_of trace.now.rounds) ≤ 16777216 }
-    ensures stands { IfOk result (λ played. StandsFor trace.now played.report) }
-    ensures hall { IfOk result (λ played. HallStands N.NameCalls trace.now played.report played.hall) }
-    ensures headline { IfOk result (λ played. Headline N.NameCalls trace.now played.report played.hall) }
-    ensures plan { IfOk result (λ played. (setup_of played.hall.clock).plan ≡ N.plans trace.now.head) }
-    ensures free { G.is_free gate.now → IfOk result (λ played. played.report.gave_up ≡ 0) }
-    ensures asks { IfOk result (λ played. AreGivenUp G.Gate gate.now trace.now.rounds played.hall.gave_ups) }
+    ensures { IfOk result (HasReplayed N.NameCalls G.Gate gate.now trace.now) }
 {
     let (cache, clock, passes) = names.set_up(alloc, trace)?;
     let setting = set_up_with(rt, alloc, trace, clock, passes)?;
@@ -82,8 +74,7 @@ fn replay_from<
     requires set_up { IsSetUp trace.now setting }
     requires of_clock { IsTrue N.serves → N.clock_of cache ≡ clock_id setting.clock }
     requires sizes { IfSome trace.now.head.names (λ line. N.sizes_of cache ≡ sizes_for trace.now.head line) }
-    ensures replays { IfOk result (IsReplayOf N.NameCalls G.Gate gate.now trace.now setting.clock) }
-    ensures free { G.is_free gate.now → IfOk result (λ played. played.report.gave_up ≡ 0) }
+    ensures { IfOk result (IsReplayOf N.NameCalls G.Gate gate.now trace.now setting.clock) }
 {
     let Setting {
         clock,

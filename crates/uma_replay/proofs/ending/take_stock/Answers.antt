@@ -1,10 +1,15 @@
+use Rattle.std.proofs.Common.{rules}
 use Rattle.uma_replay.proofs.HallOf.{done_kept, are_few, stay_on}
 use Rattle.uma_replay.proofs.Staying.{hands_stay}
 use Rattle.uma_replay.proofs.ending.take_stock.Goals as goal
 
-pub take_totals-requires-clause-few : goal.take_totals-requires-clause-few
-take_totals-requires-clause-few g c =
-    are_few c.args.trace.now c.args.zones.now c.args.clock.now c.look-read.new.workers c.requires.valid c.look-read.ensures.done
+pub take_totals-requires : goal.take_totals-requires
+take_totals-requires g c = record {
+  head = search rules;
+  zones = search rules;
+  fits = search rules;
+  few = are_few c.args.trace.now c.args.zones.now c.args.clock.now c.look-read.new.workers c.requires.valid c.look-read.ensures.done;
+}
 
 pub returns : goal.returns
 returns g c = record {

@@ -58,23 +58,23 @@ close-requires-clause-can g c κs within =
           ended.asked c.in_ok-workers.ensures.workers c.in_ok-workers.ensures.namings c.in_ok-workers.ensures.gave_ups;
     }
 
-pub returns-clause-replays : goal.returns-clause-replays
-returns-clause-replays g c =
+pub returns : goal.returns
+returns g c =
     let t = c.args.trace.now in
     let first = c.in_ok-first.first.items in
     let all = c.in_ok-runnings.runnings.items in
     let counts = c.in_ok-workers.gave_ups.items in
     let given = given_up g.G.Gate c.args.gate.now t.rounds first all counts c.in_ok-runnings.ensures.ended.count (λ n r at. ((c.in_ok-first.ensures.each n r at).asked, (c.in_ok-first.ensures.each n r at).gave_up)) c.in_ok-runnings.ensures.asks
     c.in_ok-workers.ensures.gave_ups in
+    let none : g.G.Gate.is_free c.args.gate.now → sum counts ≡ 0 = λ free.
+    let each : sum (gave_ups_of all) ≡ 0 = none_gave_up first all (λ n r at. (c.in_ok-first.ensures.each n r at).gave_up) (c.in_ok-runnings.ensures.free free) in
+    ap sum c.in_ok-workers.ensures.gave_ups ∙ each in
     let P : List ℕ → Type 0 = λ list. AreGivenUp g.G.Gate c.args.gate.now t.rounds list in
     IfOk-weaker c.close.result (λ played. IsEndOf g.N.NameCalls t c.args.setting.clock counts played) (λ played. IsReplayOf g.N.NameCalls g.G.Gate c.args.gate.now t c.args.setting.clock played)
-    (λ played end. record { stands = stands_of_hall g.N.NameCalls t played.report played.hall c.requires.valid end.hall; hall = end.hall; clock = end.clock; asks = subst P (sym end.gave_ups) given }) c.close.ensures
-
-pub returns-clause-free : goal.returns-clause-free
-returns-clause-free g c = λ free.
-    let first = c.in_ok-first.first.items in
-    let all = c.in_ok-runnings.runnings.items in
-    let counts = c.in_ok-workers.gave_ups.items in
-    let none : sum (gave_ups_of all) ≡ 0 = none_gave_up first all (λ n r at. (c.in_ok-first.ensures.each n r at).gave_up) (c.in_ok-runnings.ensures.free free) in
-    let shown : sum counts ≡ 0 = ap sum c.in_ok-workers.ensures.gave_ups ∙ none in
-    IfOk-weaker c.close.result (λ played. IsEndOf g.N.NameCalls c.args.trace.now c.args.setting.clock counts played) (λ played. played.report.gave_up ≡ 0) (λ played end. end.gave_up ∙ shown) c.close.ensures
+    (λ played end. record {
+      stands = stands_of_hall g.N.NameCalls t played.report played.hall c.requires.valid end.hall;
+      hall = end.hall;
+      clock = end.clock;
+      free = λ free. end.gave_up ∙ none free;
+      asks = subst P (sym end.gave_ups) given;
+    }) c.close.ensures
