@@ -17,3 +17,4 @@ pub mod Drained
 pub mod Table
 pub mod NameTable
 pub mod Directory
+pub mod Answers

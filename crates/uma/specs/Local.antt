@@ -1,7 +1,7 @@
 -- Own: what contracts see of a local, and what its calls do.
 use Rattle.std.specs.Prelude.{◌≡◌, ◌<◌, ℕ, Bool, true, false, [], length, slice_set}
 use Rattle.zone_stats.specs.declared.ledger.SeatLedger.{SeatLedger}
-use Rattle.zone_stats.specs.LedgerSteps.{HasRoom, CountsFree}
+use Rattle.zone_stats.specs.LedgerSteps.{HasRoom, CountsFree, IsNew}
 use Rattle.uma_seat.specs.Seat.{ledger_of, spares_of, usable_of, shelf_of, freed_of, HasNoCross}
 use Rattle.uma_seat.specs.Stack.{stack_at, with_item, is_filled_by_one}
 use Rattle.uma_zone.specs.declared.alloc_ask.AllocRefused.TheVariants as zone
@@ -82,3 +82,8 @@ module _ {T K : Type 0} {g k : _} where
     pub usable : usable_of local.seat ≡ []
     pub crossed : HasNoCross local.seat
     pub shelf : shelf_of local.seat ≡ []
+
+  -- a local of this pool that has counted nothing
+  pub record IsNewLocal (pool : Pool T K g k) (local : Local T K g k) : Type 0 where
+    pub of_pool : pool_of local ≡ pool
+    pub ledger : IsNew (ledger_in local)

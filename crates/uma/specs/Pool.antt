@@ -1,8 +1,10 @@
 -- Own: what contracts see of a pool.
+use Rattle.std.specs.Prelude.{◌≡◌}
 use Rattle.uma_bucket.specs.Home.{Home, IsHome}
 use Rattle.uma_life.specs.declared.live.Live.{Live}
 use Rattle.uma_life.specs.Live.{live_ticket}
 use Rattle.uma_zone.specs.Zone.{zone_hooks, zone_home}
+use Rattle.uma.specs.Plan.{IsGood}
 use Rattle.uma.specs.declared.plan.Plan.{Plan}
 use Rattle.uma.specs.declared.pool.Pool.{Pool}
 
@@ -22,3 +24,9 @@ module _ {T K : Type 0} {g k : _} where
   -- the item is one of this pool
   abbrev pub IsItemOf : Pool T K g k → Live T g → Type 0
   IsItemOf pool held = IsHome (pool_home pool) (live_ticket held)
+
+  -- a pool with this plan, whose numbers are in their ranges, by these hooks
+  pub record IsMade (plan : Plan) (hooks : K) (pool : Pool T K g k) : Type 0 where
+    pub planned : pool_plan pool ≡ plan
+    pub hooked : pool_hooks pool ≡ hooks
+    pub good : IsGood plan

@@ -1,4 +1,4 @@
-ghost use Rattle.std.specs.Prelude.{◌≡◌, ◌<◌, ◌↔◌, IfOk, IfErr, IfSome, IfNone, OnOk, IsTrue};
+ghost use Rattle.std.specs.Prelude.{◌≡◌, ◌<◌, ◌↔◌, IfOk, IfErr, IsTrue};
 ghost use Rattle.std.specs.Option.{option_map};
 ghost use Rattle.smr_core.specs.declared.phase.Phase.{Phase};
 ghost use Rattle.smr_clock.specs.Belongs.{IsOf, holder};
@@ -30,7 +30,8 @@ pub struct DirectoryLocal<'a> {
 
 impl<'a> DirectoryLocal<'a> {
     ghost use Rattle.uma.specs.NameTable.{IsNameLedgerOf};
-    ghost use Rattle.uma.specs.Directory.{BindsName, FindsNone, IsLate, LooksUp, RefusesBind, RefusesUnbind, StillKnows, TakesOut, WasBound, counted_by, directory_of, known_to};
+    ghost use Rattle.uma.specs.Answers.{AnswersBind, AnswersUnbind, KeepsKnown, LooksOne};
+    ghost use Rattle.uma.specs.Directory.{IsLate, counted_by, directory_of};
 
     /// Binds a name to a value. A name that its row bound before is evicted: whoever looks for that finds nothing from then on. Waits
     /// until it has the directory's locks.
@@ -46,11 +47,7 @@ impl<'a> DirectoryLocal<'a> {
         name: u64,
         value: u64,
     ) -> Result<(), Refused>
-        ensures directory { directory_of self.new ≡ directory_of self.old }
-        ensures bound { OnOk result (BindsName name value self.old self.new) }
-        ensures told { OnOk result (WasBound name value (known_to self.new)) }
-        ensures refused { IfErr result (RefusesBind name self.old self.new) }
-        ensures still { StillKnows self.old self.new }
+        ensures { AnswersBind name value self.old result self.new }
     {
         if !can_bind(self.seat.ledger()) {
             return Err(Refused::Counts);
@@ -85,12 +82,7 @@ impl<'a> DirectoryLocal<'a> {
         alloc: Global,
         name: u64,
     ) -> Result<Option<u64>, Refused>
-        ensures directory { directory_of self.new ≡ directory_of self.old }
-        ensures unbound { IfOk result (λ found. IfSome found (λ value. TakesOut name value self.old self.new)) }
-        ensures told { IfOk result (λ found. IfSome found (λ value. WasBound name value (known_to self.new))) }
-        ensures none { IfOk result (λ found. IfNone found (FindsNone name self.old self.new)) }
-        ensures refused { IfErr result (RefusesUnbind self.old self.new) }
-        ensures still { StillKnows self.old self.new }
+        ensures { AnswersUnbind name self.old result self.new }
     {
         if !self.seat.room() {
             return Err(Refused::Counts);
@@ -115,11 +107,9 @@ impl<'a> DirectoryLocal<'a> {
     ///
     /// `Late` where the directory's clock went on by its whole window while the section was entered: look again.
     pub fn look(&mut self, name: u64) -> Result<Option<u64>, Refused>
-        ensures directory { directory_of self.new ≡ directory_of self.old }
-        ensures looked { IfOk result (λ found. LooksUp name found self.old self.new) }
-        ensures told { IfOk result (λ found. IfSome found (λ value. WasBound name value (known_to self.new))) }
+        ensures keeps { KeepsKnown self.old self.new }
+        ensures looked { IfOk result (λ found. LooksOne name self.old found self.new) }
         ensures refused { IfErr result (IsLate self.old self.new) }
-        ensures still { StillKnows self.old self.new }
     {
         let directory = self.directory;
         match directory.cache.look(&directory.clock, &mut self.pass, name) {

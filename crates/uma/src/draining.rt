@@ -1,4 +1,4 @@
-ghost use Rattle.std.specs.Prelude.{◌≡◌, IfOk, IfErr, OnOk, OnErr};
+ghost use Rattle.std.specs.Prelude.{IfOk};
 
 use crate::local::Local;
 use crate::refused::Refused;
@@ -8,8 +8,7 @@ use uma_life::{Body, Hooks};
 use uma_reclaim::drain_seat;
 
 impl<T: Body + Drop, K: Hooks<T>> Local<'_, T, K> {
-    ghost use Rattle.uma.specs.Local.{HasNoItem, KeepsLocal, KeepsUsable};
-    ghost use Rattle.uma.specs.Drained.{GivesBack};
+    ghost use Rattle.uma.specs.Drained.{EndsDrain, GivesBack};
 
     /// Gives all that is cached here back to the pool's slabs, with what waited for whoever runs empty, and answers how many items went
     /// back. Then the pool gives up its wholly free slabs, as long as its reserve stays. In a pool with readers what a section may still
@@ -19,11 +18,8 @@ impl<T: Body + Drop, K: Hooks<T>> Local<'_, T, K> {
     ///
     /// `Memory` where memory is wanting. The local has all its items still.
     pub fn drain<R: Wait>(&mut self, rt: &R, alloc: Global) -> Result<u64, Refused>
-        ensures kept { KeepsLocal self.old self.new }
-        ensures drained { OnOk result (HasNoItem self.new) }
         ensures items { IfOk result (λ items. GivesBack items self.old) }
-        ensures usable { OnErr result (KeepsUsable self.old self.new) }
-        ensures refused { IfErr result (λ why. why ≡ Refused.Memory) }
+        ensures ends { EndsDrain self.old result self.new }
     {
         let pool = self.pool;
         let drained = drain_seat(

@@ -1,7 +1,6 @@
-ghost use Rattle.std.specs.Prelude.{◌≡◌, ◌==◌, IfOk, IfErr, OnOk, OnErr, true, false, not};
+ghost use Rattle.std.specs.Prelude.{◌≡◌, IfOk, IfErr, true, false};
 ghost use Rattle.smr_core.specs.declared.phase.Phase.{Phase};
 ghost use Rattle.smr_clock.specs.Belongs.{IsOf, holder};
-ghost use Rattle.uma_seat.specs.Seat.{seat_domain};
 ghost use Rattle.uma_zone.specs.Zone.{IsSeatOf};
 
 use crate::not_freed::NotFreed;
@@ -29,12 +28,10 @@ pub struct Local<'a, T: Body, K: Hooks<T>> {
 }
 
 impl<'a, T: Body + Drop, K: Hooks<T>> Local<'a, T, K> {
-    ghost use Rattle.uma.specs.Pool.{IsItemOf, pool_plan};
+    ghost use Rattle.uma.specs.Answers.{AnswersAlloc, AnswersFree, AnswersReady, CanPut, PutsItem};
+    ghost use Rattle.uma.specs.Local.{pool_of, ledger_in, KeepsLocal, KeepsUsable};
+    ghost use Rattle.uma.specs.Pool.{IsItemOf};
     ghost use Rattle.uma.specs.Table.{IsLedgerOf};
-    ghost use Rattle.uma_life.specs.Live.{live_domain};
-    ghost use Rattle.uma.specs.Local.{pool_of, ledger_in, Allocs, RefusesAlloc, CanHold, Puts, Defers, Frees, IsNotReady, KeepsLocal, KeepsUsable};
-    ghost use Rattle.uma.specs.Refusing.{KeepsOut, TellsRefusal};
-    ghost use Rattle.zone_stats.specs.LedgerSteps.{HasRoom, CountsAlloc, CountsFree};
 
     /// An item whose `ctor` took this argument. It is the one that was freed last here, where there is one; else the local
     /// gets a bucket of its domain, or fetches some from the slabs. Waits until it has the pool's locks, where it has no item cached.
@@ -44,13 +41,7 @@ impl<'a, T: Body + Drop, K: Hooks<T>> Local<'a, T, K> {
     /// `Turned` where the limit is reached, all slabs are in use, what is free is reserved, or `init` or `ctor` refused; that is counted.
     /// `Counts` where the local's counts are full. `Memory` where memory is wanting.
     pub fn alloc<R: Wait>(&mut self, rt: &R, alloc: Global, arg: u64) -> Result<Live<T>, Refused>
-        ensures pool { pool_of self.new ≡ pool_of self.old }
-        ensures home { IfOk result (IsItemOf (pool_of self.new)) }
-        ensures served { IfOk result (λ held. Allocs arg false self.old held self.new) }
-        ensures counted { OnOk result (CountsAlloc (ledger_in self.old) (ledger_in self.new)) }
-        ensures refused { IfErr result (RefusesAlloc arg false self.old self.new) }
-        ensures told { IfErr result (TellsRefusal arg false self.old self.new) }
-        ensures out { OnErr result (KeepsOut self.old self.new) }
+        ensures { AnswersAlloc arg false self.old result self.new }
     {
         self.ask(rt, alloc, arg, false)
     }
@@ -66,13 +57,7 @@ impl<'a, T: Body + Drop, K: Hooks<T>> Local<'a, T, K> {
         alloc: Global,
         arg: u64,
     ) -> Result<Live<T>, Refused>
-        ensures pool { pool_of self.new ≡ pool_of self.old }
-        ensures home { IfOk result (IsItemOf (pool_of self.new)) }
-        ensures served { IfOk result (λ held. Allocs arg true self.old held self.new) }
-        ensures counted { OnOk result (CountsAlloc (ledger_in self.old) (ledger_in self.new)) }
-        ensures refused { IfErr result (RefusesAlloc arg true self.old self.new) }
-        ensures told { IfErr result (TellsRefusal arg true self.old self.new) }
-        ensures out { OnErr result (KeepsOut self.old self.new) }
+        ensures { AnswersAlloc arg true self.old result self.new }
     {
         self.ask(rt, alloc, arg, true)
     }
@@ -84,13 +69,7 @@ impl<'a, T: Body + Drop, K: Hooks<T>> Local<'a, T, K> {
         arg: u64,
         reserve: bool,
     ) -> Result<Live<T>, Refused>
-        ensures pool { pool_of self.new ≡ pool_of self.old }
-        ensures home { IfOk result (IsItemOf (pool_of self.new)) }
-        ensures served { IfOk result (λ held. Allocs arg reserve self.old held self.new) }
-        ensures counted { OnOk result (CountsAlloc (ledger_in self.old) (ledger_in self.new)) }
-        ensures refused { IfErr result (RefusesAlloc arg reserve self.old self.new) }
-        ensures told { IfErr result (TellsRefusal arg reserve self.old self.new) }
-        ensures out { OnErr result (KeepsOut self.old self.new) }
+        ensures { AnswersAlloc arg reserve self.old result self.new }
     {
         if !self.seat.room() {
             return Err(Refused::Counts);
@@ -114,11 +93,7 @@ impl<'a, T: Body + Drop, K: Hooks<T>> Local<'a, T, K> {
     /// full.
     pub fn free<R: Wait>(&mut self, rt: &R, alloc: Global, held: Live<T>) -> Result<(), NotFreed<T>>
         requires { IsItemOf (pool_of self.old) held }
-        ensures pool { pool_of self.new ≡ pool_of self.old }
-        ensures freed { OnOk result (Frees self.old held self.new) }
-        ensures back { IfErr result (λ back. back.item ≡ held) }
-        ensures kept { OnErr result (KeepsLocal self.old self.new) }
-        ensures refused { IfErr result (λ back. IsNotReady self.old back.why) }
+        ensures { AnswersFree self.old held result self.new }
     {
         if let Err(why) = self.make_ready(rt, alloc) {
             return Err(NotFreed { item: held, why });
@@ -130,14 +105,8 @@ impl<'a, T: Body + Drop, K: Hooks<T>> Local<'a, T, K> {
     /// Frees an item, for which [`Local::make_ready`] has seen to a bucket: what it does is what [`Local::free`] does, but it neither fails
     /// nor waits, and takes no memory.
     pub fn put(&mut self, held: Live<T>)
-        requires room { HasRoom (ledger_in self.old) }
-        requires spare { CanHold self.old }
-        requires home { IsItemOf (pool_of self.old) held }
-        ensures pool { pool_of self.new ≡ pool_of self.old }
-        ensures put { (pool_plan (pool_of self.old)).smr ≡ false → Puts self.old held self.new }
-        ensures deferred { (pool_plan (pool_of self.old)).smr ≡ true → Defers self.old held self.new }
-        ensures unseen { (pool_plan (pool_of self.old)).smr ≡ true → KeepsUsable self.old self.new }
-        ensures counted { CountsFree (ledger_in self.old) (ledger_in self.new) (not (live_domain held == seat_domain self.old.seat)) }
+        requires { CanPut self.old held }
+        ensures { PutsItem self.old held self.new }
     {
         let pool = self.pool;
         if pool.plan.smr {
@@ -155,11 +124,7 @@ impl<'a, T: Body + Drop, K: Hooks<T>> Local<'a, T, K> {
     ///
     /// As [`Local::free`].
     pub fn make_ready<R: Wait>(&mut self, rt: &R, alloc: Global) -> Result<(), Refused>
-        ensures room { OnOk result (HasRoom (ledger_in self.new)) }
-        ensures spare { OnOk result (CanHold self.new) }
-        ensures kept { KeepsLocal self.old self.new }
-        ensures usable { KeepsUsable self.old self.new }
-        ensures refused { IfErr result (IsNotReady self.old) }
+        ensures { AnswersReady self.old result self.new }
     {
         if !self.seat.room() {
             return Err(Refused::Counts);

@@ -49,7 +49,7 @@ pub struct Pool<T: Body, K: Hooks<T>> {
 pub type DataPool<B, K> = Pool<Item<B>, TrailHooks<K>>;
 
 impl<B: Drop, K: ItemHooks<B> + Copy> Pool<Item<B>, TrailHooks<K>> {
-    ghost use Rattle.uma.specs.Pool.{pool_plan, pool_hooks};
+    ghost use Rattle.uma.specs.Pool.{IsMade};
 
     /// An empty pool with the numbers of the plan. Its hooks are `Copy`: what they share with others they hold by reference.
     ///
@@ -57,9 +57,7 @@ impl<B: Drop, K: ItemHooks<B> + Copy> Pool<Item<B>, TrailHooks<K>> {
     ///
     /// As [`Pool::over`].
     pub fn new(alloc: Global, plan: Plan, hooks: K) -> Result<DataPool<B, K>, Refused>
-        ensures plan { IfOk result (λ pool. pool_plan pool ≡ plan) }
-        ensures hooks { IfOk result (λ pool. pool_hooks pool ≡ record { hooks = hooks; stays = false }) }
-        ensures good { OnOk result (IsGood plan) }
+        ensures made { IfOk result (λ pool. IsMade plan (record { hooks = hooks; stays = false }) pool) }
         ensures refused { IfErr result (RefusesPlan plan) }
     {
         Pool::over(alloc, plan, TrailHooks::new(hooks), TrailHooks::new(hooks))
@@ -67,9 +65,8 @@ impl<B: Drop, K: ItemHooks<B> + Copy> Pool<Item<B>, TrailHooks<K>> {
 }
 
 impl<T: Body + Drop, K: Hooks<T>> Pool<T, K> {
-    ghost use Rattle.zone_stats.specs.LedgerSteps.{IsNew};
-    ghost use Rattle.uma.specs.Pool.{pool_plan, pool_hooks, pool_home};
-    ghost use Rattle.uma.specs.Local.{pool_of, ledger_in};
+    ghost use Rattle.uma.specs.Pool.{IsMade, pool_plan, pool_home};
+    ghost use Rattle.uma.specs.Local.{IsNewLocal};
     ghost use Rattle.smr_clock.specs.contracts.bare.BareHost.TheImpl.{ghosts as bare};
     ghost use Rattle.uma.specs.NoPass.{HasNoPass};
     ghost use Rattle.uma.specs.Section.{IsReaderOf};
@@ -82,10 +79,8 @@ impl<T: Body + Drop, K: Hooks<T>> Pool<T, K> {
     /// `Workers`, `Size`, `Slabs`, `Bucket` and `Domains`, in this order, exactly where that number of the plan is out of its range, and
     /// else `Memory`.
     pub fn over(alloc: Global, plan: Plan, hooks: K, slab_hooks: K) -> Result<Pool<T, K>, Refused>
-        ensures plan { IfOk result (λ pool. pool_plan pool ≡ plan) }
-        ensures hooks { IfOk result (λ pool. pool_hooks pool ≡ hooks) }
+        ensures made { IfOk result (IsMade plan hooks) }
         ensures origin { IfOk result (λ pool. (pool_home pool).book.origin ≡ K.origin slab_hooks) }
-        ensures good { OnOk result (IsGood plan) }
         ensures refused { IfErr result (RefusesPlan plan) }
     {
         plan.check()?;
@@ -118,8 +113,7 @@ impl<T: Body + Drop, K: Hooks<T>> Pool<T, K> {
     ///
     /// `Taken` where as many locals and readers were given as the plan has workers, and else `Memory`: another may ask then.
     pub fn local<'a, R: Wait>(&'a self, rt: &R, alloc: Global) -> Result<Local<'a, T, K>, Refused>
-        ensures pool { IfOk result (λ local. pool_of local ≡ self.now) }
-        ensures ledger { IfOk result (λ local. IsNew (ledger_in local)) }
+        ensures made { IfOk result (IsNewLocal self.now) }
         ensures refused { IfErr result (RefusesLocal self.now) }
     {
         self.local_in(rt, alloc, 0)
@@ -133,8 +127,7 @@ impl<T: Body + Drop, K: Hooks<T>> Pool<T, K> {
         domain: u8,
     ) -> Result<Local<'a, T, K>, Refused>
         requires { domain < (pool_plan self.now).domains }
-        ensures pool { IfOk result (λ local. pool_of local ≡ self.now) }
-        ensures ledger { IfOk result (λ local. IsNew (ledger_in local)) }
+        ensures made { IfOk result (IsNewLocal self.now) }
         ensures refused { IfErr result (RefusesLocal self.now) }
     {
         let Some(pass) = self.take_pass(rt) else {

@@ -13,11 +13,6 @@ use Rattle.uma.proofs.NoneLeft.{ready_still}
 use Rattle.uma.proofs.Ready.{all_ready}
 use Rattle.uma.proofs.directory.open.Goals as goal
 
-pub new-requires-clause-opened : goal.new-requires-clause-opened
-new-requires-clause-opened c =
-    let made = c.in-Ok.ensures in
-    is_opened c.in-Ok.opened (setup c.args.plan.workers 1 1024 (c.args.plan.rows, 64 * c.args.plan.slabs)) 0 made.clock made.names made.long made.rows made.root
-
 fits : (opened : Opened) (set : ZoneSet) (plan : NamePlan) → set ≡ name_set_of plan → setup_of opened.clock ≡ setup plan.workers 1 1024 (plan.rows, 64 * plan.slabs) → FitsOpened opened set
 fits opened set plan is at =
     let most : 64 * plan.slabs ≤ 64 * plan.slabs = omega arith in
@@ -27,10 +22,15 @@ fits opened set plan is at =
       entries = subst (λ (s : ZoneSet). 64 * s.slabs ≤ (setup_of opened.clock).plan.1) (sym is) room;
     }
 
-pub new-requires-clause-fits : goal.new-requires-clause-fits
-new-requires-clause-fits c = fits c.in-Ok.opened _ c.args.plan c.set.ensures c.in-Ok.ensures.clock
+pub new-requires : goal.new-requires
+new-requires c =
+    let made = c.in-Ok.ensures.made in
+    record {
+      opened = is_opened c.in-Ok.opened (setup c.args.plan.workers 1 1024 (c.args.plan.rows, 64 * c.args.plan.slabs)) 0 made.clock made.names made.long made.rows made.root;
+      fits = fits c.in-Ok.opened _ c.args.plan c.set.ensures made.clock;
+    }
 
 pub returns-in-Ok-new-clause-ready : goal.returns-in-Ok-new-clause-ready
 returns-in-Ok-new-clause-ready c =
     let opened = c.in-Ok.opened in
-    ready_still opened.clock _ opened.passes _ c.in-Ok-new.ensures.made.same_clock c.in-Ok-new.ensures.made.same_passes (all_ready opened.clock told _ opened.passes c.in-Ok.ensures.passes)
+    ready_still opened.clock _ opened.passes _ c.in-Ok-new.ensures.made.same_clock c.in-Ok-new.ensures.made.same_passes (all_ready opened.clock told _ opened.passes c.in-Ok.ensures.made.passes)

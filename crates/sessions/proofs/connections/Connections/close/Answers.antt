@@ -1,4 +1,4 @@
-use Rattle.std.proofs.Common.{refl, subst, sym}
+use Rattle.std.proofs.Common.{rules, refl, subst, sym}
 use Rattle.uma.specs.Local.{pool_of}
 use Rattle.uma.specs.Pool.{IsItemOf}
 use Rattle.sessions.specs.declared.held.Held.{Held}
@@ -7,8 +7,12 @@ use Rattle.sessions.specs.Held.{IsOpen}
 use Rattle.sessions.proofs.Holding.{all_left, moved}
 use Rattle.sessions.proofs.connections.Connections.close.Goals as goal
 
-pub put-requires-clause-home : goal.put-requires-clause-home
-put-requires-clause-home c = subst (λ (held : Held). IsItemOf (pool_of c.args.self.now.local) held.item) (sym c.remove-item.ensures.value) (c.args.self.now.home c.args.place c.remove-item.result c.requires.place)
+pub put-requires : goal.put-requires
+put-requires c = record {
+  room = search rules;
+  spare = search rules;
+  home = subst (λ (held : Held). IsItemOf (pool_of c.args.self.now.local) held.item) (sym c.remove-item.ensures.value) (c.args.self.now.home c.args.place c.remove-item.result c.requires.place);
+}
 
 pub invariant_of-self-clause-home : goal.invariant_of-self-clause-home
 invariant_of-self-clause-home c =
