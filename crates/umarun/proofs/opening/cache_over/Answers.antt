@@ -6,10 +6,13 @@ use Rattle.uma_zone.specs.declared.zone_set.ZoneSet.{ZoneSet}
 use Rattle.umarun.proofs.Ranges.{cache_lacks, entries_fit, sizes_are}
 use Rattle.umarun.proofs.opening.cache_over.Goals as goal
 
-pub new-requires-clause-fits : goal.new-requires-clause-fits
-new-requires-clause-fits c = record {
-  smr = refl;
-  entries = entries_fit (setup_of c.args.opened.clock) c.args.line.now.slabs c.args.line.now.rows (ap (λ (s : Setup). s.plan) c.requires.clock);
+pub new-requires : goal.new-requires
+new-requires c = record {
+  opened = c.requires.opened;
+  fits = record {
+    smr = refl;
+    entries = entries_fit (setup_of c.args.opened.clock) c.args.line.now.slabs c.args.line.now.rows (ap (λ (s : Setup). s.plan) c.requires.clock);
+  };
 }
 
 pub returns-in-Ok-clause-sizes : goal.returns-in-Ok-clause-sizes

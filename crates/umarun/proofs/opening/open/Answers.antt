@@ -11,17 +11,17 @@ use Rattle.umarun.proofs.opening.open.Goals as goal
 
 pub returns-in-Ok-clause-passes : goal.returns-in-Ok-clause-passes
 returns-in-Ok-clause-passes c =
-    passes_of c.args.head.now.workers c.in-Ok.opened.clock c.in-Ok.opened.passes (ap (λ (s : Setup). s.about.seats) c.in-Ok.ensures.clock) c.in-Ok.ensures.passes
+    passes_of c.args.head.now.workers c.in-Ok.opened.clock c.in-Ok.opened.passes (ap (λ (s : Setup). s.about.seats) c.in-Ok.ensures.made.clock) c.in-Ok.ensures.made.passes
 
 pub returns-in-Ok-clause-opened : goal.returns-in-Ok-clause-opened
 returns-in-Ok-clause-opened c =
-    let made = c.in-Ok.ensures in
+    let made = c.in-Ok.ensures.made in
     let clock = c.in-Some.clock in
     let plan : ℕ × ℕ = (c.args.line.now.rows, c.args.line.now.slabs * 64) in
     is_opened c.in-Ok.opened (setup c.args.head.now.workers clock.start clock.window plan) _ made.clock made.names made.long made.rows made.root
 
 pub returns-in-Ok-clause-rows : goal.returns-in-Ok-clause-rows
-returns-in-Ok-clause-rows c = c.in-Ok.ensures.rows
+returns-in-Ok-clause-rows c = c.in-Ok.ensures.made.rows
 
 pub returns-in-Err-clause-refused : goal.returns-in-Err-clause-refused
 returns-in-Err-clause-refused c =

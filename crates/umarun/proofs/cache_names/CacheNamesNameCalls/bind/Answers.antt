@@ -11,30 +11,33 @@ use Rattle.umarun.proofs.Knowing.{binds_of, still_known}
 use Rattle.umarun.proofs.Moving.{bound_moves, refused_moves}
 use Rattle.umarun.proofs.cache_names.CacheNamesNameCalls.bind.Goals as goal
 
-pub bind-requires-clause-room : goal.bind-requires-clause-room
-bind-requires-clause-room g c = room_in_cache (ledger_of c.args.seat.now) c.requires.room
+pub bind-requires : goal.bind-requires
+bind-requires g c = record {
+  worker = record { same_clock = c.requires.by.clock; of_clock = c.requires.by.pass; of_zone = c.requires.seat };
+  room = room_in_cache (ledger_of c.args.seat.now) c.requires.room;
+}
 
 pub returns-in-Ok-clause-passes : goal.returns-in-Ok-clause-passes
 returns-in-Ok-clause-passes g c = record {
-  pass = c.bind.ensures.pass;
-  still = still_known (view c.args.pass.now) (view c.bind.new.pass) c.bind.ensures.still;
+  pass = c.bind.ensures.kept.pass.goes_on;
+  still = still_known (view c.args.pass.now) (view c.bind.new.pass) c.bind.ensures.kept.pass.still;
 }
 
 pub returns-in-Err-clause-passes : goal.returns-in-Err-clause-passes
 returns-in-Err-clause-passes g c = record {
-  pass = c.bind.ensures.pass;
-  still = still_known (view c.args.pass.now) (view c.bind.new.pass) c.bind.ensures.still;
+  pass = c.bind.ensures.kept.pass.goes_on;
+  still = still_known (view c.args.pass.now) (view c.bind.new.pass) c.bind.ensures.kept.pass.still;
 }
 
 pub returns-in-Ok-clause-binds : goal.returns-in-Ok-clause-binds
 returns-in-Ok-clause-binds g c =
     let cache = c.args.cache.now.cache in
-    binds_of (row_count cache) c.args.key (view c.args.pass.now) (view c.bind.new.pass) (cache_zone cache) c.args.value c.args.seat.now c.bind.new.seat c.in-Ok.field-0 c.in-Ok.ensures.bound c.in-Ok.ensures.above
+    binds_of (row_count cache) c.args.key (view c.args.pass.now) (view c.bind.new.pass) (cache_zone cache) c.args.value c.args.seat.now c.bind.new.seat c.in-Ok.field-0 c.in-Ok.ensures.bound.binds c.in-Ok.ensures.bound.above
 
 pub returns-in-Ok-clause-counts : goal.returns-in-Ok-clause-counts
 returns-in-Ok-clause-counts g c =
     let cache = c.args.cache.now.cache in
-    bind_counts (cache_zone cache) (row_count cache) c.args.key c.args.value (view c.args.pass.now) (view c.bind.new.pass) c.args.seat.now c.bind.new.seat c.in-Ok.field-0 c.in-Ok.ensures.bound
+    bind_counts (cache_zone cache) (row_count cache) c.args.key c.args.value (view c.args.pass.now) (view c.bind.new.pass) c.args.seat.now c.bind.new.seat c.in-Ok.field-0 c.in-Ok.ensures.bound.binds
 
 pub returns-in-Err-clause-binds : goal.returns-in-Err-clause-binds
 returns-in-Err-clause-binds g c =
@@ -57,7 +60,7 @@ returns-in-Err-clause-counts g c =
 pub returns-in-Ok-clause-moves : goal.returns-in-Ok-clause-moves
 returns-in-Ok-clause-moves g c =
     let kept = c.args.cache.now in
-    bound_moves kept (row_count kept.cache) c.args.key (view c.args.pass.now) (view c.bind.new.pass) c.args.seat.now c.bind.new.seat c.args.value c.in-Ok.field-0 c.in-Ok.ensures.bound
+    bound_moves kept (row_count kept.cache) c.args.key (view c.args.pass.now) (view c.bind.new.pass) c.args.seat.now c.bind.new.seat c.args.value c.in-Ok.field-0 c.in-Ok.ensures.bound.binds
 
 pub returns-in-Err-clause-moves : goal.returns-in-Err-clause-moves
 returns-in-Err-clause-moves g c =

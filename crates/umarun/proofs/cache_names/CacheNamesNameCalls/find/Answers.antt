@@ -1,4 +1,4 @@
-use Rattle.std.proofs.Common.{ap, subst, sym, ◌∙◌}
+use Rattle.std.proofs.Common.{rules, ap, subst, sym, ◌∙◌}
 use Rattle.smr_clock.specs.declared.setup.Setup.{Setup}
 use Rattle.smr_clock.specs.Belongs.{TableId, view}
 use Rattle.smr_core.specs.declared.holder.Holder.{Holder}
@@ -7,8 +7,13 @@ use Rattle.name_cache.specs.Cache.{row_count}
 use Rattle.umarun.proofs.Knowing.{find_holder, find_keeps, finds_of, loads_of, same_seen, still_known}
 use Rattle.umarun.proofs.cache_names.CacheNamesNameCalls.find.Goals as goal
 
-pub find-requires-clause-names : goal.find-requires-clause-names
-find-requires-clause-names c = subst (λ (id : TableId × Setup). FitsNames id.1 id.0.words) (sym c.requires.by.clock) c.args._cache.now.cache.names
+pub find-requires : goal.find-requires
+find-requires c =
+    record {
+      here = c.requires.by.pass;
+      names = subst (λ (id : TableId × Setup). FitsNames id.1 id.0.words) (sym c.requires.by.clock) c.args._cache.now.cache.names;
+      inside = search rules;
+    }
 
 pub returns-clause-passes : goal.returns-clause-passes
 returns-clause-passes c =

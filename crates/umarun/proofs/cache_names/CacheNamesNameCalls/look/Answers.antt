@@ -14,7 +14,7 @@ returns-clause-passes c =
     let v = view c.args.pass.now in
     let v' = view c.look.new.pass in
     record {
-      pass = c.look.ensures.pass;
+      pass = c.look.ensures.pass.goes_on;
       still = still_known v v' (look_ends c.args.key v v' c.look.result c.look.ensures.looked c.look.ensures.late);
     }
 
