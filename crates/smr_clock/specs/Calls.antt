@@ -21,7 +21,7 @@ use Rattle.smr_clock.specs.declared.refused.AdvanceRefused.{AdvanceRefused}
 use Rattle.smr_clock.specs.declared.refused.Overtaken.{Overtaken}
 use Rattle.smr_clock.specs.declared.vacancy.Vacancy.{Vacancy}
 use Rattle.smr_clock.specs.Advances.{Advances, Refuses, SameWorker}
-use Rattle.smr_clock.specs.Belongs.{TableId, IsOf, holder, knows, seat_clock, table_of}
+use Rattle.smr_clock.specs.Belongs.{TableId, IsOf, holder, knows, seat_clock}
 use Rattle.smr_clock.specs.Goals.{number_of, tag_of}
 use Rattle.smr_clock.specs.HostSteps.{Change, HostStepped, SeatStepped, HostSplits}
 use Rattle.smr_clock.specs.Notes.{IsNoteOf, IsSeatOf, note_knows, note_holder, note_table, seat_knows, seat_table}
