@@ -6,9 +6,10 @@ use Rattle.std.proofs.lemmas.Bool.Decides.{nat_tests}
 use Rattle.uma_life.specs.declared.cached.Cached.{Cached}
 use Rattle.uma_life.specs.Cached.{cached_zone}
 use Rattle.uma_keg.specs.declared.keg.Keg.{Keg}
+use Rattle.uma_keg.specs.GiveItem.{TakesBack}
 use Rattle.uma_keg.specs.Keg.{places_in, out_in}
 use Rattle.locked_keg.specs.Rule.{HasDomainsBelow}
-use Rattle.locked_keg.specs.Gives.{GivesBack, GivesAllBack, count_in}
+use Rattle.locked_keg.specs.Gives.{GivesAllBack, count_in}
 use Rattle.locked_keg.proofs.Domains.{same_places, same_domains}
 
 pub none_left : {X : Type 0} (xs : List X) → length xs ≡ 0 → xs ≡ []
@@ -35,7 +36,7 @@ module _ {T K : Type 0} {g : _} {h : _} where
   pub gives_none : (keg : Keg T K g h) (hooks : K) (items : List (Cached T g)) → GivesLast keg hooks items items keg
   gives_none keg hooks items = record { given = []; are = sym (append_none items); gives = refl }
 
-  pub gives_one : (old mid new : Keg T K g h) (hooks : K) (items left rest : List (Cached T g)) (item : Cached T g) → GivesLast old hooks items left mid → left ≡ rest ++ item ∷ [] → GivesBack mid hooks item new → GivesLast old hooks items rest new
+  pub gives_one : (old mid new : Keg T K g h) (hooks : K) (items left rest : List (Cached T g)) (item : Cached T g) → GivesLast old hooks items left mid → left ≡ rest ++ item ∷ [] → TakesBack mid hooks item new → GivesLast old hooks items rest new
   gives_one old mid new hooks items left rest item is was gives = record {
     given = item ∷ is.given;
     are = is.are ∙ ap (λ (l : List (Cached T g)). l ++ is.given) was ∙ append_assoc rest (item ∷ []) is.given;
@@ -46,7 +47,7 @@ module _ {T K : Type 0} {g : _} {h : _} where
   pub gives_all : (old new : Keg T K g h) (hooks : K) (items left : List (Cached T g)) → GivesLast old hooks items left new → left ≡ [] → GivesAllBack old hooks items new
   gives_all old new hooks items left is none = subst (λ (l : List (Cached T g)). GivesAllBack old hooks l new) (sym (is.are ∙ ap (λ (l : List (Cached T g)). l ++ is.given) none)) is.gives
 
-  one_back : (old new : Keg T K g h) (hooks : K) (item : Cached T g) (zone : ℕ) → GivesBack old hooks item new → out_in new zone + cond (cached_zone item == zone) 1 0 ≡ out_in old zone
+  one_back : (old new : Keg T K g h) (hooks : K) (item : Cached T g) (zone : ℕ) → TakesBack old hooks item new → out_in new zone + cond (cached_zone item == zone) 1 0 ≡ out_in old zone
   one_back old new hooks item zone is = one_count (cached_zone item) zone (out_in new zone) (out_in old zone) (λ at. subst (λ (z : ℕ). out_in new z + 1 ≡ out_in old z) at is.out) (λ ne. is.outs zone (λ at. ne (sym at)))
 
   -- each zone has as many items fewer outside as came back to it

@@ -1,10 +1,11 @@
 ghost use Rattle.std.specs.Prelude.{◌≡◌, [], All};
 ghost use Rattle.uma_life.specs.Cached.{cached_table};
 ghost use Rattle.uma_bucket.specs.Bucket.{items_of};
+ghost use Rattle.uma_keg.specs.GiveItem.{TakesBack};
 ghost use Rattle.uma_keg.specs.Keg.{table_in};
 ghost use Rattle.locked_keg.specs.LockedKeg.{keg_in};
 ghost use Rattle.locked_keg.specs.Frames.{KeepsRule, KeepsLocked};
-ghost use Rattle.locked_keg.specs.Gives.{GivesBack, GivesEach};
+ghost use Rattle.locked_keg.specs.Gives.{GivesEach};
 
 use crate::locked_keg::LockedKeg;
 use uma_bucket::Bucket;
@@ -16,7 +17,7 @@ impl<T: Body, K: Hooks<T>> LockedKeg<T, K> {
     /// and its place is free.
     pub fn give(&mut self, hooks: &K, item: Cached<T>)
         requires { cached_table item ≡ table_in (keg_in self.old) }
-        ensures gives { GivesBack (keg_in self.old) hooks.now item (keg_in self.new) }
+        ensures gives { TakesBack (keg_in self.old) hooks.now item (keg_in self.new) }
         ensures kept { KeepsLocked self.old self.new }
     {
         self.keg.give(hooks, item);

@@ -8,8 +8,9 @@ use Rattle.uma_places.specs.declared.counts.KegCounts.{KegCounts}
 use Rattle.uma_keg.specs.Census.{census_counts, census_out, census_table, counts_in}
 use Rattle.uma_keg.specs.Lent.{all_seen, lent_of}
 use Rattle.uma_keg.specs.FreeSlabs.{FreesSlabs, GivesNoMore, slabs_to_free}
+use Rattle.uma_keg.specs.GiveItem.{TakesBack}
 use Rattle.uma_keg.specs.Keg.{places_in, table_in, reserve_in}
-use Rattle.locked_keg.specs.Gives.{GivesBack, GivesAllBack}
+use Rattle.locked_keg.specs.Gives.{GivesAllBack}
 use Rattle.uma_zone.specs.declared.zone.Zone.{Zone}
 use Rattle.uma_zone.specs.Zone.{zone_home, zone_hooks, zone_size, zone_cap, zone_reserve, zone_rights}
 
@@ -41,7 +42,7 @@ module _ {T K H P : Type 0} {g k h : _} where
     pub was : Keg T K g k
     pub is : Keg T K g k
     pub of_zone : table_in was ≡ (zone_home zone).book
-    pub gives : GivesBack was (zone_hooks zone) item is
+    pub gives : TakesBack was (zone_hooks zone) item is
 
   -- as many items as they are came back so
   pub record GivesCounted (zone : Zone T K H P g k h) (items : List (Cached T g)) (given_back : ℕ) : Type 0 where

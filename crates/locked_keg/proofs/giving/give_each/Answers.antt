@@ -3,7 +3,7 @@ use Rattle.std.proofs.lemmas.List.Elements.{All-pop}
 use Rattle.uma_life.specs.Cached.{cached_table}
 use Rattle.uma_bucket.specs.Bucket.{items_of}
 use Rattle.uma_keg.specs.Keg.{table_in}
-use Rattle.locked_keg.specs.Gives.{GivesBack, GivesAllBack}
+use Rattle.locked_keg.specs.Gives.{GivesAllBack}
 use Rattle.locked_keg.proofs.Given.{gives_none, gives_one, gives_all, none_left, outs_back}
 use Rattle.locked_keg.proofs.Kept.{same_keg, same_more}
 use Rattle.locked_keg.proofs.giving.give_each.Goals as goal
@@ -34,22 +34,9 @@ loop-preserved g c =
     let before = c.loop.invariant in
     let one = c.give.ensures in
     let popped = All-pop (λ item. cached_table item ≡ table_in c.args.keg.now) (items_of c.loop.bucket) (items_of c.pop.new.self) (Some c.in-Some.item) c.in-Some.ensures.last before.of_keg in
-    let back : GivesBack mid c.args.hooks.now c.in-Some.item new = record {
-      places = one.places;
-      counts = one.counts;
-      was_outside = one.was_outside;
-      zones = one.zones;
-      out = one.out;
-      outs = one.outs;
-      primary = one.primary;
-      left = one.left;
-      passed = one.passed;
-      stored = one.stored;
-      buried = one.buried;
-    } in
     record {
       counted = omega (arith, before.counted, simp length-append at (ap length c.in-Some.ensures.last));
-      gives = gives_one old mid new c.args.hooks.now (items_of c.args.bucket.now) (items_of c.loop.bucket) (items_of c.pop.new.self) c.in-Some.item before.gives c.in-Some.ensures.last back;
+      gives = gives_one old mid new c.args.hooks.now (items_of c.args.bucket.now) (items_of c.loop.bucket) (items_of c.pop.new.self) c.in-Some.item before.gives c.in-Some.ensures.last one;
       of_keg = popped.0;
       rights = one.rights ∙ before.rights;
       limits = λ zone. one.limits zone ∙ before.limits zone;
