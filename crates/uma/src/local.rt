@@ -40,6 +40,7 @@ impl<'a, T: Body + Drop, K: Hooks<T>> Local<'a, T, K> {
     ///
     /// `Turned` where the limit is reached, all slabs are in use, what is free is reserved, or `init` or `ctor` refused; that is counted.
     /// `Counts` where the local's counts are full. `Memory` where memory is wanting.
+    #[inline(always)]
     pub fn alloc<R: Wait>(&mut self, rt: &R, alloc: Global, arg: u64) -> Result<Live<T>, Refused>
         ensures { AnswersAlloc arg false self.old result self.new }
     {
@@ -51,6 +52,7 @@ impl<'a, T: Body + Drop, K: Hooks<T>> Local<'a, T, K> {
     /// # Errors
     ///
     /// As `alloc`, but what is reserved refuses nothing.
+    #[inline]
     pub fn alloc_reserved<R: Wait>(
         &mut self,
         rt: &R,
@@ -62,6 +64,9 @@ impl<'a, T: Body + Drop, K: Hooks<T>> Local<'a, T, K> {
         self.ask(rt, alloc, arg, true)
     }
 
+    // What an alloc and a free do nearly always stands in their callers, and what they do once for a bucket is a call: an item that a call
+    // hands on goes through memory.
+    #[inline(always)]
     fn ask<R: Wait>(
         &mut self,
         rt: &R,
@@ -91,6 +96,7 @@ impl<'a, T: Body + Drop, K: Hooks<T>> Local<'a, T, K> {
     ///
     /// The item comes back. `Memory` where the local has no spare bucket and there is no memory for one; `Counts` where its counts are
     /// full.
+    #[inline(always)]
     pub fn free<R: Wait>(&mut self, rt: &R, alloc: Global, held: Live<T>) -> Result<(), NotFreed<T>>
         requires { IsItemOf (pool_of self.old) held }
         ensures { AnswersFree self.old held result self.new }
@@ -104,6 +110,7 @@ impl<'a, T: Body + Drop, K: Hooks<T>> Local<'a, T, K> {
 
     /// Frees an item, for which [`Local::make_ready`] has seen to a bucket: what it does is what [`Local::free`] does, but it neither fails
     /// nor waits, and takes no memory.
+    #[inline(always)]
     pub fn put(&mut self, held: Live<T>)
         requires { CanPut self.old held }
         ensures { PutsItem self.old held self.new }
@@ -123,6 +130,7 @@ impl<'a, T: Body + Drop, K: Hooks<T>> Local<'a, T, K> {
     /// # Errors
     ///
     /// As [`Local::free`].
+    #[inline(always)]
     pub fn make_ready<R: Wait>(&mut self, rt: &R, alloc: Global) -> Result<(), Refused>
         ensures { AnswersReady self.old result self.new }
     {

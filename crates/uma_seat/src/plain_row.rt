@@ -67,6 +67,8 @@ impl<T: Body> PlainRow<T> {
     }
 
     /// Exchanges an empty bucket with that of the domain.
+    // It runs once for a bucket of requests, so it is kept out of `try_alloc`, which stands in its callers.
+    #[inline(never)]
     pub fn exchange(&mut self, domain: u8, empty: &mut Bucket<T>)
         requires { CanExchangeAt (row_len self.old) domain (items_of empty.old) }
         ensures { ExchangesAt self.old domain empty.old empty.new self.new }

@@ -27,6 +27,7 @@ impl<T: Body + Drop, K: Hooks<T>, H: Host> Zone<T, K, H> {
     /// refuses the item, which lies on top of the seat's usable items again. Each is counted, and kept by the seat's
     /// ledger. `Memory` where memory is wanting, which is counted nowhere; no item is lost. The pass has taken in no note
     /// then, so that no bucket of freed items was opened.
+    #[inline(always)]
     pub fn alloc<R: Wait>(
         &self,
         rt: &R,
@@ -48,6 +49,7 @@ impl<T: Body + Drop, K: Hooks<T>, H: Host> Zone<T, K, H> {
     }
 
     // Takes an item from the seat, which is filled first where none is usable.
+    #[inline(always)]
     fn take<R: Wait>(
         &self,
         rt: &R,
@@ -75,6 +77,8 @@ impl<T: Body + Drop, K: Hooks<T>, H: Host> Zone<T, K, H> {
     }
 
     // Flushes a seat without a usable item, settles its domain, and gets it some: from the lists of its domain, or else from the keg.
+    #[cold]
+    #[inline(never)]
     fn fill<R: Wait>(
         &self,
         rt: &R,
@@ -107,6 +111,7 @@ impl<T: Body, K: Hooks<T>, H: Host> Zone<T, K, H> {
     ghost use Rattle.uma_zone.specs.Allocating.{BuildsAtHome, KeepsInBuild};
 
     // Runs `ctor` on an item that was taken, and counts the request.
+    #[inline(always)]
     fn build(
         &self,
         seat: &mut SeatCache<T, H>,

@@ -13,6 +13,7 @@ impl<T: Body, K: Hooks<T>, H: Host> Zone<T, K, H> {
 
     /// Frees an item of a plain zone. It passes `dtor`, and lies in the seat's bucket of its domain, or with that on the
     /// seat's shelf. It takes no memory and waits for nobody. A seat without a spare bucket needs `make_room` first.
+    #[inline(always)]
     pub fn free(&self, seat: &mut SeatCache<T, H>, live: Live<T>)
         requires { CanFree self.now live seat.old }
         ensures freed { Frees self.now seat.old live seat.new }
@@ -25,6 +26,7 @@ impl<T: Body, K: Hooks<T>, H: Host> Zone<T, K, H> {
     /// Frees an item of a zone whose readers hold no lock. It stays built, and is deferred until no section may see it: no
     /// item of the seat becomes usable. It takes no memory and waits for nobody. A seat without a spare bucket needs
     /// `make_room` first.
+    #[inline(always)]
     pub fn free_smr(
         &self,
         clock: &Clock<H>,

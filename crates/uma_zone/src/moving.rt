@@ -46,6 +46,8 @@ impl<T: Body + Drop, K: Hooks<T>, H: Host> Zone<T, K, H> {
 
     /// Flushes the seat, and then makes spare buckets until there are two, so that the next frees have one. Waits as
     /// `flush` does.
+    #[cold]
+    #[inline(never)]
     pub fn make_room<R: Wait>(
         &self,
         rt: &R,
