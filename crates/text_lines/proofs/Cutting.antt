@@ -1,16 +1,16 @@
 -- Where the first line and the first field of a text end.
-use Rattle.std.proofs.Common.{◌≡◌, ℕ, zero, suc, ◌+◌, ◌-◌, ◌<◌, ◌≤◌, Bool, true, false, cond, not, eqb, ltb, List, [], ◌∷◌, length, get_or, take, drop, Some, None, refl, sym, ap, subst, ◌∙◌, arith}
+use Rattle.std.proofs.Common.{◌≡◌, ℕ, zero, suc, ◌+◌, ◌-◌, ◌<◌, ◌≤◌, Bool, true, false, cond, not, eqb, ltb, leb, List, [], ◌∷◌, length, get_or, take, drop, Option, Some, None, refl, sym, ap, subst, ◌∙◌, arith}
 use Rattle.std.specs.Prelude.{All}
-use Rattle.std.specs.List.{slice_split, onto_first, filter, position, position_or_len}
+use Rattle.std.specs.List.{slice_split, onto_first, filter, list_all, position, position_or_len}
 use Rattle.std.specs.Str.Lines.{lines, lines_of_parts, strip_carriage_return}
 use Rattle.std.proofs.Math.Seq.{drop-length}
-use Rattle.std.proofs.lemmas.Bool.{ltb-true, ltb-false, ne_eqb, not-true, not-false}
-use Rattle.std.proofs.lemmas.List.{drop_more, take_rest}
+use Rattle.std.proofs.lemmas.Bool.{and_left, leb-true, ltb-true, ltb-false, ne_eqb, not-true, not-false, or_right, true_from_ne_false, true≢false}
+use Rattle.std.proofs.lemmas.List.{drop_more, get_or-take, length-take, take_rest}
 use Rattle.std.proofs.lemmas.List.Quantifiers.{position-Some}
 use Rattle.std.proofs.lemmas.List.Splits.{slice_split_first, slice_split_none, slice_split-cons_yes}
-use Rattle.std.proofs.lemmas.List.Sums.{fails_before_first}
+use Rattle.std.proofs.lemmas.List.Sums.{fails_before_first, list_all-from_AllPass, position_or_len_is}
 use Rattle.std.proofs.lemmas.Option.{cond_some}
-use Rattle.text_lines.specs.TextLines.{fields_of, is_field, is_blank}
+use Rattle.text_lines.specs.TextLines.{fields_of, is_allowed, is_field, is_blank, is_plain, is_skipped}
 
 -- ---- the first place that passes
 
@@ -62,6 +62,40 @@ line_without_end text e lt =
     let p : ℕ → Bool = λ b. eqb b 10 in
     ap lines_of_parts (slice_split_none p text (none_passes p text e)) ∙ rw (ne_eqb (length text) 0 (omega arith)) refl
 
+-- ---- a first line whose bytes are plain
+
+plain_low : (b : ℕ) → is_plain b ≡ true → 32 ≤ b
+plain_low b is = leb-true 32 b (true_from_ne_false (leb 32 b) (λ no. true≢false (sym is ∙ and_left (leb 32 b) (leb b 126) no)))
+
+plain_allowed : (b : ℕ) → is_plain b ≡ true → is_allowed b ≡ true
+plain_allowed b is = or_right (eqb b 9) (is_plain b) is
+
+plain_before : (text : List ℕ) (i : ℕ) → position (λ b. not (is_plain b)) text ≡ Some i → All (λ b. is_plain b ≡ true) (take i text)
+plain_before text i e = λ k d lt. plain_at k d (omega (arith, lt, length-take i text)) where
+  plain_at : (k d : ℕ) → k < i → is_plain (get_or (take i text) k d) ≡ true
+  plain_at k d le = rw (get_or-take i text k d le) (not-false _ ((position-Some (λ b. not (is_plain b)) text i d e).2 k le))
+
+kept_by : (line : List ℕ) → eqb (get_or line (length line - 1) 0) 13 ≡ false → strip_carriage_return line ≡ line
+kept_by line is = rw is refl
+
+plain_kept : (line : List ℕ) → All (λ b. is_plain b ≡ true) line → strip_carriage_return line ≡ line
+plain_kept [] all = refl
+plain_kept (x ∷ xs) all =
+    kept_by (x ∷ xs) (ne_eqb (get_or (x ∷ xs) (length (x ∷ xs) - 1) 0) 13 (omega (arith, plain_low (get_or (x ∷ xs) (length (x ∷ xs) - 1) 0) (all (length (x ∷ xs) - 1) 0 (omega arith)))))
+
+pub plain_line : (text : List ℕ) (i : ℕ) → position (λ b. not (is_plain b)) text ≡ Some i → get_or text i 0 ≡ 10 → lines text ≡ take i text ∷ lines (drop (i + 1) text)
+plain_line text i e is =
+    let first = position-Some (λ b. not (is_plain b)) text i 0 e in
+    let p : ℕ → Bool = λ b. eqb b 10 in
+    let place : position_or_len p text ≡ i = position_or_len_is p text i 0 (omega (arith, first.0)) (λ k lt. ne_eqb (get_or text k 0) 10 (omega (arith, plain_low (get_or text k 0) (not-false _ (first.2 k lt))))) (λ within. rw is refl) in
+    let P : ℕ → Type 0 = λ k. slice_split p text ≡ take k text ∷ slice_split p (drop (k + 1) text) in
+    let parts : P i = subst P place (slice_split_first p text 0 (omega (arith, place, first.0))) in
+    ap lines_of_parts parts ∙ lines_of_more (take i text) (slice_split p (drop (i + 1) text)) (parts_nonempty p (drop (i + 1) text))
+    ∙ ap (λ line. line ∷ lines (drop (i + 1) text)) (plain_kept (take i text) (plain_before text i e))
+
+pub plain_line_allowed : (text : List ℕ) (i : ℕ) → position (λ b. not (is_plain b)) text ≡ Some i → list_all is_allowed (take i text) ≡ true
+plain_line_allowed text i e = list_all-from_AllPass is_allowed (take i text) (λ k d lt. plain_allowed (get_or (take i text) k d) (plain_before text i e k d lt))
+
 -- ---- fields
 
 fields_behind_blank : (x : ℕ) (text : List ℕ) → is_blank x ≡ true → fields_of (x ∷ text) ≡ fields_of text
@@ -102,15 +136,34 @@ fields_from text start e =
     let here : drop start text ≡ get_or text start 0 ∷ drop (start + 1) text = drop_more text start 0 first.0 in
     (behind, rw here (not-true _ first.1), rw here (omega arith))
 
+not_first : (text : List ℕ) (i : ℕ) → is_blank (get_or text i 0) ≡ true → is_blank (get_or text 0 0) ≡ false → 0 < i
+not_first text zero blank field = absurd cc
+not_first text (suc i) blank field = omega arith
+
 field_ends_at : (text : List ℕ) (start at : ℕ) → position (λ b. not (is_blank b)) text ≡ Some start → position is_blank (drop start text) ≡ Some at
     → fields_of text ≡ take at (drop start text) ∷ fields_of (drop (at + 1) (drop start text))
 field_ends_at text start at e f =
     let from = fields_from text start e in
-    let later : 0 < at = not_first at (position-Some is_blank (drop start text) at 0 f).1 from.1 in
-    from.0 ∙ field_before_blank (drop start text) at f later where
-      not_first : (i : ℕ) → is_blank (get_or (drop start text) i 0) ≡ true → is_blank (get_or (drop start text) 0 0) ≡ false → 0 < i
-      not_first zero blank field = absurd cc
-      not_first (suc i) blank field = omega arith
+    let later : 0 < at = not_first (drop start text) at (position-Some is_blank (drop start text) at 0 f).1 from.1 in
+    from.0 ∙ field_before_blank (drop start text) at f later
+
+-- a line is skipped by the byte with which its first field begins
+pub skipped_by_first : (text : List ℕ) (start : ℕ) → position (λ b. not (is_blank b)) text ≡ Some start → is_skipped (fields_of text) ≡ eqb (get_or text start 0) 35
+skipped_by_first text start e = by_end (position is_blank (drop start text)) refl where
+  here : drop start text ≡ get_or text start 0 ∷ drop (start + 1) text
+  here = drop_more text start 0 (position-Some (λ b. not (is_blank b)) text start 0 e).0
+
+  begins : get_or (drop start text) 0 0 ≡ get_or text start 0
+  begins = rw here refl
+
+  by_end : (found : Option ℕ) → position is_blank (drop start text) ≡ found → is_skipped (fields_of text) ≡ eqb (get_or text start 0) 35
+  by_end (Some at) f =
+      let from = fields_from text start e in
+      let later : 0 < at = not_first (drop start text) at (position-Some is_blank (drop start text) at 0 f).1 from.1 in
+      ap is_skipped (field_ends_at text start at e f) ∙ ap (λ b. eqb b 35) (get_or-take at (drop start text) 0 0 later ∙ begins)
+  by_end None f =
+      let from = fields_from text start e in
+      ap is_skipped (from.0 ∙ field_at_end (drop start text) f from.2) ∙ ap (λ b. eqb b 35) begins
 
 -- `part` is what stands from the first field on
 pub field_ends : (text part : List ℕ) (start at : ℕ) → part ≡ drop start text → position (λ b. not (is_blank b)) text ≡ Some start → position is_blank part ≡ Some at

@@ -12,6 +12,10 @@ pub record TextLine : Type 0 where
   pub number : ℕ
   pub fields : List (List ℕ)
 
+-- from space to tilde
+abbrev pub is_plain : ℕ → Bool
+is_plain byte = nat_le 32 byte && nat_le byte 126
+
 -- tab, and from space to tilde
 abbrev pub is_allowed : ℕ → Bool
 is_allowed byte = (byte == 9) || (nat_le 32 byte && nat_le byte 126)

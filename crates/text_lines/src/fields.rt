@@ -8,6 +8,7 @@ use crate::number::parse_number;
 use crate::refused::TraceKind;
 
 /// That there is no field.
+#[inline(always)]
 pub fn no_field(text: &[u8]) -> Result<(), TraceKind>
     ensures { result ≡ no_field (fields_of text.now) }
 {
@@ -19,6 +20,7 @@ pub fn no_field(text: &[u8]) -> Result<(), TraceKind>
 
 /// The one field that there is.
 #[tactic(auto, using(crate::proofs::Counting::one_by))]
+#[inline(always)]
 pub fn one_field(text: &[u8]) -> Result<&[u8], TraceKind>
     ensures { Reads (λ x. x.now) result (one_field (fields_of text.now)) }
 {
@@ -31,6 +33,7 @@ pub fn one_field(text: &[u8]) -> Result<&[u8], TraceKind>
 
 /// The two fields that there are.
 #[tactic(auto, using(crate::proofs::Counting::two_by))]
+#[inline(always)]
 pub fn two_fields(text: &[u8]) -> Result<(&[u8], &[u8]), TraceKind>
     ensures { Reads (λ x. (x.0.now, x.1.now)) result (two_fields (fields_of text.now)) }
 {
@@ -86,6 +89,7 @@ pub fn number_in(field: &[u8]) -> Result<u64, TraceKind>
 }
 
 /// The number, or `Range` where it isn't within its range.
+#[inline(always)]
 pub fn ranged(within: bool, number: u64) -> Result<u64, TraceKind>
     ensures { result ≡ ranged within number }
 {

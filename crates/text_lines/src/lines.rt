@@ -2,7 +2,7 @@
 ghost use Rattle.std.specs.Prelude.{◌≡◌, ◌<◌, [], ◌∷◌, length, IfSome, IfNone, ◌==◌, not};
 ghost use Rattle.std.specs.List.{list_all, position};
 ghost use Rattle.std.specs.Str.Lines.{lines, strip_carriage_return};
-ghost use Rattle.text_lines.specs.TextLines.{fields_of, is_allowed, is_blank};
+ghost use Rattle.text_lines.specs.TextLines.{fields_of, is_allowed, is_blank, is_plain};
 
 /// The line without the one CR at its end, if it has one.
 fn without_return(line: &[u8]) -> &[u8]
@@ -22,7 +22,7 @@ fn place_of_end(text: &[u8]) -> Option<usize>
 }
 
 /// The first line, without its end, and what stands behind it.
-pub fn first_line(text: &[u8]) -> (&[u8], &[u8])
+fn any_line(text: &[u8]) -> (&[u8], &[u8])
     requires { 0 < length text.now }
     ensures line { lines text.now ≡ result.0.now ∷ lines result.1.now }
     ensures shorter { length result.1.now < length text.now }
@@ -33,6 +33,39 @@ pub fn first_line(text: &[u8]) -> (&[u8], &[u8])
     }
 }
 
+/// Whether a byte is one from space to tilde.
+fn is_plain(byte: u8) -> bool
+    ensures { result ≡ is_plain byte }
+{
+    b' ' <= byte && byte <= b'~'
+}
+
+/// Where the first byte stands that is none from space to tilde.
+fn place_past_plain(text: &[u8]) -> Option<usize>
+    ensures { result ≡ position (λ byte. not (is_plain byte)) text.now }
+{
+    text.iter().position(|&byte| !is_plain(byte))
+}
+
+/// The first line, without its end, what stands behind it, and whether each byte of the line is one that may stand there.
+/// It goes once over a line that has bytes from space to tilde alone, and ends at LF.
+#[inline(always)]
+pub fn first_line(text: &[u8]) -> (&[u8], &[u8], bool)
+    requires { 0 < length text.now }
+    ensures line { lines text.now ≡ result.0.now ∷ lines result.1.now }
+    ensures shorter { length result.1.now < length text.now }
+    ensures allowed { result.2 ≡ list_all is_allowed result.0.now }
+{
+    if let Some(at) = place_past_plain(text) {
+        if text[at] == b'\n' {
+            return (&text[..at], &text[at + 1..], true);
+        }
+    }
+    let (line, behind) = any_line(text);
+    let allowed = is_allowed_line(line);
+    (line, behind, allowed)
+}
+
 fn is_allowed(byte: u8) -> bool
     ensures { result ≡ is_allowed byte }
 {
@@ -40,7 +73,7 @@ fn is_allowed(byte: u8) -> bool
 }
 
 /// Whether each byte of a line is one that may stand there: a tab, or one from space to tilde.
-pub fn is_allowed_line(line: &[u8]) -> bool
+fn is_allowed_line(line: &[u8]) -> bool
     ensures { result ≡ list_all is_allowed line.now }
 {
     line.iter().all(|&byte| is_allowed(byte))
@@ -53,7 +86,7 @@ fn is_blank(byte: u8) -> bool
 }
 
 /// Where the first field begins.
-fn place_of_field(text: &[u8]) -> Option<usize>
+pub fn place_of_field(text: &[u8]) -> Option<usize>
     ensures { result ≡ position (λ byte. not (is_blank byte)) text.now }
 {
     text.iter().position(|&byte| !is_blank(byte))
@@ -67,6 +100,7 @@ fn place_of_blank(text: &[u8]) -> Option<usize>
 }
 
 /// The first field, and what stands behind it. The fields of a line are what stands between its blanks.
+#[inline(always)]
 pub fn next_field(text: &[u8]) -> Option<(&[u8], &[u8])>
     ensures some { IfSome result (λ x. fields_of text.now ≡ x.0.now ∷ fields_of x.1.now) }
     ensures none { IfNone result (fields_of text.now ≡ []) }

@@ -1,10 +1,11 @@
+ghost use Rattle.std.specs.List.{list_all};
 ghost use Rattle.std.specs.Prelude.{◌≡◌, [], OnOk, IsErrOf};
-ghost use Rattle.text_lines.specs.TextLines.{fields_of, is_skipped, IsRefusedAt};
+ghost use Rattle.text_lines.specs.TextLines.{fields_of, is_allowed as is_allowed_byte, is_skipped, IsRefusedAt};
 ghost use Rattle.text_lines.specs.Taking.{TakesLine, ShowsText, at_line};
 ghost use Rattle.text_lines.specs.declared.refused.TraceRefused.{TraceRefused as Refused};
 
 use crate::grammar::Grammar;
-use crate::lines::{first_line, is_allowed_line, next_field};
+use crate::lines::{first_line, place_of_field};
 use crate::refused::{LineRefused, ParseRefused, TraceKind, TraceRefused};
 
 /// Has the grammar take the lines of a text in, one after another. The first bad line is refused with its number and with
@@ -20,9 +21,9 @@ pub fn read_lines<G: Grammar>(grammar: &mut G, text: &[u8]) -> Result<(), ParseR
     let mut rest = text;
     let mut number = 0;
     'lines: while !rest.is_empty() {
-        let (line, behind) = first_line(rest);
+        let (line, behind, is_allowed) = first_line(rest);
         number += 1;
-        if let Err(refused) = read_line(grammar, number, line) {
+        if let Err(refused) = read_line(grammar, number, line, is_allowed) {
             return Err(at_line(number, refused));
         }
         rest = behind;
@@ -46,12 +47,18 @@ fn at_line(line: u64, refused: LineRefused) -> ParseRefused
 }
 
 /// Has the grammar take a line in where it isn't skipped. Its bytes are tested first, and also where it is skipped.
-fn read_line<G: Grammar>(grammar: &mut G, number: u64, line: &[u8]) -> Result<(), LineRefused>
-    requires { G.kept grammar.old }
+fn read_line<G: Grammar>(
+    grammar: &mut G,
+    number: u64,
+    line: &[u8],
+    is_allowed: bool,
+) -> Result<(), LineRefused>
+    requires kept { G.kept grammar.old }
+    requires allowed { is_allowed ≡ list_all is_allowed_byte line.now }
     ensures takes { TakesLine G.test G.shows grammar.old number line.now result grammar.new }
     ensures kept { G.kept grammar.new }
 {
-    if !is_allowed_line(line) {
+    if !is_allowed {
         return Err(TraceKind::Bytes.into());
     }
     if is_skipped(line) {
@@ -64,8 +71,8 @@ fn read_line<G: Grammar>(grammar: &mut G, number: u64, line: &[u8]) -> Result<()
 fn is_skipped(line: &[u8]) -> bool
     ensures { result ≡ is_skipped (fields_of line.now) }
 {
-    match next_field(line) {
-        Some((first, _)) => first.first() == Some(&b'#'),
+    match place_of_field(line) {
+        Some(at) => line[at] == b'#',
         None => true,
     }
 }
