@@ -9,4 +9,5 @@ pub mod TraceLaws
 pub mod TraceLine
 pub mod TraceShown
 pub mod TraceTables
+pub mod TraceTaken
 pub mod Valid

@@ -16,6 +16,7 @@ const MOST_ZONES: usize = 16;
 const MOST_SECONDS: usize = 7;
 
 impl<'a> Said<'a> {
+    #[inline(always)]
     fn needs_clock(&self) -> bool
         ensures { result ≡ needs_clock self.now }
     {
@@ -28,6 +29,7 @@ impl<'a> Said<'a> {
         }
     }
 
+    #[inline(always)]
     fn needs_names(&self) -> bool
         ensures { result ≡ needs_names self.now }
     {
@@ -39,6 +41,7 @@ impl<'a> Said<'a> {
         }
     }
 
+    #[inline(always)]
     fn takes_name(&self, zones: &Zones) -> bool
         ensures { result ≡ takes_name zones.now self.now }
     {
@@ -50,6 +53,7 @@ impl<'a> Said<'a> {
         }
     }
 
+    #[inline(always)]
     fn lacks_zone(&self, zones: &Zones) -> bool
         ensures { result ≡ lacks_zone zones.now self.now }
     {
@@ -62,6 +66,7 @@ impl<'a> Said<'a> {
         }
     }
 
+    #[inline(always)]
     fn passes_most(&self, zones: &Zones) -> bool
         ensures { result ≡ passes_most zones.now self.now }
     {
@@ -75,6 +80,7 @@ impl<'a> Said<'a> {
         }
     }
 
+    #[inline(always)]
     fn finds_filled(&self, slots: &[bool]) -> bool
         ensures { result ≡ finds_filled (slot_at slots.now) self.now }
     {
@@ -93,6 +99,7 @@ impl<'a> Said<'a> {
         }
     }
 
+    #[inline(always)]
     fn finds_empty(&self, slots: &[bool]) -> bool
         ensures { result ≡ finds_empty (slot_at slots.now) self.now }
     {
@@ -106,6 +113,7 @@ impl<'a> Said<'a> {
         }
     }
 
+    #[inline(always)]
     fn finds_open(&self, sections: &[bool]) -> bool
         ensures { result ≡ finds_open (is_marked sections.now) self.now }
     {
@@ -117,6 +125,7 @@ impl<'a> Said<'a> {
         }
     }
 
+    #[inline(always)]
     fn finds_closed(&self, sections: &[bool]) -> bool
         ensures { result ≡ finds_closed (is_marked sections.now) self.now }
     {
@@ -126,6 +135,7 @@ impl<'a> Said<'a> {
         }
     }
 
+    #[inline(always)]
     fn finds_away(&self, away: &[bool]) -> bool
         ensures { result ≡ finds_away (is_marked away.now) self.now }
     {
@@ -136,6 +146,7 @@ impl<'a> Said<'a> {
         }
     }
 
+    #[inline(always)]
     fn finds_there(&self, away: &[bool]) -> bool
         ensures { result ≡ finds_there (is_marked away.now) self.now }
     {
@@ -147,6 +158,7 @@ impl<'a> Said<'a> {
 
     /// What is wrong with a line that says this, where there are these zones, slots and sections, and workers that are
     /// away.
+    #[inline(always)]
     pub fn clash(
         &self,
         has_clock: bool,
@@ -176,6 +188,7 @@ impl<'a> Said<'a> {
 
     /// What is wrong with what a line says of a worker, where there are these slots and sections, and workers that are
     /// away.
+    #[inline(always)]
     fn worker_clash(&self, tables: &Tables) -> Option<TraceKind>
         ensures { result ≡ first_failed (worker_tests (slot_at tables.now.slots.items) (is_marked tables.now.sections.items) (is_marked tables.now.away.items) self.now) }
     {

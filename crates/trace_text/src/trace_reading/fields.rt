@@ -45,6 +45,7 @@ pub fn kind_in(field: &[u8]) -> Result<ZoneKind, TraceKind>
 }
 
 /// A worker of so many.
+#[inline(always)]
 pub fn worker_in(workers: u32, field: &[u8]) -> Result<u32, TraceKind>
     ensures value { result ≡ worker_in workers field.now }
     ensures there { IfOk result (λ n. n < workers) }
@@ -55,6 +56,7 @@ pub fn worker_in(workers: u32, field: &[u8]) -> Result<u32, TraceKind>
 }
 
 /// The number of a slot.
+#[inline(always)]
 pub fn slot_in(field: &[u8]) -> Result<u32, TraceKind>
     ensures value { result ≡ slot_in field.now }
     ensures there { IfOk result (λ n. n ≤ last_slot) }
@@ -64,6 +66,7 @@ pub fn slot_in(field: &[u8]) -> Result<u32, TraceKind>
 }
 
 /// The argument of a constructor: 0 where there is none.
+#[inline(always)]
 pub fn arg_in(field: Option<&[u8]>) -> Result<u64, TraceKind>
     ensures { result ≡ arg_in (option_map (λ x. x.now) field.entry) }
 {
@@ -169,6 +172,7 @@ pub struct AllocFields<'a> {
 
 impl<'a> AllocFields<'a> {
     /// The fields that there are.
+    #[inline(always)]
     pub fn of(text: &'a [u8]) -> Result<AllocFields<'a>, TraceKind>
         ensures { Reads (λ x. ((x.worker.now, x.zone.now, x.slot.now), (option_map (λ f. f.now) x.arg, x.reserve))) result (alloc_fields (fields_of text.now)) }
     {

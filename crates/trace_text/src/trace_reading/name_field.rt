@@ -26,6 +26,7 @@ impl<'a> Model for NameField<'a> {
 
 impl<'a> NameField<'a> {
     /// The name that a field is.
+    #[inline(always)]
     pub fn of(field: &'a [u8]) -> Result<NameField<'a>, TraceKind>
         ensures { result ≡ name_in field.now }
     {
@@ -37,6 +38,7 @@ impl<'a> NameField<'a> {
     }
 
     /// Its bytes.
+    #[inline(always)]
     pub fn as_bytes(&self) -> &[u8]
         ensures { result.now ≡ self.now }
     {

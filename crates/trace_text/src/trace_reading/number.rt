@@ -10,6 +10,7 @@ use text_lines::ranged;
 const ROOMY: u64 = 1_000_000_000_000_000_000;
 
 /// The number that the digits spell with which a field begins, and how many they are. It stops where the next digit may have no room.
+#[inline(always)]
 fn digits_in(field: &[u8]) -> (u64, usize)
     ensures within { result.1 ≤ length field.now }
     ensures digits { AllDigits 10 (take result.1 field.now) }
@@ -32,6 +33,7 @@ fn digits_in(field: &[u8]) -> (u64, usize)
 
 /// The number that a field spells, by the rule of `parse_number`. It goes once over the field, but for one that is no number or is beyond
 /// 10^19.
+#[inline(always)]
 pub fn number_in(field: &[u8]) -> Result<u64, TraceKind>
     ensures { result ≡ number_in field.now }
 {
@@ -46,6 +48,7 @@ pub fn number_in(field: &[u8]) -> Result<u64, TraceKind>
 }
 
 /// A number from `low` to `high`.
+#[inline(always)]
 pub fn number_within(field: &[u8], low: u64, high: u64) -> Result<u64, TraceKind>
     ensures value { result ≡ number_within low high field.now }
     ensures within { IfOk result (λ n. (low ≤ n) × (n ≤ high)) }

@@ -1,17 +1,20 @@
 ghost use Rattle.std.specs.Prelude.{◌≡◌, ◌<◌, [], false, OnOk, IfOk, IfErr};
+ghost use Rattle.text_lines.specs.TextLines.{fields_of};
 ghost use Rattle.trace_text.specs.Grammar.{entry_of, passes_most, stage_of, takes_name, trace_test, work_op};
 ghost use Rattle.trace_text.specs.TraceHeard.{Adds, AddsAll, Hears, clash_found};
 ghost use Rattle.trace_text.specs.declared.trace_reading.said.Said.TheVariants.{InZone, SetMax};
 ghost use Rattle.trace_text.specs.TraceTables.{AreWhole, EntryFits, most_workers};
 ghost use Rattle.trace_text.specs.TraceShown.{NamesFit, WorkSlotFits};
 ghost use Rattle.trace_text.specs.TraceKnown.{Keeps, Knows, trace_by};
+ghost use Rattle.trace_text.specs.TraceTaken.{TakesWord};
 
 use crate::trace_reading::entry::Entry;
 use crate::trace_reading::name_field::NameField;
 use crate::trace_reading::rounds::rounds;
-use crate::trace_reading::said::{Said, ZoneWork};
+use crate::trace_reading::said::{Said, ZoneWork, word_in};
 use crate::trace_reading::stage::Stage;
 use crate::trace_reading::tables::Tables;
+use crate::trace_reading::word::{Word, WorkWord, ZoneWord};
 use crate::trace_reading::zones::Zones;
 use crate::{Between, ClockHead, Head, NamesHead, Op, Trace, TraceKind, Version};
 use std::alloc::{AllocError, Global};
@@ -35,6 +38,7 @@ pub struct TraceReader {
 
 impl<'a> Said<'a> {
     /// What the line is in the order of a text.
+    #[inline(always)]
     pub fn stage(&self) -> Stage
         ensures { result ≡ stage_of self.now }
     {
@@ -55,6 +59,7 @@ impl<'a> Said<'a> {
 
 impl ZoneWork {
     /// The operation, in the zone at this place.
+    #[inline(always)]
     pub fn op(self, zone: u32) -> Op
         ensures { result ≡ work_op self zone }
     {
@@ -114,6 +119,7 @@ impl TraceReader {
     }
 
     /// Takes in a line below the header.
+    #[inline(always)]
     fn add(&mut self, entry: Entry) -> Result<(), LineRefused>
         requires whole { AreWhole self.old.tables }
         requires fits { EntryFits entry }
@@ -128,6 +134,7 @@ impl TraceReader {
     }
 
     /// Takes in what a worker does in a zone, where it is there.
+    #[inline(always)]
     fn add_in_zone(
         &mut self,
         worker: u32,
@@ -165,6 +172,7 @@ impl TraceReader {
     }
 
     /// What is wrong with a line that says this.
+    #[inline(always)]
     fn clash(&self, said: &Said<'_>) -> Option<TraceKind>
         ensures { result ≡ clash_found self.now said.now }
     {
@@ -177,6 +185,7 @@ impl TraceReader {
     }
 
     /// Takes in what a line behind the first one says.
+    #[inline(always)]
     fn hear(&mut self, said: Said<'_>) -> Result<(), LineRefused>
         requires kept { Keeps self.old }
         requires new { takes_name self.old.zones said ≡ false }
@@ -217,6 +226,20 @@ impl TraceReader {
         }
         Ok(())
     }
+
+    /// Takes in a line with this word behind the first line, or says what is wrong with what is behind the word.
+    #[inline(always)]
+    fn take_word(&mut self, word: Word, rest: &[u8]) -> Result<(), LineRefused>
+        requires kept { Keeps self.old }
+        ensures takes { TakesWord word (fields_of rest.now) self.old result self.new }
+        ensures kept { Keeps self.new }
+    {
+        let said = Said::by_word(self.workers, word, rest)?;
+        match self.clash(&said) {
+            Some(kind) => Err(kind.into()),
+            None => self.hear(said),
+        }
+    }
 }
 
 impl Grammar for TraceReader {
@@ -238,10 +261,12 @@ impl Grammar for TraceReader {
         if self.stage.is_last() {
             return Err(TraceKind::After.into());
         }
-        let said = Said::by_line(self.version, self.stage, self.workers, line)?;
-        match self.clash(&said) {
-            Some(kind) => Err(kind.into()),
-            None => self.hear(said),
+        let (word, rest) = word_in(self.version, self.stage, line)?;
+        // The two words of most lines go ways of their own.
+        match word {
+            Word::Zone(ZoneWord::Alloc) => self.take_word(Word::Zone(ZoneWord::Alloc), rest),
+            Word::Work(WorkWord::Free) => self.take_word(Word::Work(WorkWord::Free), rest),
+            _ => self.take_word(word, rest),
         }
     }
 

@@ -1,5 +1,5 @@
 //! What one line of a trace says.
-ghost use Rattle.std.specs.Prelude.{◌≡◌, IfOk};
+ghost use Rattle.std.specs.Prelude.{◌≡◌, ℕ, Err, IfOk, IfErr};
 ghost use Rattle.text_lines.specs.TextLines.{fields_of};
 ghost use Rattle.trace_text.specs.TraceLine.{said_by, says};
 ghost use Rattle.trace_text.specs.TraceShown.{NamesFit};
@@ -85,32 +85,29 @@ pub enum ZoneWork {
     Prealloc { items: u64 },
 }
 
-impl<'a> Said<'a> {
-    /// What a line says behind the first one, or the first thing that is wrong with it.
-    pub fn by_line(
-        version: Version,
-        stage: Stage,
-        workers: u32,
-        line: &'a [u8],
-    ) -> Result<Said<'a>, TraceKind>
-        ensures value { result ≡ says version stage workers (fields_of line.now) }
-        ensures names { IfOk result (NamesFit workers) }
-    {
-        let Some((first, rest)) = next_field(line) else {
-            return Err(TraceKind::Word);
-        };
-        let word = Word::named(first).ok_or(TraceKind::Word)?;
-        if !word.is_known(version) {
-            return Err(TraceKind::Word);
-        }
-        if !stage.may_follow(word) {
-            return Err(TraceKind::Place);
-        }
-        Said::by_word(workers, word, rest)
+/// The word of a line behind the first one, where it may stand there, and what is behind it.
+#[inline(always)]
+pub fn word_in(version: Version, stage: Stage, line: &[u8]) -> Result<(Word, &[u8]), TraceKind>
+    ensures word { IfOk result (λ x. (workers : ℕ) → says version stage workers (fields_of line.now) ≡ said_by workers x.0 (fields_of x.1.now)) }
+    ensures wrong { IfErr result (λ kind. (workers : ℕ) → says version stage workers (fields_of line.now) ≡ Err kind) }
+{
+    let Some((first, rest)) = next_field(line) else {
+        return Err(TraceKind::Word);
+    };
+    let word = Word::named(first).ok_or(TraceKind::Word)?;
+    if !word.is_known(version) {
+        return Err(TraceKind::Word);
     }
+    if !stage.may_follow(word) {
+        return Err(TraceKind::Place);
+    }
+    Ok((word, rest))
+}
 
+impl<'a> Said<'a> {
     /// What a line says by its word and what stands behind it.
-    fn by_word(workers: u32, word: Word, rest: &'a [u8]) -> Result<Said<'a>, TraceKind>
+    #[inline(always)]
+    pub fn by_word(workers: u32, word: Word, rest: &'a [u8]) -> Result<Said<'a>, TraceKind>
         ensures value { result ≡ said_by workers word (fields_of rest.now) }
         ensures names { IfOk result (NamesFit workers) }
     {

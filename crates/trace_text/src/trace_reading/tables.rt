@@ -46,6 +46,7 @@ impl Tables {
     }
 
     /// Does a line to them.
+    #[inline(always)]
     pub fn mark(&mut self, entry: Entry)
         requires whole { AreWhole self.old }
         requires fits { EntryFits entry }
@@ -59,6 +60,7 @@ impl Tables {
         }
     }
 
+    #[inline(always)]
     fn mark_op(&mut self, worker: u32, op: Op)
         requires whole { AreWhole self.old }
         requires worker { worker < most_workers }

@@ -21,6 +21,7 @@ const MOST_ITEMS: u64 = 262_144;
 const GREATEST_LIMIT: u64 = 1_000_000;
 
 /// What a worker of so many does by itself.
+#[inline(always)]
 pub fn work_said(workers: u32, word: WorkWord, rest: &[u8]) -> Result<Said<'_>, TraceKind>
     ensures value { result ≡ work_said workers word (fields_of rest.now) }
     ensures names { IfOk result (NamesFit workers) }
@@ -70,6 +71,7 @@ pub fn work_said(workers: u32, word: WorkWord, rest: &[u8]) -> Result<Said<'_>, 
 }
 
 /// A free.
+#[inline(always)]
 fn free_said(workers: u32, rest: &[u8]) -> Result<Said<'_>, TraceKind>
     ensures value { result ≡ free_said workers (fields_of rest.now) }
     ensures names { IfOk result (NamesFit workers) }
@@ -95,6 +97,7 @@ fn bind_said(workers: u32, rest: &[u8]) -> Result<Said<'_>, TraceKind>
 }
 
 /// What a worker of so many does in a zone.
+#[inline(always)]
 pub fn zone_said(workers: u32, word: ZoneWord, rest: &[u8]) -> Result<Said<'_>, TraceKind>
     ensures value { result ≡ zone_said workers word (fields_of rest.now) }
     ensures names { IfOk result (NamesFit workers) }
@@ -111,6 +114,7 @@ pub fn zone_said(workers: u32, word: ZoneWord, rest: &[u8]) -> Result<Said<'_>, 
 }
 
 /// A request.
+#[inline(always)]
 fn alloc_said(workers: u32, rest: &[u8]) -> Result<Said<'_>, TraceKind>
     ensures value { result ≡ alloc_said workers (fields_of rest.now) }
     ensures names { IfOk result (NamesFit workers) }
