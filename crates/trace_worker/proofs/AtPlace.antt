@@ -14,7 +14,7 @@ use Rattle.uma_zone.specs.Zone.{zone_clock, zone_home, IsSeatOf}
 use Rattle.zone_stats.specs.LedgerSteps.{HasRoom}
 use Rattle.trace_worker.specs.declared.held.Held.{Held}
 use Rattle.trace_worker.specs.declared.worker.Worker.{Worker}
-use Rattle.trace_worker.specs.Calling.{CanCall}
+use Rattle.uma_zone.specs.Calling.{CanCall}
 use Rattle.trace_worker.specs.Items.{CountedSeat, CountedZone, LiveItem}
 use Rattle.trace_worker.specs.Live.{holding}
 use Rattle.trace_worker.specs.Performs.{Allocs, BringsIn, EntersInTime, EntersLate, FreesSlot, KeepsHolds, KeepsSection, Reclaims}

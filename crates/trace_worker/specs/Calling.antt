@@ -1,28 +1,22 @@
 -- What a call by a worker's pass and one of its seats needs, and what it leaves of both as it was (own).
-use Rattle.std.specs.Prelude.{◌≡◌, ◌<◌, length}
+use Rattle.std.specs.Prelude.{◌<◌, length}
 use Rattle.smr_clock.specs.declared.clock.Clock.{Clock}
 use Rattle.smr_clock.specs.declared.host.Host.{Ghosts}
 use Rattle.smr_clock.specs.declared.pass.Pass.{Pass}
-use Rattle.smr_clock.specs.declared.setup.Setup.{Setup}
 use Rattle.smr_clock.specs.declared.view.View.{View}
-use Rattle.smr_clock.specs.Belongs.{IsOf, TableId, clock_id, view}
+use Rattle.smr_clock.specs.Belongs.{view}
 use Rattle.uma_bucket.specs.Home.{IsHome}
 use Rattle.uma_life.specs.Live.{live_ticket}
 use Rattle.uma_seat.specs.Seat.{ledger_of, spares_of}
+use Rattle.uma_zone.specs.Calling.{CanCall}
 use Rattle.uma_zone.specs.Frames.{GoesOn}
-use Rattle.uma_zone.specs.Zone.{zone_clock, zone_home, IsSeatOf}
+use Rattle.uma_zone.specs.Zone.{zone_home, IsSeatOf}
 use Rattle.zone_stats.specs.LedgerSteps.{HasRoom}
 use Rattle.trace_worker.specs.Items.{CountedSeat, CountedZone, LiveItem}
 use Rattle.trace_worker.specs.Knowing.{Knowledge, StillKnows}
 
 module _ {H P : Type 0} {h : Ghosts H P} where
-  -- the seat is of this zone, whose readers go by the clock, and the pass is the clock's
-  pub record CanCall (of : CountedZone H P h) (by : Clock H P) (p : Pass H P h) (s : CountedSeat H P h) : Type 0 where
-    pub seat : IsSeatOf of s
-    pub clock : clock_id by ≡ zone_clock of
-    pub pass : IsOf by p
-
-  -- the same, with an item of the zone that is to be freed, and room to count that
+  -- a call of this zone by the pass and the seat, with an item of the zone that is to be freed, and room to count that
   pub record CanGiveBack (of : CountedZone H P h) (by : Clock H P) (p : Pass H P h) (s : CountedSeat H P h) (item : LiveItem) : Type 0 where
     pub can : CanCall of by p s
     pub room : HasRoom (ledger_of s)
@@ -39,11 +33,6 @@ module _ {H P : Type 0} {h : Ghosts H P} where
   pub record StaysOf (of : CountedZone H P h) (by : Clock H P) (old new : Pass H P h) (s : CountedSeat H P h) : Type 0 where
     pub seat : IsSeatOf of s
     pub pass : GoesOn by old new
-
-  -- the clock is this one, and the pass is its
-  pub record IsBy (id : TableId × Setup) (by : Clock H P) (p : Pass H P h) : Type 0 where
-    pub clock : clock_id by ≡ id
-    pub pass : IsOf by p
 
   -- the pass went on, and knows of the names what it knew
   pub record KnowsOn (Knows : Knowledge (View P)) (by : Clock H P) (old new : Pass H P h) : Type 0 where

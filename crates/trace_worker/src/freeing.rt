@@ -1,6 +1,7 @@
 ghost use Rattle.std.specs.Prelude.{OnOk};
 ghost use Rattle.smr_clock.specs.Belongs.{view};
-ghost use Rattle.trace_worker.specs.Calling.{CanCall, CanGiveBack, CanRelease, StaysOf};
+ghost use Rattle.uma_zone.specs.Calling.{CanCall};
+ghost use Rattle.trace_worker.specs.Calling.{CanGiveBack, CanRelease, StaysOf};
 ghost use Rattle.trace_worker.specs.Performs.{FreesSlot};
 ghost use Rattle.trace_worker.specs.Requests.{IsGivenBack, MakesReady, ReadiesSeat, Releases, ReleasesBy};
 ghost use Rattle.trace_worker.specs.Worker.{CanWork, Fits};

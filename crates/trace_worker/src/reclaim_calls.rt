@@ -1,6 +1,7 @@
 ghost use Rattle.std.specs.Prelude.{OnOk};
 ghost use Rattle.smr_clock.specs.Belongs.{view};
-ghost use Rattle.trace_worker.specs.Calling.{CanCall, StaysOf};
+ghost use Rattle.uma_zone.specs.Calling.{CanCall};
+ghost use Rattle.trace_worker.specs.Calling.{StaysOf};
 ghost use Rattle.trace_worker.specs.Reclaims.{HasDrained, HasDrainedSeat, HasTrimmed, KeepsSeat};
 
 use crate::Memory;
