@@ -15,8 +15,8 @@ use Rattle.schedule_text.specs.ScheduleLaws.{RefusedPrintsNothing}
 use Rattle.schedule_text.specs.ScheduleText.{IsOutput, RefusesSchedule}
 use Rattle.trace_text.specs.declared.trace.Trace.{Trace}
 use Rattle.trace_text.specs.Grammar.{IsTraceText, trace_test}
-use Rattle.uma_io.specs.Source.{HasMoreThan}
 use Rattle.uma_replay.specs.Report.{StandsFor}
+use Rattle.umarun.specs.Answers.{AnswersReplay, AnswersSteps}
 use Rattle.umarun.specs.Causes.{parse_fault, schedule_fault}
 use Rattle.umarun.specs.declared.fault.Fault.{Fault}
 use Rattle.umarun.specs.declared.fault.Fault.TheVariants as faults
@@ -30,10 +30,6 @@ abbrev pub OneVerdict : Type 0
 OneVerdict = (test : Test) (bytes : List ℕ) (spoke : List TextLine) (line : ℕ) (kind : TraceKind) → IsRightText test bytes spoke → IsRefusedAt test bytes line kind → ⊥
 
 -- ---- what `replay` does with the bytes
-
--- the refusal names the first bad line of the bytes
-abbrev IsBad : TraceRefused → List ℕ → Type 0
-IsBad refused bytes = IsRefusedAt trace_test bytes refused.line refused.kind
 
 pub input_not_refused : OneVerdict → (refused : TraceRefused) (bytes : List ℕ) → RefusesTrace refused bytes → AreInput bytes → ⊥
 input_not_refused verdict refused bytes refuses input = verdict trace_test bytes input.1.1.spoke refused.line refused.kind input.1.1.right refuses.why
@@ -59,21 +55,21 @@ headlines (Some left) read given trace report ended all same text headline =
     let Q : List ℕ → Type 0 = λ bytes. IsTraceText bytes trace in
     subst P all (record { trace = trace; text = subst Q same text; headline = headline })
 
-bad_by : (why : ParseRefused) (fault : Fault) (refused : TraceRefused) (bytes : List ℕ) → ((r : TraceRefused) → ◌≡◌ {A = Result Trace ParseRefused} (Err why) (Err (parsing.Trace r)) → IsBad r bytes)
-    → fault ≡ parse_fault why → fault ≡ faults.Trace refused → IsBad refused bytes
-bad_by (parsing.Trace r) fault refused bytes bad by is =
+bad_by : {T : Type 0} (test : Test) (why : ParseRefused) (fault : Fault) (refused : TraceRefused) (bytes : List ℕ) → ((r : TraceRefused) → ◌≡◌ {A = Result T ParseRefused} (Err why) (Err (parsing.Trace r)) → IsRefusedAt test bytes r.line r.kind)
+    → fault ≡ parse_fault why → fault ≡ faults.Trace refused → IsRefusedAt test bytes refused.line refused.kind
+bad_by test (parsing.Trace r) fault refused bytes bad by is =
     let same : r ≡ refused = cc in
-    let P : TraceRefused → Type 0 = λ x. IsBad x bytes in
+    let P : TraceRefused → Type 0 = λ x. IsRefusedAt test bytes x.line x.kind in
     subst P same (bad r refl)
-bad_by parsing.Memory fault refused bytes bad by is = absurd cc
+bad_by test parsing.Memory fault refused bytes bad by is = absurd cc
 
 pub refuses : (left : Option (List ℕ)) (read given : List ℕ) (why : ParseRefused) (fault : Fault) (refused : TraceRefused) → IfSome left (λ all. read ≡ all) → given ≡ read → length read ≤ most_bytes
-    → ((r : TraceRefused) → ◌≡◌ {A = Result Trace ParseRefused} (Err why) (Err (parsing.Trace r)) → IsBad r given) → fault ≡ parse_fault why → fault ≡ faults.Trace refused → IfSome left (RefusesTrace refused)
+    → ((r : TraceRefused) → ◌≡◌ {A = Result Trace ParseRefused} (Err why) (Err (parsing.Trace r)) → IsRefusedAt trace_test given r.line r.kind) → fault ≡ parse_fault why → fault ≡ faults.Trace refused → IfSome left (RefusesTrace refused)
 refuses None read given why fault refused all same within bad by is = tt
 refuses (Some left) read given why fault refused all same within bad by is =
     let P : List ℕ → Type 0 = λ bytes. RefusesTrace refused bytes in
-    let Q : List ℕ → Type 0 = λ bytes. IsBad refused bytes in
-    subst P all (record { within = within; why = subst Q same (bad_by why fault refused given bad by is) })
+    let Q : List ℕ → Type 0 = λ bytes. IsRefusedAt trace_test bytes refused.line refused.kind in
+    subst P all (record { within = within; why = subst Q same (bad_by trace_test why fault refused given bad by is) })
 
 -- no text is refused at two lines, or for two reasons
 abbrev pub OneLine : Type 0
@@ -100,39 +96,30 @@ pub none_named : ((report : Report) (ended : Ended) (bytes : List ℕ) → Repla
 none_named law report ended None refused replays refuses = refuses
 none_named law report ended (Some bytes) refused replays refuses = law report ended bytes replays (inr (refused, refuses))
 
--- what `replay` answers where it has no report
-pub record EndsReplay (left : Option (List ℕ)) (fault : Fault) : Type 0 where
-  pub too_long : (most : ℕ) → fault ≡ faults.TooLong most → (most ≡ most_bytes) × HasMoreThan most_bytes left
-  pub refused : (why : TraceRefused) → fault ≡ faults.Trace why → IfSome left (RefusesTrace why)
-  pub no_step : (line : ℕ) (why : StepRefused) → fault ≡ faults.Step line why → ⊥
-  pub command : fault ≡ faults.Usage → ⊥
-  pub unwritten : fault ≡ faults.Write → ⊥
-  pub unread : fault ≡ faults.Read → ⊥
+-- the text of a trace ends by want of memory, where reading didn't fail
+pub replay_ends : (left rest : Option (List ℕ)) (fault : Fault) (fails free : Type 0) → ((refused : TraceRefused) (bytes : List ℕ) → RefusesTrace refused bytes → AreInput bytes → ⊥)
+    → AnswersReplay (Err fault) left rest fails free → (fails → ⊥) → IsSomeAnd left AreInput → fault ≡ faults.Memory
+replay_ends None rest fault fails free law ends unread input = absurd input
+replay_ends (Some bytes) rest faults.Usage fails free law ends unread input = absurd (ends.command refl)
+replay_ends (Some bytes) rest (faults.TooLong most) fails free law ends unread input = let more = (ends.too_long most refl).1 in let within = input.0 in absurd (omega arith)
+replay_ends (Some bytes) rest (faults.Trace why) fails free law ends unread input = absurd (law why bytes (ends.refused why refl) input)
+replay_ends (Some bytes) rest (faults.Step line why) fails free law ends unread input = absurd (ends.no_step line why refl)
+replay_ends (Some bytes) rest faults.Read fails free law ends unread input = absurd (unread (ends.read refl))
+replay_ends (Some bytes) rest faults.Write fails free law ends unread input = absurd (ends.unwritten refl)
+replay_ends (Some bytes) rest faults.Memory fails free law ends unread input = refl
 
--- the text of a trace ends by want of memory
-pub replay_ends : (left : Option (List ℕ)) (fault : Fault) → ((refused : TraceRefused) (bytes : List ℕ) → RefusesTrace refused bytes → AreInput bytes → ⊥)
-    → EndsReplay left fault → IsSomeAnd left AreInput → fault ≡ faults.Memory
-replay_ends None fault law ends input = absurd input
-replay_ends (Some bytes) faults.Usage law ends input = absurd (ends.command refl)
-replay_ends (Some bytes) (faults.TooLong most) law ends input = let more = (ends.too_long most refl).1 in let within = input.0 in absurd (omega arith)
-replay_ends (Some bytes) (faults.Trace why) law ends input = absurd (law why bytes (ends.refused why refl) input)
-replay_ends (Some bytes) (faults.Step line why) law ends input = absurd (ends.no_step line why refl)
-replay_ends (Some bytes) faults.Read law ends input = absurd (ends.unread refl)
-replay_ends (Some bytes) faults.Write law ends input = absurd (ends.unwritten refl)
-replay_ends (Some bytes) faults.Memory law ends input = refl
-
--- a text that is refused ends by its refusal, or by want of memory
-pub replay_names : (left : Option (List ℕ)) (fault : Fault) (refused : TraceRefused)
+-- a text that is refused ends by its refusal, or by want of memory, where reading didn't fail
+pub replay_names : (left rest : Option (List ℕ)) (fault : Fault) (refused : TraceRefused) (fails free : Type 0)
     → ((refused other : TraceRefused) (bytes : List ℕ) → RefusesTrace refused bytes → RefusesTrace other bytes → refused ≡ other)
-    → EndsReplay left fault → IsSomeAnd left (RefusesTrace refused) → (fault ≡ faults.Trace refused) ⊎ (fault ≡ faults.Memory)
-replay_names None fault refused law ends refuses = absurd refuses
-replay_names (Some bytes) faults.Usage refused law ends refuses = absurd (ends.command refl)
-replay_names (Some bytes) (faults.TooLong most) refused law ends refuses = let more = (ends.too_long most refl).1 in let within = refuses.within in absurd (omega arith)
-replay_names (Some bytes) (faults.Trace why) refused law ends refuses = inl (ap faults.Trace (law why refused bytes (ends.refused why refl) refuses))
-replay_names (Some bytes) (faults.Step line why) refused law ends refuses = absurd (ends.no_step line why refl)
-replay_names (Some bytes) faults.Read refused law ends refuses = absurd (ends.unread refl)
-replay_names (Some bytes) faults.Write refused law ends refuses = absurd (ends.unwritten refl)
-replay_names (Some bytes) faults.Memory refused law ends refuses = inr refl
+    → AnswersReplay (Err fault) left rest fails free → (fails → ⊥) → IsSomeAnd left (RefusesTrace refused) → (fault ≡ faults.Trace refused) ⊎ (fault ≡ faults.Memory)
+replay_names None rest fault refused fails free law ends unread refuses = absurd refuses
+replay_names (Some bytes) rest faults.Usage refused fails free law ends unread refuses = absurd (ends.command refl)
+replay_names (Some bytes) rest (faults.TooLong most) refused fails free law ends unread refuses = let more = (ends.too_long most refl).1 in let within = refuses.within in absurd (omega arith)
+replay_names (Some bytes) rest (faults.Trace why) refused fails free law ends unread refuses = inl (ap faults.Trace (law why refused bytes (ends.refused why refl) refuses))
+replay_names (Some bytes) rest (faults.Step line why) refused fails free law ends unread refuses = absurd (ends.no_step line why refl)
+replay_names (Some bytes) rest faults.Read refused fails free law ends unread refuses = absurd (unread (ends.read refl))
+replay_names (Some bytes) rest faults.Write refused fails free law ends unread refuses = absurd (ends.unwritten refl)
+replay_names (Some bytes) rest faults.Memory refused fails free law ends unread refuses = inr refl
 
 -- ---- what `steps` does with the bytes
 
@@ -177,20 +164,25 @@ refuses_step (Some left) read given schedule why fault line refused all same wit
     let Q : List ℕ → Type 0 = λ bytes. IsScheduleText bytes schedule in
     subst P all (record { within = within; schedule = schedule; text = subst Q same text; step = step_by schedule why fault line refused bad by is })
 
--- a schedule that is played ends by want of memory, or by a fault of the source, or well
-pub ends_by_memory : (left : Option (List ℕ)) (fault : Fault)
+pub refuses_text : (left : Option (List ℕ)) (read given : List ℕ) (why : ParseRefused) (fault : Fault) (refused : TraceRefused) → IfSome left (λ all. read ≡ all) → given ≡ read → length read ≤ most_bytes
+    → ((r : TraceRefused) → ◌≡◌ {A = Result Schedule ParseRefused} (Err why) (Err (parsing.Trace r)) → IsRefusedAt schedule_test given r.line r.kind) → fault ≡ parse_fault why → fault ≡ faults.Trace refused → IfSome left (RefusesText refused)
+refuses_text None read given why fault refused all same within bad by is = tt
+refuses_text (Some left) read given why fault refused all same within bad by is =
+    let P : List ℕ → Type 0 = λ bytes. RefusesText refused bytes in
+    let Q : List ℕ → Type 0 = λ bytes. IsRefusedAt schedule_test bytes refused.line refused.kind in
+    subst P all (record { within = within; at = subst Q same (bad_by schedule_test why fault refused given bad by is) })
+
+-- a schedule that is played ends by want of memory, or well, where reading didn't fail
+pub steps_ends : (left rest : Option (List ℕ)) (fault : Fault) (fails : Type 0)
     → ((refused : TraceRefused) (bytes : List ℕ) → RefusesText refused bytes → ArePlayed bytes → ⊥)
     → ((line : ℕ) (refused : StepRefused) (bytes : List ℕ) → RefusesStep line refused bytes → ArePlayed bytes → ⊥)
-    → ((most : ℕ) → fault ≡ faults.TooLong most → (most ≡ most_bytes) × HasMoreThan most_bytes left)
-    → ((refused : TraceRefused) → fault ≡ faults.Trace refused → IfSome left (RefusesText refused))
-    → ((line : ℕ) (refused : StepRefused) → fault ≡ faults.Step line refused → IfSome left (RefusesStep line refused))
-    → (fault ≡ faults.Usage → ⊥) → (fault ≡ faults.Write → ⊥) → (fault ≡ faults.Read → ⊥) → IsSomeAnd left ArePlayed → fault ≡ faults.Memory
-ends_by_memory None fault text step long refused stepped usage write read played = absurd played
-ends_by_memory (Some bytes) faults.Usage text step long refused stepped usage write read played = absurd (usage refl)
-ends_by_memory (Some bytes) (faults.TooLong most) text step long refused stepped usage write read played =
-    let more = (long most refl).1 in let within = played.1.within in absurd (omega arith)
-ends_by_memory (Some bytes) (faults.Trace why) text step long refused stepped usage write read played = absurd (text why bytes (refused why refl) played)
-ends_by_memory (Some bytes) (faults.Step line why) text step long refused stepped usage write read played = absurd (step line why bytes (stepped line why refl) played)
-ends_by_memory (Some bytes) faults.Read text step long refused stepped usage write read played = absurd (read refl)
-ends_by_memory (Some bytes) faults.Write text step long refused stepped usage write read played = absurd (write refl)
-ends_by_memory (Some bytes) faults.Memory text step long refused stepped usage write read played = refl
+    → AnswersSteps (Err fault) left rest fails → (fails → ⊥) → IsSomeAnd left ArePlayed → fault ≡ faults.Memory
+steps_ends None rest fault fails text step ends unread played = absurd played
+steps_ends (Some bytes) rest faults.Usage fails text step ends unread played = absurd (ends.command refl)
+steps_ends (Some bytes) rest (faults.TooLong most) fails text step ends unread played =
+    let more = (ends.too_long most refl).1 in let within = played.1.within in absurd (omega arith)
+steps_ends (Some bytes) rest (faults.Trace why) fails text step ends unread played = absurd (text why bytes (ends.refused why refl) played)
+steps_ends (Some bytes) rest (faults.Step line why) fails text step ends unread played = absurd (step line why bytes (ends.step line why refl) played)
+steps_ends (Some bytes) rest faults.Read fails text step ends unread played = absurd (unread (ends.read refl))
+steps_ends (Some bytes) rest faults.Write fails text step ends unread played = absurd (ends.unwritten refl)
+steps_ends (Some bytes) rest faults.Memory fails text step ends unread played = refl

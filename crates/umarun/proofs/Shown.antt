@@ -1,5 +1,5 @@
 -- What was written of a report is its text.
-use Rattle.std.proofs.Common.{◌≡◌, List, ℕ, Option, Some, refl, sym, subst}
+use Rattle.std.proofs.Common.{◌≡◌, List, ℕ, Option, Some, None, IsSome, refl, sym, subst}
 use Rattle.std.specs.Prelude.{IfNone, IfSome}
 use Rattle.command_line.specs.declared.command.Command.{Command}
 use Rattle.command_line.specs.declared.command.Command.TheVariants.{Bulk}
@@ -27,3 +27,7 @@ same_summary seed workers ops s w o is report =
     let counts : workers ≡ w = cc in
     let steps : ops ≡ o = cc in
     rw (seeds, counts, steps) refl
+
+-- no fault is none that is there
+pub not_some : IsSome {T = Fault} None → ⊥
+not_some i = cc

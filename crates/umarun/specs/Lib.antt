@@ -8,3 +8,6 @@ pub mod Summary
 pub mod Caches
 pub mod Known
 pub mod Wanting
+pub mod Ends
+pub mod Opening
+pub mod Answers

@@ -1,10 +1,7 @@
 //! What the command `bulk` does.
-ghost use Rattle.std.specs.Prelude.{◌≡◌, IfOk};
-ghost use Rattle.trace_gen.specs.Header.{made_trace};
-ghost use Rattle.trace_text.specs.Limits.{IsWithin};
-ghost use Rattle.umarun.specs.Bulk.{ReplaysMade};
-ghost use Rattle.umarun.specs.Replaying.{HasHeadline};
-ghost use Rattle.umarun.specs.Summary.{summary_text};
+ghost use Rattle.std.specs.Prelude.{IfOk};
+ghost use Rattle.umarun.specs.Answers.{AnswersBulk};
+ghost use Rattle.umarun.specs.Making.{MayMake};
 
 use crate::replaying::{Replayed, play};
 use crate::summary::summary_text;
@@ -25,12 +22,8 @@ pub fn replay_made<R: Threads + Wait + Sync, G: Gate + Sync>(
     ops: u32,
     gate: &G,
 ) -> Result<(Replayed, Vec<u8>), Memory>
-    requires workers { IsWithin 1 16 workers }
-    requires ops { IsWithin 1 50000 ops }
-    ensures replays { IfOk result (λ done. ReplaysMade seed workers ops done.0.report done.0.ended) }
-    ensures headline { IfOk result (λ done. HasHeadline (made_trace seed workers ops) done.0.report done.0.ended) }
-    ensures free { G.is_free gate.now → IfOk result (λ done. done.0.report.gave_up ≡ 0) }
-    ensures text { IfOk result (λ done. done.1.items ≡ summary_text seed workers ops done.0.report) }
+    requires { MayMake workers ops }
+    ensures { IfOk result (λ done. AnswersBulk seed workers ops (G.is_free gate.now) done.0.report done.0.ended done.1.items) }
 {
     let trace = make_trace(alloc, seed, workers, ops)?;
     let played = play(rt, alloc, &trace, gate)?;

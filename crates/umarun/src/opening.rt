@@ -1,12 +1,8 @@
-ghost use Rattle.std.specs.Prelude.{◌≡◌, IfErr, IfOk, IfSome};
-ghost use Rattle.smr_clock.specs.Belongs.{clock_id, setup_of};
-ghost use Rattle.trace_text.specs.Limits.{IsWithin};
-ghost use Rattle.trace_text.specs.Valid.{ClockFits, NamesFits};
-ghost use Rattle.trace_worker.specs.Clocks.{ArePasses, setup_for};
+ghost use Rattle.std.specs.Prelude.{◌≡◌, IfErr, IfOk};
+ghost use Rattle.smr_clock.specs.Belongs.{clock_id};
 ghost use Rattle.trace_worker.specs.NameSizes.{sizes_for};
-ghost use Rattle.name_cache.specs.Making.{IsOpened};
-ghost use Rattle.name_rows.specs.Opening.{AreOpenRows};
-ghost use Rattle.umarun.specs.Caches.{clock_in, plan_by, sizes_in};
+ghost use Rattle.umarun.specs.Caches.{clock_in, sizes_in};
+ghost use Rattle.umarun.specs.Opening.{MayOpen, OpensNames, MayCache};
 ghost use Rattle.umarun.specs.Wanting.{LacksMemory, lacking};
 
 use crate::trace_cache::TraceCache;
@@ -23,13 +19,8 @@ const ENTRIES_OF_A_SLAB: u32 = 64;
 /// The clock of a trace with this `names` line, its passes, its rows and the root of its entries. Nothing but want of memory
 /// refuses them.
 pub(crate) fn open(alloc: Global, head: &Head, line: &NamesHead) -> Result<Opened, NamesRefused>
-    requires workers { IsWithin 1 16 head.now.workers }
-    requires clock { IfSome head.now.clock ClockFits }
-    requires fits { NamesFits head.now line.now }
-    ensures clock { IfOk result (λ opened. setup_of opened.clock ≡ setup_for (plan_by line.now) head.now) }
-    ensures passes { IfOk result (λ opened. ArePasses head.now.workers opened.clock opened.passes) }
-    ensures opened { IfOk result IsOpened }
-    ensures rows { IfOk result (λ opened. AreOpenRows opened.clock 0 opened.rows) }
+    requires { MayOpen head.now line.now }
+    ensures opens { IfOk result (OpensNames head.now line.now) }
     ensures refused { IfErr result LacksMemory }
 {
     let Some(clock) = head.clock else {
@@ -58,14 +49,9 @@ pub(crate) fn cache_over(
     head: &Head,
     line: &NamesHead,
 ) -> Result<(TraceCache, Clock<Names>, Vec<Pass<Names>>), ZoneRefused>
-    requires opened { IsOpened opened }
-    requires clock { setup_of opened.clock ≡ setup_for (plan_by line.now) head.now }
-    requires domains { IsWithin 1 4 head.now.domains }
-    requires fits { NamesFits head.now line.now }
-    ensures clock { IfOk result (λ (cache, clock, passes). clock ≡ opened.clock) }
-    ensures passes { IfOk result (λ (cache, clock, passes). passes.items ≡ opened.passes) }
-    ensures of_clock { IfOk result (λ (cache, clock, passes). clock_in cache ≡ clock_id opened.clock) }
-    ensures sizes { IfOk result (λ (cache, clock, passes). sizes_in cache ≡ sizes_for head.now line.now) }
+    requires { MayCache head.now line.now opened }
+    ensures parts { IfOk result (λ (cache, clock, passes). (clock ≡ opened.clock) × (passes.items ≡ opened.passes)) }
+    ensures cache { IfOk result (λ (cache, clock, passes). (clock_in cache ≡ clock_id opened.clock) × (sizes_in cache ≡ sizes_for head.now line.now)) }
     ensures refused { IfErr result (λ refused. refused ≡ lacking) }
 {
     let set = ZoneSet {

@@ -1,17 +1,12 @@
 //! What the command `replay` does, and the replay itself.
-ghost use Rattle.std.specs.Prelude.{◌≡◌, ◌≤◌, ℕ, List, length, IfSome, IfOk, OnOk, IsErrOf};
+ghost use Rattle.std.specs.Prelude.{◌≡◌, ◌≤◌, ℕ, List, length, IfOk};
 ghost use Rattle.text_lines.specs.declared.refused.TraceRefused.{TraceRefused as Refused};
-ghost use Rattle.text_lines.specs.TextLines.{IsRefusedAt};
-ghost use Rattle.trace_text.specs.Grammar.{IsTraceText, trace_test};
 ghost use Rattle.trace_text.specs.Lines.{lines_of};
 ghost use Rattle.trace_text.specs.Valid.{IsValid};
-ghost use Rattle.smr_core.specs.declared.step_refused.StepRefused.{StepRefused as Turned};
 ghost use Rattle.uma_io.specs.Faults.{Rose};
-ghost use Rattle.uma_io.specs.Source.{Exhausts, HasMoreThan};
-ghost use Rattle.uma_replay.specs.Report.{StandsFor};
-ghost use Rattle.umarun.specs.Replaying.{HasHeadline, KeepsHeadline, LeavesHall, Replays, AreInput, AreRefused, RefusesTrace, most_bytes};
+ghost use Rattle.umarun.specs.Answers.{AnswersReplay, ReadsTrace, StandsReplayed};
+ghost use Rattle.umarun.specs.Replaying.{Replays, AreInput, AreRefused, RefusesTrace, most_bytes};
 ghost use Rattle.umarun.specs.declared.ended.Ended.{Ended as EndedValue};
-ghost use Rattle.zone_stats.specs.ReportText.{report_text};
 ghost use Rattle.zone_stats.specs.declared.report.Report.{Report as ReportValue};
 
 use crate::cache_names::CacheNames;
@@ -44,19 +39,7 @@ pub fn replay<R: Threads + Wait + Sync, S: Source, G: Gate + Sync>(
     source: &mut S,
     gate: &G,
 ) -> Result<(Replayed, Vec<u8>), Fault>
-    ensures replays { IfOk result (λ done. IfSome (S.bytes_left source.old) (Replays done.0.report done.0.ended)) }
-    ensures headline { IfOk result (λ done. IfSome (S.bytes_left source.old) (KeepsHeadline done.0.report done.0.ended)) }
-    ensures free { G.is_free gate.now → IfOk result (λ done. done.0.report.gave_up ≡ 0) }
-    ensures text { IfOk result (λ done. done.1.items ≡ report_text done.0.report) }
-    ensures end { OnOk result (Exhausts (S.bytes_left source.old) (S.bytes_left source.new)) }
-    ensures read { IsErrOf result Fault.Read → Rose (S.fault_count source.old) (S.fault_count source.new) }
-    ensures too_long { (most : ℕ) → IsErrOf result (Fault.TooLong most)
-        → (most ≡ most_bytes) × HasMoreThan most_bytes (S.bytes_left source.old) }
-    ensures refused { (refused : Refused) → IsErrOf result (Fault.Trace refused)
-        → IfSome (S.bytes_left source.old) (RefusesTrace refused) }
-    ensures no_step { (line : ℕ) (refused : Turned) → IsErrOf result (Fault.Step line refused) → ⊥ }
-    ensures command { IsErrOf result Fault.Usage → ⊥ }
-    ensures unwritten { IsErrOf result Fault.Write → ⊥ }
+    ensures { AnswersReplay result (S.bytes_left source.old) (S.bytes_left source.new) (Rose (S.fault_count source.old) (S.fault_count source.new)) (G.is_free gate.now) }
 {
     let bytes = read_all(alloc, source, MOST_BYTES)?;
     let trace = read_trace(alloc, &bytes)?;
@@ -67,11 +50,7 @@ pub fn replay<R: Threads + Wait + Sync, S: Source, G: Gate + Sync>(
 
 /// The trace of a text. It has no more lines than the text has bytes.
 fn read_trace(alloc: Global, bytes: &[u8]) -> Result<Trace, ParseRefused>
-    ensures read { IfOk result (IsTraceText bytes.now) }
-    ensures valid { IfOk result IsValid }
-    ensures few { IfOk result (λ trace. length (lines_of trace.rounds) ≤ length bytes.now) }
-    ensures refused { (refused : Refused) → IsErrOf result (ParseRefused.Trace refused)
-        → IsRefusedAt trace_test bytes.now refused.line refused.kind }
+    ensures { ReadsTrace bytes.now result }
 {
     traces_are_no_longer();
     parse(alloc, bytes)
@@ -86,10 +65,7 @@ pub(crate) fn play<R: Threads + Wait + Sync, G: Gate + Sync>(
 ) -> Result<Replayed, Memory>
     requires valid { IsValid trace.now }
     requires few { length (lines_of trace.now.rounds) ≤ most_bytes }
-    ensures stands { IfOk result (λ played. StandsFor trace.now played.report) }
-    ensures hall { IfOk result (λ played. LeavesHall trace.now played.report played.ended) }
-    ensures headline { IfOk result (λ played. HasHeadline trace.now played.report played.ended) }
-    ensures free { G.is_free gate.now → IfOk result (λ played. played.report.gave_up ≡ 0) }
+    ensures { IfOk result (λ played. StandsReplayed trace.now (G.is_free gate.now) played.report played.ended) }
 {
     match &trace.head.names {
         None => {

@@ -1,11 +1,10 @@
 //! What the command `steps` does.
-ghost use Rattle.std.specs.Prelude.{◌≡◌, ℕ, List, IfSome, IfOk, OnOk, IsErrOf};
+ghost use Rattle.std.specs.Prelude.{ℕ, List};
 ghost use Rattle.text_lines.specs.declared.refused.TraceRefused.{TraceRefused as Refused};
 ghost use Rattle.smr_core.specs.declared.step_refused.StepRefused.{StepRefused as Turned};
 ghost use Rattle.uma_io.specs.Faults.{Rose};
-ghost use Rattle.uma_io.specs.Source.{Exhausts, HasMoreThan};
-ghost use Rattle.umarun.specs.Replaying.{most_bytes};
-ghost use Rattle.umarun.specs.Stepping.{Plays, ArePlayed, RefusesText, RefusesStep};
+ghost use Rattle.umarun.specs.Answers.{AnswersSteps};
+ghost use Rattle.umarun.specs.Stepping.{ArePlayed, RefusesText, RefusesStep};
 
 use crate::fault::Fault;
 use crate::run::MOST_BYTES;
@@ -16,17 +15,7 @@ use uma_io::{Source, read_all};
 
 /// Reads a schedule, plays it, and answers what it prints.
 pub fn steps<S: Source>(alloc: Global, source: &mut S) -> Result<Vec<u8>, Fault>
-    ensures plays { IfOk result (λ printed. IfSome (S.bytes_left source.old) (Plays printed.items)) }
-    ensures end { OnOk result (Exhausts (S.bytes_left source.old) (S.bytes_left source.new)) }
-    ensures read { IsErrOf result Fault.Read → Rose (S.fault_count source.old) (S.fault_count source.new) }
-    ensures too_long { (most : ℕ) → IsErrOf result (Fault.TooLong most)
-        → (most ≡ most_bytes) × HasMoreThan most_bytes (S.bytes_left source.old) }
-    ensures refused { (refused : Refused) → IsErrOf result (Fault.Trace refused)
-        → IfSome (S.bytes_left source.old) (RefusesText refused) }
-    ensures step { (line : ℕ) (refused : Turned) → IsErrOf result (Fault.Step line refused)
-        → IfSome (S.bytes_left source.old) (RefusesStep line refused) }
-    ensures command { IsErrOf result Fault.Usage → ⊥ }
-    ensures unwritten { IsErrOf result Fault.Write → ⊥ }
+    ensures { AnswersSteps result (S.bytes_left source.old) (S.bytes_left source.new) (Rose (S.fault_count source.old) (S.fault_count source.new)) }
 {
     let bytes = read_all(alloc, source, MOST_BYTES)?;
     let schedule = parse_schedule(alloc, &bytes)?;

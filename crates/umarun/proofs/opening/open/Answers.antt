@@ -1,4 +1,4 @@
-use Rattle.std.proofs.Common.{◌*◌, ℕ, Option, ap, subst}
+use Rattle.std.proofs.Common.{rules, ◌*◌, ℕ, Option, ap, subst}
 use Rattle.std.specs.Prelude.{IfSome}
 use Rattle.smr_clock.specs.declared.setup.Setup.{Setup}
 use Rattle.smr_clock.specs.Making.{setup}
@@ -9,19 +9,17 @@ use Rattle.trace_play.proofs.Passes.{passes_of}
 use Rattle.umarun.proofs.Ranges.{in_range, names_lack, plan_fits}
 use Rattle.umarun.proofs.opening.open.Goals as goal
 
-pub returns-in-Ok-clause-passes : goal.returns-in-Ok-clause-passes
-returns-in-Ok-clause-passes c =
-    passes_of c.args.head.now.workers c.in-Ok.opened.clock c.in-Ok.opened.passes (ap (λ (s : Setup). s.about.seats) c.in-Ok.ensures.made.clock) c.in-Ok.ensures.made.passes
-
-pub returns-in-Ok-clause-opened : goal.returns-in-Ok-clause-opened
-returns-in-Ok-clause-opened c =
+pub returns-in-Ok-clause-opens : goal.returns-in-Ok-clause-opens
+returns-in-Ok-clause-opens c =
     let made = c.in-Ok.ensures.made in
     let clock = c.in-Some.clock in
     let plan : ℕ × ℕ = (c.args.line.now.rows, c.args.line.now.slabs * 64) in
-    is_opened c.in-Ok.opened (setup c.args.head.now.workers clock.start clock.window plan) _ made.clock made.names made.long made.rows made.root
-
-pub returns-in-Ok-clause-rows : goal.returns-in-Ok-clause-rows
-returns-in-Ok-clause-rows c = c.in-Ok.ensures.made.rows
+    record {
+      clock = search rules;
+      passes = passes_of c.args.head.now.workers c.in-Ok.opened.clock c.in-Ok.opened.passes (ap (λ (s : Setup). s.about.seats) made.clock) made.passes;
+      whole = is_opened c.in-Ok.opened (setup c.args.head.now.workers clock.start clock.window plan) _ made.clock made.names made.long made.rows made.root;
+      rows = made.rows;
+    }
 
 pub returns-in-Err-clause-refused : goal.returns-in-Err-clause-refused
 returns-in-Err-clause-refused c =
@@ -31,4 +29,4 @@ returns-in-Err-clause-refused c =
     let plan : ℕ × ℕ = (line.rows, line.slabs * 64) in
     let fits = subst (λ (o : Option ClockHead). IfSome o ClockFits) c.in-Some.is c.requires.clock in
     names_lack (setup workers clock.start clock.window plan).about line.rows (line.slabs * 64) c.in-Err.refused
-    (in_range workers clock plan c.requires.workers fits) (plan_fits c.args.head.now line c.requires.fits) c.in-Err.ensures.refused
+    (in_range workers clock plan c.requires.few_workers fits) (plan_fits c.args.head.now line c.requires.fits) c.in-Err.ensures.refused
