@@ -41,6 +41,26 @@ module _ {T H P : Type 0} {g h : _} where
     pub missed : missed_in new ≡ missed_in old
     pub identity : lists_identity new ≡ lists_identity old
 
+  -- all but the sealed list, whose buckets were polled, and the misses
+  pub record KeepsButPolled (old new : Lists T H P g h) : Type 0 where
+    pub plain : plain_in new ≡ plain_in old
+    pub loose : loose_in new ≡ loose_in old
+    pub working : working_in new ≡ working_in old
+    pub identity : lists_identity new ≡ lists_identity old
+
+  -- all but the loose and the sealed list
+  pub record KeepsButSealing (old new : Lists T H P g h) : Type 0 where
+    pub plain : plain_in new ≡ plain_in old
+    pub working : working_in new ≡ working_in old
+    pub missed : missed_in new ≡ missed_in old
+    pub identity : lists_identity new ≡ lists_identity old
+
+  -- all but what a take of candidates may change: the plain and the sealed list, and the counts
+  pub record KeepsButCandidates (old new : Lists T H P g h) : Type 0 where
+    pub loose : loose_in new ≡ loose_in old
+    pub missed : missed_in new ≡ missed_in old
+    pub identity : lists_identity new ≡ lists_identity old
+
   -- all but the counts
   pub record KeepsButWorking (old new : Lists T H P g h) : Type 0 where
     pub plain : plain_in new ≡ plain_in old

@@ -1,5 +1,5 @@
--- Own: what a call of a domain did to its lists. They lie behind a lock, so each record names the lists of this very domain as the call found them under the lock, and as it left them.
-use Rattle.std.specs.Prelude.{◌≡◌, ◌+◌, ◌<◌, ◌≤◌, ◌⊎◌, ℕ, [], ◌∷◌, ◌++◌, Result, IfOk, IfErr, OnOk, OnErr}
+-- Own: what a call of a domain did to its lists. They lie behind a lock, so each record names the lists of this very domain as the call found them under the lock, and as it left them. `kept` says what of them it left as it was.
+use Rattle.std.specs.Prelude.{◌≡◌, ◌+◌, ◌-◌, ◌<◌, ◌≤◌, ◌⊎◌, ℕ, [], ◌∷◌, ◌++◌, Result, IfOk, IfErr, OnOk, OnErr}
 use Rattle.std.specs.List.{All}
 use Rattle.smr_clock.specs.declared.view.View.{View}
 use Rattle.inbox.specs.declared.port.Port.{Port}
@@ -19,7 +19,8 @@ use Rattle.uma_domain.specs.declared.lists.Lists.{Lists}
 use Rattle.uma_domain.specs.declared.locked.Locked.{Locked}
 use Rattle.uma_domain.specs.declared.taken.Taken.{Taken}
 use Rattle.uma_domain.specs.Domain.{domain_identity}
-use Rattle.uma_domain.specs.Listed.{listed}
+use Rattle.uma_domain.specs.Frames.{KeepsAll, KeepsListed, KeepsButPlain, KeepsButLoose, KeepsButSealed, KeepsButPolled, KeepsButSealing, KeepsButCandidates, KeepsButWorking}
+use Rattle.uma_domain.specs.Listed.{listed, plain_len, loose_len, sealed_len, ripe_len}
 use Rattle.uma_domain.specs.Lists.{lists_identity, plain_in, loose_in, sealed_in, working_in, missed_in}
 use Rattle.uma_domain.specs.Scans.{AllStay, TakesRipe}
 use Rattle.uma_domain.specs.Settled.{Settles, SettlesSome, SumsSettled}
@@ -33,26 +34,32 @@ module _ {T H P : Type 0} {g h : _} where
   abbrev pub AreListsOf : Domain T H P g h → Lists T H P g h → Type 0
   AreListsOf domain lists = lists_identity lists ≡ domain_identity domain
 
-  -- the bucket is the newest plain one
+  -- the bucket is the newest plain one, and its items are counted
   pub record PutsPlain (domain : Domain T H P g h) (bucket : Bucket T g) : Type 0 where
     pub was : Lists T H P g h
     pub is : Lists T H P g h
     pub of_domain : AreListsOf domain was
     pub newest : plain_in is ≡ plain_in was ++ bucket ∷ []
+    pub counted : working_in is ≡ after (working_in was) ((working_in was).count + plain_len bucket)
+    pub kept : KeepsButPlain was is
 
-  -- the bucket is the newest loose one
+  -- the bucket is the newest loose one, and its items are counted
   pub record PutsLoose (domain : Domain T H P g h) (bucket : Loose T g) : Type 0 where
     pub was : Lists T H P g h
     pub is : Lists T H P g h
     pub of_domain : AreListsOf domain was
     pub newest : loose_in is ≡ loose_in was ++ bucket ∷ []
+    pub counted : working_in is ≡ after (working_in was) ((working_in was).count + loose_len bucket)
+    pub kept : KeepsButLoose was is
 
-  -- the bucket is the newest sealed one
+  -- the bucket is the newest sealed one, and its items are counted
   pub record PutsSealed (domain : Domain T H P g h) (bucket : Sealed T H P g h) : Type 0 where
     pub was : Lists T H P g h
     pub is : Lists T H P g h
     pub of_domain : AreListsOf domain was
     pub newest : sealed_in is ≡ sealed_in was ++ bucket ∷ []
+    pub counted : working_in is ≡ after (working_in was) ((working_in was).count + sealed_len bucket)
+    pub kept : KeepsButSealed was is
 
   -- the bucket is the newest of its kind
   abbrev pub PutsShelved : Domain T H P g h → Shelved T H P g h → Type 0
@@ -95,12 +102,14 @@ module _ {T H P : Type 0} {g h : _} where
     pub of_domain : AreListsOf domain was.lists
     pub settles : SettlesSome was is
 
-  -- the bucket was the newest plain one, and is taken
+  -- the bucket was the newest plain one, and is taken with its items
   pub record TakesPlain (domain : Domain T H P g h) (bucket : Bucket T g) : Type 0 where
     pub was : Lists T H P g h
     pub is : Lists T H P g h
     pub of_domain : AreListsOf domain was
     pub newest : plain_in was ≡ plain_in is ++ bucket ∷ []
+    pub counted : working_in is ≡ after (working_in was) ((working_in was).count - plain_len bucket)
+    pub kept : KeepsButPlain was is
 
   -- no plain bucket was listed, and one more miss is counted
   pub record FindsNoPlain (domain : Domain T H P g h) : Type 0 where
@@ -109,13 +118,16 @@ module _ {T H P : Type 0} {g h : _} where
     pub of_domain : AreListsOf domain was
     pub none : plain_in was ≡ []
     pub missed : missed_in is ≡ missed_in was + 1
+    pub kept : KeepsListed was is
 
-  -- the bucket was the oldest sealed one whose poll said yes, and is taken
+  -- the bucket was the oldest sealed one whose poll said yes, and is taken with its items
   pub record TakesOldestRipe (domain : Domain T H P g h) (ripe : Ripe T H P g h) : Type 0 where
     pub was : Lists T H P g h
     pub is : Lists T H P g h
     pub of_domain : AreListsOf domain was
     pub oldest : TakesRipe (sealed_in was) ripe (sealed_in is)
+    pub counted : working_in is ≡ after (working_in was) ((working_in was).count - ripe_len ripe)
+    pub kept : KeepsButSealed was is
 
   -- each sealed bucket that was listed was polled once, which said no, and one more miss is counted
   pub record FindsNoneRipe (domain : Domain T H P g h) : Type 0 where
@@ -124,6 +136,7 @@ module _ {T H P : Type 0} {g h : _} where
     pub of_domain : AreListsOf domain was
     pub said_no : AllStay (sealed_in was) (sealed_in is)
     pub missed : missed_in is ≡ missed_in was + 1
+    pub kept : KeepsButPolled was is
 
   -- Each loose bucket tried once to be sealed, by a pass whose view was v before and v' after, and so many were.
   pub record SealsLoose (domain : Domain T H P g h) (copied : P → P) (v : View P) (count : ℕ) (v' : View P) : Type 0 where
@@ -131,6 +144,7 @@ module _ {T H P : Type 0} {g h : _} where
     pub is : Lists T H P g h
     pub of_domain : AreListsOf domain was
     pub tried : SealsEach copied (domain_identity domain).clock v (loose_in was) (sealed_in was) count (loose_in is) (sealed_in is) v'
+    pub kept : KeepsButSealing was is
 
   -- what wasn't in use since the last mark is taken, and a new interval begins
   pub record TakesUnused (domain : Domain T H P g h) (taken : Taken T H P g h) : Type 0 where
@@ -138,7 +152,7 @@ module _ {T H P : Type 0} {g h : _} where
     pub is : Lists T H P g h
     pub of_domain : AreListsOf domain was
     pub trimmed : Trims (working_set (working_in was)) (working_in was).count (plain_in was) (sealed_in was) (taken_in taken) (plain_in is) (sealed_in is)
-    pub loose : loose_in is ≡ loose_in was
+    pub kept : KeepsButCandidates was is
     pub begins : working_in is ≡ begun (listed (plain_in is) (loose_in is) (sealed_in is))
 
   -- every candidate is taken, and the interval goes on
@@ -148,7 +162,7 @@ module _ {T H P : Type 0} {g h : _} where
     pub of_domain : AreListsOf domain was
     pub all : TakesAll (plain_in was) (sealed_in was) (taken_in taken) (sealed_in is)
     pub none_left : plain_in is ≡ []
-    pub loose : loose_in is ≡ loose_in was
+    pub kept : KeepsButCandidates was is
     pub goes_on : working_in is ≡ after (working_in was) (listed (plain_in is) (loose_in is) (sealed_in is))
 
   -- the lists are as they were
@@ -156,10 +170,7 @@ module _ {T H P : Type 0} {g h : _} where
     pub was : Lists T H P g h
     pub is : Lists T H P g h
     pub of_domain : AreListsOf domain was
-    pub plain : plain_in is ≡ plain_in was
-    pub loose : loose_in is ≡ loose_in was
-    pub sealed : sealed_in is ≡ sealed_in was
-    pub working : working_in is ≡ working_in was
+    pub kept : KeepsAll was is
 
   -- What is taken is as is said of it, and of the domain. Where memory is wanting the lists are as they were.
   pub record GivesUnderLock {E : Type 0} (domain : Domain T H P g h) (Takes : Taken T H P g h → Type 0) (result : Result (Taken T H P g h) E) : Type 0 where
@@ -173,6 +184,7 @@ module _ {T H P : Type 0} {g h : _} where
     pub is : Lists T H P g h
     pub of_domain : AreListsOf domain was
     pub begins : working_in is ≡ begun (working_in was).count
+    pub kept : KeepsButWorking was is
 
   -- so many items were listed
   pub record CountsListed (domain : Domain T H P g h) (count : ℕ) : Type 0 where

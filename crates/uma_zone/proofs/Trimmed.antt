@@ -218,7 +218,7 @@ module _ {T H P : Type 0} {g : Ghosts T} {h : HostGhosts H P} where
   trims_keep_floor domain taken trim =
       let was = trim.was in
       let is = trim.is in
-      let left : (working_in is).count ≡ listed (plain_in is) (loose_in was) (sealed_in is) = is.counted ∙ ap (λ (l : List (Loose T g)). listed (plain_in is) l (sealed_in is)) trim.loose in
+      let left : (working_in is).count ≡ listed (plain_in is) (loose_in was) (sealed_in is) = is.counted ∙ ap (λ (l : List (Loose T g)). listed (plain_in is) l (sealed_in is)) trim.kept.loose in
       keeps_of (working_set (working_in was)) (working_in was).count (working_in is).count (plain_in was) (loose_in was) (sealed_in was) (taken_in taken) (plain_in is) (sealed_in is) was.counted left trim.trimmed
 
   pub drains_lose_none : DrainsLoseNone T H P g h
@@ -228,5 +228,5 @@ module _ {T H P : Type 0} {g : Ghosts T} {h : HostGhosts H P} where
       let sums = taken_sum (plain_in was) drain.all.ripe (taken_in taken) drain.all.order in
       let polled = polled_sum (sealed_in was) drain.all.ripe (sealed_in is) drain.all.sealed_taken in
       let none = sum_none plain_len (plain_in is) drain.none_left in
-      let same : sum_by loose_len (loose_in is) ≡ sum_by loose_len (loose_in was) = ap (sum_by loose_len) drain.loose in
+      let same : sum_by loose_len (loose_in is) ≡ sum_by loose_len (loose_in was) = ap (sum_by loose_len) drain.kept.loose in
       omega (arith, was.counted, is.counted, sums, polled, none, same)

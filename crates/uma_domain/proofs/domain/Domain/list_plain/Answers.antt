@@ -6,5 +6,5 @@ use Rattle.uma_domain.proofs.domain.Domain.list_plain.Goals as goal
 pub returns : goal.returns
 returns g c = record {
   back = c.put_plain.ensures.lists.back;
-  put = puts_plain c.args.self.now c.deref_mut.result.now.lists c.put_plain.new.self (ap (λ locked. lists_identity locked.lists) c.deref_mut.ensures.value ∙ c.lock-guard.ensures.kept) c.args.bucket c.put_plain.result c.put_plain.ensures.lists.newest;
+  put = puts_plain c.args.self.now c.deref_mut.result.now.lists c.put_plain.new.self (ap (λ locked. lists_identity locked.lists) c.deref_mut.ensures.value ∙ c.lock-guard.ensures.kept) c.args.bucket c.put_plain.result c.put_plain.ensures.lists c.put_plain.ensures.kept;
 }

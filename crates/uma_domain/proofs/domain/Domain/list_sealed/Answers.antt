@@ -6,5 +6,5 @@ use Rattle.uma_domain.proofs.domain.Domain.list_sealed.Goals as goal
 pub returns : goal.returns
 returns g c = record {
   back = c.put_sealed.ensures.lists.back;
-  put = puts_sealed c.args.self.now c.deref_mut.result.now.lists c.put_sealed.new.self (ap (λ locked. lists_identity locked.lists) c.deref_mut.ensures.value ∙ c.lock-guard.ensures.kept) c.args.bucket c.put_sealed.result c.put_sealed.ensures.lists.newest;
+  put = puts_sealed c.args.self.now c.deref_mut.result.now.lists c.put_sealed.new.self (ap (λ locked. lists_identity locked.lists) c.deref_mut.ensures.value ∙ c.lock-guard.ensures.kept) c.args.bucket c.put_sealed.result c.put_sealed.ensures.lists c.put_sealed.ensures.kept;
 }

@@ -12,6 +12,6 @@ returns g c =
     let own = c.take_all.ensures.own in
     record {
       of_domain = taken_own c.args.self.now was is of c.take_all.result own.of_domain;
-      taken = takes_each c.args.self.now was is of c.take_all.result c.take_all.ensures.all own.loose;
-      unchanged = keeps_lists c.args.self.now was is of c.take_all.result own.unchanged own.loose;
+      taken = takes_each c.args.self.now was is of c.take_all.result c.take_all.ensures.all own;
+      unchanged = keeps_lists c.args.self.now was is of c.take_all.result own;
     }

@@ -16,6 +16,6 @@ returns g c =
       of_domain = subst (λ (id : Identity). IfSome c.take_plain.result (IsPlainOf id.home)) of took.counts.of_domain;
       hit = search rules;
       raised = took.counts.raised;
-      taken = takes_plain c.args.self.now was is of c.take_plain.result took.newest;
-      looked = finds_no_plain c.args.self.now was is of c.take_plain.result took.none took.counts.miss;
+      taken = takes_plain c.args.self.now was is of c.args.share.now c.take_plain.result c.take_plain.new.share took;
+      looked = finds_no_plain c.args.self.now was is of c.args.share.now c.take_plain.result c.take_plain.new.share took;
     }

@@ -16,6 +16,6 @@ returns g c =
       of_domain = subst (λ (id : Identity). IfSome c.take_ripe.result (IsRipeOf id)) of took.counts.of_domain;
       hit = search rules;
       raised = took.counts.raised;
-      taken = takes_oldest c.args.self.now was is of c.take_ripe.result took.oldest;
-      looked = finds_none_ripe c.args.self.now was is of c.take_ripe.result took.none took.counts.miss;
+      taken = takes_oldest c.args.self.now was is of c.args.share.now c.take_ripe.result c.take_ripe.new.share took;
+      looked = finds_none_ripe c.args.self.now was is of c.args.share.now c.take_ripe.result c.take_ripe.new.share took;
     }

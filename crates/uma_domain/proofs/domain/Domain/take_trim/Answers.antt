@@ -12,6 +12,6 @@ returns g c =
     let own = c.take_trim.ensures.own in
     record {
       of_domain = taken_own c.args.self.now was is of c.take_trim.result own.of_domain;
-      taken = takes_unused c.args.self.now was is of c.take_trim.result c.take_trim.ensures.trimmed own.loose;
-      unchanged = keeps_lists c.args.self.now was is of c.take_trim.result own.unchanged own.loose;
+      taken = takes_unused c.args.self.now was is of c.take_trim.result c.take_trim.ensures.trimmed own;
+      unchanged = keeps_lists c.args.self.now was is of c.take_trim.result own;
     }
