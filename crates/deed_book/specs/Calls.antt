@@ -10,7 +10,7 @@ use Rattle.deed_book.specs.declared.refused.BookRefused.TheVariants.{Numbers}
 use Rattle.deed_book.specs.Book.{book_table, zones_of, IsOutOfRange, Refuses}
 use Rattle.deed_book.specs.BookId.{BookId, TableId, numbers_of}
 use Rattle.deed_book.specs.BookLaw.{IsOutside}
-use Rattle.deed_book.specs.Deed.{deed_table as table_of_deed, no_of, zone_of}
+use Rattle.deed_book.specs.Deed.{deed_table as table_of_deed, label_of, no_of, zone_of}
 use Rattle.deed_book.specs.FailBook.{fail_book_table, causes_of}
 use Rattle.deed_book.specs.FailShare.{share_table as table_of_share, causes_in}
 
@@ -22,9 +22,10 @@ pub record MakesBook (many : ℕ) (made_for : List ℕ) (result : Result Book Bo
   pub out_of_range : IsOutOfRange many → result ≡ Err (Numbers many)
   pub err : IfErr result (Refuses many)
 
--- The deed is of this number, zone and book. The number is outside, with the zone, and nothing else changes.
+-- The deed is of this number, zone and book, without a label. The number is outside, with the zone, and nothing else changes.
 pub record IssuesDeed (no zone : ℕ) (id : BookId) (was : List (Option ℕ)) (issued : Deed) (id' : BookId) (is : List (Option ℕ)) : Type 0 where
   pub deed : (no_of issued ≡ no) × (zone_of issued ≡ zone)
+  pub unlabelled : label_of issued ≡ 0
   pub book : is ≡ slice_set was no (Some zone)
   pub table : id' ≡ id
   pub deed_table : table_of_deed issued ≡ id

@@ -13,3 +13,11 @@ no_of deed = deed.no
 
 abbrev pub zone_of : Deed → ℕ
 zone_of deed = deed.zone
+
+-- what its holder labelled it with
+abbrev pub label_of : Deed → ℕ
+label_of deed = deed.label
+
+-- the same deed with another label
+abbrev pub labelled : Deed → ℕ → Deed
+labelled deed label = record deed { label = label }

@@ -6,11 +6,13 @@ use crate::origin::Origin;
 use atomic_table::Seat;
 
 /// The one token of a number that is outside. It is a seat of its book's table, which no code can copy or make up; it
-/// may cross threads. The number of a deed that is dropped stays outside for good.
+/// may cross threads. The number of a deed that is dropped stays outside for good. Its holder may label it with a byte,
+/// which no book reads.
 #[derive(Drop)]
 pub struct Deed {
     pub(crate) no: u32,
     pub(crate) zone: u8,
+    pub(crate) label: u8,
     pub(crate) seat: Seat<(), View>,
     pub(crate) origin: Origin,
     pub ghost zone_in_range: { zone < 8 },
@@ -19,7 +21,7 @@ pub struct Deed {
 }
 
 impl Deed {
-    ghost use Rattle.deed_book.specs.Deed.{deed_table, no_of, zone_of};
+    ghost use Rattle.deed_book.specs.Deed.{deed_table, label_of, labelled, no_of, zone_of};
     ghost use Rattle.deed_book.specs.BookId.{numbers_of};
 
     /// The number, which is below its book's count of numbers.
@@ -35,5 +37,20 @@ impl Deed {
         ensures { result ≡ zone_of self.now }
     {
         self.zone
+    }
+
+    /// Its holder's label, 0 to 255; 0 where none was set since it was issued.
+    pub fn label(&self) -> u8
+        ensures { result ≡ label_of self.now }
+    {
+        self.label
+    }
+
+    /// The same deed with this label.
+    pub fn labelled(mut self, label: u8) -> Deed
+        ensures { result ≡ labelled self label }
+    {
+        self.label = label;
+        self
     }
 }

@@ -77,6 +77,7 @@ impl Register {
         Deed {
             no,
             zone,
+            label: 0,
             seat,
             origin,
         }
@@ -90,6 +91,7 @@ impl Register {
         let Deed {
             no,
             zone,
+            label: _,
             seat,
             origin: _,
         } = deed;
