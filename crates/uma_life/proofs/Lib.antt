@@ -3,3 +3,4 @@ mod Words
 mod Passing
 pub mod Tallies
 mod Sums
+pub mod Outsides

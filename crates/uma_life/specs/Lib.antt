@@ -10,3 +10,4 @@ pub mod Live
 pub mod Sum
 pub mod Passes
 pub mod Moves
+pub mod Outside

@@ -1,7 +1,7 @@
 -- What each call makes of an item, from its keg to its use and back.
 use Rattle.std.specs.Prelude.{◌≡◌, ◌≢◌, ℕ, List, Option, Some, None, Result, IfOk, IfErr, IsOkAnd}
 use Rattle.deed_book.specs.declared.deed.Deed.{Deed}
-use Rattle.deed_book.specs.Deed.{no_of, zone_of}
+use Rattle.deed_book.specs.Deed.{no_of, zone_of, labelled}
 use Rattle.uma_life.specs.declared.body.Body.{Ghosts}
 use Rattle.uma_life.specs.declared.body_phase.BodyPhase.{BodyPhase}
 use Rattle.uma_life.specs.declared.body_phase.BodyPhase.TheVariants.{Built}
@@ -53,9 +53,9 @@ module _ {T : Type 0} {g : Ghosts T} where
     pub left : IfOk answer (λ item. (raw : T) × (g.life raw ≡ raw_life no) × makes raw × (refusal raw ≡ None) × leaves raw (stored_body item))
     pub refused : IfErr answer (RefusesToBring (λ code. (raw : T) × (g.life raw ≡ raw_life no) × (refusal raw ≡ Some code)))
 
-  -- The item has the deed, and passed zone_init, but for zone 0. Or that was refused, and both are back.
+  -- The item has the deed, labelled with its domain, and passed zone_init, but for zone 0. Or that was refused, and both are back.
   pub record Lends (was : Stored T g) (by_deed : Deed) (refusal : Option ℕ) (leaves : T → Type 0) (answer : Result (Cached T g) (Stored T g × Deed × ℕ)) : Type 0 where
-    pub deed : IfOk answer (λ item. ticket_deed (cached_ticket item) ≡ by_deed)
+    pub deed : IfOk answer (λ item. ticket_deed (cached_ticket item) ≡ labelled by_deed (stored_domain was))
     pub domain : IfOk answer (λ item. ticket_domain (cached_ticket item) ≡ stored_domain was)
     pub primary : zone_of by_deed ≡ 0 → IsOkAnd answer (λ item. cached_body item ≡ stored_body was)
     pub entered : zone_of by_deed ≢ 0 → IfOk answer (λ item. g.life (cached_body item) ≡ after (ZoneInit (zone_of by_deed)) (g.life (stored_body was)))

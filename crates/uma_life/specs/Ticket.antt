@@ -1,9 +1,10 @@
 -- Own: what contracts see of a ticket.
 use Rattle.std.specs.Prelude.{ℕ}
 use Rattle.deed_book.specs.declared.deed.Deed.{Deed}
-use Rattle.deed_book.specs.Deed.{no_of, zone_of, deed_table, BookId}
+use Rattle.deed_book.specs.Deed.{no_of, zone_of, label_of, deed_table, BookId}
 use Rattle.uma_life.specs.declared.ticket.Ticket.{Ticket}
 
+-- its label is the domain of the item's slab
 abbrev pub ticket_deed : Ticket → Deed
 ticket_deed ticket = ticket.deed
 
@@ -14,7 +15,7 @@ abbrev pub ticket_zone : Ticket → ℕ
 ticket_zone ticket = zone_of ticket.deed
 
 abbrev pub ticket_domain : Ticket → ℕ
-ticket_domain ticket = ticket.domain
+ticket_domain ticket = label_of ticket.deed
 
 -- which book its deed is of
 abbrev pub ticket_table : Ticket → BookId

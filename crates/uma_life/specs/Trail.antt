@@ -1,10 +1,10 @@
 -- The life trail of an item: how its phase and its counts agree. That inits and finis, and ctors and dtors, come in pairs is the rule of FreeBSD's uma(9); the counts are own.
-use Rattle.std.specs.Prelude.{◌≡◌, ◌<◌, ◌+◌, ◌%◌, ◌^◌, ℕ, ◌==◌, cond, length}
+use Rattle.std.specs.Prelude.{◌≡◌, ◌<◌, ◌+◌, ◌%◌, ◌^◌, ℕ, Bool, true, false, ◌==◌, cond, length}
 use Rattle.uma_life.specs.declared.body_phase.BodyPhase.{BodyPhase}
 use Rattle.uma_life.specs.declared.body_phase.BodyPhase.TheVariants.{Raw, Zoned, Built, Gone}
 use Rattle.uma_life.specs.declared.tally.Tally.{Tally}
 use Rattle.uma_life.specs.Life.{Life, no_tally}
-use Rattle.uma_life.specs.Hook.{counts_of}
+use Rattle.uma_life.specs.Hook.{base_phase, counts_of}
 use Rattle.uma_life.specs.Sum.{AreCounts}
 
 -- how often keg_init was passed, by the phase
@@ -49,3 +49,17 @@ pub record OnTrail (phase : BodyPhase) (tally : Tally) : Type 0 where
 pub record IsAt (phase : BodyPhase) (life : Life) : Type 0 where
   pub stands : life.phase ≡ phase
   pub trail : OnTrail phase life.tally
+
+-- whether an item of this phase is built
+abbrev pub is_built : BodyPhase → Bool
+is_built (Built zone) = true
+is_built _ = false
+
+-- the phase of an item of a zone outside its keg: built or not
+abbrev pub outside_phase : Bool → ℕ → BodyPhase
+outside_phase true zone = Built zone
+outside_phase false zone = base_phase zone
+
+-- the item is outside its keg, in a zone, and on its trail
+abbrev pub IsOutside : ℕ → Life → Type 0
+IsOutside zone life = IsAt (outside_phase (is_built life.phase) zone) life

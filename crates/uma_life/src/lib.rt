@@ -21,6 +21,8 @@
 //! - Phases agree with a tally as whole numbers, the zones' counts modulo 2^64, since counters wrap.
 //! - That every tally which agrees comes from some word of hooks isn't claimed: it would need words of 2^64 hooks.
 //! - `origin` has a default, the empty list, so who has nothing to tell writes nothing.
+//! - `Outside`, a cached or a live item, is what a place for both holds: the phase tells which, and the same body and ticket
+//!   in the same state are the same item, since a state's facts have one proof.
 //! - `Lives` is a list that contracts see as its items, so `from_vec` and `into_vec` take no memory.
 #![tactic(auto)]
 
@@ -31,6 +33,7 @@ mod hooks;
 mod live;
 mod lives;
 mod order;
+mod outside;
 mod refused;
 mod stored;
 mod tally;
@@ -46,6 +49,7 @@ pub use hooks::Hooks;
 pub use live::Live;
 pub use lives::Lives;
 pub use order::hooks_run_in_order;
+pub use outside::Outside;
 pub use refused::BringRefused;
 pub use stored::Stored;
 pub use tally::Tally;

@@ -1,30 +1,33 @@
 ghost use Rattle.std.specs.Prelude.{◌≡◌, ◌<◌};
-ghost use Rattle.deed_book.specs.Deed.{no_of, zone_of};
 
 use deed_book::Deed;
 
-/// What an item outside its keg has beside its body: its deed, and the memory domain of its slab.
+/// What an item outside its keg has beside its body, in eight bytes: its deed, whose label is the memory domain of the
+/// item's slab.
 #[derive(Drop)]
 pub struct Ticket {
     deed: Deed,
-    domain: u8,
 }
 
 impl Ticket {
+    ghost use Rattle.deed_book.specs.Deed.{labelled};
     ghost use Rattle.uma_life.specs.Ticket.{ticket_deed, ticket_no, ticket_zone, ticket_domain};
 
     /// A ticket of this deed, for an item whose slab is of this memory domain.
     pub fn of(deed: Deed, domain: u8) -> Ticket
-        ensures { (ticket_deed result ≡ deed) × (ticket_domain result ≡ domain) }
+        ensures { ticket_deed result ≡ labelled deed domain }
     {
-        Ticket { deed, domain }
+        Ticket {
+            deed: deed.labelled(domain),
+        }
     }
 
     /// The ticket's deed and domain. `of` makes the same ticket of them.
     pub fn into_deed(self) -> (Deed, u8)
         ensures { (result.0 ≡ ticket_deed self) × (result.1 ≡ ticket_domain self) }
     {
-        (self.deed, self.domain)
+        let domain = self.deed.label();
+        (self.deed, domain)
     }
 
     /// The item's number in its keg, that of the deed.
@@ -46,6 +49,6 @@ impl Ticket {
     pub fn domain(&self) -> u8
         ensures { result ≡ ticket_domain self.now }
     {
-        self.domain
+        self.deed.label()
     }
 }
