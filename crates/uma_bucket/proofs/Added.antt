@@ -1,6 +1,6 @@
 -- What is added to sums: the tallies of a room, one item after another.
 use Rattle.std.proofs.Common.{◌≡◌, ◌<◌, ◌≤◌, ◌+◌, ◌*◌, ◌^◌, ◌%◌, ◌==◌, ℕ, Bool, true, false, cond, List, [], ◌∷◌, length, get_or, replicate, take, inl, inr, refl, sym, ap, ◌∙◌, subst, arith}
-use Rattle.std.specs.List.{sum_by, filter_map, list_all}
+use Rattle.std.specs.List.{sum_by, filter_map, list_all, cons_option}
 use Rattle.std.proofs.lemmas.List.{length-take, get_or-replicate, get_or_past}
 use Rattle.std.proofs.lemmas.Bool.{cases_lt}
 use Rattle.std.proofs.lemmas.List.Sums.{sum_by-cons, sum_by-le, sum_by_more}
@@ -9,44 +9,57 @@ use Rattle.uma_life.specs.declared.ticket.Ticket.{Ticket}
 use Rattle.uma_life.specs.Hook.{Hook, KegInit, ZoneInit, Ctor, Dtor, ZoneFini, KegFini}
 use Rattle.uma_life.specs.Sum.{sum_of, zone_sums, no_zone_sums, AreBelow}
 use Rattle.uma_life.specs.Trail.{ShowsSame}
-use Rattle.uma_bucket.specs.declared.held.Held.{Held}
-use Rattle.uma_bucket.specs.declared.held.Held.TheVariants.{Cached as Cached', Freed as Freed', Away}
+use Rattle.uma_life.specs.declared.cached.Cached.{Cached}
+use Rattle.uma_life.specs.declared.outside.Outside.{Outside}
+use Rattle.uma_life.specs.Outside.{is_live, stands_so, cached_where, live_where}
+use Rattle.uma_bucket.specs.declared.freed.Freed.{Freed}
 use Rattle.uma_bucket.specs.declared.sums.Sums.{Sums}
-use Rattle.uma_bucket.specs.Held.{is_cached, is_freed, cached_in, freed_in, times_held}
+use Rattle.uma_bucket.specs.Held.{is_cached, is_freed, cached_in, freed_in, freed_of, times_held}
 use Rattle.uma_bucket.specs.Home.{Home, AreHome}
 use Rattle.uma_bucket.specs.Sums.{nothing_held, times_cached, times_freed, Adds, AddsItems, AreOfAtMost, Balance, IsNothing, Joins}
+use Rattle.uma_bucket.proofs.Rooms.{first_passes, isnt_live}
 use Rattle.uma_bucket.proofs.Tallied.{trail_times, both_show}
 
 module _ {T : Type 0} {g : _} where
   -- one item passed each hook fewer than 2^64 times
-  held_times : (hook : Hook) (x : Held T g) → times_held hook x < 2 ^ 64
-  held_times hook (Cached' item) = trail_times _ _ item.at.trail hook
-  held_times hook (Freed' item) = trail_times _ _ item.live.at.trail hook
-  held_times hook Away = omega arith
+  held_times : (hook : Hook) (x : Outside T g) → times_held hook x < 2 ^ 64
+  held_times hook x = trail_times _ _ x.at.trail hook
 
-  pub all_times : (hook : Hook) (xs : List (Held T g)) → sum_by (times_held hook) xs ≤ length xs * 2 ^ 64
+  pub all_times : (hook : Hook) (xs : List (Outside T g)) → sum_by (times_held hook) xs ≤ length xs * 2 ^ 64
   all_times hook xs = sum_by-le (times_held hook) (2 ^ 64) xs (λ k d within. let few : times_held hook (get_or xs k d) < 2 ^ 64 = held_times hook (get_or xs k d) in omega arith)
 
-  pub cached_times : (hook : Hook) (xs : List (Held T g)) → list_all is_cached xs ≡ true → sum_by (times_held hook) xs ≡ times_cached hook (filter_map cached_in xs)
-  cached_times hook [] all = refl
-  cached_times hook (Cached' x ∷ xs) all = sum_by-cons (times_held hook) (Cached' x) xs ∙ ap (λ (n : ℕ). times_held hook (Cached' x) + n) (cached_times hook xs all) ∙ sym (sum_by-cons _ x (filter_map cached_in xs))
-  cached_times hook (Freed' x ∷ xs) all = absurd (cc)
-  cached_times hook (Away ∷ xs) all = absurd (cc)
+  one_cached : (hook : Hook) (x : Outside T g) (built : Bool) (is : is_live x ≡ built) → built ≡ false → (cs : List (Cached T g)) → times_held hook x + times_cached hook cs ≡ times_cached hook (cons_option (cached_where x built is) cs)
+  one_cached hook x true is unbuilt cs = absurd (cc)
+  one_cached hook x false is unbuilt cs =
+      let item : Cached T g = record { body = x.body; ticket = x.ticket; numbered = x.numbered; at = stands_so x false is; of_origin = x.of_origin } in
+      sym (sum_by-cons _ item cs)
 
-  pub freed_times : (hook : Hook) (xs : List (Held T g)) → list_all is_freed xs ≡ true → sum_by (times_held hook) xs ≡ times_freed hook (filter_map freed_in xs)
+  one_freed : (hook : Hook) (x : Outside T g) (built : Bool) (is : is_live x ≡ built) → built ≡ true → (fs : List (Freed T g)) → times_held hook x + times_freed hook fs ≡ times_freed hook (cons_option (freed_of (live_where x built is)) fs)
+  one_freed hook x true is built_so fs =
+      let item : Freed T g = record { live = record { body = x.body; ticket = x.ticket; numbered = x.numbered; at = stands_so x true is; of_origin = x.of_origin } } in
+      sym (sum_by-cons _ item fs)
+  one_freed hook x false is built_so fs = absurd (cc)
+
+  pub cached_times : (hook : Hook) (xs : List (Outside T g)) → list_all is_cached xs ≡ true → sum_by (times_held hook) xs ≡ times_cached hook (filter_map cached_in xs)
+  cached_times hook [] all = refl
+  cached_times hook (x ∷ xs) all =
+      let each = first_passes is_cached x xs all in
+      sum_by-cons (times_held hook) x xs ∙ ap (λ (n : ℕ). times_held hook x + n) (cached_times hook xs each.1) ∙ one_cached hook x (is_live x) refl (isnt_live (is_live x) each.0) (filter_map cached_in xs)
+
+  pub freed_times : (hook : Hook) (xs : List (Outside T g)) → list_all is_freed xs ≡ true → sum_by (times_held hook) xs ≡ times_freed hook (filter_map freed_in xs)
   freed_times hook [] all = refl
-  freed_times hook (Freed' x ∷ xs) all = sum_by-cons (times_held hook) (Freed' x) xs ∙ ap (λ (n : ℕ). times_held hook (Freed' x) + n) (freed_times hook xs all) ∙ sym (sum_by-cons _ x (filter_map freed_in xs))
-  freed_times hook (Cached' x ∷ xs) all = absurd (cc)
-  freed_times hook (Away ∷ xs) all = absurd (cc)
+  freed_times hook (x ∷ xs) all =
+      let each = first_passes is_freed x xs all in
+      sum_by-cons (times_held hook) x xs ∙ ap (λ (n : ℕ). times_held hook x + n) (freed_times hook xs each.1) ∙ one_freed hook x (is_live x) refl each.0 (filter_map freed_in xs)
 
   -- there is room for the tally of one item more
-  pub room_left : (was now : Sums) (xs : List (Held T g)) (i : ℕ) → AreOfAtMost (2 ^ 62) was → length xs ≤ 64 → Adds (λ hook. sum_by (times_held hook) (take i xs)) 0 was now → AreBelow (2 ^ 127) now.tally
+  pub room_left : (was now : Sums) (xs : List (Outside T g)) (i : ℕ) → AreOfAtMost (2 ^ 62) was → length xs ≤ 64 → Adds (λ hook. sum_by (times_held hook) (take i xs)) 0 was now → AreBelow (2 ^ 127) now.tally
   room_left was now xs i room few adds hook =
       let front : sum_by (times_held hook) (take i xs) ≤ length (take i xs) * 2 ^ 64 = all_times hook (take i xs) in
       let short = length-take i xs in
       omega (arith, room.tally hook, adds.tally hook)
 
-  pub one_added : (was now next : Sums) (xs : List (Held T g)) (i : ℕ) (x : Held T g) (times : Hook → ℕ) → i < length xs → x ≡ get_or xs i x → ((hook : Hook) → times hook ≡ times_held hook x)
+  pub one_added : (was now next : Sums) (xs : List (Outside T g)) (i : ℕ) (x : Outside T g) (times : Hook → ℕ) → i < length xs → x ≡ get_or xs i x → ((hook : Hook) → times hook ≡ times_held hook x)
       → Adds (λ hook. sum_by (times_held hook) (take i xs)) 0 was now → ((hook : Hook) → sum_of next.tally hook ≡ sum_of now.tally hook + times hook) → next.deferred ≡ now.deferred
       → Adds (λ hook. sum_by (times_held hook) (take (i + 1) xs)) 0 was next
   one_added was now next xs i x times within there each adds more same =

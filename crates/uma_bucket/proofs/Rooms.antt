@@ -1,23 +1,31 @@
 -- A room all of whose items pass the test of one kind: their list is as long as the room, and its last is the one that lies last.
-use Rattle.std.proofs.Common.{◌≡◌, ◌<◌, ℕ, suc, List, [], ◌∷◌, ◌++◌, length, Bool, true, false, ◌&&◌, Option, Some, None, refl, sym, ap, ◌∙◌, get_or, arith}
+use Rattle.std.proofs.Common.{◌≡◌, ◌<◌, ℕ, suc, List, [], ◌∷◌, ◌++◌, length, Bool, true, false, ◌&&◌, not, Option, Some, None, refl, sym, ap, ◌∙◌, get_or, arith}
 use Rattle.std.specs.Prelude.{is_some}
 use Rattle.std.specs.List.{filter_map, list_all, cons_option}
 use Rattle.std.proofs.lemmas.List.Elements.{filter_map-append}
 use Rattle.std.proofs.lemmas.List.Folds.{list_all-append}
 use Rattle.std.proofs.lemmas.List.Sums.{AllPass-from_list_all}
-use Rattle.uma_bucket.specs.declared.held.Held.{Held}
-use Rattle.uma_bucket.specs.declared.held.Held.TheVariants.{Cached as Cached', Freed as Freed', Away}
-use Rattle.uma_bucket.specs.Held.{is_cached, is_freed, is_filled, cached_in, freed_in}
+use Rattle.uma_life.specs.declared.outside.Outside.{Outside}
+use Rattle.uma_life.specs.Outside.{is_live, cached_where, live_where}
+use Rattle.uma_bucket.specs.Held.{is_cached, is_freed, cached_in, freed_in, freed_of}
 
 -- a test passes exactly where a part is there
 pub record Tests {X A : Type 0} (test : X → Bool) (part : X → Option A) : Type 0 where
   pub agree : (x : X) → is_some (part x) ≡ test x
 
-pub cached_tests : {T : Type 0} {g : _} → Tests {X = Held T g} is_cached cached_in
-cached_tests = record { agree = elim [ Cached' item ↦ refl | Freed' item ↦ refl | Away ↦ refl ] }
+cached_agree : {T : Type 0} {g : _} (x : Outside T g) (built : Bool) (is : is_live x ≡ built) → is_some (cached_where x built is) ≡ not built
+cached_agree x true is = refl
+cached_agree x false is = refl
 
-pub freed_tests : {T : Type 0} {g : _} → Tests {X = Held T g} is_freed freed_in
-freed_tests = record { agree = elim [ Cached' item ↦ refl | Freed' item ↦ refl | Away ↦ refl ] }
+freed_agree : {T : Type 0} {g : _} (x : Outside T g) (built : Bool) (is : is_live x ≡ built) → is_some (freed_of (live_where x built is)) ≡ built
+freed_agree x true is = refl
+freed_agree x false is = refl
+
+pub cached_tests : {T : Type 0} {g : _} → Tests {X = Outside T g} is_cached cached_in
+cached_tests = record { agree = λ x. cached_agree x (is_live x) refl }
+
+pub freed_tests : {T : Type 0} {g : _} → Tests {X = Outside T g} is_freed freed_in
+freed_tests = record { agree = λ x. freed_agree x (is_live x) refl }
 
 one_more : {A : Type 0} (o : Option A) (here rest : Bool) (xs : List A) → is_some o ≡ here → (here && rest) ≡ true → (rest ≡ true) × (length (cons_option o xs) ≡ suc (length xs))
 one_more None true rest xs agree all = absurd (cc)
@@ -49,24 +57,21 @@ part_pop part xs ys x is was same = rw (was, same) (filter_map-append part ys (i
 pub at_place : {X : Type 0} (test : X → Bool) (xs : List X) (i : ℕ) (x : X) → list_all test xs ≡ true → i < length xs → x ≡ get_or xs i x → test x ≡ true
 at_place test xs i x all within there = ap test there ∙ AllPass-from_list_all test xs all i x within
 
--- each place of a bucket has an item
-pub cached_fills : {T : Type 0} {g : _} (x : Held T g) → is_cached x ≡ true → is_filled x ≡ true
-cached_fills (Cached' item) here = refl
-cached_fills (Freed' item) here = absurd (cc)
-cached_fills Away here = absurd (cc)
-
-pub freed_fills : {T : Type 0} {g : _} (x : Held T g) → is_freed x ≡ true → is_filled x ≡ true
-freed_fills (Cached' item) here = absurd (cc)
-freed_fills (Freed' item) here = refl
-freed_fills Away here = absurd (cc)
-
+-- what lies last passes too
 both_pass : (a b : Bool) → (a && b) ≡ true → (a ≡ true) × (b ≡ true)
 both_pass true true both = (refl, refl)
 both_pass true false both = absurd (cc)
 both_pass false b both = absurd (cc)
 
-pub all_pass_too : {X : Type 0} (test other : X → Bool) → ((x : X) → test x ≡ true → other x ≡ true) → (xs : List X) → list_all test xs ≡ true → list_all other xs ≡ true
-all_pass_too test other passes [] all = refl
-all_pass_too test other passes (x ∷ xs) all =
-    let both = both_pass (test x) (list_all test xs) all in
-    ap (λ (b : Bool). b && list_all other xs) (passes x both.0) ∙ all_pass_too test other passes xs both.1
+pub first_passes : {X : Type 0} (test : X → Bool) (x : X) (xs : List X) → list_all test (x ∷ xs) ≡ true → (test x ≡ true) × (list_all test xs ≡ true)
+first_passes test x xs all = both_pass (test x) (list_all test xs) all
+
+pub last_passes : {X : Type 0} (test : X → Bool) (xs ys : List X) (x : X) → xs ≡ ys ++ x ∷ [] → list_all test xs ≡ true → test x ≡ true
+last_passes test xs ys x is all =
+    let front : list_all test (ys ++ x ∷ []) ≡ (list_all test ys && list_all test (x ∷ [])) = list_all-append test ys (x ∷ []) in
+    let both = both_pass (list_all test ys) (list_all test (x ∷ [])) (sym front ∙ ap (list_all test) (sym is) ∙ all) in
+    (both_pass (test x) true both.1).0
+
+pub isnt_live : (built : Bool) → not built ≡ true → built ≡ false
+isnt_live true is = absurd (cc)
+isnt_live false is = refl

@@ -1,49 +1,29 @@
--- Own: what lies in the room of a bucket.
-use Rattle.std.specs.Prelude.{ℕ, Bool, true, false, Option, Some, None}
-use Rattle.uma_life.specs.declared.cached.Cached.{Cached}
-use Rattle.uma_life.specs.Cached.{cached_body}
+-- Own: what lies in the room of a bucket: items outside their keg, cached ones or freed ones.
+use Rattle.std.specs.Prelude.{ℕ, Bool, not, Option, Some, None}
+use Rattle.uma_life.specs.declared.live.Live.{Live}
+use Rattle.uma_life.specs.declared.outside.Outside.{Outside}
 use Rattle.uma_life.specs.Hook.{Hook}
+pub use Rattle.uma_life.specs.Outside.{cached_in}
+use Rattle.uma_life.specs.Outside.{is_live, live_in, outside_tally}
 use Rattle.uma_life.specs.Sum.{times_of}
 use Rattle.uma_bucket.specs.declared.freed.Freed.{Freed}
-use Rattle.uma_bucket.specs.declared.held.Held.{Held}
-use Rattle.uma_bucket.specs.declared.held.Held.TheVariants.{Cached as IsCached', Freed as IsFreed', Away}
-use Rattle.uma_bucket.specs.Freed.{freed_tally, IsFinished}
 
-abbrev pub is_cached : {T : Type 0} {g : _} → Held T g → Bool
-is_cached (IsCached' item) = true
-is_cached (IsFreed' item) = false
-is_cached Away = false
+module _ {T : Type 0} {g : _} where
+  abbrev pub is_cached : Outside T g → Bool
+  is_cached item = not (is_live item)
 
-abbrev pub is_freed : {T : Type 0} {g : _} → Held T g → Bool
-is_freed (IsCached' item) = false
-is_freed (IsFreed' item) = true
-is_freed Away = false
+  -- a freed item is built still
+  abbrev pub is_freed : Outside T g → Bool
+  is_freed item = is_live item
 
--- an item lies there, cached or freed
-abbrev pub is_filled : {T : Type 0} {g : _} → Held T g → Bool
-is_filled (IsCached' item) = true
-is_filled (IsFreed' item) = true
-is_filled Away = false
+  abbrev pub freed_of : Option (Live T g) → Option (Freed T g)
+  freed_of (Some live) = Some (record { live = live })
+  freed_of None = None
 
--- the cached item that lies there, if one does
-abbrev pub cached_in : {T : Type 0} {g : _} → Held T g → Option (Cached T g)
-cached_in (IsCached' item) = Some item
-cached_in (IsFreed' item) = None
-cached_in Away = None
+  -- the freed item that lies there, if it is one
+  abbrev pub freed_in : Outside T g → Option (Freed T g)
+  freed_in item = freed_of (live_in item)
 
--- the freed item that lies there, if one does
-abbrev pub freed_in : {T : Type 0} {g : _} → Held T g → Option (Freed T g)
-freed_in (IsCached' item) = None
-freed_in (IsFreed' item) = Some item
-freed_in Away = None
-
--- a freed item became this cached one, at the same place
-abbrev pub FinishesHeld : {T : Type 0} {g : _} → (T → ℕ → T → Type 0) → Held T g → Held T g → Type 0
-FinishesHeld leaves (IsFreed' freed) (IsCached' cached) = IsFinished leaves freed cached
-FinishesHeld leaves _ _ = ⊥
-
--- how often the item that lies there passed a hook
-abbrev pub times_held : {T : Type 0} {g : _} → Hook → Held T g → ℕ
-times_held {g = g} hook (IsCached' item) = times_of (g.life (cached_body item)).tally hook
-times_held hook (IsFreed' item) = times_of (freed_tally item) hook
-times_held hook Away = 0
+  -- how often the item that lies there passed a hook
+  abbrev pub times_held : Hook → Outside T g → ℕ
+  times_held hook item = times_of (outside_tally item) hook

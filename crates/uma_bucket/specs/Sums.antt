@@ -1,18 +1,17 @@
 -- Own: the sums of what buckets hold, and how they agree with the items' lives.
-use Rattle.std.specs.Prelude.{◌≡◌, ◌+◌, ◌*◌, ◌^◌, ◌<◌, ◌≤◌, ◌==◌, ℕ, cond, true, List, Vec, vec_len}
+use Rattle.std.specs.Prelude.{◌≡◌, ◌+◌, ◌*◌, ◌^◌, ◌<◌, ◌≤◌, ◌==◌, ℕ, cond, List, Vec, vec_len}
 use Rattle.std.specs.declared.alloc.Global.{Global}
-use Rattle.std.specs.List.{sum_by, list_all}
+use Rattle.std.specs.List.{sum_by}
 use Rattle.uma_life.specs.declared.cached.Cached.{Cached}
+use Rattle.uma_life.specs.declared.outside.Outside.{Outside}
 use Rattle.uma_life.specs.declared.ticket.Ticket.{Ticket}
 use Rattle.uma_life.specs.Cached.{cached_body}
 use Rattle.uma_life.specs.Hook.{Hook, Ctor, Dtor}
 use Rattle.uma_life.specs.Sum.{times_of, sum_of, no_sums}
 use Rattle.uma_life.specs.Trail.{ShowsSame}
 use Rattle.uma_bucket.specs.declared.freed.Freed.{Freed}
-use Rattle.uma_bucket.specs.declared.held.Held.{Held}
 use Rattle.uma_bucket.specs.declared.sums.Sums.{Sums}
 use Rattle.uma_bucket.specs.Freed.{freed_tally}
-use Rattle.uma_bucket.specs.Held.{is_filled}
 use Rattle.uma_bucket.specs.Home.{Home, AreHome}
 
 -- the sums of no item
@@ -62,8 +61,7 @@ pub record AddsItems (times : Hook → ℕ) (deferred items : ℕ) (tickets : Li
   pub few : (count : ℕ) → AreOfAtMost count was → AreOfAtMost (count + items) is
   pub balance : (home : Home) → AreHome home tickets → Balance home.zone was → Balance home.zone is
 
--- the items that lie in a room may be added: they are few, and the room has no empty place
-pub record MayAdd {T : Type 0} {g : _} (sums : Sums) (held : Vec (Held T g) Global) : Type 0 where
+-- the items that lie in a room may be added: they are few
+pub record MayAdd {T : Type 0} {g : _} (sums : Sums) (items : Vec (Outside T g) Global) : Type 0 where
   pub room : AreOfAtMost (2 ^ 62) sums
-  pub few : vec_len held ≤ 64
-  pub filled : list_all is_filled held.items ≡ true
+  pub few : vec_len items ≤ 64

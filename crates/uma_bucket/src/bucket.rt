@@ -2,11 +2,10 @@ ghost use Rattle.std.specs.Prelude.{◌≡◌, ◌<◌, ◌^◌, [], length};
 ghost use Rattle.uma_bucket.specs.Held.{is_cached};
 ghost use Rattle.uma_bucket.specs.Kept.{IsKept};
 
-use crate::held::Held;
 use crate::refused::BucketRefused;
 use crate::sums::Sums;
 use std::alloc::Global;
-use uma_life::{Body, Cached};
+use uma_life::{Body, Cached, Outside};
 
 /// The least and the greatest count of items that a bucket can have room for.
 const LEAST_SIZE: u32 = 4;
@@ -16,7 +15,7 @@ const MOST_SIZE: u32 = 64;
 /// A stack of cached items. Contracts see its size and the list of its items, the last put at the end.
 #[derive(Drop)]
 pub struct Bucket<T: Body> {
-    pub(crate) room: Vec<Held<T>>,
+    pub(crate) room: Vec<Outside<T>>,
     pub(crate) size: u32,
     pub ghost kept: { IsKept is_cached room size },
 }
@@ -41,17 +40,15 @@ impl<T: Body> Bucket<T> {
         requires { length (items_of self.old) < size_of self.old }
         ensures { Pushes self.old item self.new }
     {
-        self.room.push_reserved(Held::Cached(item));
+        self.room.push_reserved(Outside::of_cached(item));
     }
 
     /// Takes the item on top, which is the last that was put. None exactly where there is none.
     pub fn pop(&mut self) -> Option<Cached<T>>
         ensures { Pops self.old result self.new }
     {
-        match self.room.pop()? {
-            Held::Cached(item) => Some(item),
-            Held::Freed(_) | Held::Away => unreachable!(),
-        }
+        let item = self.room.pop()?;
+        Some(item.into_cached())
     }
 
     /// Ends a bucket of which no item is left.

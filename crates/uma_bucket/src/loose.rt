@@ -5,18 +5,17 @@ ghost use Rattle.uma_bucket.specs.Kept.{IsKept};
 
 use crate::bucket::Bucket;
 use crate::freed::Freed;
-use crate::held::Held;
 use crate::refused::BucketRefused;
 use crate::sealed::Sealed;
 use crate::sums::Sums;
 use smr_clock::{AdvanceRefused, Clock, Host, Pass};
 use std::alloc::Global;
-use uma_life::{Body, Hooks};
+use uma_life::{Body, Hooks, Outside};
 
 /// A bucket of freed items without a goal: more items may be put in.
 #[derive(Drop)]
 pub struct Loose<T: Body> {
-    room: Vec<Held<T>>,
+    room: Vec<Outside<T>>,
     size: u32,
     pub ghost kept: { IsKept is_freed room size },
 }
@@ -48,7 +47,7 @@ impl<T: Body> Loose<T> {
         requires { length (loose_items self.old) < loose_size self.old }
         ensures { PushesFreed self.old item self.new }
     {
-        self.room.push_reserved(Held::Freed(item));
+        self.room.push_reserved(Outside::of_live(item.live));
     }
 
     /// How many items there are, at most `size`.

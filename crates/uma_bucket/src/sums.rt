@@ -3,8 +3,7 @@ ghost use Rattle.std.specs.List.{sum_by};
 ghost use Rattle.uma_bucket.specs.Held.{times_held};
 ghost use Rattle.uma_bucket.specs.Sums.{IsNothing, Joins, MayAdd, Adds, AreOfAtMost};
 
-use crate::held::Held;
-use uma_life::{Body, TallySum};
+use uma_life::{Body, Outside, TallySum};
 
 /// What buckets hold, summed up.
 #[derive(Clone, Copy, Debug, PartialEq, Eq)]
@@ -37,12 +36,12 @@ impl Sums {
     }
 
     /// Adds the tallies of the items that lie in a room.
-    pub(crate) fn add_tallies<T: Body>(&mut self, room: &Vec<Held<T>>)
+    pub(crate) fn add_tallies<T: Body>(&mut self, room: &Vec<Outside<T>>)
         requires { MayAdd self.old room.now }
         ensures { Adds (λ hook. sum_by (times_held hook) room.now.items) 0 self.old self.new }
     {
-        for held in room {
-            self.tally.add(held.tally());
+        for item in room {
+            self.tally.add(item.tally());
         }
     }
 }

@@ -2,15 +2,15 @@ use Rattle.std.proofs.Common.{rules, ◌≡◌, ◌≤◌, ◌+◌, ◌*◌, ◌
 use Rattle.std.specs.List.{filter_map}
 use Rattle.uma_life.specs.Sum.{sum_of}
 use Rattle.uma_bucket.specs.Bucket.{items_of}
-use Rattle.uma_bucket.specs.Held.{is_cached, is_filled, cached_in}
+use Rattle.uma_bucket.specs.Held.{is_cached, cached_in}
 use Rattle.uma_bucket.specs.Sums.{times_cached}
 use Rattle.uma_bucket.proofs.Added.{adds_items, all_times, cached_times, more_of, still_balance_cached}
-use Rattle.uma_bucket.proofs.Rooms.{count, cached_tests, cached_fills, all_pass_too}
+use Rattle.uma_bucket.proofs.Rooms.{count, cached_tests}
 use Rattle.uma_bucket.proofs.Tallied.{cached_balance}
 use Rattle.uma_bucket.proofs.bucket.Bucket.add_to.Goals as goal
 
 pub add_tallies-requires : goal.add_tallies-requires
-add_tallies-requires g c = record { room = search rules; few = search rules; filled = all_pass_too is_cached is_filled cached_fills c.args.self.now.room.items c.args.self.now.kept.alike }
+add_tallies-requires g c = record { room = search rules; few = search rules }
 
 pub returns : goal.returns
 returns g c =

@@ -1,16 +1,16 @@
 use Rattle.std.proofs.Common.{rules, ◌≡◌, ◌≤◌, ◌+◌, ◌*◌, ◌^◌, ℕ, length, arith, ap, sym, ◌∙◌, subst}
 use Rattle.std.specs.List.{filter_map}
 use Rattle.uma_life.specs.Sum.{sum_of}
-use Rattle.uma_bucket.specs.Held.{is_freed, is_filled, freed_in}
+use Rattle.uma_bucket.specs.Held.{is_freed, freed_in}
 use Rattle.uma_bucket.specs.Loose.{loose_items}
 use Rattle.uma_bucket.specs.Sums.{times_freed}
 use Rattle.uma_bucket.proofs.Added.{adds_items, all_times, freed_times, more_of, still_balance}
-use Rattle.uma_bucket.proofs.Rooms.{count, freed_tests, freed_fills, all_pass_too}
+use Rattle.uma_bucket.proofs.Rooms.{count, freed_tests}
 use Rattle.uma_bucket.proofs.Tallied.{freed_balance}
 use Rattle.uma_bucket.proofs.loose.Loose.add_to.Goals as goal
 
 pub add_tallies-requires : goal.add_tallies-requires
-add_tallies-requires g c = record { room = search rules; few = search rules; filled = all_pass_too is_freed is_filled freed_fills c.args.self.now.room.items c.args.self.now.kept.alike }
+add_tallies-requires g c = record { room = search rules; few = search rules }
 
 pub returns : goal.returns
 returns g c =

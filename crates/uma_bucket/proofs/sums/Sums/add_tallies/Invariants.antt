@@ -4,5 +4,5 @@ use Rattle.uma_bucket.specs.Held.{times_held}
 use Rattle.uma_bucket.specs.Sums.{Adds}
 use Rattle.uma_bucket.proofs.sums.Sums.add_tallies.Given as goal
 
-abbrev pub invariant-loop-held : goal.invariant-loop-held
-invariant-loop-held g l = Adds (λ hook. sum_by (times_held hook) (take l.held-index l.room.items)) 0 l.initial.self l.self
+abbrev pub invariant-loop-item : goal.invariant-loop-item
+invariant-loop-item g l = Adds (λ hook. sum_by (times_held hook) (take l.item-index l.room.items)) 0 l.initial.self l.self
