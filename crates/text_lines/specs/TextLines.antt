@@ -18,7 +18,7 @@ is_plain byte = nat_le 32 byte && nat_le byte 126
 
 -- tab, and from space to tilde
 abbrev pub is_allowed : ℕ → Bool
-is_allowed byte = (byte == 9) || (nat_le 32 byte && nat_le byte 126)
+is_allowed byte = (byte == 9) || is_plain byte
 
 abbrev pub is_blank : ℕ → Bool
 is_blank byte = (byte == 32) || (byte == 9)

@@ -69,7 +69,7 @@ pub fn first_line(text: &[u8]) -> (&[u8], &[u8], bool)
 fn is_allowed(byte: u8) -> bool
     ensures { result ≡ is_allowed byte }
 {
-    byte == b'\t' || (b' ' <= byte && byte <= b'~')
+    byte == b'\t' || is_plain(byte)
 }
 
 /// Whether each byte of a line is one that may stand there: a tab, or one from space to tilde.
