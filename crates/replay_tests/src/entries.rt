@@ -25,7 +25,7 @@ fn bring<R: Wait>(
     hooks: &EntryHooks,
     no: u32,
 ) -> Result<Stored<RaisedEntry>, BringRefused> {
-    Stored::bring(rt, alloc, hooks, no, 0)
+    Stored::bring(rt, alloc, hooks, no)
 }
 
 #[test]

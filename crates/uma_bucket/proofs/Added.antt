@@ -11,10 +11,11 @@ use Rattle.uma_life.specs.Sum.{sum_of, zone_sums, no_zone_sums, AreBelow}
 use Rattle.uma_life.specs.Trail.{ShowsSame}
 use Rattle.uma_life.specs.declared.cached.Cached.{Cached}
 use Rattle.uma_life.specs.declared.outside.Outside.{Outside}
-use Rattle.uma_life.specs.Outside.{is_live, stands_so, cached_where, live_where}
+use Rattle.uma_life.specs.Outside.{is_live, cached_where, live_where}
+use Rattle.uma_life.proofs.Outsides.{cached_there, live_there}
 use Rattle.uma_bucket.specs.declared.freed.Freed.{Freed}
 use Rattle.uma_bucket.specs.declared.sums.Sums.{Sums}
-use Rattle.uma_bucket.specs.Held.{is_cached, is_freed, cached_in, freed_in, freed_of, times_held}
+use Rattle.uma_bucket.specs.Room.{is_cached, is_freed, cached_in, freed_in, freed_of, times_held}
 use Rattle.uma_bucket.specs.Home.{Home, AreHome}
 use Rattle.uma_bucket.specs.Sums.{nothing_held, times_cached, times_freed, Adds, AddsItems, AreOfAtMost, Balance, IsNothing, Joins}
 use Rattle.uma_bucket.proofs.Rooms.{first_passes, isnt_live}
@@ -29,14 +30,14 @@ module _ {T : Type 0} {g : _} where
   all_times hook xs = sum_by-le (times_held hook) (2 ^ 64) xs (λ k d within. let few : times_held hook (get_or xs k d) < 2 ^ 64 = held_times hook (get_or xs k d) in omega arith)
 
   one_cached : (hook : Hook) (x : Outside T g) (built : Bool) (is : is_live x ≡ built) → built ≡ false → (cs : List (Cached T g)) → times_held hook x + times_cached hook cs ≡ times_cached hook (cons_option (cached_where x built is) cs)
+  unfolding cached_there
   one_cached hook x true is unbuilt cs = absurd (cc)
-  one_cached hook x false is unbuilt cs =
-      let item : Cached T g = record { body = x.body; ticket = x.ticket; numbered = x.numbered; at = stands_so x false is; of_origin = x.of_origin } in
-      sym (sum_by-cons _ item cs)
+  one_cached hook x false is unbuilt cs = sym (sum_by-cons _ (cached_there x is) cs)
 
   one_freed : (hook : Hook) (x : Outside T g) (built : Bool) (is : is_live x ≡ built) → built ≡ true → (fs : List (Freed T g)) → times_held hook x + times_freed hook fs ≡ times_freed hook (cons_option (freed_of (live_where x built is)) fs)
+  unfolding live_there
   one_freed hook x true is built_so fs =
-      let item : Freed T g = record { live = record { body = x.body; ticket = x.ticket; numbered = x.numbered; at = stands_so x true is; of_origin = x.of_origin } } in
+      let item : Freed T g = record { live = live_there x is } in
       sym (sum_by-cons _ item fs)
   one_freed hook x false is built_so fs = absurd (cc)
 

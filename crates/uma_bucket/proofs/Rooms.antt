@@ -7,7 +7,7 @@ use Rattle.std.proofs.lemmas.List.Folds.{list_all-append}
 use Rattle.std.proofs.lemmas.List.Sums.{AllPass-from_list_all}
 use Rattle.uma_life.specs.declared.outside.Outside.{Outside}
 use Rattle.uma_life.specs.Outside.{is_live, cached_where, live_where}
-use Rattle.uma_bucket.specs.Held.{is_cached, is_freed, cached_in, freed_in, freed_of}
+use Rattle.uma_bucket.specs.Room.{is_cached, is_freed, cached_in, freed_in, freed_of}
 
 -- a test passes exactly where a part is there
 pub record Tests {X A : Type 0} (test : X → Bool) (part : X → Option A) : Type 0 where
@@ -57,7 +57,6 @@ part_pop part xs ys x is was same = rw (was, same) (filter_map-append part ys (i
 pub at_place : {X : Type 0} (test : X → Bool) (xs : List X) (i : ℕ) (x : X) → list_all test xs ≡ true → i < length xs → x ≡ get_or xs i x → test x ≡ true
 at_place test xs i x all within there = ap test there ∙ AllPass-from_list_all test xs all i x within
 
--- what lies last passes too
 both_pass : (a b : Bool) → (a && b) ≡ true → (a ≡ true) × (b ≡ true)
 both_pass true true both = (refl, refl)
 both_pass true false both = absurd (cc)
@@ -66,6 +65,7 @@ both_pass false b both = absurd (cc)
 pub first_passes : {X : Type 0} (test : X → Bool) (x : X) (xs : List X) → list_all test (x ∷ xs) ≡ true → (test x ≡ true) × (list_all test xs ≡ true)
 first_passes test x xs all = both_pass (test x) (list_all test xs) all
 
+-- what lies last passes too
 pub last_passes : {X : Type 0} (test : X → Bool) (xs ys : List X) (x : X) → xs ≡ ys ++ x ∷ [] → list_all test xs ≡ true → test x ≡ true
 last_passes test xs ys x is all =
     let front : list_all test (ys ++ x ∷ []) ≡ (list_all test ys && list_all test (x ∷ [])) = list_all-append test ys (x ∷ []) in

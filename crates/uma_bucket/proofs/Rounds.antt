@@ -10,7 +10,7 @@ use Rattle.uma_life.specs.declared.outside.Outside.{Outside}
 use Rattle.uma_life.specs.Outside.{FinishesOutside}
 use Rattle.uma_bucket.specs.declared.freed.Freed.{Freed}
 use Rattle.uma_bucket.specs.Freed.{IsFinished}
-use Rattle.uma_bucket.specs.Held.{is_cached, is_freed, cached_in, freed_in, freed_of}
+use Rattle.uma_bucket.specs.Room.{is_cached, is_freed, cached_in, freed_in, freed_of}
 use Rattle.uma_bucket.proofs.Rooms.{at_place}
 
 module _ {T : Type 0} {g : _} (leaves : T → ℕ → T → Type 0) where

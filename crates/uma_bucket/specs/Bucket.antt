@@ -9,7 +9,7 @@ use Rattle.uma_life.specs.Cached.{cached_ticket}
 use Rattle.uma_bucket.specs.declared.bucket.Bucket.{Bucket}
 use Rattle.uma_bucket.specs.declared.refused.BucketRefused.{BucketRefused}
 use Rattle.uma_bucket.specs.declared.refused.BucketRefused.TheVariants.{Size, Memory}
-use Rattle.uma_bucket.specs.Held.{cached_in}
+use Rattle.uma_bucket.specs.Room.{cached_in}
 use Rattle.uma_bucket.specs.Home.{Home, IsHome, AreHome}
 
 -- its items, the last put at the end

@@ -1,5 +1,5 @@
 pub mod Freed
-pub mod Held
+pub mod Room
 pub mod Kept
 pub mod Home
 pub mod Bucket

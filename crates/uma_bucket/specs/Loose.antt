@@ -11,7 +11,7 @@ use Rattle.uma_bucket.specs.declared.refused.BucketRefused.{BucketRefused}
 use Rattle.uma_bucket.specs.declared.refused.BucketRefused.TheVariants.{Size}
 use Rattle.uma_bucket.specs.Bucket.{size_of, place_of, IsOutOfRange, Refuses}
 use Rattle.uma_bucket.specs.Freed.{freed_ticket}
-use Rattle.uma_bucket.specs.Held.{freed_in}
+use Rattle.uma_bucket.specs.Room.{freed_in}
 use Rattle.uma_bucket.specs.Home.{Home, IsHome, AreHome}
 
 module _ {T : Type 0} {g : _} where

@@ -1,5 +1,5 @@
 ghost use Rattle.std.specs.Prelude.{◌≡◌, ◌<◌, ◌^◌, [], length};
-ghost use Rattle.uma_bucket.specs.Held.{is_cached};
+ghost use Rattle.uma_bucket.specs.Room.{is_cached};
 ghost use Rattle.uma_bucket.specs.Kept.{IsKept};
 
 use crate::refused::BucketRefused;

@@ -1,6 +1,6 @@
 ghost use Rattle.std.specs.Prelude.{◌≡◌, ◌<◌, ◌^◌, [], length};
 ghost use Rattle.smr_clock.specs.Belongs.{IsOf};
-ghost use Rattle.uma_bucket.specs.Held.{is_freed};
+ghost use Rattle.uma_bucket.specs.Room.{is_freed};
 ghost use Rattle.uma_bucket.specs.Kept.{IsKept};
 
 use crate::bucket::Bucket;

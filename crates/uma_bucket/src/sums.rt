@@ -1,6 +1,6 @@
 ghost use Rattle.std.specs.Prelude.{◌^◌};
 ghost use Rattle.std.specs.List.{sum_by};
-ghost use Rattle.uma_bucket.specs.Held.{times_held};
+ghost use Rattle.uma_bucket.specs.Room.{times_held};
 ghost use Rattle.uma_bucket.specs.Sums.{IsNothing, Joins, MayAdd, Adds, AreOfAtMost};
 
 use uma_life::{Body, Outside, TallySum};

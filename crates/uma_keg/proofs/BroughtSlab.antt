@@ -5,7 +5,7 @@ use Rattle.std.proofs.lemmas.Nat.{div-add-mod'}
 use Rattle.std.proofs.lemmas.Bool.{cases_eq}
 use Rattle.uma_places.proofs.Slabs.{slab_of, domain_at-in}
 use Rattle.uma_life.specs.declared.stored.Stored.{Stored}
-use Rattle.uma_life.specs.Stored.{stored_no, stored_domain}
+use Rattle.uma_life.specs.Stored.{stored_no}
 use Rattle.uma_keg.specs.declared.slab_items.SlabItems.{SlabItems}
 use Rattle.uma_keg.specs.declared.home_items.HomeItems.{HomeItems}
 use Rattle.uma_places.specs.Places.{KegPlaces, place_at, domain_at, Brings}
@@ -13,14 +13,10 @@ use Rattle.uma_keg.specs.HomeLists.{item_on}
 use Rattle.uma_keg.specs.HomeItems.{IsAdded}
 use Rattle.uma_keg.specs.KegLaw.{PlacesLaw, is_used_place, is_free_place}
 
--- each place of the slab has the item of its number, in this domain
-pub record IsBrought {T : Type 0} {g : _} (first per_slab domain : ℕ) (slab_items : SlabItems T g) : Type 0 where
+-- each place of the slab has the item of its number
+pub record IsBrought {T : Type 0} {g : _} (first per_slab : ℕ) (slab_items : SlabItems T g) : Type 0 where
   pub whole : (place : ℕ) → place < per_slab → is_some (item_on place slab_items) ≡ true
   pub numbered : (place : ℕ) (item : Stored T g) → item_on place slab_items ≡ Some item → stored_no item ≡ first + place
-  pub domains : (place : ℕ) (item : Stored T g) → item_on place slab_items ≡ Some item → stored_domain item ≡ domain
-
-same_some : {m n : ℕ} → Some m ≡ Some n → m ≡ n
-same_some e = cc
 
 number_of : (n p index : ℕ) → n / p ≡ index → index * p + n % p ≡ n
 number_of n p index at = ap (λ (i : ℕ). i * p + n % p) (sym at) ∙ div-add-mod' n p
@@ -31,7 +27,7 @@ no_place places n None is absent = is
 no_place places n (Some b) is absent = let has = slab_of places n b is in absurd (cc (absent, domain_at-in places (n / places.per_slab) has.slab has.in_keg))
 
 pub PlacesLaw-brought : {T : Type 0} {g : _} (places now : KegPlaces) (zones : List (Option ℕ)) (home_items full : HomeItems T g) (index domain : ℕ) (slab_items : SlabItems T g)
-    → 1 ≤ places.per_slab → PlacesLaw places zones home_items → Brings places domain index now → IsAdded home_items full index slab_items → IsBrought (index * places.per_slab) places.per_slab domain slab_items → PlacesLaw now zones full
+    → 1 ≤ places.per_slab → PlacesLaw places zones home_items → Brings places domain index now → IsAdded home_items full index slab_items → IsBrought (index * places.per_slab) places.per_slab slab_items → PlacesLaw now zones full
 PlacesLaw-brought places now zones home_items full index domain slab_items some law brings added brought = record {
   per_slab = added.places ∙ law.per_slab ∙ sym brings.per_slab;
   cap = added.count ∙ law.cap ∙ sym brings.cap;
@@ -51,9 +47,5 @@ PlacesLaw-brought places now zones home_items full index domain slab_items some 
   numbered = λ n item is. elim (cases_eq (n / places.per_slab) index) [
     | inl at ↦ brought.numbered (n % places.per_slab) item (ap (λ p. item_on (n % p) slab_items) (sym law.per_slab) ∙ sym (added.items n (ap (λ p. n / p) law.per_slab ∙ at)) ∙ is) ∙ number_of n places.per_slab index at
     | inr else ↦ law.numbered n item (sym (added.others n (λ at. else (ap (λ p. n / p) (sym law.per_slab) ∙ at))) ∙ is)
-  ];
-  domains = λ n d item is has. elim (cases_eq (n / places.per_slab) index) [
-    | inl at ↦ brought.domains (n % places.per_slab) item (ap (λ p. item_on (n % p) slab_items) (sym law.per_slab) ∙ sym (added.items n (ap (λ p. n / p) law.per_slab ∙ at)) ∙ is) ∙ same_some (sym brings.domain ∙ ap (domain_at now) (sym at) ∙ ap (λ p. domain_at now (n / p)) (sym brings.per_slab) ∙ has)
-    | inr else ↦ law.domains n d item (sym (added.others n (λ at. else (ap (λ p. n / p) (sym law.per_slab) ∙ at))) ∙ is) (sym (brings.other_slabs (n / places.per_slab) else) ∙ ap (λ p. domain_at now (n / p)) (sym brings.per_slab) ∙ has)
   ];
 }

@@ -94,7 +94,7 @@ brings_more {T} {K} {g} {h} old mid new domain slabs same first one =
       items = λ n is. elim (cases_eq (n / p) index) [
         | inl at ↦ one.items n (at_mid n at)
         | inr ne ↦
-            let Holds : Option (Stored T g) → Type 0 = λ o. IsSomeAnd o (IsNewItem n domain) in
+            let Holds : Option (Stored T g) → Type 0 = λ o. IsSomeAnd o (IsNewItem n) in
             subst Holds (sym (one.others n (not_mid n ne))) (first.items n (adds.before (n / p) is ne))
       ];
       accepted = λ n is. elim (cases_eq (n / p) index) [

@@ -6,7 +6,7 @@ use Rattle.uma_life.specs.Hook.{Hook}
 use Rattle.uma_life.specs.Sum.{sum_of}
 use Rattle.uma_keg.specs.declared.home_items.HomeItems.{HomeItems}
 use Rattle.uma_keg.specs.declared.slab_items.SlabItems.{SlabItems}
-use Rattle.uma_places.specs.Places.{KegPlaces, domain_at, slab_count}
+use Rattle.uma_places.specs.Places.{KegPlaces, slab_count}
 use Rattle.uma_places.specs.Dropping.{Drops}
 use Rattle.uma_keg.specs.HomeItems.{IsRemoved}
 use Rattle.uma_keg.specs.Tallies.{TallyLaw}
@@ -35,10 +35,6 @@ PlacesLaw-dropped places now zones home_items fewer index slab_items law drops r
   numbered = λ n item is. elim (cases_eq (n / places.per_slab) index) [
     | inl at ↦ absurd (none_some item (sym (removed.gone n (ap (λ p. n / p) law.per_slab ∙ at)) ∙ is))
     | inr else ↦ law.numbered n item (sym (removed.others n (λ at. else (ap (λ p. n / p) (sym law.per_slab) ∙ at))) ∙ is)
-  ];
-  domains = λ n d item is has. elim (cases_eq (n / places.per_slab) index) [
-    | inl at ↦ absurd (none_some item (sym (removed.gone n (ap (λ p. n / p) law.per_slab ∙ at)) ∙ is))
-    | inr else ↦ law.domains n d item (sym (removed.others n (λ at. else (ap (λ p. n / p) (sym law.per_slab) ∙ at))) ∙ is) (sym (drops.other_slabs (n / places.per_slab) else) ∙ ap (λ p. domain_at now (n / p)) (sym drops.per_slab) ∙ has)
   ];
 }
 

@@ -5,7 +5,7 @@ use Rattle.std.proofs.lemmas.Bool.{cases_lt, cases_eq}
 use Rattle.std.proofs.lemmas.List.{get_or-set_same, get_or-set_other, get_or_past, length-set}
 use Rattle.std.proofs.lemmas.Option.{get_or_from_slice_get}
 use Rattle.uma_life.specs.declared.stored.Stored.{Stored}
-use Rattle.uma_life.specs.Stored.{stored_no, stored_domain}
+use Rattle.uma_life.specs.Stored.{stored_no}
 use Rattle.uma_keg.specs.declared.home_items.HomeItems.{HomeItems}
 use Rattle.uma_places.specs.Places.{KegPlaces, place_at, domain_at, IsOut, Gives}
 use Rattle.uma_keg.specs.HomeItems.{item_at, has_slab, slab_room, places_each}
@@ -47,8 +47,8 @@ came_home zones n = elim (cases_lt n (length zones)) [
 
 pub PlacesLaw-given : {T : Type 0} {g : _} (places now : KegPlaces) (zones home : List (Option ℕ)) (home_items full : HomeItems T g) (n : ℕ) (item : Stored T g) → PlacesLaw places zones home_items → Gives places n now → home ≡ set zones n None
     → item_at full n ≡ Some item → ((m : ℕ) → m ≢ n → item_at full m ≡ item_at home_items m) → ((index : ℕ) → has_slab full index ≡ has_slab home_items index) → slab_room full ≡ slab_room home_items → places_each full ≡ places_each home_items
-    → stored_no item ≡ n → domain_at places (n / places.per_slab) ≡ Some (stored_domain item) → PlacesLaw now home full
-PlacesLaw-given places now zones home home_items full n item law gives is put kept same count each number domain = record {
+    → stored_no item ≡ n → PlacesLaw now home full
+PlacesLaw-given places now zones home home_items full n item law gives is put kept same count each number = record {
   per_slab = each ∙ law.per_slab ∙ sym gives.slabs.per_slab;
   cap = count ∙ law.cap ∙ sym gives.slabs.cap;
   numbers = rw (gives.slabs.per_slab, gives.slabs.cap) (ap length is ∙ length-set zones n None ∙ law.numbers);
@@ -64,13 +64,6 @@ PlacesLaw-given places now zones home home_items full n item law gives is put ke
   numbered = λ m found stands. elim (cases_eq m n) [
     | inl at ↦ let same_item : item ≡ found = cc in rw (← same_item, at) number
     | inr other ↦ law.numbered m found (sym (kept m other) ∙ stands)
-  ];
-  domains = λ m d found stands has. elim (cases_eq m n) [
-    | inl at ↦
-        let same_item : item ≡ found = cc in
-        let there : domain_at places (n / places.per_slab) ≡ Some d = sym (gives.slabs.domains (n / places.per_slab)) ∙ ap (λ (i : ℕ). domain_at now (i / places.per_slab)) (sym at) ∙ ap (λ (p : ℕ). domain_at now (m / p)) (sym gives.slabs.per_slab) ∙ has in
-        cc
-    | inr other ↦ law.domains m d found (sym (kept m other) ∙ stands) (sym (gives.slabs.domains (m / places.per_slab)) ∙ ap (λ (p : ℕ). domain_at now (m / p)) (sym gives.slabs.per_slab) ∙ has)
   ];
 }
 

@@ -30,33 +30,33 @@ vain_times n (Dtor zone) = ap (λ (c : ZoneTally). c.dtors) (no_counts_at zone)
 vain_times n (ZoneFini zone) = ap (λ (c : ZoneTally). c.finis) (no_counts_at zone)
 vain_times n KegFini = refl
 
-one_ended : {T : Type 0} {g : _} (n domain : ℕ) (hook : Hook) (o : Option (Stored T g)) → IsSomeAnd o (IsNewItem n domain) → ended_times hook o ≡ times_in_vain hook
-one_ended n domain hook None is = absurd is
-one_ended n domain hook (Some item) is = ap (λ (life : Life). times_of (after KegFini life).tally hook) is.life ∙ vain_times n hook
+one_ended : {T : Type 0} {g : _} (n : ℕ) (hook : Hook) (o : Option (Stored T g)) → IsSomeAnd o (IsNewItem n) → ended_times hook o ≡ times_in_vain hook
+one_ended n hook None is = absurd is
+one_ended n hook (Some item) is = ap (λ (life : Life). times_of (after KegFini life).tally hook) is.life ∙ vain_times n hook
 
-new_rest : {T : Type 0} {g : _} (first domain : ℕ) (o : Option (Stored T g)) (items : List (Option (Stored T g))) → AreNewItems first domain (o ∷ items) → AreNewItems (first + 1) domain items
-new_rest first domain o items new = record {
+new_rest : {T : Type 0} {g : _} (first : ℕ) (o : Option (Stored T g)) (items : List (Option (Stored T g))) → AreNewItems first (o ∷ items) → AreNewItems (first + 1) items
+new_rest first o items new = record {
   each = λ place below.
       let next : first + suc place ≡ (first + 1) + place = omega arith in
       rw (← next) (new.each (suc place) (omega arith));
 }
 
-new_first : {T : Type 0} {g : _} (first domain : ℕ) (o : Option (Stored T g)) (items : List (Option (Stored T g))) → AreNewItems first domain (o ∷ items) → IsSomeAnd o (IsNewItem first domain)
-new_first first domain o items new = let none : first + 0 ≡ first = omega arith in rw (← none) (new.each 0 (omega arith))
+new_first : {T : Type 0} {g : _} (first : ℕ) (o : Option (Stored T g)) (items : List (Option (Stored T g))) → AreNewItems first (o ∷ items) → IsSomeAnd o (IsNewItem first)
+new_first first o items new = let none : first + 0 ≡ first = omega arith in rw (← none) (new.each 0 (omega arith))
 
 one_more : (n v : ℕ) → suc n * v ≡ n * v + v
 one_more n v = omega arith
 
-pub all_ended : {T : Type 0} {g : _} (first domain : ℕ) (items : List (Option (Stored T g))) (hook : Hook) → AreNewItems first domain items → sum_by (ended_times hook) items ≡ length items * times_in_vain hook
-all_ended first domain [] hook new = omega arith
-all_ended {T} {g} first domain (o ∷ items) hook new =
-    let rest = all_ended (first + 1) domain items hook (new_rest first domain o items new) in
-    let here = one_ended first domain hook o (new_first first domain o items new) in
+pub all_ended : {T : Type 0} {g : _} (first : ℕ) (items : List (Option (Stored T g))) (hook : Hook) → AreNewItems first items → sum_by (ended_times hook) items ≡ length items * times_in_vain hook
+all_ended first [] hook new = omega arith
+all_ended {T} {g} first (o ∷ items) hook new =
+    let rest = all_ended (first + 1) items hook (new_rest first o items new) in
+    let here = one_ended first hook o (new_first first o items new) in
     omega (arith, rest, here, sum_by-cons (ended_times {T = T} {g = g} hook) o items, one_more (length items) (times_in_vain hook))
 
 -- one item more
-pub new_pushed : {T : Type 0} {g : _} (first domain n : ℕ) (items now : List (Option (Stored T g))) (item : Stored T g) → AreNewItems first domain items → length items ≡ n → IsNewItem (first + n) domain item → now ≡ items ++ Some item ∷ [] → AreNewItems first domain now
-new_pushed first domain n items now item are len new is = rw is (record {
+pub new_pushed : {T : Type 0} {g : _} (first n : ℕ) (items now : List (Option (Stored T g))) (item : Stored T g) → AreNewItems first items → length items ≡ n → IsNewItem (first + n) item → now ≡ items ++ Some item ∷ [] → AreNewItems first now
+new_pushed first n items now item are len new is = rw is (record {
   each = λ place below.
       elim (cases_lt place n) [
         | inl earlier ↦ rw (get_or_append_left items (Some item ∷ []) None place (omega (arith, len))) (are.each place (omega (arith, len)))
@@ -67,8 +67,8 @@ new_pushed first domain n items now item are len new is = rw is (record {
 })
 
 -- what was made was ended
-pub adds_vain : {T : Type 0} {g : _} (first domain n : ℕ) (items : List (Option (Stored T g))) (old new : TallySum) → AreNewItems first domain items → length items ≡ n → ((hook : Hook) → sum_of new hook ≡ sum_of old hook + sum_by (ended_times hook) items) → AddsVain old n new
-adds_vain first domain n items old new are len added = record { each = λ hook. added hook ∙ ap (λ t. sum_of old hook + t) (all_ended first domain items hook are ∙ ap (λ m. m * times_in_vain hook) len) }
+pub adds_vain : {T : Type 0} {g : _} (first n : ℕ) (items : List (Option (Stored T g))) (old new : TallySum) → AreNewItems first items → length items ≡ n → ((hook : Hook) → sum_of new hook ≡ sum_of old hook + sum_by (ended_times hook) items) → AddsVain old n new
+adds_vain first n items old new are len added = record { each = λ hook. added hook ∙ ap (λ t. sum_of old hook + t) (all_ended first items hook are ∙ ap (λ m. m * times_in_vain hook) len) }
 
 pub refuses_items : (per_slab place : ℕ) (Refuses : ℕ → ℕ → Type 0) (Accepts : ℕ → Type 0) (old new : TallySum) → StopsAt per_slab place Accepts old new → (why : BringRefused) → RefusesToBring (Refuses place) why → RefusesItems per_slab Refuses Accepts old new why
 refuses_items per_slab place Refuses Accepts old new stops (Init code) is = (place, stops, is.0, is.1)

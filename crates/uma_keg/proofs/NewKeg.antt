@@ -24,7 +24,6 @@ PlacesLaw-new p cap places zones home_items new out count each none gone = recor
   outside = λ n. ap is_some (ap (λ zs. zone_at zs n) out ∙ nowhere (places.cap * places.per_slab) n) ∙ sym (ap is_used_place (new.nowhere n));
   home = λ n. ap is_some (gone n) ∙ sym (ap is_free_place (new.nowhere n));
   numbered = λ n item is. absurd (cc (gone n, is));
-  domains = λ n domain item is _. absurd (cc (gone n, is));
 }
 
 pub ZonesLaw-new : (numbers : ℕ) (zones rights : List (Option ℕ)) → zones ≡ replicate numbers None → rights ≡ replicate 8 (Some 0) → ZonesLaw zones rights (0 ∷ 0 ∷ 0 ∷ 0 ∷ 0 ∷ 0 ∷ 0 ∷ 0 ∷ [])

@@ -33,17 +33,16 @@ some_there : {X : Type 0} (P : X → Type 0) (o : Option X) → IsSomeAnd o P �
 some_there P None holds = absurd holds
 some_there P (Some x) holds = refl
 
-new_on : {T : Type 0} {g : _} (first per_slab domain place : ℕ) (slab_items : SlabItems T g) (item : Stored T g) → length (places_of_slab slab_items) ≡ per_slab → AreNewItems first domain (places_of_slab slab_items) → item_on place slab_items ≡ Some item → IsNewItem (first + place) domain item
-new_on first per_slab domain place slab_items item len new is = elim (cases_lt place per_slab) [
-  | inl within ↦ of_some (IsNewItem (first + place) domain) (item_on place slab_items) item (new.each place (omega (arith, len))) is
+new_on : {T : Type 0} {g : _} (first per_slab place : ℕ) (slab_items : SlabItems T g) (item : Stored T g) → length (places_of_slab slab_items) ≡ per_slab → AreNewItems first (places_of_slab slab_items) → item_on place slab_items ≡ Some item → IsNewItem (first + place) item
+new_on first per_slab place slab_items item len new is = elim (cases_lt place per_slab) [
+  | inl within ↦ of_some (IsNewItem (first + place)) (item_on place slab_items) item (new.each place (omega (arith, len))) is
   | inr past ↦ absurd (cc (get_or_past (places_of_slab slab_items) place None (omega (arith, len)), is))
 ]
 
-pub brought_items : {T : Type 0} {g : _} (first per_slab domain : ℕ) (slab_items : SlabItems T g) → length (places_of_slab slab_items) ≡ per_slab → AreNewItems first domain (places_of_slab slab_items) → IsBrought first per_slab domain slab_items
-brought_items first per_slab domain slab_items len new = record {
-  whole = λ place below. some_there (IsNewItem (first + place) domain) (item_on place slab_items) (new.each place (omega (arith, len)));
-  numbered = λ place item is. ap (λ (life : Life). life.no) (new_on first per_slab domain place slab_items item len new is).life;
-  domains = λ place item is. (new_on first per_slab domain place slab_items item len new is).in_domain;
+pub brought_items : {T : Type 0} {g : _} (first per_slab : ℕ) (slab_items : SlabItems T g) → length (places_of_slab slab_items) ≡ per_slab → AreNewItems first (places_of_slab slab_items) → IsBrought first per_slab slab_items
+brought_items first per_slab slab_items len new = record {
+  whole = λ place below. some_there (IsNewItem (first + place)) (item_on place slab_items) (new.each place (omega (arith, len)));
+  numbered = λ place item is. ap (λ (life : Life). life.no) (new_on first per_slab place slab_items item len new is).life;
 }
 
 no_some : false ≡ true → ⊥
@@ -101,9 +100,9 @@ pub of_numbers : (Holds : ℕ → Type 0) (p index : ℕ) → 1 ≤ p → ((plac
 of_numbers Holds p index some each n at = subst Holds (number_in n p index at) (each (n % p) (mod-lt n some))
 
 -- the new items are at home
-pub new_at_home : {T : Type 0} {g : _} (p index domain : ℕ) (old new : HomeItems T g) (slab_items : SlabItems T g) → 1 ≤ p → places_each old ≡ p → IsAdded old new index slab_items → length (places_of_slab slab_items) ≡ p → AreNewItems (index * p) domain (places_of_slab slab_items) → (n : ℕ) → n / p ≡ index → IsSomeAnd (item_at new n) (IsNewItem n domain)
-new_at_home {T} {g} p index domain old new slab_items some each added len are n at =
+pub new_at_home : {T : Type 0} {g : _} (p index : ℕ) (old new : HomeItems T g) (slab_items : SlabItems T g) → 1 ≤ p → places_each old ≡ p → IsAdded old new index slab_items → length (places_of_slab slab_items) ≡ p → AreNewItems (index * p) (places_of_slab slab_items) → (n : ℕ) → n / p ≡ index → IsSomeAnd (item_at new n) (IsNewItem n)
+new_at_home {T} {g} p index old new slab_items some each added len are n at =
     let there : item_at new n ≡ item_on (n % p) slab_items = added.items n (rw each at) ∙ ap (λ q. item_on (n % q) slab_items) each in
-    let here : IsSomeAnd (item_on (n % p) slab_items) (IsNewItem (index * p + n % p) domain) = are.each (n % p) (omega (arith, len, mod-lt n some)) in
-    let At : ℕ → Type 0 = λ m. IsSomeAnd (item_on (n % p) slab_items) (IsNewItem m domain) in
+    let here : IsSomeAnd (item_on (n % p) slab_items) (IsNewItem (index * p + n % p)) = are.each (n % p) (omega (arith, len, mod-lt n some)) in
+    let At : ℕ → Type 0 = λ m. IsSomeAnd (item_on (n % p) slab_items) (IsNewItem m) in
     rw there (subst At (number_in n p index at) here)

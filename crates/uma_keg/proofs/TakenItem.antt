@@ -7,7 +7,7 @@ use Rattle.deed_book.specs.BookLaw.{IsHome}
 use Rattle.uma_life.specs.declared.stored.Stored.{Stored}
 use Rattle.uma_keg.specs.declared.home_items.HomeItems.{HomeItems}
 use Rattle.uma_life.specs.declared.cached.Cached.{Cached}
-use Rattle.uma_life.specs.Stored.{stored_body, stored_domain}
+use Rattle.uma_life.specs.Stored.{stored_body}
 use Rattle.uma_life.specs.Cached.{cached_body, cached_no, cached_zone, cached_domain, cached_table}
 use Rattle.uma_life.specs.Hook.{ZoneInit, after}
 use Rattle.uma_keg.specs.declared.keg.Keg.{Keg}
@@ -19,7 +19,6 @@ use Rattle.uma_keg.specs.HomeItems.{item_at, has_slab, slab_room, places_each}
 use Rattle.uma_keg.specs.Outs.{out_of}
 use Rattle.uma_keg.specs.KegLaw.{PlacesLaw, ZonesLaw, zone_at, is_used_place, is_free_place}
 use Rattle.uma_keg.proofs.Outs.{out_issued, tick_same, tick_other}
-use Rattle.uma_places.proofs.Slabs.{IsIn-place_at}
 
 no_zone : (o : Option ℕ) → is_some o ≡ false → o ≡ None
 no_zone None is = refl
@@ -59,10 +58,6 @@ PlacesLaw-taken places now zones away home_items left n zone law takes below is 
         | inl at ↦ let here : item_at left m ≡ None = rw at gone in absurd (cc (here, stands))
         | inr other ↦ law.numbered m found (sym (kept m other) ∙ stands)
       ];
-      domains = λ m d found stands has. elim (cases_eq m n) [
-        | inl at ↦ let here : item_at left m ≡ None = rw at gone in absurd (cc (here, stands))
-        | inr other ↦ law.domains m d found (sym (kept m other) ∙ stands) (sym (takes.slabs.domains (m / places.per_slab)) ∙ ap (λ (p : ℕ). domain_at now (m / p)) (sym takes.slabs.per_slab) ∙ has)
-      ];
     }
 
 pub out_taken : (zones away : List (Option ℕ)) (n zone : ℕ) → away ≡ set zones n (Some zone) → IsHome zones n → out_of away zone ≡ out_of zones zone + 1
@@ -86,14 +81,6 @@ pub set_back : {X : Type 0} (xs : List X) (n : ℕ) (x d : X) → n < length xs 
 set_back [] n x d within is = absurd (omega arith)
 set_back {X} (y ∷ xs) zero x d within is = ap (λ (z : X). z ∷ xs) (sym is)
 set_back {X} (y ∷ xs) (suc n) x d within is = ap (λ (rest : List X). y ∷ rest) (set_back xs n x d (omega arith) is)
-
--- the item of a free place is of its slab's domain
-domain_found : {T : Type 0} {g : _} (places : KegPlaces) (zones : List (Option ℕ)) (home_items : HomeItems T g) (n : ℕ) (item : Stored T g) (o : Option ℕ) → PlacesLaw places zones home_items → item_at home_items n ≡ Some item → domain_at places (n / places.per_slab) ≡ o → is_some o ≡ true → domain_at places (n / places.per_slab) ≡ Some (stored_domain item)
-domain_found places zones home_items n item None law stands has is = absurd cc
-domain_found places zones home_items n item (Some d) law stands has is = has ∙ ap Some (sym (law.domains n d item stands has))
-
-pub free_domain : {T : Type 0} {g : _} (places : KegPlaces) (zones : List (Option ℕ)) (home_items : HomeItems T g) (n : ℕ) (item : Stored T g) → PlacesLaw places zones home_items → IsFree places n → item_at home_items n ≡ Some item → domain_at places (n / places.per_slab) ≡ Some (stored_domain item)
-free_domain places zones home_items n item law free stands = domain_found places zones home_items n item (domain_at places (n / places.per_slab)) law stands refl (IsIn-place_at places n (rw free refl))
 
 -- a number that was taken and given back: each place is as before
 pub same_again : (places mid now : KegPlaces) (n : ℕ) → Takes places n mid → CountsOneOut places mid → Gives mid n now → CountsOneOut now mid → SamePlaces places now

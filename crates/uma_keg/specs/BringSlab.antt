@@ -34,7 +34,7 @@ pub record BringsSlab {T K : Type 0} {g : _} {h : _} (old : Keg T K g h) (domain
   pub index : ℕ
   pub places : Brings (places_in old) domain index (places_in new)
   pub counts : CountsOneSlab (places_in old) (places_in new)
-  pub items : (n : ℕ) → n / (places_in old).per_slab ≡ index → IsSomeAnd (stored_in new n) (IsNewItem n domain)
+  pub items : (n : ℕ) → n / (places_in old).per_slab ≡ index → IsSomeAnd (stored_in new n) (IsNewItem n)
   pub accepted : (n : ℕ) → n / (places_in old).per_slab ≡ index → AcceptsNumber old n
   pub others : (n : ℕ) → n / (places_in old).per_slab ≢ index → stored_in new n ≡ stored_in old n
   pub buried : buried_in new ≡ buried_in old

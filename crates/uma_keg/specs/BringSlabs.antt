@@ -42,7 +42,7 @@ pub record BringsSlabs {T K : Type 0} {g : _} {h : _} (old : Keg T K g h) (domai
   pub domains : (index : ℕ) → IsNewSlab (places_in old) (places_in new) index → domain_at (places_in new) index ≡ Some domain
   pub least : (index lower : ℕ) → IsNewSlab (places_in old) (places_in new) index → lower < index → IsIn (places_in new) lower
   pub free : (n : ℕ) → IsNewSlab (places_in old) (places_in new) (n / (places_in old).per_slab) → IsFree (places_in new) n
-  pub items : (n : ℕ) → IsNewSlab (places_in old) (places_in new) (n / (places_in old).per_slab) → IsSomeAnd (stored_in new n) (IsNewItem n domain)
+  pub items : (n : ℕ) → IsNewSlab (places_in old) (places_in new) (n / (places_in old).per_slab) → IsSomeAnd (stored_in new n) (IsNewItem n)
   pub accepted : (n : ℕ) → IsNewSlab (places_in old) (places_in new) (n / (places_in old).per_slab) → AcceptsNumber old n
   pub other_slabs : (index : ℕ) → (IsNewSlab (places_in old) (places_in new) index → ⊥) → domain_at (places_in new) index ≡ domain_at (places_in old) index
   pub other_places : (n : ℕ) → (IsNewSlab (places_in old) (places_in new) (n / (places_in old).per_slab) → ⊥) → place_at (places_in new) n ≡ place_at (places_in old) n

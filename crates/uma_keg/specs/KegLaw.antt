@@ -1,8 +1,8 @@
 -- The law of a keg: its places, its book of numbers, its items and its zones agree between any two calls. That an item is in its keg or has one holder outside is the rule of FreeBSD's uma(9).
-use Rattle.std.specs.Prelude.{◌≡◌, ◌<◌, ◌*◌, ◌/◌, ℕ, Bool, true, false, List, Option, Some, None, is_some, length, slice_index_or}
+use Rattle.std.specs.Prelude.{◌≡◌, ◌<◌, ◌*◌, ℕ, Bool, true, false, List, Option, Some, None, is_some, length, slice_index_or}
 use Rattle.deed_book.specs.BookLaw.{IsHome}
 use Rattle.uma_life.specs.declared.stored.Stored.{Stored}
-use Rattle.uma_life.specs.Stored.{stored_no, stored_domain, stored_origin}
+use Rattle.uma_life.specs.Stored.{stored_no, stored_origin}
 use Rattle.uma_keg.specs.declared.home_items.HomeItems.{HomeItems}
 use Rattle.uma_places.specs.Places.{KegPlaces, place_at, domain_at}
 use Rattle.uma_keg.specs.HomeItems.{item_at, has_slab, slab_room, places_each}
@@ -25,7 +25,7 @@ is_free_place _ = false
 -- 1. The slabs at home are those of the places: as many, as large, and one for each slab that is in.
 -- 2. A place of a slab that is in is used exactly where its number is in the map, and every number of the map is of a slab that is in.
 -- 3. A place of a slab that is in is free exactly where the item of its number is at home.
--- 4. An item at home has its number, and its slab's domain.
+-- 4. An item at home has its number.
 pub record PlacesLaw {T : Type 0} {g : _} (places : KegPlaces) (zones : List (Option ℕ)) (home_items : HomeItems T g) : Type 0 where
   pub per_slab : places_each home_items ≡ places.per_slab
   pub cap : slab_room home_items ≡ places.cap
@@ -34,7 +34,6 @@ pub record PlacesLaw {T : Type 0} {g : _} (places : KegPlaces) (zones : List (Op
   pub outside : (n : ℕ) → is_some (zone_at zones n) ≡ is_used_place (place_at places n)
   pub home : (n : ℕ) → is_some (item_at home_items n) ≡ is_free_place (place_at places n)
   pub numbered : (n : ℕ) (item : Stored T g) → item_at home_items n ≡ Some item → stored_no item ≡ n
-  pub domains : (n domain : ℕ) (item : Stored T g) → item_at home_items n ≡ Some item → domain_at places (n / places.per_slab) ≡ Some domain → stored_domain item ≡ domain
 
 -- each item at home is of this origin
 abbrev pub AreOfOrigin : {T : Type 0} {g : _} → List ℕ → HomeItems T g → Type 0

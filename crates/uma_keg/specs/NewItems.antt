@@ -5,21 +5,20 @@ use Rattle.uma_life.specs.declared.stored.Stored.{Stored}
 use Rattle.uma_life.specs.declared.tally_sum.TallySum.{TallySum}
 use Rattle.uma_life.specs.declared.refused.BringRefused.{BringRefused}
 use Rattle.uma_life.specs.declared.refused.BringRefused.TheVariants.{Init, Memory}
-use Rattle.uma_life.specs.Stored.{stored_body, stored_domain, stored_origin}
+use Rattle.uma_life.specs.Stored.{stored_body, stored_origin}
 use Rattle.uma_life.specs.Life.{raw_life}
 use Rattle.uma_life.specs.Hook.{KegInit, IsCode, after}
 use Rattle.uma_life.specs.Sum.{AreBelow}
 use Rattle.uma_life.specs.Bring.{RefusesToBring}
 use Rattle.uma_keg.specs.Tallies.{AddsVain}
 
--- an item that passed keg_init alone, of this number and domain
-pub record IsNewItem {T : Type 0} {g : _} (number domain : ℕ) (item : Stored T g) : Type 0 where
+-- an item that passed keg_init alone, of this number
+pub record IsNewItem {T : Type 0} {g : _} (number : ℕ) (item : Stored T g) : Type 0 where
   pub life : g.life (stored_body item) ≡ after KegInit (raw_life number)
-  pub in_domain : stored_domain item ≡ domain
 
 -- each place has a new item of its number: the first one's, and so on
-pub record AreNewItems {T : Type 0} {g : _} (first domain : ℕ) (items : List (Option (Stored T g))) : Type 0 where
-  pub each : (place : ℕ) → place < length items → IsSomeAnd (slice_index_or items place None) (IsNewItem (first + place) domain)
+pub record AreNewItems {T : Type 0} {g : _} (first : ℕ) (items : List (Option (Stored T g))) : Type 0 where
+  pub each : (place : ℕ) → place < length items → IsSomeAnd (slice_index_or items place None) (IsNewItem (first + place))
 
 -- the item of a place, where there is one, is of this origin
 abbrev pub IsOfOrigin : {T : Type 0} {g : _} → List ℕ → Option (Stored T g) → Type 0
@@ -48,15 +47,15 @@ pub record MayBringItems (first per_slab : ℕ) (buried : TallySum) : Type 0 whe
   pub room : AreBelow (2 ^ 126) buried
 
 -- each place of a slab has a new item of this origin, which keg_init took
-pub record MakesItems {T : Type 0} {g : _} (first per_slab domain : ℕ) (origin : List ℕ) (Accepts : ℕ → Type 0) (made : List (Option (Stored T g))) : Type 0 where
+pub record MakesItems {T : Type 0} {g : _} (first per_slab : ℕ) (origin : List ℕ) (Accepts : ℕ → Type 0) (made : List (Option (Stored T g))) : Type 0 where
   pub whole : length made ≡ per_slab
-  pub items : AreNewItems first domain made
+  pub items : AreNewItems first made
   pub origins : All (IsOfOrigin origin) made
   pub accepted : (place : ℕ) → place < per_slab → Accepts place
 
 -- the items of the places before one were made, and that one wasn't
-pub record StopsMaking {T : Type 0} {g : _} (first per_slab domain : ℕ) (Refuses : ℕ → ℕ → Type 0) (Accepts : ℕ → Type 0) (made : List (Option (Stored T g))) (why : BringRefused) : Type 0 where
+pub record StopsMaking {T : Type 0} {g : _} (first per_slab : ℕ) (Refuses : ℕ → ℕ → Type 0) (Accepts : ℕ → Type 0) (made : List (Option (Stored T g))) (why : BringRefused) : Type 0 where
   pub fewer : length made < per_slab
-  pub earlier : AreNewItems first domain made
+  pub earlier : AreNewItems first made
   pub accepted_earlier : (place : ℕ) → place < length made → Accepts place
   pub refused : RefusesToBring (Refuses (length made)) why

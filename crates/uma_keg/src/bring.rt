@@ -59,15 +59,7 @@ impl<T: Body, K: Hooks<T>> Keg<T, K> {
             unreachable!()
         };
         let first = index * per_slab;
-        match SlabItems::bring(
-            rt,
-            alloc,
-            &self.hooks,
-            first,
-            per_slab,
-            domain,
-            &mut self.buried,
-        ) {
+        match SlabItems::bring(rt, alloc, &self.hooks, first, per_slab, &mut self.buried) {
             Ok(slab_items) => {
                 let Ok(_) = self.places.bring(domain) else {
                     unreachable!()

@@ -15,7 +15,6 @@ impl<T: Body, K: Hooks<T>> Keg<T, K> {
     {
         let (stored, deed) = item.give_back(hooks);
         let no = self.outside.accept(deed);
-        let stored = stored.in_domain(self.places.domain(no));
         self.places.give(no);
         self.home_items.put(no, stored);
     }

@@ -19,15 +19,14 @@ impl<T: Body> SlabItems<T> {
         hooks: &K,
         first: u32,
         per_slab: u32,
-        domain: u8,
         buried: &mut TallySum,
     ) -> Result<SlabItems<T>, BringRefused>
         requires { MayBringItems first per_slab buried.old }
-        ensures made { IfOk result (λ slab_items. MakesItems first per_slab domain (K.origin hooks.now) (λ place. (raw : T) × (T.life raw ≡ raw_life (first + place)) × (K.refuses_init hooks.now raw 0 ≡ None)) (places_of_slab slab_items)) }
+        ensures made { IfOk result (λ slab_items. MakesItems first per_slab (K.origin hooks.now) (λ place. (raw : T) × (T.life raw ≡ raw_life (first + place)) × (K.refuses_init hooks.now raw 0 ≡ None)) (places_of_slab slab_items)) }
         ensures buried { OnOk result (buried.new ≡ buried.old) }
         ensures refused { IfErr result (RefusesItems per_slab (λ place code. (raw : T) × (T.life raw ≡ raw_life (first + place)) × (K.refuses_init hooks.now raw 0 ≡ Some code)) (λ place. (raw : T) × (T.life raw ≡ raw_life (first + place)) × (K.refuses_init hooks.now raw 0 ≡ None)) buried.old buried.new) }
     {
-        match make_items(rt, alloc, hooks, first, per_slab, domain) {
+        match make_items(rt, alloc, hooks, first, per_slab) {
             Ok(places) => Ok(SlabItems { places }),
             Err((places, refused)) => {
                 end_all(rt, hooks, places, buried);
@@ -53,17 +52,16 @@ fn make_items<T: Body, K: Hooks<T>, R: Wait>(
     hooks: &K,
     first: u32,
     per_slab: u32,
-    domain: u8,
 ) -> Result<Vec<Option<Stored<T>>>, (Vec<Option<Stored<T>>>, BringRefused)>
     requires { AreNumbers first per_slab }
-    ensures made { IfOk result (λ places. MakesItems first per_slab domain (K.origin hooks.now) (λ place. (raw : T) × (T.life raw ≡ raw_life (first + place)) × (K.refuses_init hooks.now raw 0 ≡ None)) places.items) }
-    ensures stopped { IfErr result (λ (places, refused). StopsMaking first per_slab domain (λ place code. (raw : T) × (T.life raw ≡ raw_life (first + place)) × (K.refuses_init hooks.now raw 0 ≡ Some code)) (λ place. (raw : T) × (T.life raw ≡ raw_life (first + place)) × (K.refuses_init hooks.now raw 0 ≡ None)) places.items refused) }
+    ensures made { IfOk result (λ places. MakesItems first per_slab (K.origin hooks.now) (λ place. (raw : T) × (T.life raw ≡ raw_life (first + place)) × (K.refuses_init hooks.now raw 0 ≡ None)) places.items) }
+    ensures stopped { IfErr result (λ (places, refused). StopsMaking first per_slab (λ place code. (raw : T) × (T.life raw ≡ raw_life (first + place)) × (K.refuses_init hooks.now raw 0 ≡ Some code)) (λ place. (raw : T) × (T.life raw ≡ raw_life (first + place)) × (K.refuses_init hooks.now raw 0 ≡ None)) places.items refused) }
 {
     let Ok(mut places) = Vec::with_capacity(alloc, per_slab as usize) else {
         return Err((Vec::new(alloc), BringRefused::Memory));
     };
     for place in 0..per_slab {
-        match Stored::bring(rt, alloc, hooks, first + place, domain) {
+        match Stored::bring(rt, alloc, hooks, first + place) {
             Ok(item) => places.push_reserved(Some(item)),
             Err(refused) => return Err((places, refused)),
         }

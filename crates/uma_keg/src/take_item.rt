@@ -17,7 +17,8 @@ impl<T: Body, K: Hooks<T>> Keg<T, K> {
         let no = self.places.take().unwrap();
         let item = self.home_items.take(no).unwrap();
         let deed = self.outside.issue(no, zone);
-        match item.lend(hooks, deed) {
+        let domain = self.places.domain(no);
+        match item.lend(hooks, deed, domain) {
             Ok(item) => Ok(item),
             Err((item, deed, code)) => {
                 let no = self.outside.accept(deed);

@@ -48,11 +48,11 @@ module _ {T : Type 0} {g : _} where
       record { state = built_so; same = live_by x item (is_live x) refl built_so body ticket }
 
   -- the live item that it is, where its phase says so
-  pub live_there : (x : Outside T g) → is_live x ≡ true → Live T g
+  unfoldable pub live_there : (x : Outside T g) → is_live x ≡ true → Live T g
   live_there x built_so = record { body = x.body; ticket = x.ticket; numbered = x.numbered; at = stands_so x true built_so; of_origin = x.of_origin }
 
   -- and the cached one
-  pub cached_there : (x : Outside T g) → is_live x ≡ false → Cached T g
+  unfoldable pub cached_there : (x : Outside T g) → is_live x ≡ false → Cached T g
   cached_there x unbuilt = record { body = x.body; ticket = x.ticket; numbered = x.numbered; at = stands_so x false unbuilt; of_origin = x.of_origin }
 
   pub finishes : (leaves : T → ℕ → T → Type 0) (was is : Outside T g) (zone : ℕ) → is_live was ≡ true → zone ≡ ticket_zone was.ticket → is.ticket ≡ was.ticket → g.life is.body ≡ after (Dtor zone) (g.life was.body) → leaves was.body zone is.body → FinishesOutside leaves was is

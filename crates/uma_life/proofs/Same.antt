@@ -1,4 +1,4 @@
--- Two items with one body, domain and ticket are one item: what their types know of the body has at most one proof.
+-- Two items with one body and ticket are one item: what their types know of the body has at most one proof.
 use Rattle.std.proofs.Common.{◌≡◌}
 use Rattle.std.proofs.Props.{props}
 use std.HLevel.{prop→path_p}
@@ -10,10 +10,9 @@ use Rattle.uma_life.specs.Trail.{IsAt}
 use Rattle.uma_life.specs.Hook.{base_phase}
 use Rattle.deed_book.specs.Deed.{no_of, zone_of, deed_table}
 
-pub stored_same : {T : Type 0} {g : _} (a b : Stored T g) → a.body ≡ b.body → a.domain ≡ b.domain → a ≡ b
-stored_same {g = g} a b body domain = λ i. record {
+pub stored_same : {T : Type 0} {g : _} (a b : Stored T g) → a.body ≡ b.body → a ≡ b
+stored_same {g = g} a b body = λ i. record {
   body = body i;
-  domain = domain i;
   kept = prop→path_p (λ j. IsAt Kept (g.life (body j))) (Prim.hlevel props) a.kept b.kept i;
 }
 

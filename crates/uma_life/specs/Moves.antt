@@ -11,11 +11,11 @@ use Rattle.uma_life.specs.declared.refused.BringRefused.{BringRefused}
 use Rattle.uma_life.specs.declared.stored.Stored.{Stored}
 use Rattle.uma_life.specs.declared.ticket.Ticket.{Ticket}
 use Rattle.uma_life.specs.Bring.{RefusesToBring}
-use Rattle.uma_life.specs.Cached.{cached_body, cached_zone, cached_domain, cached_ticket, cached_table}
+use Rattle.uma_life.specs.Cached.{cached_body, cached_zone, cached_ticket, cached_table}
 use Rattle.uma_life.specs.Hook.{KegInit, ZoneInit, Ctor, Dtor, ZoneFini, after, IsCode}
 use Rattle.uma_life.specs.Life.{Life, raw_life}
 use Rattle.uma_life.specs.Live.{live_body, live_zone, live_ticket}
-use Rattle.uma_life.specs.Stored.{stored_body, stored_no, stored_domain, stored_origin}
+use Rattle.uma_life.specs.Stored.{stored_body, stored_no, stored_origin}
 use Rattle.uma_life.specs.Ticket.{ticket_deed, ticket_no, ticket_zone, ticket_domain, ticket_table}
 use Rattle.uma_life.specs.Trail.{IsAt}
 
@@ -43,20 +43,19 @@ module _ {T : Type 0} {g : Ghosts T} where
 
   -- ---- its keg and its zone
 
-  -- The item was made of a number in a slab of a domain, after keg_init, or not: a body was refused, or there was no memory.
-  pub record Brings (no of_domain : ℕ) (hooks_origin : List ℕ) (makes : T → Type 0) (refusal : T → Option ℕ) (leaves : T → T → Type 0) (answer : Result (Stored T g) BringRefused) : Type 0 where
+  -- The item was made of a number, after keg_init, or not: a body was refused, or there was no memory.
+  pub record Brings (no : ℕ) (hooks_origin : List ℕ) (makes : T → Type 0) (refusal : T → Option ℕ) (leaves : T → T → Type 0) (answer : Result (Stored T g) BringRefused) : Type 0 where
     pub number : IfOk answer (λ item. stored_no item ≡ no)
-    pub domain : IfOk answer (λ item. stored_domain item ≡ of_domain)
     pub origin : IfOk answer (λ item. stored_origin item ≡ hooks_origin)
     pub brought : IfOk answer (λ item. g.life (stored_body item) ≡ after KegInit (raw_life no))
     pub accepted : IfOk answer (λ _. (raw : T) × (g.life raw ≡ raw_life no) × (refusal raw ≡ None))
     pub left : IfOk answer (λ item. (raw : T) × (g.life raw ≡ raw_life no) × makes raw × (refusal raw ≡ None) × leaves raw (stored_body item))
     pub refused : IfErr answer (RefusesToBring (λ code. (raw : T) × (g.life raw ≡ raw_life no) × (refusal raw ≡ Some code)))
 
-  -- The item has the deed, labelled with its domain, and passed zone_init, but for zone 0. Or that was refused, and both are back.
-  pub record Lends (was : Stored T g) (by_deed : Deed) (refusal : Option ℕ) (leaves : T → Type 0) (answer : Result (Cached T g) (Stored T g × Deed × ℕ)) : Type 0 where
-    pub deed : IfOk answer (λ item. ticket_deed (cached_ticket item) ≡ labelled by_deed (stored_domain was))
-    pub domain : IfOk answer (λ item. ticket_domain (cached_ticket item) ≡ stored_domain was)
+  -- The item has the deed, labelled with this domain, and passed zone_init, but for zone 0. Or that was refused, and both are back.
+  pub record Lends (was : Stored T g) (by_deed : Deed) (of_domain : ℕ) (refusal : Option ℕ) (leaves : T → Type 0) (answer : Result (Cached T g) (Stored T g × Deed × ℕ)) : Type 0 where
+    pub deed : IfOk answer (λ item. ticket_deed (cached_ticket item) ≡ labelled by_deed of_domain)
+    pub domain : IfOk answer (λ item. ticket_domain (cached_ticket item) ≡ of_domain)
     pub primary : zone_of by_deed ≡ 0 → IsOkAnd answer (λ item. cached_body item ≡ stored_body was)
     pub entered : zone_of by_deed ≢ 0 → IfOk answer (λ item. g.life (cached_body item) ≡ after (ZoneInit (zone_of by_deed)) (g.life (stored_body was)))
     pub left : zone_of by_deed ≢ 0 → IfOk answer (λ item. leaves (cached_body item))
@@ -67,17 +66,11 @@ module _ {T : Type 0} {g : Ghosts T} where
   -- The item is its keg's again, and passed zone_fini, but for zone 0.
   pub record GivesBack (was : Cached T g) (leaves : T → Type 0) (item : Stored T g) (back : Deed) : Type 0 where
     pub number : stored_no item ≡ no_of back
-    pub domain : stored_domain item ≡ cached_domain was
     pub deed : back ≡ ticket_deed (cached_ticket was)
     pub origin : stored_origin item ≡ (cached_table was).origin
     pub primary : cached_zone was ≡ 0 → stored_body item ≡ cached_body was
     pub passed : cached_zone was ≢ 0 → g.life (stored_body item) ≡ after (ZoneFini (cached_zone was)) (g.life (cached_body was))
     pub left : cached_zone was ≢ 0 → leaves (stored_body item)
-
-  -- the same item, in a slab of this domain
-  pub record IsInDomain (was : Stored T g) (of_domain : ℕ) (item : Stored T g) : Type 0 where
-    pub body : stored_body item ≡ stored_body was
-    pub domain : stored_domain item ≡ of_domain
 
   -- ---- its use
 

@@ -5,19 +5,12 @@ use Rattle.uma_life.specs.declared.cached.Cached.{Cached}
 use Rattle.uma_life.specs.declared.live.Live.{Live}
 use Rattle.uma_life.specs.declared.outside.Outside.{Outside}
 use Rattle.uma_life.specs.declared.tally.Tally.{Tally}
-use Rattle.uma_life.specs.declared.ticket.Ticket.{Ticket}
 use Rattle.uma_life.specs.Live.{live_body, live_zone}
 use Rattle.uma_life.specs.Moves.{Finishes}
 use Rattle.uma_life.specs.Ticket.{ticket_zone}
 use Rattle.uma_life.specs.Trail.{IsAt, is_built, outside_phase}
 
 module _ {T : Type 0} {g : _} where
-  abbrev pub outside_body : Outside T g → T
-  outside_body item = item.body
-
-  abbrev pub outside_ticket : Outside T g → Ticket
-  outside_ticket item = item.ticket
-
   abbrev pub outside_tally : Outside T g → Tally
   outside_tally item = (g.life item.body).tally
 

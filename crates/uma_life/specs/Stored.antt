@@ -11,6 +11,3 @@ stored_no {g = g} item = (g.life item.body).no
 -- what its body is of
 abbrev pub stored_origin : {T : Type 0} {g : _} → Stored T g → List ℕ
 stored_origin {g = g} item = g.origin item.body
-
-abbrev pub stored_domain : {T : Type 0} {g : _} → Stored T g → ℕ
-stored_domain item = item.domain

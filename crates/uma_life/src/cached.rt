@@ -74,10 +74,10 @@ impl<T: Body> Cached<T> {
         ensures { GivesBack self (K.leaves_fini hooks.now (cached_body self) (cached_zone self)) result.0 result.1 }
     {
         let Cached { mut body, ticket } = self;
-        let (deed, domain) = ticket.into_deed();
+        let (deed, _domain) = ticket.into_deed();
         if deed.zone() != 0 {
             hooks.zone_fini(deed.zone(), &mut body);
         }
-        (Stored { body, domain }, deed)
+        (Stored { body }, deed)
     }
 }

@@ -15,7 +15,7 @@
 //!   at zone 0.
 //! - After a refusal the body is the same value, not only one of the same life: `lend` and `build` hand back the very item.
 //! - A cached or live item shows its whole ticket. Whoever keeps the ticket keeps the deed itself, which says more than
-//!   number, zone, domain and book. A stored item has no deed, so it shows number, domain and body.
+//!   number, zone, domain and book. A stored item has no deed, so it shows number and body; its keg knows its domain.
 //! - What a state knows is in its type, as ghost fields: its body is in the state's phase, on the life trail, of the
 //!   ticket's number and of its deed's origin.
 //! - Phases agree with a tally as whole numbers, the zones' counts modulo 2^64, since counters wrap.

@@ -18,12 +18,11 @@ use std::sync::Wait;
 #[derive(Drop)]
 pub struct Stored<T: Body> {
     pub(crate) body: T,
-    pub(crate) domain: u8,
     pub ghost kept: { IsAt Kept (T.life body) },
 }
 
 impl<T: Body> Stored<T> {
-    ghost use Rattle.uma_life.specs.Stored.{stored_body, stored_no, stored_domain};
+    ghost use Rattle.uma_life.specs.Stored.{stored_body, stored_no};
 
     /// The item's number in its keg.
     pub fn no(&self) -> u32
@@ -32,31 +31,12 @@ impl<T: Body> Stored<T> {
         self.body.no()
     }
 
-    /// The memory domain of the item's slab.
-    pub fn domain(&self) -> u8
-        ensures { result ≡ stored_domain self.now }
-    {
-        self.domain
-    }
-
     /// The item's body, in phase Kept.
     pub fn body(&self) -> &T
         ensures body { result.now ≡ stored_body self.now }
         ensures kept { IsAt Kept (T.life result.now) }
     {
         &self.body
-    }
-}
-
-impl<T: Body> Stored<T> {
-    ghost use Rattle.uma_life.specs.Moves.{IsInDomain};
-
-    /// The item in a slab of this memory domain.
-    pub fn in_domain(self, domain: u8) -> Stored<T>
-        ensures { IsInDomain self domain result }
-    {
-        let Stored { body, domain: _ } = self;
-        Stored { body, domain }
     }
 }
 
@@ -70,34 +50,35 @@ impl<T: Body> Stored<T> {
         alloc: Global,
         hooks: &K,
         no: u32,
-        domain: u8,
     ) -> Result<Stored<T>, BringRefused>
-        ensures { Brings no domain (K.origin hooks.now) (K.makes hooks.now no) (λ raw. K.refuses_init hooks.now raw 0) (λ raw. K.leaves_init hooks.now raw 0) result }
+        ensures { Brings no (K.origin hooks.now) (K.makes hooks.now no) (λ raw. K.refuses_init hooks.now raw 0) (λ raw. K.leaves_init hooks.now raw 0) result }
     {
         let mut body = hooks.raw(rt, alloc, no)?;
         if let Err(code) = hooks.keg_init(&mut body) {
             hooks.bury(rt, body);
             return Err(BringRefused::Init { code });
         }
-        Ok(Stored { body, domain })
+        Ok(Stored { body })
     }
 
-    /// Lends the item to the zone of a deed of its number, whose book is of the item's origin. It passes `zone_init`, but for zone 0. Where that refuses
+    /// Lends the item to the zone of a deed of its number, whose book is of the item's origin; `domain` is the memory domain of its
+    /// slab. It passes `zone_init`, but for zone 0. Where that refuses
     /// the item and the deed are back, with the code.
     pub fn lend<K: Hooks<T>>(
         self,
         hooks: &K,
         deed: Deed,
+        domain: u8,
     ) -> Result<Cached<T>, (Stored<T>, Deed, u8)>
         requires number { no_of deed ≡ stored_no self }
         requires origin { stored_origin self ≡ (deed_table deed).origin }
-        ensures { Lends self deed (K.refuses_init hooks.now (stored_body self) (zone_of deed)) (K.leaves_init hooks.now (stored_body self) (zone_of deed)) result }
+        ensures { Lends self deed domain (K.refuses_init hooks.now (stored_body self) (zone_of deed)) (K.leaves_init hooks.now (stored_body self) (zone_of deed)) result }
     {
-        let Stored { mut body, domain } = self;
+        let Stored { mut body } = self;
         if deed.zone() != 0
             && let Err(code) = hooks.zone_init(deed.zone(), &mut body)
         {
-            return Err((Stored { body, domain }, deed, code));
+            return Err((Stored { body }, deed, code));
         }
         let ticket = Ticket::of(deed, domain);
         Ok(Cached { body, ticket })
@@ -109,10 +90,7 @@ impl<T: Body> Stored<T> {
         ensures left { (gone : T) × K.leaves_fini hooks.now (stored_body self) 0 gone × (T.life gone ≡ after KegFini (T.life (stored_body self))) × (result ≡ (T.life gone).tally) }
         ensures whole { OnTrail Gone result }
     {
-        let Stored {
-            mut body,
-            domain: _,
-        } = self;
+        let Stored { mut body } = self;
         hooks.keg_fini(&mut body);
         hooks.bury(rt, body)
     }

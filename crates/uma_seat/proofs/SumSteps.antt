@@ -13,7 +13,7 @@ use Rattle.uma_bucket.specs.Shelved.{count_of}
 use Rattle.uma_bucket.specs.Bucket.{items_of}
 use Rattle.uma_bucket.specs.Loose.{loose_items}
 use Rattle.uma_bucket.specs.Home.{Home}
-use Rattle.uma_bucket.specs.Held.{cached_in, freed_in}
+use Rattle.uma_bucket.specs.Room.{cached_in, freed_in}
 use Rattle.uma_bucket.specs.Sums.{Adds, AreOfAtMost, Balance}
 
 pub widen : (n m : ℕ) (sums : Sums) → n ≤ m → AreOfAtMost n sums → AreOfAtMost m sums

@@ -28,11 +28,11 @@ impl PlainBook {
         alloc: Global,
         no: u32,
     ) -> Result<Cached<Plain>, Fail> {
-        let stored = Stored::bring(rt, alloc, &idle_hooks(), no, 0)?;
+        let stored = Stored::bring(rt, alloc, &idle_hooks(), no)?;
         if !self.book.is_home(no) {
             return Err(Fail::new("out"));
         }
-        let Ok(item) = stored.lend(&idle_hooks(), self.book.issue(no, 0)) else {
+        let Ok(item) = stored.lend(&idle_hooks(), self.book.issue(no, 0), 0) else {
             return Err(Fail::new("refused"));
         };
         Ok(item)

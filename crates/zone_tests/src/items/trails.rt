@@ -10,8 +10,8 @@ use uma_life::{Body, BodyPhase, Stored, ZoneTally};
 fn what_a_ctor_opens_its_dtor_closes(rt: HostRuntime) -> Result<(), Fail> {
     let hooks = TrailHooks::new(Doors::new());
     let mut book = Book::new(rt.alloc(), 4)?;
-    let stored = Stored::<Item<Door>>::bring(&rt, rt.alloc(), &hooks, 3, 0)?;
-    let Ok(cached) = stored.lend(&hooks, book.issue(3, 0)) else {
+    let stored = Stored::<Item<Door>>::bring(&rt, rt.alloc(), &hooks, 3)?;
+    let Ok(cached) = stored.lend(&hooks, book.issue(3, 0), 0) else {
         panic!(rt; "the primary zone refused")
     };
     let Ok(live) = cached.build(&hooks, 7) else {
@@ -39,8 +39,8 @@ fn what_a_ctor_opens_its_dtor_closes(rt: HostRuntime) -> Result<(), Fail> {
 fn an_item_without_counts_of_stays_refuses_a_secondary_zone(rt: HostRuntime) -> Result<(), Fail> {
     let hooks = TrailHooks::new(Doors::new());
     let mut book = Book::new(rt.alloc(), 4)?;
-    let stored = Stored::<Item<Door>>::bring(&rt, rt.alloc(), &hooks, 2, 1)?;
-    let Err((stored, deed, code)) = stored.lend(&hooks, book.issue(2, 5)) else {
+    let stored = Stored::<Item<Door>>::bring(&rt, rt.alloc(), &hooks, 2)?;
+    let Err((stored, deed, code)) = stored.lend(&hooks, book.issue(2, 5), 1) else {
         panic!(rt; "zone 5 took an item that keeps no counts")
     };
     assert!(rt; code == NO_STAYS && stored.no() == 2 && book.accept(deed) == (2, 5));
@@ -51,8 +51,8 @@ fn an_item_without_counts_of_stays_refuses_a_secondary_zone(rt: HostRuntime) -> 
 fn an_item_with_counts_of_stays_comes_and_goes(rt: HostRuntime) -> Result<(), Fail> {
     let hooks = TrailHooks::with_stays(Doors::new());
     let mut book = Book::new(rt.alloc(), 4)?;
-    let stored = Stored::<Item<Door>>::bring(&rt, rt.alloc(), &hooks, 1, 0)?;
-    let Ok(cached) = stored.lend(&hooks, book.issue(1, 7)) else {
+    let stored = Stored::<Item<Door>>::bring(&rt, rt.alloc(), &hooks, 1)?;
+    let Ok(cached) = stored.lend(&hooks, book.issue(1, 7), 0) else {
         panic!(rt; "zone 7 refused")
     };
     let Ok(live) = cached.build(&hooks, 2) else {
@@ -77,8 +77,8 @@ fn an_item_with_counts_of_stays_comes_and_goes(rt: HostRuntime) -> Result<(), Fa
 fn a_refused_ctor_counts_nothing_and_leaves_the_data(rt: HostRuntime) -> Result<(), Fail> {
     let hooks = TrailHooks::new(Doors::new());
     let mut book = Book::new(rt.alloc(), 4)?;
-    let stored = Stored::<Item<Door>>::bring(&rt, rt.alloc(), &hooks, 0, 0)?;
-    let Ok(cached) = stored.lend(&hooks, book.issue(0, 0)) else {
+    let stored = Stored::<Item<Door>>::bring(&rt, rt.alloc(), &hooks, 0)?;
+    let Ok(cached) = stored.lend(&hooks, book.issue(0, 0), 0) else {
         panic!(rt; "the primary zone refused")
     };
     let Err((cached, code)) = cached.build(&hooks, 9) else {
@@ -93,8 +93,8 @@ fn a_refused_ctor_counts_nothing_and_leaves_the_data(rt: HostRuntime) -> Result<
 fn data_is_changed_in_the_same_item(rt: HostRuntime) -> Result<(), Fail> {
     let hooks = TrailHooks::new(Doors::new());
     let mut book = Book::new(rt.alloc(), 4)?;
-    let stored = Stored::<Item<Door>>::bring(&rt, rt.alloc(), &hooks, 3, 2)?;
-    let Ok(cached) = stored.lend(&hooks, book.issue(3, 0)) else {
+    let stored = Stored::<Item<Door>>::bring(&rt, rt.alloc(), &hooks, 3)?;
+    let Ok(cached) = stored.lend(&hooks, book.issue(3, 0), 2) else {
         panic!(rt; "the primary zone refused")
     };
     let Ok(live) = cached.build(&hooks, 7) else {

@@ -9,8 +9,8 @@ use uma_life::{Body, BringRefused, Stored};
 fn hooks_of_six_lines_count_what_is_opened_and_closed(rt: HostRuntime) -> Result<(), Fail> {
     let hooks = TrailHooks::new(Turnstile::new());
     let mut book = Book::new(rt.alloc(), 4)?;
-    let stored = Stored::<Item<()>>::bring(&rt, rt.alloc(), &hooks, 3, 0)?;
-    let Ok(cached) = stored.lend(&hooks, book.issue(3, 0)) else {
+    let stored = Stored::<Item<()>>::bring(&rt, rt.alloc(), &hooks, 3)?;
+    let Ok(cached) = stored.lend(&hooks, book.issue(3, 0), 0) else {
         panic!(rt; "the primary zone refused")
     };
     let Ok(live) = cached.build(&hooks, 0) else {
@@ -30,8 +30,8 @@ fn hooks_of_six_lines_count_what_is_opened_and_closed(rt: HostRuntime) -> Result
 #[test]
 fn where_memory_is_refused_for_the_data_no_item_comes(rt: HostRuntime) -> Result<(), Fail> {
     let hooks = TrailHooks::with_stays(Turnstile::new());
-    let stored = Stored::<Item<()>>::bring(&rt, rt.alloc(), &hooks, 8, 0)?;
-    let refused = Stored::<Item<()>>::bring(&rt, rt.alloc(), &hooks, 9, 0);
+    let stored = Stored::<Item<()>>::bring(&rt, rt.alloc(), &hooks, 8)?;
+    let refused = Stored::<Item<()>>::bring(&rt, rt.alloc(), &hooks, 9);
     assert!(rt; stored.no() == 8 && refused.err() == Some(BringRefused::Memory));
     Ok(())
 }

@@ -13,9 +13,9 @@ use uma_life::{BringRefused, Cached, Live, Lives, Stored, Ticket, ZoneTally};
 fn an_item_passes_its_hooks_in_pairs_and_in_order(rt: HostRuntime) -> Result<(), Fail> {
     let hooks = CountedHooks::new(false);
     let mut book = Book::new(rt.alloc(), 8)?;
-    let stored = Stored::bring(&rt, rt.alloc(), &hooks, 5, 2)?;
-    assert!(rt; stored.no() == 5 && stored.domain() == 2);
-    let Ok(cached) = stored.lend(&hooks, book.issue(5, 1)) else {
+    let stored = Stored::bring(&rt, rt.alloc(), &hooks, 5)?;
+    assert!(rt; stored.no() == 5);
+    let Ok(cached) = stored.lend(&hooks, book.issue(5, 1), 2) else {
         panic!(rt; "zone_init refused")
     };
     let Err((cached, code)) = cached.build(&hooks, 7) else {
@@ -42,7 +42,7 @@ fn an_item_passes_its_hooks_in_pairs_and_in_order(rt: HostRuntime) -> Result<(),
 #[test]
 fn a_body_that_keg_init_refuses_is_buried(rt: HostRuntime) -> Result<(), Fail> {
     let hooks = CountedHooks::new(true);
-    let refused = Stored::<Counted>::bring(&rt, rt.alloc(), &hooks, 5, 0).err();
+    let refused = Stored::<Counted>::bring(&rt, rt.alloc(), &hooks, 5).err();
     assert!(rt; refused == Some(BringRefused::Init { code: 9 }));
     let text = format!(in rt.alloc(); "{}", BringRefused::Init { code: 9 })?;
     assert_eq!(rt; text.as_str(), "keg_init refused the item with code 9");
@@ -54,12 +54,12 @@ fn a_body_that_keg_init_refuses_is_buried(rt: HostRuntime) -> Result<(), Fail> {
 fn zone_init_runs_in_secondary_zones_alone(rt: HostRuntime) -> Result<(), Fail> {
     let hooks = CountedHooks::new(false);
     let mut book = Book::new(rt.alloc(), 8)?;
-    let stored = Stored::bring(&rt, rt.alloc(), &hooks, 5, 0)?;
-    let Err((stored, deed, code)) = stored.lend(&hooks, book.issue(5, 6)) else {
+    let stored = Stored::bring(&rt, rt.alloc(), &hooks, 5)?;
+    let Err((stored, deed, code)) = stored.lend(&hooks, book.issue(5, 6), 0) else {
         panic!(rt; "zone_init accepted zone 6")
     };
     assert!(rt; code == 6 && stored.no() == 5 && book.accept(deed) == (5, 6));
-    let Ok(cached) = stored.lend(&hooks, book.issue(5, 0)) else {
+    let Ok(cached) = stored.lend(&hooks, book.issue(5, 0), 0) else {
         panic!(rt; "zone_init refused zone 0")
     };
     assert!(rt; cached.body().tally.zones[0].inits == 0);
@@ -89,8 +89,8 @@ fn marked_elsewhere<R: Threads + Sync>(rt: &R, live: Live<Counted>, word: u64) -
 fn a_live_item_keeps_its_ticket_across_threads_and_lists(rt: HostRuntime) -> Result<(), Fail> {
     let hooks = CountedHooks::new(false);
     let mut book = Book::new(rt.alloc(), 8)?;
-    let stored = Stored::bring(&rt, rt.alloc(), &hooks, 5, 3)?;
-    let Ok(cached) = stored.lend(&hooks, book.issue(5, 1)) else {
+    let stored = Stored::bring(&rt, rt.alloc(), &hooks, 5)?;
+    let Ok(cached) = stored.lend(&hooks, book.issue(5, 1), 3) else {
         panic!(rt; "zone_init refused")
     };
     let Ok(live) = cached.build(&hooks, 0) else {
@@ -136,9 +136,9 @@ fn home(hooks: &CountedHooks, item: Cached<Counted>) -> Stored<Counted>
 fn a_body_is_as_the_hooks_left_it_that_ran(rt: HostRuntime) -> Result<(), Fail> {
     let (keg, zone) = (CountedHooks::marking(10), CountedHooks::marking(20));
     let mut book = Book::new(rt.alloc(), 8)?;
-    let stored = Stored::bring(&rt, rt.alloc(), &keg, 5, 0)?;
+    let stored = Stored::bring(&rt, rt.alloc(), &keg, 5)?;
     assert!(rt; stored.body().word == 10);
-    let Ok(cached) = stored.lend(&zone, book.issue(5, 1)) else {
+    let Ok(cached) = stored.lend(&zone, book.issue(5, 1), 0) else {
         panic!(rt; "zone_init refused")
     };
     assert!(rt; cached.body().word == 20);

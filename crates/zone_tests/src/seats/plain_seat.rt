@@ -41,11 +41,11 @@ pub(super) fn cached<R: Wait>(
     ensures zone { IfOk result (λ item. cached_zone item ≡ 0) }
     ensures domain { IfOk result (λ item. cached_domain item ≡ domain) }
 {
-    let stored = Stored::bring(rt, alloc, &idle_hooks(), no, domain)?;
+    let stored = Stored::bring(rt, alloc, &idle_hooks(), no)?;
     if !book.is_home(no) {
         return Err(Fail::new("out"));
     }
-    let Ok(item) = stored.lend(&idle_hooks(), book.issue(no, 0)) else {
+    let Ok(item) = stored.lend(&idle_hooks(), book.issue(no, 0), domain) else {
         return Err(Fail::new("refused"));
     };
     Ok(item)

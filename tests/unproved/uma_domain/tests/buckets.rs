@@ -53,11 +53,11 @@ fn cached<R: Wait>(rt: &R, alloc: Global, book: &mut Book, no: u32) -> Result<Ca
     ensures at_home { IfOk result (λ item. IsHome (home_of (book_table book.old) 0 1) (cached_ticket item)) }
 {
     let hooks = hooks();
-    let stored = Stored::bring(rt, alloc, &hooks, no, 0)?;
+    let stored = Stored::bring(rt, alloc, &hooks, no)?;
     if !book.is_home(no) {
         return Err(Fail::new("out"));
     }
-    let Ok(item) = stored.lend(&hooks, book.issue(no, 0)) else {
+    let Ok(item) = stored.lend(&hooks, book.issue(no, 0), 0) else {
         return Err(Fail::new("refused"));
     };
     Ok(item)

@@ -51,11 +51,11 @@ fn cached<R: Wait>(
     ensures table { book_table book.new ≡ book_table book.old }
     ensures ticket { IfOk result (λ item. (ticket_table (cached_ticket item) ≡ book_table book.old) × (ticket_zone (cached_ticket item) ≡ 0) × (ticket_domain (cached_ticket item) ≡ domain)) }
 {
-    let stored = Stored::bring(rt, alloc, &idle_hooks(), no, domain)?;
+    let stored = Stored::bring(rt, alloc, &idle_hooks(), no)?;
     if !book.is_home(no) {
         return Err(Fail::new("out"));
     }
-    let Ok(item) = stored.lend(&idle_hooks(), book.issue(no, 0)) else {
+    let Ok(item) = stored.lend(&idle_hooks(), book.issue(no, 0), domain) else {
         return Err(Fail::new("refused"));
     };
     Ok(item)

@@ -21,7 +21,7 @@ loop-place-preserved g c =
       len = omega arith;
       room = omega arith;
       origins = origins_pushed _ _ _ _ c.push_reserved.ensures.items made.origin c.loop-place.invariant.origins;
-      items = new_pushed _ _ c.loop-place.place _ _ _ c.loop-place.invariant.items (omega (arith, c.loop-place.places.ok.0)) (record { life = made.brought; in_domain = made.domain }) c.push_reserved.ensures.items;
+      items = new_pushed _ c.loop-place.place _ _ _ c.loop-place.invariant.items (omega (arith, c.loop-place.places.ok.0)) (record { life = made.brought }) c.push_reserved.ensures.items;
       accepted = below_more _ _ c.loop-place.invariant.accepted made.accepted;
     }
 

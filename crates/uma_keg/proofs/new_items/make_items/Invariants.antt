@@ -9,6 +9,6 @@ invariant-loop-place g l = record {
   len : vec_len l.places ≡ l.place;
   room : l.per_slab ≤ vec_capacity l.places;
   origins : All (IsOfOrigin (g.K.Hooks.origin l.hooks)) l.places.items;
-  items : AreNewItems l.first l.domain l.places.items;
+  items : AreNewItems l.first l.places.items;
   accepted : (place : ℕ) → place < l.place → (raw : _) × (g.T.Body.life raw ≡ raw_life (l.first + place)) × (g.K.Hooks.refuses_init l.hooks raw 0 ≡ None);
 }

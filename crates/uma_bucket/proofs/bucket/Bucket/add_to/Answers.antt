@@ -2,7 +2,7 @@ use Rattle.std.proofs.Common.{rules, ◌≡◌, ◌≤◌, ◌+◌, ◌*◌, ◌
 use Rattle.std.specs.List.{filter_map}
 use Rattle.uma_life.specs.Sum.{sum_of}
 use Rattle.uma_bucket.specs.Bucket.{items_of}
-use Rattle.uma_bucket.specs.Held.{is_cached, cached_in}
+use Rattle.uma_bucket.specs.Room.{is_cached, cached_in}
 use Rattle.uma_bucket.specs.Sums.{times_cached}
 use Rattle.uma_bucket.proofs.Added.{adds_items, all_times, cached_times, more_of, still_balance_cached}
 use Rattle.uma_bucket.proofs.Rooms.{count, cached_tests}

@@ -1,5 +1,5 @@
 use Rattle.std.proofs.Common.{length, ap, ◌∙◌}
-use Rattle.uma_bucket.specs.Held.{is_cached, cached_in}
+use Rattle.uma_bucket.specs.Room.{is_cached, cached_in}
 use Rattle.uma_bucket.proofs.Rooms.{none_there, cached_tests}
 use Rattle.uma_bucket.proofs.bucket.Bucket.end.Goals as goal
 

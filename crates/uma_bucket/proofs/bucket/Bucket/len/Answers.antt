@@ -1,5 +1,5 @@
 use Rattle.std.proofs.Common.{rules, ◌∙◌, sym}
-use Rattle.uma_bucket.specs.Held.{is_cached, cached_in}
+use Rattle.uma_bucket.specs.Room.{is_cached, cached_in}
 use Rattle.uma_bucket.proofs.Rooms.{count, cached_tests}
 use Rattle.uma_bucket.proofs.bucket.Bucket.len.Goals as goal
 

@@ -2,7 +2,7 @@ use Rattle.std.proofs.Common.{rules, refl, ◌∙◌, Option, ◌≡◌, ◌∷�
 use Rattle.std.specs.List.{filter_map, cons_option}
 use Rattle.uma_life.specs.declared.cached.Cached.{Cached}
 use Rattle.uma_life.specs.Cached.{cached_ticket}
-use Rattle.uma_bucket.specs.Held.{is_cached, cached_in}
+use Rattle.uma_bucket.specs.Room.{is_cached, cached_in}
 use Rattle.uma_bucket.proofs.Homes.{home_pop}
 use Rattle.uma_bucket.proofs.Rooms.{part_pop, count, cached_tests, isnt_live, last_passes}
 use Rattle.uma_bucket.proofs.bucket.Bucket.pop.Goals as goal

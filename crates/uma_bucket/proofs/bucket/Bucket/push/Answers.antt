@@ -3,7 +3,7 @@ use Rattle.std.specs.List.{filter_map, cons_option}
 use Rattle.uma_life.specs.declared.cached.Cached.{Cached}
 use Rattle.std.proofs.lemmas.List.Elements.{filter_map-append}
 use Rattle.uma_life.specs.Cached.{cached_ticket}
-use Rattle.uma_bucket.specs.Held.{is_cached, cached_in}
+use Rattle.uma_bucket.specs.Room.{is_cached, cached_in}
 use Rattle.uma_bucket.proofs.Homes.{home_push}
 use Rattle.uma_bucket.proofs.Rooms.{count, cached_tests, all_push}
 use Rattle.uma_bucket.proofs.bucket.Bucket.push.Goals as goal

@@ -1,7 +1,7 @@
 use Rattle.std.proofs.Common.{rules, ◌≡◌, ◌≤◌, ◌+◌, ◌*◌, ◌^◌, ℕ, length, arith, ap, sym, ◌∙◌, subst}
 use Rattle.std.specs.List.{filter_map}
 use Rattle.uma_life.specs.Sum.{sum_of}
-use Rattle.uma_bucket.specs.Held.{is_freed, freed_in}
+use Rattle.uma_bucket.specs.Room.{is_freed, freed_in}
 use Rattle.uma_bucket.specs.Loose.{loose_items}
 use Rattle.uma_bucket.specs.Sums.{times_freed}
 use Rattle.uma_bucket.proofs.Added.{adds_items, all_times, freed_times, more_of, still_balance}

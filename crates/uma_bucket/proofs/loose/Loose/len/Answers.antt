@@ -1,5 +1,5 @@
 use Rattle.std.proofs.Common.{rules, ◌∙◌, sym}
-use Rattle.uma_bucket.specs.Held.{is_freed, freed_in}
+use Rattle.uma_bucket.specs.Room.{is_freed, freed_in}
 use Rattle.uma_bucket.proofs.Rooms.{count, freed_tests}
 use Rattle.uma_bucket.proofs.loose.Loose.len.Goals as goal
 

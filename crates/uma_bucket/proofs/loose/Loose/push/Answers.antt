@@ -3,7 +3,7 @@ use Rattle.std.specs.List.{filter_map, cons_option}
 use Rattle.uma_bucket.specs.declared.freed.Freed.{Freed}
 use Rattle.std.proofs.lemmas.List.Elements.{filter_map-append}
 use Rattle.uma_bucket.specs.Freed.{freed_ticket}
-use Rattle.uma_bucket.specs.Held.{is_freed, freed_in, freed_of}
+use Rattle.uma_bucket.specs.Room.{is_freed, freed_in, freed_of}
 use Rattle.uma_bucket.proofs.Homes.{home_push}
 use Rattle.uma_bucket.proofs.Rooms.{count, freed_tests, all_push}
 use Rattle.uma_bucket.proofs.loose.Loose.push.Goals as goal

@@ -1,6 +1,6 @@
 use Rattle.std.proofs.Common.{ap, rules}
 use Rattle.std.specs.List.{filter_map, list_all}
-use Rattle.uma_bucket.specs.Held.{is_cached, cached_in, is_freed, freed_in}
+use Rattle.uma_bucket.specs.Room.{is_cached, cached_in, is_freed, freed_in}
 use Rattle.uma_bucket.proofs.Rooms.{none_there, cached_tests}
 use Rattle.uma_bucket.proofs.loose.Loose.reuse.Goals as goal
 

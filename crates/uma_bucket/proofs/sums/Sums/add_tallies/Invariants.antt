@@ -1,6 +1,6 @@
 use Rattle.std.specs.List.{sum_by}
 use Rattle.std.proofs.Common.{take}
-use Rattle.uma_bucket.specs.Held.{times_held}
+use Rattle.uma_bucket.specs.Room.{times_held}
 use Rattle.uma_bucket.specs.Sums.{Adds}
 use Rattle.uma_bucket.proofs.sums.Sums.add_tallies.Given as goal
 

@@ -6,28 +6,28 @@ use Rattle.uma_life.specs.Cached.{cached_zone}
 use Rattle.uma_keg.specs.HomeItems.{item_at}
 use Rattle.uma_keg.specs.Keg.{zones_in}
 use Rattle.uma_places.specs.Places.{IsOut}
-use Rattle.uma_keg.proofs.GivenItem.{out_place, PlacesLaw-given, ZonesLaw-given, out_given, outs_given}
+use Rattle.uma_keg.proofs.GivenItem.{out_place, out_slab, PlacesLaw-given, ZonesLaw-given, out_given, outs_given}
 use Rattle.uma_keg.proofs.Origins.{origins_kept, one_there}
 use Rattle.uma_keg.proofs.TallyLaws.{TallyLaw-kept}
 use Rattle.uma_keg.proofs.keg.Keg.give.Goals as goal
 
-pub domain-requires : goal.domain-requires
-domain-requires g c =
-    let out : IsOut c.args.self.now.places c.accept-no.result = rw c.accept-no.ensures.number (out_place c.args.self.now.places_law _ _ c.accept-no.ensures.was_outside) in
-    rw out refl
-
 pub give-requires : goal.give-requires
 give-requires g c = rw c.accept-no.ensures.number (out_place c.args.self.now.places_law _ _ c.accept-no.ensures.was_outside)
+
+pub put-requires : goal.put-requires
+put-requires g c =
+    let out : IsOut c.args.self.now.places c.accept-no.result = rw c.accept-no.ensures.number (out_place c.args.self.now.places_law _ _ c.accept-no.ensures.was_outside) in
+    record { slab_items = out_slab c.args.self.now.places_law c.accept-no.result out; gone = search rules }
 
 pub invariant_of-self : goal.invariant_of-self
 invariant_of-self g c =
     let keg = c.args.self.now in
     let accepted = c.accept-no.ensures in
-    let origin : stored_origin c.in_domain-stored.result ≡ g.K.Hooks.origin keg.hooks =
-    ap (λ b. g.T.Body.origin b) c.in_domain-stored.ensures.body ∙ c.give_back-stored.ensures.origin ∙ ap (λ (book : BookId). book.origin) c.requires ∙ keg.book_of_hooks in
-    let number : stored_no c.in_domain-stored.result ≡ c.accept-no.result = ap (λ b. (g.T.Body.life b).no) c.in_domain-stored.ensures.body ∙ c.give_back-stored.ensures.number ∙ sym accepted.number in
+    let origin : stored_origin c.give_back-stored.result.0 ≡ g.K.Hooks.origin keg.hooks =
+    c.give_back-stored.ensures.origin ∙ ap (λ (book : BookId). book.origin) c.requires ∙ keg.book_of_hooks in
+    let number : stored_no c.give_back-stored.result.0 ≡ c.accept-no.result = c.give_back-stored.ensures.number ∙ sym accepted.number in
     record {
-      places_law = PlacesLaw-given _ _ _ _ _ _ c.accept-no.result _ keg.places_law c.give.ensures.gives (rw accepted.number accepted.zones) c.put.ensures.item c.put.ensures.others c.put.ensures.home_items c.put.ensures.count c.put.ensures.places number (c.domain.ensures ∙ ap Some (sym c.in_domain-stored.ensures.domain));
+      places_law = PlacesLaw-given _ _ _ _ _ _ c.accept-no.result _ keg.places_law c.give.ensures.gives (rw accepted.number accepted.zones) c.put.ensures.item c.put.ensures.others c.put.ensures.home_items c.put.ensures.count c.put.ensures.places number;
       zones_law = ZonesLaw-given _ _ _ _ _ _ keg.zones_law accepted.zones accepted.was_outside;
       tally_law = TallyLaw-kept _ _ _ keg.tally_law (sym c.give.ensures.counts.slabs) c.give.ensures.gives.slabs.per_slab;
       paired = keg.paired;

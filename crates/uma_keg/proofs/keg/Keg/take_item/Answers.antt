@@ -1,13 +1,13 @@
-use Rattle.std.proofs.Common.{rules, ◌≡◌, ◌<◌, ◌*◌, ◌/◌, ℕ, Some, None, set, sym, ap, subst, ◌∙◌}
+use Rattle.std.proofs.Common.{rules, ◌≡◌, ◌<◌, ◌*◌, ◌/◌, ℕ, Some, None, set, refl, sym, ap, subst, ◌∙◌}
 use Rattle.deed_book.specs.Deed.{no_of, zone_of, deed_table, BookId}
 use Rattle.deed_book.specs.Book.{zones_of}
-use Rattle.uma_life.specs.Stored.{stored_no, stored_domain, stored_origin}
+use Rattle.uma_life.specs.Stored.{stored_no, stored_origin}
 use Rattle.uma_places.specs.Places.{domain_at, CountsOneOut, Gives}
 use Rattle.uma_keg.specs.HomeItems.{item_at}
 use Rattle.uma_places.specs.Taking.{Takes}
 use Rattle.uma_keg.specs.KegLaw.{PlacesLaw}
 use Rattle.uma_keg.proofs.GivenItem.{out_slab, PlacesLaw-given, ZonesLaw-given}
-use Rattle.uma_keg.proofs.TakenItem.{free_home, free_domain, PlacesLaw-taken, ZonesLaw-taken, same_again, zones_again, items_again, if_some, on_some, takes_item}
+use Rattle.uma_keg.proofs.TakenItem.{free_home, PlacesLaw-taken, ZonesLaw-taken, same_again, zones_again, items_again, if_some, on_some, takes_item}
 use Rattle.uma_keg.proofs.Origins.{origins_kept, none_there, one_there}
 use Rattle.uma_keg.proofs.TallyLaws.{TallyLaw-kept}
 use Rattle.uma_keg.proofs.keg.Keg.take_item.Goals as goal
@@ -29,6 +29,12 @@ invariant_of-self g c =
       book_of_hooks = ap (λ (book : BookId). book.origin) c.issue-deed.ensures.table ∙ keg.book_of_hooks;
       items_of_hooks = origins_kept _ keg.home_items c.take-2.new.self (λ (n : ℕ). n) no keg.items_of_hooks (λ n item at is. none_there _ _ item (ap (item_at c.take-2.new.self) at ∙ taken.gone) is) taken.others;
     }
+
+pub domain-domain-requires : goal.domain-domain-requires
+domain-domain-requires g c =
+    let no = c.unwrap-no.result in
+    let takes : Takes c.args.self.now.places no c.take.new.self = if_some c.take.result (λ (n : ℕ). Takes c.args.self.now.places n c.take.new.self) no c.unwrap-no.ensures c.take.ensures.takes in
+    rw takes.out refl
 
 pub put-requires : goal.put-requires
 put-requires g c =
@@ -67,14 +73,8 @@ invariant_of-self-in-Err g c =
     let own_number : stored_no c.in-Err.item ≡ c.accept-no.result = ap stored_no same_item ∙ keg.places_law.numbered no c.unwrap-item.result stands ∙ sym number in
     let own_origin : stored_origin c.in-Err.item ≡ g.K.Hooks.origin keg.hooks = ap stored_origin same_item ∙ keg.items_of_hooks no c.unwrap-item.result stands in
     let left = origins_kept (g.K.Hooks.origin keg.hooks) keg.home_items c.take-2.new.self (λ (n : ℕ). n) no keg.items_of_hooks (λ n item at is. none_there _ _ item (ap (item_at c.take-2.new.self) at ∙ taken.gone) is) taken.others in
-    let domain : domain_at c.take.new.self (c.accept-no.result / c.take.new.self.per_slab) ≡ Some (stored_domain c.in-Err.item) =
-    ap (λ (m : ℕ). domain_at c.take.new.self (m / c.take.new.self.per_slab)) number
-    ∙ ap (λ (p : ℕ). domain_at c.take.new.self (no / p)) takes.slabs.per_slab
-    ∙ takes.slabs.domains (no / keg.places.per_slab)
-    ∙ free_domain keg.places _ keg.home_items no c.unwrap-item.result keg.places_law takes.free stands
-    ∙ ap (λ item. Some (stored_domain item)) (sym same_item) in
     record {
-      places_law = PlacesLaw-given _ _ _ _ _ _ c.accept-no.result c.in-Err.item law c.give.ensures.gives (rw c.accept-no.ensures.number c.accept-no.ensures.zones) c.put.ensures.item c.put.ensures.others c.put.ensures.home_items c.put.ensures.count c.put.ensures.places own_number domain;
+      places_law = PlacesLaw-given _ _ _ _ _ _ c.accept-no.result c.in-Err.item law c.give.ensures.gives (rw c.accept-no.ensures.number c.accept-no.ensures.zones) c.put.ensures.item c.put.ensures.others c.put.ensures.home_items c.put.ensures.count c.put.ensures.places own_number;
       zones_law = ZonesLaw-given _ _ _ _ _ _ zones c.accept-no.ensures.zones c.accept-no.ensures.was_outside;
       tally_law = TallyLaw-kept _ _ _ (TallyLaw-kept _ _ c.take.new.self keg.tally_law counts.slabs takes.slabs.per_slab) (sym c.give.ensures.counts.slabs) c.give.ensures.gives.slabs.per_slab;
       paired = keg.paired;
@@ -96,7 +96,7 @@ returns-in-Ok-clause-takes g c =
     takes_item keg _ c.args.hooks.now c.args.zone no (zone_of c.issue-deed.result) c.in-Ok.item c.unwrap-item.result
     (ap no_of lent.deed ∙ c.issue-deed.ensures.deed.0) takes counts
     (ap zone_of lent.deed ∙ c.issue-deed.ensures.deed.1) (ap deed_table lent.deed ∙ c.issue-deed.ensures.deed_table)
-    (free_domain keg.places _ keg.home_items no c.unwrap-item.result keg.places_law takes.free stands ∙ ap Some (sym lent.domain))
+    (sym (takes.slabs.domains (no / keg.places.per_slab)) ∙ ap (λ (p : ℕ). domain_at c.take.new.self (no / p)) (sym takes.slabs.per_slab) ∙ c.domain-domain.ensures ∙ ap Some (sym lent.domain))
     stands c.issue-deed.ensures.deed.1 (record { primary = lent.primary; entered = lent.entered; left = lent.left; accepted = lent.accepted })
     c.issue-deed.ensures.zones (free_home keg.places_law no below takes.free) taken.gone taken.others
 

@@ -11,5 +11,5 @@ returns-in-Err-clause-refused g c =
     (λ place code. (raw : _) × (g.T.Body.life raw ≡ raw_life (c.args.first + place)) × (g.K.Hooks.refuses_init c.args.hooks.now raw 0 ≡ Some code))
     (λ place. (raw : _) × (g.T.Body.life raw ≡ raw_life (c.args.first + place)) × (g.K.Hooks.refuses_init c.args.hooks.now raw 0 ≡ None))
     c.args.buried.now c.end_all.new.buried
-    (record { within = is.fewer; earlier = is.accepted_earlier; buried = adds_vain _ _ _ made.items _ _ is.earlier refl c.end_all.ensures.sums })
+    (record { within = is.fewer; earlier = is.accepted_earlier; buried = adds_vain _ _ made.items _ _ is.earlier refl c.end_all.ensures.sums })
     c.in-Err.refused is.refused

@@ -12,5 +12,5 @@ returns g c =
       left = search rules;
       accepted = search rules;
       refused = search rules;
-      unchanged = (stored_same _ _ c.in-Err.ensures.unchanged refl, refl);
+      unchanged = (stored_same _ _ c.in-Err.ensures.unchanged, refl);
     }
