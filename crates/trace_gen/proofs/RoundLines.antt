@@ -1,19 +1,24 @@
 -- The rounds of the lines that are drawn, one step's lines more at a time.
-use Rattle.std.proofs.Common.{◌≡◌, ℕ, Bool, true, false, List, [], ◌∷◌, ◌++◌, Option, Some, None, map, refl, sym, ap, ◌∙◌, append_assoc, append-nil}
+use Rattle.std.proofs.Common.{◌≡◌, ℕ, ◌+◌, Bool, true, false, List, [], ◌∷◌, ◌++◌, Option, Some, None, map, refl, sym, ap, ◌∙◌, append_assoc, append-nil, arith}
 use Rattle.std.specs.Prelude.{option_to_list}
 use Rattle.std.specs.List.{flat_map, slice_split, onto_first}
 use Rattle.std.proofs.lemmas.Bool.{false≢true}
+use Rattle.std.proofs.lemmas.List.FromFn.{map-range_with_len_more}
 use Rattle.trace_text.specs.declared.between.Between.{Between}
 use Rattle.trace_text.specs.declared.op.Op.{Op}
 use Rattle.trace_text.specs.declared.round.Round.{Round}
 use Rattle.trace_text.specs.declared.trace_reading.entry.Entry.{Entry}
 use Rattle.trace_text.specs.declared.trace_reading.entry.Entry.TheVariants as entries
-use Rattle.trace_text.specs.Grammar.{is_round, between_in, ops_in, rounds_in}
+use Rattle.trace_text.specs.Grammar.{is_round, op_by, between_in, ops_in, rounds_in}
 use Rattle.trace_text.proofs.TraceParts.{BetweensStand}
 use Rattle.trace_gen.specs.declared.drawn.Did.{Did}
 use Rattle.trace_gen.specs.declared.drawn.Drawn.TheVariants as drawn
 use Rattle.trace_gen.specs.Generator.{entries_of, give_entries}
 use Rattle.trace_gen.specs.Rounds.{did_entry, rounds_with}
+
+-- what one more worker does
+pub ops_in_more : (workers : ℕ) (part : List Entry) → ops_in (workers + 1) part ≡ ops_in workers part ++ flat_map (op_by workers) part ∷ []
+ops_in_more workers part = map-range_with_len_more (λ worker. flat_map (op_by worker) part) 0 workers workers (omega arith)
 
 -- an operation behind those of the part
 did_behind : (part : List Did) (did : Did) (rest : List Entry) → map did_entry (part ++ did ∷ []) ++ rest ≡ map did_entry part ++ did_entry did ∷ rest

@@ -79,7 +79,7 @@ fn gives_of(alloc: Global, give: Option<Between>) -> Result<Betweens, AllocError
 }
 
 /// What each of so many workers does in a part.
-#[tactic(auto, using(trace_text::proofs::TraceRounds::ops_in_more))]
+#[tactic(auto, using(crate::proofs::RoundLines::ops_in_more))]
 fn ops_of_all(alloc: Global, workers: u32, part: &[Did]) -> Result<OpLists, AllocError>
     ensures { IfOk result (λ ops. ops ≡ ops_in workers (map did_entry part.now)) }
 {

@@ -3,6 +3,8 @@ pub mod Names
 pub mod TraceNumbers
 pub mod TraceFields
 pub mod TraceRounds
+pub mod PartLists
+pub mod Parts
 pub mod TraceClash
 mod TraceRows
 pub mod TraceSlots
@@ -24,3 +26,4 @@ pub mod RowZones
 pub mod TraceFollowing
 pub mod NamedZones
 pub mod TextLength
+pub mod TraceWords

@@ -227,7 +227,7 @@ empty_tables tables empty = record {
 }
 
 pub knows_none : (reader : TraceReader) → reader.stage ≡ stages.Start → reader.version ≡ versions.One → reader.workers ≡ 0 → reader.domains ≡ 0 → reader.clock ≡ None → reader.detail ≡ false → reader.zones ≡ [] → reader.names ≡ None
-    → reader.entries.items ≡ [] → AreEmpty reader.tables → Knows reader []
+    → reader.entries ≡ [] → AreEmpty reader.tables → Knows reader []
 knows_none reader stage version workers domains clock detail zones names entries empty = record {
   said = record { stage = stage; version = version; workers = workers; domains = domains; clock = clock; detail = detail; zones = zones; names = names; entries = entries; tables = empty_tables reader.tables empty };
   begun = ap is_start stage;

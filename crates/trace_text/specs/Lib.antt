@@ -2,6 +2,7 @@ pub mod Grammar
 pub mod Limits
 pub mod Lines
 pub mod NamedZones
+pub mod Parts
 pub mod Reading
 pub mod TraceHeard
 pub mod TraceKnown
@@ -10,4 +11,5 @@ pub mod TraceLine
 pub mod TraceShown
 pub mod TraceTables
 pub mod TraceTaken
+pub mod TraceWord
 pub mod Valid

@@ -28,7 +28,7 @@ pub record KeepsHead (old new : TraceReader) : Type 0 where
 -- a line below the header is taken in
 pub record Adds (entry : Entry) (old new : TraceReader) : Type 0 where
   pub head : KeepsHead old new
-  pub entries : new.entries.items ≡ old.entries.items ++ entry ∷ []
+  pub entries : new.entries ≡ old.entries ++ entry ∷ []
   pub marks : Marks entry old.tables new.tables
 
 -- lines, of which there is one at most, are taken in
@@ -51,5 +51,5 @@ pub record Hears (s : Said) (old new : TraceReader) : Type 0 where
   pub detail : new.detail ≡ detail_after s old.detail
   pub names : new.names ≡ names_after s old.names
   pub zones : new.zones ≡ old.zones ++ new_zone old.zones s
-  pub entries : new.entries.items ≡ old.entries.items ++ entry_of old.zones s
+  pub entries : new.entries ≡ old.entries ++ entry_of old.zones s
   pub marks : MarksAll (entry_of old.zones s) old.tables new.tables

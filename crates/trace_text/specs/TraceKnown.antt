@@ -45,7 +45,7 @@ pub record KnowsSaid (reader : TraceReader) (before : List Said) : Type 0 where
   pub detail : reader.detail ≡ has_detail before
   pub zones : reader.zones ≡ zones_of before
   pub names : reader.names ≡ names_of before
-  pub entries : reader.entries.items ≡ entries_of before
+  pub entries : reader.entries ≡ entries_of before
   pub tables : KnowsTables reader.tables.slots.items reader.tables.sections.items reader.tables.away.items before
 
 -- the state is the one after these lines, the last one first
@@ -59,5 +59,5 @@ abbrev pub trace_by : TraceReader → Trace
 trace_by reader = record {
   version = reader.version;
   head = record { workers = reader.workers; domains = reader.domains; clock = reader.clock; detail = reader.detail; zones = reader.zones; names = reader.names };
-  rounds = rounds_in reader.workers (slice_split is_round reader.entries.items);
+  rounds = rounds_in reader.workers (slice_split is_round reader.entries);
 }

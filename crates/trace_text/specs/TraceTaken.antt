@@ -1,5 +1,5 @@
 -- What the running state of a trace's reading does with a line by its word (own).
-use Rattle.std.specs.Prelude.{ℕ, ◌≡◌, List, Bool, true, false, Result}
+use Rattle.std.specs.Prelude.{ℕ, ◌≡◌, List, false, Result}
 use Rattle.text_lines.specs.declared.refused.LineRefused.{LineRefused}
 use Rattle.text_lines.specs.Taking.{Takes}
 use Rattle.trace_text.specs.declared.trace_reading.reader.TraceReader.{TraceReader}

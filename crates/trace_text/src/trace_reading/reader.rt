@@ -10,7 +10,7 @@ ghost use Rattle.trace_text.specs.TraceTaken.{TakesWord};
 
 use crate::trace_reading::entry::Entry;
 use crate::trace_reading::name_field::NameField;
-use crate::trace_reading::rounds::rounds;
+use crate::trace_reading::rounds_so_far::RoundsSoFar;
 use crate::trace_reading::said::{Said, ZoneWork, word_in};
 use crate::trace_reading::stage::Stage;
 use crate::trace_reading::tables::Tables;
@@ -33,7 +33,8 @@ pub struct TraceReader {
     pub zones: Zones,
     pub names: Option<NamesHead>,
     pub tables: Tables,
-    pub entries: Vec<Entry>,
+    /// The lines below the header.
+    pub entries: RoundsSoFar,
 }
 
 impl<'a> Said<'a> {
@@ -94,7 +95,7 @@ impl TraceReader {
             zones: Zones::new(alloc),
             names: None,
             tables: Tables::new(alloc)?,
-            entries: Vec::new(alloc),
+            entries: RoundsSoFar::new(alloc),
         })
     }
 
@@ -102,7 +103,7 @@ impl TraceReader {
     pub fn trace(self, alloc: Global) -> Result<Trace, AllocError>
         ensures { IfOk result (λ trace. trace ≡ trace_by self) }
     {
-        let rounds = rounds(alloc, self.workers, self.entries.as_slice())?;
+        let rounds = self.entries.into_rounds(alloc, self.workers)?;
         let head = Head {
             workers: self.workers,
             domains: self.domains,
@@ -128,7 +129,9 @@ impl TraceReader {
         ensures workers { self.new.workers ≡ self.old.workers }
         ensures memory { IfErr result (λ refused. refused ≡ LineRefused.Memory) }
     {
-        self.entries.push(entry)?;
+        let Ok(()) = self.entries.push(entry) else {
+            return Err(LineRefused::Memory);
+        };
         self.tables.mark(entry);
         Ok(())
     }

@@ -1,13 +1,15 @@
 //! What one line of a trace says.
 ghost use Rattle.std.specs.Prelude.{◌≡◌, ℕ, Err, IfOk, IfErr};
+ghost use Rattle.text_lines.specs.Fields.{Reads};
 ghost use Rattle.text_lines.specs.TextLines.{fields_of};
 ghost use Rattle.trace_text.specs.TraceLine.{said_by, says};
 ghost use Rattle.trace_text.specs.TraceShown.{NamesFit};
+ghost use Rattle.trace_text.specs.TraceWord.{word_from};
 
 use crate::trace_reading::head::head_said;
 use crate::trace_reading::name_field::NameField;
 use crate::trace_reading::stage::Stage;
-use crate::trace_reading::word::Word;
+use crate::trace_reading::word::{Word, WorkWord, ZoneWord};
 use crate::trace_reading::work::{give_said, setmax_said, work_said, zone_said};
 use crate::{ClockHead, NamesHead, Op, TraceKind, Version, ZoneHead, ZoneKind};
 use text_lines::{next_field, no_field};
@@ -85,16 +87,49 @@ pub enum ZoneWork {
     Prealloc { items: u64 },
 }
 
-/// The word of a line behind the first one, where it may stand there, and what is behind it.
-#[inline(always)]
-pub fn word_in(version: Version, stage: Stage, line: &[u8]) -> Result<(Word, &[u8]), TraceKind>
-    ensures word { IfOk result (λ x. (workers : ℕ) → says version stage workers (fields_of line.now) ≡ said_by workers x.0 (fields_of x.1.now)) }
-    ensures wrong { IfErr result (λ kind. (workers : ℕ) → says version stage workers (fields_of line.now) ≡ Err kind) }
+/// The word of a line, and what is behind it.
+fn any_word(line: &[u8]) -> Result<(Word, &[u8]), TraceKind>
+    ensures { Reads (λ x. (x.0, fields_of x.1.now)) result (word_from (fields_of line.now)) }
 {
     let Some((first, rest)) = next_field(line) else {
         return Err(TraceKind::Word);
     };
     let word = Word::named(first).ok_or(TraceKind::Word)?;
+    Ok((word, rest))
+}
+
+/// The same, found at once where the line begins with `free`.
+#[inline(always)]
+fn free_or_any_word(line: &[u8]) -> Result<(Word, &[u8]), TraceKind>
+    ensures { Reads (λ x. (x.0, fields_of x.1.now)) result (word_from (fields_of line.now)) }
+{
+    match line {
+        [b'f', b'r', b'e', b'e', b' ', rest @ ..] => Ok((Word::Work(WorkWord::Free), rest)),
+        _ => any_word(line),
+    }
+}
+
+/// The same, found at once where the line begins with one of the two words of most lines.
+#[inline(always)]
+fn first_word(line: &[u8]) -> Result<(Word, &[u8]), TraceKind>
+    ensures { Reads (λ x. (x.0, fields_of x.1.now)) result (word_from (fields_of line.now)) }
+{
+    match line {
+        [b'a', b'l', b'l', b'o', b'c', b' ', rest @ ..] => {
+            Ok((Word::Zone(ZoneWord::Alloc), rest))
+        }
+        _ => free_or_any_word(line),
+    }
+}
+
+/// The word of a line behind the first one, where it may stand there, and what is behind it.
+#[tactic(auto, using(crate::proofs::TraceWords::says_by_word, crate::proofs::TraceWords::says_unknown, crate::proofs::TraceWords::says_misplaced, crate::proofs::TraceWords::says_no_word))]
+#[inline(always)]
+pub fn word_in(version: Version, stage: Stage, line: &[u8]) -> Result<(Word, &[u8]), TraceKind>
+    ensures word { IfOk result (λ x. (workers : ℕ) → says version stage workers (fields_of line.now) ≡ said_by workers x.0 (fields_of x.1.now)) }
+    ensures wrong { IfErr result (λ kind. (workers : ℕ) → says version stage workers (fields_of line.now) ≡ Err kind) }
+{
+    let (word, rest) = first_word(line)?;
     if !word.is_known(version) {
         return Err(TraceKind::Word);
     }

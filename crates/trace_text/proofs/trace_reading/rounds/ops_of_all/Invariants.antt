@@ -1,7 +1,0 @@
-use Rattle.std.proofs.Common.{◌≡◌}
-use Rattle.trace_text.specs.Grammar.{ops_in}
-use Rattle.trace_text.proofs.trace_reading.rounds.ops_of_all.Given as goal
-
--- what the workers so far do
-abbrev pub invariant-loop-worker : goal.invariant-loop-worker
-invariant-loop-worker l = l.ops.items ≡ ops_in l.worker l.part
