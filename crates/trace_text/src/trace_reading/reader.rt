@@ -6,7 +6,7 @@ ghost use Rattle.trace_text.specs.declared.trace_reading.said.Said.TheVariants.{
 ghost use Rattle.trace_text.specs.TraceTables.{AreWhole, EntryFits, most_workers};
 ghost use Rattle.trace_text.specs.TraceShown.{NamesFit, WorkSlotFits};
 ghost use Rattle.trace_text.specs.TraceKnown.{Keeps, Knows, trace_by};
-ghost use Rattle.trace_text.specs.TraceTaken.{TakesWord};
+ghost use Rattle.trace_text.specs.TraceTaken.{TakesSaid, TakesWord};
 
 use crate::trace_reading::entry::Entry;
 use crate::trace_reading::name_field::NameField;
@@ -15,6 +15,7 @@ use crate::trace_reading::said::{Said, ZoneWork, word_in};
 use crate::trace_reading::stage::Stage;
 use crate::trace_reading::tables::Tables;
 use crate::trace_reading::word::{Word, WorkWord, ZoneWord};
+use crate::trace_reading::work::{alloc_said, free_said};
 use crate::trace_reading::zones::Zones;
 use crate::{Between, ClockHead, Head, NamesHead, Op, Trace, TraceKind, Version};
 use std::alloc::{AllocError, Global};
@@ -230,18 +231,48 @@ impl TraceReader {
         Ok(())
     }
 
-    /// Takes in a line with this word behind the first line, or says what is wrong with what is behind the word.
+    /// Takes in a line behind the first line that says this, or tells what is wrong with it.
     #[inline(always)]
+    fn take_said(&mut self, said: Said<'_>) -> Result<(), LineRefused>
+        requires kept { Keeps self.old }
+        requires names { NamesFit self.old.workers said }
+        ensures takes { TakesSaid said.entry self.old result self.new }
+        ensures kept { Keeps self.new }
+    {
+        match self.clash(&said) {
+            Some(kind) => Err(kind.into()),
+            None => self.hear(said),
+        }
+    }
+
+    /// Takes in a line with this word behind the first line, or says what is wrong with what is behind the word.
     fn take_word(&mut self, word: Word, rest: &[u8]) -> Result<(), LineRefused>
         requires kept { Keeps self.old }
         ensures takes { TakesWord word (fields_of rest.now) self.old result self.new }
         ensures kept { Keeps self.new }
     {
         let said = Said::by_word(self.workers, word, rest)?;
-        match self.clash(&said) {
-            Some(kind) => Err(kind.into()),
-            None => self.hear(said),
-        }
+        self.take_said(said)
+    }
+
+    /// Takes in an `alloc` line.
+    fn take_alloc(&mut self, rest: &[u8]) -> Result<(), LineRefused>
+        requires kept { Keeps self.old }
+        ensures takes { TakesWord (Word.Zone ZoneWord.Alloc) (fields_of rest.now) self.old result self.new }
+        ensures kept { Keeps self.new }
+    {
+        let said = alloc_said(self.workers, rest)?;
+        self.take_said(said)
+    }
+
+    /// Takes in a `free` line.
+    fn take_free(&mut self, rest: &[u8]) -> Result<(), LineRefused>
+        requires kept { Keeps self.old }
+        ensures takes { TakesWord (Word.Work WorkWord.Free) (fields_of rest.now) self.old result self.new }
+        ensures kept { Keeps self.new }
+    {
+        let said = free_said(self.workers, rest)?;
+        self.take_said(said)
     }
 }
 
@@ -267,8 +298,8 @@ impl Grammar for TraceReader {
         let (word, rest) = word_in(self.version, self.stage, line)?;
         // The two words of most lines go ways of their own.
         match word {
-            Word::Zone(ZoneWord::Alloc) => self.take_word(Word::Zone(ZoneWord::Alloc), rest),
-            Word::Work(WorkWord::Free) => self.take_word(Word::Work(WorkWord::Free), rest),
+            Word::Zone(ZoneWord::Alloc) => self.take_alloc(rest),
+            Word::Work(WorkWord::Free) => self.take_free(rest),
             _ => self.take_word(word, rest),
         }
     }

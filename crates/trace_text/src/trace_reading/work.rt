@@ -72,7 +72,7 @@ pub fn work_said(workers: u32, word: WorkWord, rest: &[u8]) -> Result<Said<'_>, 
 
 /// A free.
 #[inline(always)]
-fn free_said(workers: u32, rest: &[u8]) -> Result<Said<'_>, TraceKind>
+pub fn free_said(workers: u32, rest: &[u8]) -> Result<Said<'_>, TraceKind>
     ensures value { result ≡ free_said workers (fields_of rest.now) }
     ensures names { IfOk result (NamesFit workers) }
 {
@@ -115,7 +115,7 @@ pub fn zone_said(workers: u32, word: ZoneWord, rest: &[u8]) -> Result<Said<'_>, 
 
 /// A request.
 #[inline(always)]
-fn alloc_said(workers: u32, rest: &[u8]) -> Result<Said<'_>, TraceKind>
+pub fn alloc_said(workers: u32, rest: &[u8]) -> Result<Said<'_>, TraceKind>
     ensures value { result ≡ alloc_said workers (fields_of rest.now) }
     ensures names { IfOk result (NamesFit workers) }
 {

@@ -1,19 +1,5 @@
-use Rattle.std.proofs.Common.{Err, sym, subst, ◌∙◌}
-use Rattle.text_lines.specs.declared.refused.LineRefused.{LineRefused}
-use Rattle.text_lines.specs.Taking.{Takes}
-use Rattle.trace_text.specs.Grammar.{trace_test}
-use Rattle.trace_text.specs.TraceKnown.{Knows}
-use Rattle.trace_text.proofs.TraceFollowing.{clashes, takes}
+use Rattle.std.proofs.Common.{sym, ◌∙◌}
 use Rattle.trace_text.proofs.trace_reading.reader.TraceReader.take_word.Goals as goal
 
-pub returns-in-Some-clause-takes : goal.returns-in-Some-clause-takes
-returns-in-Some-clause-takes c number fields begun unended is =
-    let P : LineRefused → Type 0 = λ why. Takes trace_test Knows c.args.self.now number fields (Err why) c.args.self.now in
-    subst P (sym c.into.ensures)
-    (clashes c.args.self.now c.args.self.now number fields c.args.self.now.workers c.in_ok-said.said c.in-Some.kind begun unended (is ∙ (sym c.by_word.ensures.value ∙ c.in_ok-said.was)) c.in_ok-said.ensures.names
-    (sym c.clash.ensures ∙ c.in-Some.is))
-
-pub returns-in-None-clause-takes : goal.returns-in-None-clause-takes
-returns-in-None-clause-takes c number fields begun unended is =
-    takes c.args.self.now c.hear.new.self number fields c.args.self.now.workers c.in_ok-said.said c.hear.result begun unended (is ∙ (sym c.by_word.ensures.value ∙ c.in_ok-said.was)) c.in_ok-said.ensures.names
-    (sym c.clash.ensures ∙ c.in-None.is) c.hear.ensures.heard c.hear.ensures.memory
+pub returns-clause-takes : goal.returns-clause-takes
+returns-clause-takes c number fields begun unended is = c.take_said.ensures.takes number fields begun unended (is ∙ (sym c.by_word.ensures.value ∙ c.in_ok-said.was))
