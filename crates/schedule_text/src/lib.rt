@@ -14,6 +14,7 @@ mod output;
 mod reading;
 mod refused;
 mod schedule;
+mod words;
 
 pub use laws::schedules_print_one_thing;
 pub use output::schedule_text;
@@ -23,3 +24,4 @@ pub use refused::ScheduleRefused;
 pub use schedule::{Schedule, TurnLine, TurnLines, Version};
 pub use smr_core::Turn;
 pub use text_lines::{ParseRefused, TraceKind, TraceRefused};
+pub use words::named_in;

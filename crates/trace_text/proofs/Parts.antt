@@ -13,6 +13,7 @@ use Rattle.trace_text.specs.declared.trace_reading.entry.Entry.{Entry}
 use Rattle.trace_text.specs.declared.trace_reading.part_so_far.PartSoFar.{PartSoFar}
 use Rattle.trace_text.specs.Grammar.{is_round, op_by, between_in, ops_in, rounds_in}
 use Rattle.trace_text.specs.Parts.{ArePartsOf, StaysSame, TakesLine, front_of, list_at, lists_for, ops_at, rounds_by, rounds_from, shown}
+use Rattle.trace_text.proofs.TraceRounds.{round_with}
 
 -- ---- the parts of a list with one element more
 
@@ -177,36 +178,26 @@ map_same : {X Y : Type 0} (f g : X → Y) → ((x : X) → f x ≡ g x) → (xs 
 map_same f g same [] = refl
 map_same f g same (x ∷ xs) = ap (λ y. y ∷ map f xs) (same x) ∙ ap (λ ys. g x ∷ ys) (map_same f g same xs)
 
-first_same : {X : Type 0} (x y : X) (xs ys : List X) → x ∷ xs ≡ y ∷ ys → x ≡ y
-first_same x y xs ys e = cc
-
-rest_same : {X : Type 0} (x y : X) (xs ys : List X) → x ∷ xs ≡ y ∷ ys → xs ≡ ys
-rest_same x y xs ys e = cc
-
 parts_behind : (part : PartSoFar) (parts : List PartSoFar) (line : List Entry) (lines : List (List Entry)) → ArePartsOf (line ∷ lines) (part ∷ parts) → ArePartsOf lines parts
 parts_behind part parts line lines are = record {
-  ops = λ worker. rest_same (ops_at worker part) (flat_map (op_by worker) line) (map (ops_at worker) parts) (map (flat_map (op_by worker)) lines) (are.ops worker);
-  between = rest_same (front_of part) (flat_map between_in line) (map front_of parts) (map (flat_map between_in) lines) are.between;
+  ops = λ worker. let e = are.ops worker in cc;
+  between = let e = are.between in cc;
 }
 
 first_lists : (workers : ℕ) (part : PartSoFar) (parts : List PartSoFar) (line : List Entry) (lines : List (List Entry)) → ArePartsOf (line ∷ lines) (part ∷ parts)
     → lists_for workers part.ops.items ≡ ops_in workers line
 first_lists workers part parts line lines are =
     map_same (λ worker. ops_at worker part) (λ worker. flat_map (op_by worker) line)
-    (λ worker. first_same (ops_at worker part) (flat_map (op_by worker) line) (map (ops_at worker) parts) (map (flat_map (op_by worker)) lines) (are.ops worker))
+    (λ worker. let e = are.ops worker in cc)
     (range_with_len 0 workers)
-
-round_with : List (List Op) → List Between → Round
-round_with ops between = record { ops = ops; between = between }
 
 rounds_from_first : (workers : ℕ) (part : PartSoFar) (parts : List PartSoFar) (line : List Entry) (lines : List (List Entry)) → ArePartsOf (line ∷ lines) (part ∷ parts)
     → rounds_from workers part.ops.items parts ≡ rounds_in workers (line ∷ lines)
-unfolding round_with
 rounds_from_first workers part [] line [] are = ap (λ (ops : List (List Op)). round_with ops [] ∷ []) (first_lists workers part [] line [] are)
 rounds_from_first workers part (next ∷ parts) line (later ∷ lines) are =
     let behind = parts_behind part (next ∷ parts) line (later ∷ lines) are in
     let rest = rounds_from workers next.ops.items parts in
-    let between = first_same (front_of next) (flat_map between_in later) (map front_of parts) (map (flat_map between_in) lines) behind.between in
+    let between : front_of next ≡ flat_map between_in later = let e = behind.between in cc in
     ap (λ (ops : List (List Op)). round_with ops (front_of next) ∷ rest) (first_lists workers part (next ∷ parts) line (later ∷ lines) are)
     ∙ ap (λ (b : List Between). round_with (ops_in workers line) b ∷ rest) between
     ∙ ap (λ (rounds : List Round). round_with (ops_in workers line) (flat_map between_in later) ∷ rounds) (rounds_from_first workers next parts later lines behind)

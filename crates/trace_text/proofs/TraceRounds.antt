@@ -7,7 +7,7 @@ use Rattle.trace_text.specs.declared.round.Round.{Round}
 use Rattle.trace_text.specs.declared.trace_reading.part_so_far.PartSoFar.{PartSoFar}
 use Rattle.trace_text.specs.Parts.{front_of, lists_for, rounds_from}
 
-abbrev round_with : List (List Op) → List Between → Round
+abbrev pub round_with : List (List Op) → List Between → Round
 round_with ops between = record { ops = ops; between = between }
 
 -- The rounds so far, and those that are left, are all rounds. So it is with one more, which is the first of those that were left.

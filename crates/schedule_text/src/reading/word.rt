@@ -1,6 +1,7 @@
 ghost use Rattle.std.specs.Prelude.{◌≡◌};
 ghost use Rattle.schedule_text.specs.ScheduleGrammar.{word_named, is_new, is_known, fits_place, seat_turn, pair_turn};
 
+use crate::words::named_in;
 use crate::{Turn, Version};
 use smr_core::Step;
 
@@ -43,36 +44,38 @@ pub enum PairWord {
     Poll,
 }
 
+/// The words of lines.
+const WORDS: [(&[u8], Word); 22] = [
+    (b"end", Word::End),
+    (b"smr", Word::Smr),
+    (b"clock", Word::Clock),
+    (b"load", Word::Seat(SeatWord::Load)),
+    (b"store", Word::Seat(SeatWord::Store)),
+    (b"check", Word::Seat(SeatWord::Check)),
+    (b"exit", Word::Seat(SeatWord::Exit)),
+    (b"leave", Word::Seat(SeatWord::Leave)),
+    (b"come", Word::Seat(SeatWord::Come)),
+    (b"aread", Word::Seat(SeatWord::Aread)),
+    (b"aload", Word::Seat(SeatWord::Aload)),
+    (b"aswap", Word::Seat(SeatWord::Aswap)),
+    (b"pread", Word::Pair(PairWord::Pread)),
+    (b"pload", Word::Seat(SeatWord::Pload)),
+    (b"ppres", Word::Seat(SeatWord::Ppres)),
+    (b"pscan", Word::Seat(SeatWord::Pscan)),
+    (b"pswap", Word::Seat(SeatWord::Pswap)),
+    (b"note", Word::Seat(SeatWord::Note)),
+    (b"absorb", Word::Pair(PairWord::Absorb)),
+    (b"enter", Word::Seat(SeatWord::Enter)),
+    (b"advance", Word::Seat(SeatWord::Advance)),
+    (b"poll", Word::Pair(PairWord::Poll)),
+];
+
 impl Word {
     /// The word that a field is.
     pub fn named(field: &[u8]) -> Option<Word>
         ensures { result ≡ word_named field.now }
     {
-        match field {
-            b"end" => Some(Word::End),
-            b"smr" => Some(Word::Smr),
-            b"clock" => Some(Word::Clock),
-            b"load" => Some(Word::Seat(SeatWord::Load)),
-            b"store" => Some(Word::Seat(SeatWord::Store)),
-            b"check" => Some(Word::Seat(SeatWord::Check)),
-            b"exit" => Some(Word::Seat(SeatWord::Exit)),
-            b"leave" => Some(Word::Seat(SeatWord::Leave)),
-            b"come" => Some(Word::Seat(SeatWord::Come)),
-            b"aread" => Some(Word::Seat(SeatWord::Aread)),
-            b"aload" => Some(Word::Seat(SeatWord::Aload)),
-            b"aswap" => Some(Word::Seat(SeatWord::Aswap)),
-            b"pread" => Some(Word::Pair(PairWord::Pread)),
-            b"pload" => Some(Word::Seat(SeatWord::Pload)),
-            b"ppres" => Some(Word::Seat(SeatWord::Ppres)),
-            b"pscan" => Some(Word::Seat(SeatWord::Pscan)),
-            b"pswap" => Some(Word::Seat(SeatWord::Pswap)),
-            b"note" => Some(Word::Seat(SeatWord::Note)),
-            b"absorb" => Some(Word::Pair(PairWord::Absorb)),
-            b"enter" => Some(Word::Seat(SeatWord::Enter)),
-            b"advance" => Some(Word::Seat(SeatWord::Advance)),
-            b"poll" => Some(Word::Pair(PairWord::Poll)),
-            _ => None,
-        }
+        named_in(&WORDS, field)
     }
 
     /// Whether it is a word for seats that leave and come.

@@ -2,6 +2,7 @@ ghost use Rattle.std.specs.Prelude.{◌≡◌};
 ghost use Rattle.trace_text.specs.TraceLine.{is_known, word_named};
 
 use crate::Version;
+use schedule_text::named_in;
 
 /// The word with which a line of a trace begins.
 #[derive(Clone, Copy)]
@@ -51,39 +52,41 @@ pub enum ZoneWord {
     Prealloc,
 }
 
+/// The words of lines.
+const WORDS: [(&[u8], Word); 25] = [
+    (b"alloc", Word::Zone(ZoneWord::Alloc)),
+    (b"free", Word::Work(WorkWord::Free)),
+    (b"enter", Word::Work(WorkWord::Enter)),
+    (b"exit", Word::Work(WorkWord::Exit)),
+    (b"bind", Word::Work(WorkWord::Bind)),
+    (b"unbind", Word::Work(WorkWord::Unbind)),
+    (b"look", Word::Work(WorkWord::Look)),
+    (b"away", Word::Work(WorkWord::Away)),
+    (b"back", Word::Work(WorkWord::Back)),
+    (b"trim", Word::Zone(ZoneWord::Trim)),
+    (b"drain", Word::Zone(ZoneWord::Drain)),
+    (b"drainseat", Word::Zone(ZoneWord::DrainSeat)),
+    (b"prealloc", Word::Zone(ZoneWord::Prealloc)),
+    (b"round", Word::Round),
+    (b"give", Word::Give),
+    (b"setmax", Word::SetMax),
+    (b"end", Word::End),
+    (b"uma", Word::Head(HeadWord::Uma)),
+    (b"workers", Word::Head(HeadWord::Workers)),
+    (b"domains", Word::Head(HeadWord::Domains)),
+    (b"clock", Word::Head(HeadWord::Clock)),
+    (b"detail", Word::Head(HeadWord::Detail)),
+    (b"zone", Word::Head(HeadWord::Zone)),
+    (b"second", Word::Head(HeadWord::Second)),
+    (b"names", Word::Head(HeadWord::Names)),
+];
+
 impl Word {
     /// The word that a field is.
     pub fn named(field: &[u8]) -> Option<Word>
         ensures { result ≡ word_named field.now }
     {
-        match field {
-            b"alloc" => Some(Word::Zone(ZoneWord::Alloc)),
-            b"free" => Some(Word::Work(WorkWord::Free)),
-            b"enter" => Some(Word::Work(WorkWord::Enter)),
-            b"exit" => Some(Word::Work(WorkWord::Exit)),
-            b"bind" => Some(Word::Work(WorkWord::Bind)),
-            b"unbind" => Some(Word::Work(WorkWord::Unbind)),
-            b"look" => Some(Word::Work(WorkWord::Look)),
-            b"away" => Some(Word::Work(WorkWord::Away)),
-            b"back" => Some(Word::Work(WorkWord::Back)),
-            b"trim" => Some(Word::Zone(ZoneWord::Trim)),
-            b"drain" => Some(Word::Zone(ZoneWord::Drain)),
-            b"drainseat" => Some(Word::Zone(ZoneWord::DrainSeat)),
-            b"prealloc" => Some(Word::Zone(ZoneWord::Prealloc)),
-            b"round" => Some(Word::Round),
-            b"give" => Some(Word::Give),
-            b"setmax" => Some(Word::SetMax),
-            b"end" => Some(Word::End),
-            b"uma" => Some(Word::Head(HeadWord::Uma)),
-            b"workers" => Some(Word::Head(HeadWord::Workers)),
-            b"domains" => Some(Word::Head(HeadWord::Domains)),
-            b"clock" => Some(Word::Head(HeadWord::Clock)),
-            b"detail" => Some(Word::Head(HeadWord::Detail)),
-            b"zone" => Some(Word::Head(HeadWord::Zone)),
-            b"second" => Some(Word::Head(HeadWord::Second)),
-            b"names" => Some(Word::Head(HeadWord::Names)),
-            _ => None,
-        }
+        named_in(&WORDS, field)
     }
 
     /// Whether the version has this word: version 1 has none that changes a limit, and only version 3 has those of
