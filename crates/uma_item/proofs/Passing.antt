@@ -1,5 +1,5 @@
 -- Each hook takes the counts that an item derives to those that it derives after the hook.
-use Rattle.std.proofs.Common.{◌≡◌, ◌≢◌, ◌<◌, ◌-◌, ◌==◌, ℕ, Option, Bool, true, false, cond, List, [], ◌∷◌, length, refl, sym, ◌∙◌, ap, arith, slice_set, slice_index_or, eq-eqb, inl, inr}
+use Rattle.std.proofs.Common.{◌≡◌, ◌≢◌, ◌<◌, ◌-◌, ◌==◌, ℕ, Option, Some, Bool, true, false, cond, List, [], ◌∷◌, length, refl, sym, ◌∙◌, ap, arith, slice_set, slice_index_or, eq-eqb, inl, inr}
 use Rattle.std.proofs.lemmas.Bool.{ne_eqb}
 use Rattle.std.proofs.lemmas.Bool.Decides.{eqb_tells}
 use Rattle.std.proofs.lemmas.List.{get_or-set_same, get_or-set_other}
@@ -178,3 +178,7 @@ staying phase zone stays keeps secondary base =
 pub refusal-kept : (zone : ℕ) (stays : List StayCounts) (refused : Option ℕ) → zone ≢ 0 → length stays ≡ 7 → refusal_of_stay (zone == 0) stays refused ≡ refused
 refusal-kept zone [] refused secondary seven = absurd (omega arith)
 refusal-kept zone (stay ∷ more) refused secondary seven = λ i. refusal_of_stay (ne_eqb zone 0 secondary i) (stay ∷ more) refused
+
+-- and one that doesn't refuses with its own code
+pub refusal-unkept : (zone : ℕ) (stays : List StayCounts) (refused : Option ℕ) → zone ≢ 0 → stays ≡ [] → refusal_of_stay (zone == 0) stays refused ≡ Some 255
+refusal-unkept zone stays refused secondary none = λ i. refusal_of_stay (ne_eqb zone 0 secondary i) (none i) refused

@@ -1,5 +1,4 @@
 use Rattle.std.proofs.Common.{ap, rules, sym, subst, ◌∙◌}
-use Rattle.std.specs.Fn.{FnOnceReturnsAtMut}
 use Rattle.uma_life.specs.Life.{Life}
 use Rattle.uma_life.specs.Trail.{IsAt}
 use Rattle.uma_life.specs.Ticket.{ticket_zone}
