@@ -1,12 +1,14 @@
 -- The lines between two rounds, one after another.
 use Rattle.std.proofs.Common.{◌≡◌, ℕ, ◌+◌, ◌<◌, List, [], ◌∷◌, ◌++◌, refl, sym, ap, ◌∙◌, subst, length, map, take, get_or}
+use Rattle.std.specs.Prelude.{OnOk, Result, Ok, Err}
 use Rattle.std.proofs.lemmas.List.{take_more}
 use Rattle.smr_clock.specs.declared.host.Host.{Ghosts}
 use Rattle.trace_text.specs.declared.between.Between.{Between}
-use Rattle.trace_text.specs.declared.between.Between.TheVariants.{SetMax}
+use Rattle.trace_text.specs.declared.between.Between.TheVariants.{Give, SetMax}
 use Rattle.trace_text.specs.Lines.{Line, Moves}
 use Rattle.trace_text.specs.Valid.{LinesFit}
 use Rattle.trace_worker.specs.declared.running.Running.{Running}
+use Rattle.trace_worker.specs.Giving.{MovesOn}
 use Rattle.trace_worker.specs.OwnLines.{stacked}
 use Rattle.trace_worker.specs.Together.{AllStand, crew}
 use Rattle.trace_worker.proofs.Alike.{LinesFit-front, LinesFit-back}
@@ -28,6 +30,11 @@ module _ {N H C S Part : Type 0} {h : Ghosts H Part} where
   -- a line that changes a limit leaves the workers as they are
   pub limit_moved : (zone limit : ℕ) (workers : List (Running N H C S Part h)) → IsMoved (SetMax zone limit) workers workers
   limit_moved zone limit workers zones clock lines fit all = limit_moves zones clock lines zone limit (crew workers) all
+
+  -- a line that moves what a slot holds, which its call said of it
+  pub give_moved : {T E : Type 0} (r : Result T E) (giver slot taker slot2 : ℕ) (old new : List (Running N H C S Part h)) → OnOk r (MovesOn giver slot taker slot2 old new) → OnOk r (IsMoved (Give giver slot taker slot2) old new)
+  give_moved (Ok x) giver slot taker slot2 old new moves = λ zones clock lines fit all. moves zones clock lines fit.1 all
+  give_moved (Err e) giver slot taker slot2 old new moves = tt
 
   one_behind : (xs : List Between) (b : Between) (old mid new : List (Running N H C S Part h)) → AllMoved xs old mid → IsMoved b mid new → AllMoved (xs ++ b ∷ []) old new
   one_behind xs b old mid new first next zones clock lines fit all =

@@ -11,3 +11,6 @@ returns g c =
       former = c.set_max.result;
       sets = c.set_max.ensures.set;
     }
+
+pub set_max-requires : goal.set_max-requires
+set_max-requires g c = c.requires.limit
