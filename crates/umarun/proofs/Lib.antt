@@ -7,3 +7,4 @@ mod Knowing
 mod Moving
 mod Ranges
 pub mod Shared
+mod ReadTraces

@@ -1,10 +1,11 @@
-use Rattle.std.proofs.Common.{rules, ◌*◌, ℕ, Option, ap, subst}
+use Rattle.std.proofs.Common.{◌*◌, ℕ, Option, ap, subst, sym, ◌∙◌}
 use Rattle.std.specs.Prelude.{IfSome}
 use Rattle.smr_clock.specs.declared.setup.Setup.{Setup}
 use Rattle.smr_clock.specs.Making.{setup}
 use Rattle.trace_text.specs.declared.head.ClockHead.{ClockHead}
 use Rattle.trace_text.specs.Valid.{ClockFits}
 use Rattle.name_cache.proofs.Opening.{is_opened}
+use Rattle.trace_worker.specs.Clocks.{start_of, window_of}
 use Rattle.trace_play.proofs.Passes.{passes_of}
 use Rattle.umarun.proofs.Ranges.{in_range, names_lack, plan_fits}
 use Rattle.umarun.proofs.opening.open.Goals as goal
@@ -15,7 +16,7 @@ returns-in-Ok-clause-opens c =
     let clock = c.in-Some.clock in
     let plan : ℕ × ℕ = (c.args.line.now.rows, c.args.line.now.slabs * 64) in
     record {
-      clock = search rules;
+      clock = made.clock ∙ ap (λ (o : Option ClockHead). setup c.args.head.now.workers (start_of o) (window_of o) plan) (sym c.in-Some.is);
       passes = passes_of c.args.head.now.workers c.in-Ok.opened.clock c.in-Ok.opened.passes (ap (λ (s : Setup). s.about.seats) made.clock) made.passes;
       whole = is_opened c.in-Ok.opened (setup c.args.head.now.workers clock.start clock.window plan) _ made.clock made.names made.long made.rows made.root;
       rows = made.rows;
