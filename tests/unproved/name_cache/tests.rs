@@ -6,5 +6,6 @@ mod recovering;
 mod refusing;
 mod setting;
 mod telling;
+mod texts;
 mod worker;
 mod working;
