@@ -1,6 +1,6 @@
 ghost use Rattle.std.specs.Prelude.{◌≡◌, IfOk};
 ghost use Rattle.smr_core.specs.declared.phase.Phase.{Phase};
-ghost use Rattle.smr_clock.specs.Belongs.{IsOf, clock_id, holder};
+ghost use Rattle.smr_clock.specs.Belongs.{IsPassOf, clock_id, holder};
 ghost use Rattle.smr_deferred.specs.RetireList.{IsUsedWith};
 
 use smr_clock::{AdvanceRefused, Bare, Clock, ClockRefused, Overtaken, Pass};
@@ -23,7 +23,7 @@ fn two_seats(
     start: u64,
     window: u64,
 ) -> Result<(Clock<Bare>, Pass<Bare>, Pass<Bare>), ClockRefused>
-    ensures here { IfOk result (λ made. IsOf made.0 made.1 × IsOf made.0 made.2) }
+    ensures here { IfOk result (λ made. IsPassOf made.0 made.1 × IsPassOf made.0 made.2) }
     ensures outside { IfOk result (λ made. ((holder made.1).phase ≡ Phase.Outside) × ((holder made.2).phase ≡ Phase.Outside)) }
 {
     let (clock, mut passes) = Clock::<Bare>::new(alloc, 2, start, window)?;

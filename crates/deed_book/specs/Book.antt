@@ -19,6 +19,6 @@ abbrev pub IsOutOfRange : ℕ → Type 0
 IsOutOfRange numbers = (numbers < 1) ⊎ (262144 < numbers)
 
 -- why a book of so many numbers is refused: for the count, which is named, or else for memory
-abbrev pub Refuses : ℕ → BookRefused → Type 0
-Refuses numbers (Numbers named) = (named ≡ numbers) × IsOutOfRange numbers
-Refuses numbers Memory = (1 ≤ numbers) × (numbers ≤ 262144)
+abbrev pub BookIsRefused : ℕ → BookRefused → Type 0
+BookIsRefused numbers (Numbers named) = (named ≡ numbers) × IsOutOfRange numbers
+BookIsRefused numbers Memory = (1 ≤ numbers) × (numbers ≤ 262144)

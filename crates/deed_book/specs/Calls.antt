@@ -7,7 +7,7 @@ use Rattle.deed_book.specs.declared.fail_book.FailBook.{FailBook}
 use Rattle.deed_book.specs.declared.fail_share.FailShare.{FailShare}
 use Rattle.deed_book.specs.declared.refused.BookRefused.{BookRefused}
 use Rattle.deed_book.specs.declared.refused.BookRefused.TheVariants.{Numbers}
-use Rattle.deed_book.specs.Book.{book_table, zones_of, IsOutOfRange, Refuses}
+use Rattle.deed_book.specs.Book.{book_table, zones_of, IsOutOfRange, BookIsRefused}
 use Rattle.deed_book.specs.BookId.{BookId, TableId, numbers_of}
 use Rattle.deed_book.specs.BookLaw.{IsOutside}
 use Rattle.deed_book.specs.Deed.{deed_table as table_of_deed, label_of, no_of, zone_of}
@@ -20,7 +20,7 @@ pub record MakesBook (many : ℕ) (made_for : List ℕ) (result : Result Book Bo
   pub numbers : IfOk result (λ made. numbers_of (book_table made) ≡ many)
   pub origin : IfOk result (λ made. (book_table made).origin ≡ made_for)
   pub out_of_range : IsOutOfRange many → result ≡ Err (Numbers many)
-  pub err : IfErr result (Refuses many)
+  pub err : IfErr result (BookIsRefused many)
 
 -- The deed is of this number, zone and book, without a label. The number is outside, with the zone, and nothing else changes.
 pub record IssuesDeed (no zone : ℕ) (id : BookId) (was : List (Option ℕ)) (issued : Deed) (id' : BookId) (is : List (Option ℕ)) : Type 0 where

@@ -5,7 +5,7 @@ ghost use Rattle.inbox.specs.Views.{unnamed, naming};
 use crate::fits::Fits;
 use crate::line::Line;
 use crate::port::Port;
-use crate::rule::{InOrder, Named, Naming, Opening, Queue, Seat, Sending, Taking};
+use crate::rule::{InOrder, Keying, Named, Opening, Queue, Seat, Sending, Taking};
 use crate::taker::Taker;
 use crate::view::View;
 use deed_book::Memory;
@@ -34,7 +34,7 @@ fn name<T, K, F: Fits<T, K>, N: Named<K>>(
     ensures named { seat.new.me.view.client ≡ naming (Some key.now) unnamed }
 {
     let _ = key;
-    queue.another::<Naming<N>>(seat)
+    queue.another::<Keying<N>>(seat)
 }
 
 impl<T: Drop, K, F: Fits<T, K>> Inbox<T, K, F> {

@@ -9,7 +9,7 @@ use prog.Atomic.{either}
 use Rattle.atomic_table.specs.Table.{rest, State, Me, Act, keeps, takes, gives, opening, homes_after, carried_after, Valid, Allows, Arrives, Final}
 use Rattle.atomic_table.proofs.Lists.{exchanged}
 use Rattle.keyed_lock.specs.declared.protocol.TheConstants.{UNLOCKED, SLOT, WORD}
-use Rattle.keyed_lock.specs.Protocol.{IsHome, ObeysLaw, Holds, Takes}
+use Rattle.keyed_lock.specs.Protocol.{IsHome, ObeysLaw, Holds, TakesLock}
 
 All-one : {X : Type 0} (P : X → Type 0) (x : X) → P x → All P (x ∷ [])
 All-one P x p zero d h = p
@@ -30,7 +30,7 @@ module _ {T K : Type 0} (rule : K → T → Type 0) (k : K) where
   abbrev Steps : (ℕ → ℕ) → (K → List K) → List ℕ → List (Place (Option T)) → Type 0
   Steps f views words homes = (w : K) × (a : Act (Option T)) × Valid homes [] a
       × ObeysLaw rule k record { words = slice_set words WORD (f (slice_index words WORD)); homes = homes_after homes [] a; views = views w }
-      × Takes rule (k, []) (slice_index words WORD) (w, carried_after [] a)
+      × TakesLock rule (k, []) (slice_index words WORD) (w, carried_after [] a)
 
   -- it takes the value where it finds the word unlocked, and else nothing
   found : (f : ℕ → ℕ) (views : K → List K) (word : ℕ) (slot : Place (Option T)) → (word ≡ UNLOCKED → IsHome rule k slot) → f word ≢ UNLOCKED → AreKey (views k) → Dec (word ≡ UNLOCKED) → Steps f views (word ∷ []) (slot ∷ [])
@@ -45,14 +45,14 @@ module _ {T K : Type 0} (rule : K → T → Type 0) (k : K) where
       subst (λ words. Steps f views words s.homes) (sym law.2) (subst (λ homes. Steps f views (law.0 ∷ []) homes) (sym law.3) base)
 
   -- the step of a new seat
-  pub may_arrive : (slots new : ℕ) → new ≢ UNLOCKED → Arrives (ObeysLaw rule k) slots WORD (λ _. new) (Takes rule (k, []))
+  pub may_arrive : (slots new : ℕ) → new ≢ UNLOCKED → Arrives (ObeysLaw rule k) slots WORD (λ _. new) (TakesLock rule (k, []))
   may_arrive slots new held s law one fits =
       steps s law (λ _. new) (λ _. held) (λ w. s.views ++ w ∷ []) (All-append (λ v. v ≡ k) s.views (k ∷ []) law.4 (All-one (λ v. v ≡ k) k refl))
 
   -- the step of a seat that holds nothing
-  pub may_take : (slots id : ℕ) (me : Me (Option T) K) (f : ℕ → ℕ) → me ≡ (k, []) → ((n : ℕ) → f n ≢ UNLOCKED) → Allows (ObeysLaw rule k) slots id me WORD f (Takes rule me)
+  pub may_take : (slots id : ℕ) (me : Me (Option T) K) (f : ℕ → ℕ) → me ≡ (k, []) → ((n : ℕ) → f n ≢ UNLOCKED) → Allows (ObeysLaw rule k) slots id me WORD f (TakesLock rule me)
   may_take slots id me f is held =
-      let Q : Me (Option T) K → Type 0 = λ m. Allows (ObeysLaw rule k) slots id m WORD f (Takes rule m) in
+      let Q : Me (Option T) K → Type 0 = λ m. Allows (ObeysLaw rule k) slots id m WORD f (TakesLock rule m) in
       subst Q (sym is) (λ s law one seen fits. steps s law f held (λ w. slice_set s.views id w) (All-set (λ v. v ≡ k) s.views id k refl law.4))
 
   -- the holder puts the value back and makes the word unlocked

@@ -23,8 +23,8 @@ module _ {T K : Type 0} (keeps : K → T → Type 0) where
   Holds m = (x : T) × keeps m.0 x × (m.1 ≡ (SLOT, Some x) ∷ [])
 
   -- the seat knows the same key; it has the value if it found the lock unlocked, and else what it had
-  abbrev pub Takes : Me (Option T) K → ℕ → Me (Option T) K → Type 0
-  Takes before found after = (after.0 ≡ before.0) × (found ≡ UNLOCKED → Holds after) × (found ≢ UNLOCKED → after.1 ≡ before.1)
+  abbrev pub TakesLock : Me (Option T) K → ℕ → Me (Option T) K → Type 0
+  TakesLock before found after = (after.0 ≡ before.0) × (found ≡ UNLOCKED → Holds after) × (found ≢ UNLOCKED → after.1 ≡ before.1)
 
 module _ {T : Type 0} where
   -- the seat has the slot, and the value is out of it

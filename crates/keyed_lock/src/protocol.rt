@@ -1,6 +1,6 @@
 //! The word and the slot under a lock, and the steps on the word.
 ghost use Rattle.std.specs.Prelude.{◌≡◌};
-ghost use Rattle.keyed_lock.specs.Protocol.{ObeysLaw, Takes};
+ghost use Rattle.keyed_lock.specs.Protocol.{ObeysLaw, TakesLock};
 
 use crate::rule::LockRule;
 use atomic_table::{Play, TableRule};
@@ -38,7 +38,7 @@ pub(crate) struct Take<P> {
 }
 
 impl<T, K, P: LockRule<T, K>> Play<Option<T>, K> for Take<P> {
-    ghost then = { λ step before found after. Takes P.keeps before found after };
+    ghost then = { λ step before found after. TakesLock P.keeps before found after };
 }
 
 /// A step that only looks.

@@ -5,7 +5,7 @@ use Rattle.uma_bucket.specs.declared.shelved.Shelved.{Shelved}
 use Rattle.uma_zone.specs.declared.alloc_ask.AllocRefused.{AllocRefused}
 use Rattle.uma_zone.specs.declared.alloc_ask.AllocRefused.TheVariants.{Refused as TurnedAway, Memory as NoMemory}
 use Rattle.uma_zone.specs.declared.domains.ZoneDomains.{ZoneDomains}
-use Rattle.uma_zone.specs.Alloc.{Refuses, WantsMemory}
+use Rattle.uma_zone.specs.Alloc.{AllocIsRefused, WantsMemory}
 use Rattle.uma_zone.specs.OwnDomain.{SentEach, TryEach, IsFlushed}
 use Rattle.name_rows.specs.declared.part.Part.{Part}
 use Rattle.name_cache.specs.declared.bind_refused.BindRefused.{BindRefused}
@@ -69,5 +69,5 @@ module _ {T H P : Type 0} {g h : _} where
       each
 
 -- no item was usable where the zone wanted memory
-pub none_usable : (zone : ZoneOfEntries) (old new : EntrySeat) (why : AllocRefused) → why ≡ NoMemory → Refuses zone entry_ask old new why → WantsMemory old new
-none_usable zone old new why same refuses = subst (λ (w : AllocRefused). Refuses zone entry_ask old new w) same refuses
+pub none_usable : (zone : ZoneOfEntries) (old new : EntrySeat) (why : AllocRefused) → why ≡ NoMemory → AllocIsRefused zone entry_ask old new why → WantsMemory old new
+none_usable zone old new why same refuses = subst (λ (w : AllocRefused). AllocIsRefused zone entry_ask old new w) same refuses

@@ -2,7 +2,7 @@
 use Rattle.std.specs.Prelude.{◌≡◌, ◌≤◌, ◌<◌, length}
 use Rattle.smr_clock.specs.declared.clock.Clock.{Clock}
 use Rattle.smr_core.specs.declared.phase.Phase.{Phase}
-use Rattle.smr_clock.specs.Belongs.{IsOf, clock_id, view, holder}
+use Rattle.smr_clock.specs.Belongs.{IsPassOf, clock_id, view, holder}
 use Rattle.zone_stats.specs.LedgerSteps.{HasRoom}
 use Rattle.uma_seat.specs.Seat.{ledger_of, shelf_of, spares_of, IsSameSeat, KeepsFreed}
 use Rattle.uma_zone.specs.Flushed.{HasLastOf}
@@ -19,12 +19,12 @@ use Rattle.name_cache.specs.Types.{EntrySeat, NamesPass}
 -- the clock is the cache's, and the pass is of it
 pub record IsCachePass (cache : NameCache) (clock : Clock Names Part) (pass : NamesPass) : Type 0 where
   pub same_clock : clock_id clock ≡ cache_clock cache
-  pub of_clock : IsOf clock pass
+  pub of_clock : IsPassOf clock pass
 
 -- so are the clock and the pass of a worker, and its seat is one of the cache's zone
 pub record IsWorkerOf (cache : NameCache) (clock : Clock Names Part) (pass : NamesPass) (seat : EntrySeat) : Type 0 where
   pub same_clock : clock_id clock ≡ cache_clock cache
-  pub of_clock : IsOf clock pass
+  pub of_clock : IsPassOf clock pass
   pub of_zone : IsCacheSeat cache seat
 
 -- and the seat has room for a request

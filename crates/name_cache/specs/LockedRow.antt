@@ -3,7 +3,7 @@ use Rattle.std.specs.Prelude.{◌≡◌, ◌≤◌, ◌<◌, ◌+◌, ◌%◌, �
 use Rattle.smr_clock.specs.declared.clock.Clock.{Clock}
 use Rattle.smr_clock.specs.declared.setup.Setup.{Setup}
 use Rattle.smr_clock.specs.declared.view.View.{View}
-use Rattle.smr_clock.specs.Belongs.{IsOf, TableId, clock_id, setup_of}
+use Rattle.smr_clock.specs.Belongs.{IsPassOf, TableId, clock_id, setup_of}
 use Rattle.uma_life.specs.Ticket.{ticket_no}
 use Rattle.uma_bucket.specs.Home.{Home, IsHome}
 use Rattle.name_rows.specs.declared.records.Bound.{Bound}
@@ -62,7 +62,7 @@ pub record IsRowClock (locked : LockedRow) (clock : Clock Names Part) : Type 0 w
 pub record IsRowPass (locked : LockedRow) (clock : Clock Names Part) (pass : NamesPass) : Type 0 where
   pub same_clock : clock_id clock ≡ (row_identity locked).clock
   pub names : IsNamesClock clock
-  pub of_clock : IsOf clock pass
+  pub of_clock : IsPassOf clock pass
 
 -- the row, its record and its entry are as they were
 pub record IsSameRow (was is : LockedRow) : Type 0 where

@@ -7,7 +7,7 @@ abbrev pub clock_numbers : TableId × Setup → List ℕ
 clock_numbers clock =
     let table = clock.0 in
     let setup = clock.1 in
-    setup.about.start ∷ setup.about.window ∷ setup.about.seats ∷ setup.plan.0 ∷ setup.plan.1 ∷ table.words ∷ table.slots ∷ table.views_name ∷ table.atom ∷ table.block ∷ table.offset ∷ table.slot_names
+    setup.config.start ∷ setup.config.window ∷ setup.config.seats ∷ setup.plan.0 ∷ setup.plan.1 ∷ table.words ∷ table.slots ∷ table.views_name ∷ table.atom ∷ table.block ∷ table.offset ∷ table.slot_names
 
 abbrev number_at : List ℕ → ℕ → ℕ
 number_at numbers place = slice_index_or numbers place 0
@@ -25,7 +25,7 @@ clock_by numbers = (
     slot_names = drop 11 numbers;
   },
   record {
-    about = record { start = number_at numbers 0; window = number_at numbers 1; seats = number_at numbers 2 };
+    config = record { start = number_at numbers 0; window = number_at numbers 1; seats = number_at numbers 2 };
     plan = (number_at numbers 3, number_at numbers 4);
   },
 )

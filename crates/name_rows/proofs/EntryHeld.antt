@@ -29,7 +29,7 @@ pub record Rewrites (a : Setup) (ws ws' : List ℕ) (p x : Part) (o new : Owned)
   pub write_not_lower : write_hand ws ≤ write_hand ws'
   pub read_not_lower : read_hand ws ≤ read_hand ws'
   pub as_many : length ws' ≡ length ws
-  pub others : (i : ℕ) → place_after_seats a.about ≤ i → i ≢ key_place a o.entry → i ≢ value_place a o.entry → slice_index ws' i ≡ slice_index ws i
+  pub others : (i : ℕ) → place_after_seats a.config ≤ i → i ≢ key_place a o.entry → i ≢ value_place a o.entry → slice_index ws' i ≡ slice_index ws i
   pub key : slice_index ws' (key_place a o.entry) ≡ new.key
   pub value : slice_index ws' (value_place a o.entry) ≡ new.value
   -- who may still read the entry may go on to

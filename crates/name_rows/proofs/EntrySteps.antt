@@ -24,7 +24,7 @@ use Rattle.name_rows.proofs.EntryHeld.{entry_held}
 
 -- the clock's law after a host's seat steps on a word of the host's
 pub seat_clocked : (a : Setup) (ws : List ℕ) (vs : List (View Part)) (id : ℕ) (v : View Part) → Clocked a ws vs → get_elem? vs id ≡ some v → v.setup ≡ a → (word n : ℕ) (part : Part)
-    → place_after_seats a.about ≤ word → Clocked a (set ws word n) (set vs id (with_host (looked v word (slice_index ws word)) part))
+    → place_after_seats a.config ≤ word → Clocked a (set ws word n) (set vs id (with_host (looked v word (slice_index ws word)) part))
 seat_clocked a ws vs id v c at own word n part above =
     subst (λ (x : View Part). Clocked a (set ws word n) (set vs id (with_host x part))) (sym (looked_else v word (slice_index ws word) (omega arith)))
     (step_clocked ws vs id v a c at own word n part above)
@@ -55,7 +55,7 @@ module _ (a : Setup) (id : ℕ) (v : View Part) (own : v.setup ≡ a) (o : Owned
 
   -- a store in a word of a clean entry
   stores : (f : Owned → Owned) (word value : ℕ) (ws : List ℕ) (vs : List (View Part)) → Named a ws vs → get_elem? vs id ≡ some v → o.state ≡ Clean → (f o).entry ≡ o.entry
-      → place_after_seats a.about ≤ word → word < length ws
+      → place_after_seats a.config ≤ word → word < length ws
       → ((i : ℕ) → i ≢ key_place a o.entry → i ≢ value_place a o.entry → i ≢ word)
       → slice_index (set ws word value) (key_place a o.entry) ≡ (f o).key
       → slice_index (set ws word value) (value_place a o.entry) ≡ (f o).value

@@ -67,7 +67,7 @@ module _ (a : Setup) (ws : List ℕ) (ps : List Part) (held : Held a ws ps) wher
 pub mark_passed : (a : Setup) (ws : List ℕ) (vs : List (View Part)) (id : ℕ) (v : View Part) → Clocked a ws vs → get_elem? vs id ≡ some v → v.holder.phase ≡ phase.Inside → v.holder.mark ≤ write_hand ws
 mark_passed a ws vs id v c at inside =
     let fits = c.law.holders id v.holder (holder_there a vs id v v at) in
-    let own = in_phase a.about ws v.holder phase.Inside fits inside in
+    let own = in_phase a.config ws v.holder phase.Inside fits inside in
     let seen = fits.seen in
     let marked = own.3 in
     omega arith
@@ -113,12 +113,12 @@ module _ (a : Setup) (id : ℕ) (v : View Part) (own : v.setup ≡ a) where
       → (word ≡ key_place a b.entry → slice_index ws word ≡ b.key) × (word ≡ value_place a b.entry → slice_index ws word ≡ b.value)
   held_words ws vs named at word h b holds content inside mark =
       let here : get_elem? (hosts_of vs) id ≡ some v.host = host_there vs id v at in
-      let above : read_hand ws ≤ v.holder.mark = marks_above_read a.about ws (holders_of vs) id v.holder v.holder named.clock.law id v.holder (holder_there a vs id v v at) inside in
+      let above : read_hand ws ≤ v.holder.mark = marks_above_read a.config ws (holders_of vs) id v.holder v.holder named.clock.law id v.holder (holder_there a vs id v v at) inside in
       let k = (named.names.holds id h (v.host, here, holds)).kept b content (omega arith) in
       let fits = named.names.owners k.0 (owned_as b k.1) k.2 in
       ((λ e. ap (λ (n : ℕ). slice_index ws n) e ∙ fits.key), (λ e. ap (λ (n : ℕ). slice_index ws n) e ∙ fits.value))
 
-  pub reads_entry-keeps : (word : ℕ) → place_after_seats a.about ≤ word → HostKeeps Named a id v word Load reads_entry
+  pub reads_entry-keeps : (word : ℕ) → place_after_seats a.config ≤ word → HostKeeps Named a id v word Load reads_entry
   reads_entry-keeps word above ws vs named at small =
       let held = named.names in
       let ps = hosts_of vs in

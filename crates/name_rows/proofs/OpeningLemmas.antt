@@ -81,12 +81,12 @@ module _ (a : Setup) (version : ℕ) where
   names_words = replicate a.plan.0 (version * 2 ^ 20) ++ replicate (2 * a.plan.1) 0
 
   abbrev clock_words : List ℕ
-  clock_words = opening_words a.about
+  clock_words = opening_words a.config
 
-  clock_long : length clock_words ≡ place_after_seats a.about
-  clock_long = opening-long a.about
+  clock_long : length clock_words ≡ place_after_seats a.config
+  clock_long = opening-long a.config
 
-  at_name : (k : ℕ) → slice_index (first_words a names_words) (place_after_seats a.about + k) ≡ get_or names_words k 0
+  at_name : (k : ℕ) → slice_index (first_words a names_words) (place_after_seats a.config + k) ≡ get_or names_words k 0
   at_name k =
       ap (λ (n : ℕ). get_or (first_words a names_words) (n + k) 0) (sym clock_long)
       ∙ get_or-append-add clock_words names_words k 0
@@ -96,7 +96,7 @@ module _ (a : Setup) (version : ℕ) where
       let long : length (replicate a.plan.0 (version * 2 ^ 20)) ≡ a.plan.0 = length-replicate a.plan.0 (version * 2 ^ 20) in
       at_name k ∙ get_or_append_left (replicate a.plan.0 (version * 2 ^ 20)) (replicate (2 * a.plan.1) 0) 0 k (omega arith) ∙ get_or-replicate a.plan.0 k (version * 2 ^ 20) 0 below
 
-  entry_stands : (k : ℕ) → k < 2 * a.plan.1 → slice_index (first_words a names_words) (place_after_seats a.about + (a.plan.0 + k)) ≡ 0
+  entry_stands : (k : ℕ) → k < 2 * a.plan.1 → slice_index (first_words a names_words) (place_after_seats a.config + (a.plan.0 + k)) ≡ 0
   entry_stands k below =
       let long : length (replicate a.plan.0 (version * 2 ^ 20)) ≡ a.plan.0 = length-replicate a.plan.0 (version * 2 ^ 20) in
       at_name (a.plan.0 + k)
@@ -110,7 +110,7 @@ module _ (a : Setup) (version : ℕ) where
       let both : length (replicate a.plan.0 (version * 2 ^ 20) ++ replicate (2 * a.plan.1) 0) ≡ length (replicate a.plan.0 (version * 2 ^ 20)) + length (replicate {A = ℕ} (2 * a.plan.1) 0) = length-append (replicate a.plan.0 (version * 2 ^ 20)) (replicate (2 * a.plan.1) 0) in
       let rows : length (replicate a.plan.0 (version * 2 ^ 20)) ≡ a.plan.0 = length-replicate a.plan.0 (version * 2 ^ 20) in
       let entries : length (replicate {A = ℕ} (2 * a.plan.1) 0) ≡ 2 * a.plan.1 = length-replicate (2 * a.plan.1) 0 in
-      let clock : length clock_words ≡ place_after_seats a.about = clock_long in
+      let clock : length clock_words ≡ place_after_seats a.config = clock_long in
       sums _ _ _ _ _ _ _ all both rows entries _ clock
     where
       sums : (x y z w s p e : ℕ) → x ≡ y + z → z ≡ w + s → w ≡ p → s ≡ e → (t : ℕ) → y ≡ t → x ≡ t + (p + e)
@@ -151,7 +151,7 @@ module _ (a : Setup) (version : ℕ) where
       plus_zero m = omega arith
 
   -- a clock that is made so has a word for each row, and two for each entry
-  pub words_fit : (more : List ℕ) (b : Setup) (words : ℕ) → more ≡ names_words → b ≡ a → words ≡ place_after_seats a.about + length more → key_place b b.plan.1 ≤ words
+  pub words_fit : (more : List ℕ) (b : Setup) (words : ℕ) → more ≡ names_words → b ≡ a → words ≡ place_after_seats a.config + length more → key_place b b.plan.1 ≤ words
   words_fit more b words is same many =
       let long : length more ≡ length names_words = ap length is in
       let both : length (replicate a.plan.0 (version * 2 ^ 20) ++ replicate (2 * a.plan.1) 0) ≡ length (replicate a.plan.0 (version * 2 ^ 20)) + length (replicate {A = ℕ} (2 * a.plan.1) 0) = length-append (replicate a.plan.0 (version * 2 ^ 20)) (replicate (2 * a.plan.1) 0) in
@@ -181,7 +181,7 @@ module _ (a : Setup) (version : ℕ) where
               record {
                 number = below;
                 key = entry_stands (2 * o.entry) (omega arith) ∙ ap (λ (y : Owned). y.key) (sym k.0);
-                value = ap (λ (m : ℕ). slice_index (first_words a names_words) (place_after_seats a.about + m)) (assoc a.plan.0 (2 * o.entry))
+                value = ap (λ (m : ℕ). slice_index (first_words a names_words) (place_after_seats a.config + m)) (assoc a.plan.0 (2 * o.entry))
                     ∙ entry_stands (2 * o.entry + 1) (omega arith) ∙ ap (λ (y : Owned). y.value) (sym k.0);
               };
           one_owner = λ at other o x p q e.

@@ -39,7 +39,7 @@ pub record GoesOn (a : Setup) (ws ws' : List ℕ) (p x : Part) (v w : RowView) (
   pub write_hand_same : write_hand ws' ≡ write_hand ws
   pub read_hand_same : read_hand ws' ≡ read_hand ws
   pub as_many : length ws' ≡ length ws
-  pub others : (i : ℕ) → place_after_seats a.about ≤ i → i ≢ row_place a v.number → slice_index ws' i ≡ slice_index ws i
+  pub others : (i : ℕ) → place_after_seats a.config ≤ i → i ≢ row_place a v.number → slice_index ws' i ≡ slice_index ws i
   -- the records stay
   pub listed : (r : Record) → In r (records_of (row_word a ws v) v) → In r (records_of (row_word a ws' w) w)
 

@@ -8,7 +8,7 @@ use Rattle.name_rows.specs.NamesLaw.{IsPlan}
 
 -- the counts are in range, and there is a word for each
 pub record FitsNames (a : Setup) (words : ℕ) : Type 0 where
-  pub seats : a.about.seats ≤ 64
+  pub seats : a.config.seats ≤ 64
   pub plan : IsPlan a.plan.0 a.plan.1
   pub room : key_place a a.plan.1 ≤ words
 

@@ -3,7 +3,7 @@ use Rattle.std.specs.Prelude.{◌≡◌, ℕ, ◌%◌, ◌<◌}
 use Rattle.smr_core.specs.declared.phase.Phase.{Phase}
 use Rattle.smr_clock.specs.declared.clock.Clock.{Clock}
 use Rattle.smr_clock.specs.declared.setup.Setup.{Setup}
-use Rattle.smr_clock.specs.Belongs.{IsOf, view, holder, setup_of}
+use Rattle.smr_clock.specs.Belongs.{IsPassOf, view, holder, setup_of}
 use Rattle.name_rows.specs.declared.names.Names.{Names}
 use Rattle.name_rows.specs.declared.part.Part.{Part}
 use Rattle.name_rows.specs.declared.records.Bound.{Bound}
@@ -13,26 +13,26 @@ use Rattle.name_rows.specs.Types.{NamesPass}
 
 -- the pass is of this clock, which is one of names, and is inside a section
 pub record CanFind (clock : Clock Names Part) (pass : NamesPass) : Type 0 where
-  pub here : IsOf clock pass
+  pub here : IsPassOf clock pass
   pub names : IsNamesClock clock
   pub inside : (holder pass).phase ≡ Phase.Inside
 
 -- so it is, and the clock has this row
 pub record CanLoadRow (clock : Clock Names Part) (pass : NamesPass) (number : ℕ) : Type 0 where
-  pub here : IsOf clock pass
+  pub here : IsPassOf clock pass
   pub names : IsNamesClock clock
   pub inside : (holder pass).phase ≡ Phase.Inside
   pub row : number < (setup_of clock).plan.0
 
 -- the pass is of this clock, which is one of names and has this entry
 pub record CanLoadEntry (clock : Clock Names Part) (pass : NamesPass) (number : ℕ) : Type 0 where
-  pub here : IsOf clock pass
+  pub here : IsPassOf clock pass
   pub names : IsNamesClock clock
   pub entry : number < (setup_of clock).plan.1
 
 -- One word of an entry was loaded, and the pass is as it was. Where it is in the section in which it loaded a record of this entry, what was found is the record's.
 pub record LoadsEntry (word : Bound → ℕ) (clock : Clock Names Part) (old : NamesPass) (number found : ℕ) (new : NamesPass) : Type 0 where
-  pub here : IsOf clock new
+  pub here : IsPassOf clock new
   pub same : view new ≡ view old
   pub held : (b : Bound) → HoldsOpen (view old) b → b.entry ≡ number → found ≡ word b
 

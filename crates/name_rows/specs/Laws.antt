@@ -72,11 +72,11 @@ pub record Quiet (a : Setup) (ws ws' : List ℕ) : Type 0 where
   pub write_not_lower : write_hand ws ≤ write_hand ws'
   pub read_not_lower : read_hand ws ≤ read_hand ws'
   pub as_many : length ws' ≡ length ws
-  pub host_words : (i : ℕ) → place_after_seats a.about ≤ i → slice_index ws' i ≡ slice_index ws i
+  pub host_words : (i : ℕ) → place_after_seats a.config ≤ i → slice_index ws' i ≡ slice_index ws i
 
 module _ (a : Setup) (ws ws' : List ℕ) (ps ps' : List Part) (held : Held a ws ps) (quiet : Quiet a ws ws') (alike : Alike ps ps') where
   row_word_same : (v : RowView) → row_word a ws' v ≡ row_word a ws v
-  row_word_same v = quiet.host_words (row_place a v.number) (le-add_right (place_after_seats a.about) v.number)
+  row_word_same v = quiet.host_words (row_place a v.number) (le-add_right (place_after_seats a.config) v.number)
 
   row_same : (at : ℕ) (v : RowView) → RowFitsAt a (row_word a ws v) ps at v → RowFitsAt a (row_word a ws' v) ps' at v
   row_same at v fits =
@@ -95,8 +95,8 @@ module _ (a : Setup) (ws ws' : List ℕ) (ps ps' : List Part) (held : Held a ws 
   owned_same o fits =
       record {
         number = fits.number;
-        key = quiet.host_words (key_place a o.entry) (le-add_right (place_after_seats a.about) _) ∙ fits.key;
-        value = quiet.host_words (value_place a o.entry) (le-add_right (place_after_seats a.about) _) ∙ fits.value;
+        key = quiet.host_words (key_place a o.entry) (le-add_right (place_after_seats a.config) _) ∙ fits.key;
+        value = quiet.host_words (value_place a o.entry) (le-add_right (place_after_seats a.config) _) ∙ fits.value;
       }
 
   hold_same : (h : Hold) → HoldFits ws ps h → HoldFits ws' ps' h

@@ -2,7 +2,7 @@
 use Rattle.std.specs.Prelude.{◌≡◌, ℕ, ◌+◌, ◌-◌, ◌^◌, ◌<◌, ◌≤◌, ◌⊎◌, List, [], ◌∷◌, Option, Some, None, length, slice_index_or}
 use mathlib.Core.Option.{some}
 use lib.ListN.{get_elem?}
-use Rattle.smr_core.specs.declared.about.About.{About}
+use Rattle.smr_core.specs.declared.clock_config.ClockConfig.{ClockConfig}
 use Rattle.smr_core.specs.ClockState.{IsInRange}
 use Rattle.smr_core.specs.Making.{RefusesNumbers}
 use Rattle.smr_clock.specs.declared.clock.Clock.{Clock}
@@ -26,7 +26,7 @@ use Rattle.name_rows.specs.Rows.{IsRowOf, row_last}
 use Rattle.name_rows.specs.Types.{NamesSeat}
 
 -- the first test that fails, in this order
-abbrev pub RefusesNames : About → ℕ → ℕ → ℕ → NamesRefused → Type 0
+abbrev pub RefusesNames : ClockConfig → ℕ → ℕ → ℕ → NamesRefused → Type 0
 RefusesNames a rows entries version (ClockNumber refused) = RefusesNumbers a refused
 RefusesNames a rows entries version (Rows n) = IsInRange a × (n ≡ rows) × ((rows < 1) ⊎ (4096 < rows))
 RefusesNames a rows entries version (Entries n) = IsInRange a × (1 ≤ rows) × (rows ≤ 4096) × (n ≡ entries) × (65536 < entries)
@@ -44,7 +44,7 @@ pub record FitsPlan (rows entries first : ℕ) : Type 0 where
   pub version : first < 2 ^ 44
 
 -- so are all the numbers with which names are made
-pub record AcceptsNames (a : About) (rows entries first : ℕ) : Type 0 where
+pub record AcceptsNames (a : ClockConfig) (rows entries first : ℕ) : Type 0 where
   pub clock : IsInRange a
   pub plan : IsPlan rows entries
   pub version : first < 2 ^ 44

@@ -21,13 +21,13 @@ In a (x ∷ xs) = (x ≡ a) ⊎ In a xs
 -- ---- the words of the names, behind the clock's: one a row, and then two an entry
 
 abbrev pub row_place : Setup → ℕ → ℕ
-row_place a row = place_after_seats a.about + row
+row_place a row = place_after_seats a.config + row
 
 abbrev pub key_place : Setup → ℕ → ℕ
-key_place a entry = place_after_seats a.about + (a.plan.0 + 2 * entry)
+key_place a entry = place_after_seats a.config + (a.plan.0 + 2 * entry)
 
 abbrev pub value_place : Setup → ℕ → ℕ
-value_place a entry = place_after_seats a.about + (a.plan.0 + 2 * entry + 1)
+value_place a entry = place_after_seats a.config + (a.plan.0 + 2 * entry + 1)
 
 -- what stands in the word of the row
 abbrev pub row_word : Setup → List ℕ → RowView → ℕ

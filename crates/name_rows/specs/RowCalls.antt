@@ -1,7 +1,7 @@
 -- What the calls of a row ask, and what they come to.
 use Rattle.std.specs.Prelude.{◌≡◌, ℕ, ◌+◌, ◌≤◌, ◌<◌, ◌^◌, [], ◌∷◌, ◌++◌, Option, Some, None, IfSome}
 use Rattle.smr_clock.specs.declared.clock.Clock.{Clock}
-use Rattle.smr_clock.specs.Belongs.{IsOf, view, holder, setup_of}
+use Rattle.smr_clock.specs.Belongs.{IsPassOf, view, holder, setup_of}
 use Rattle.name_rows.specs.declared.records.Record.{Record}
 use Rattle.name_rows.specs.declared.entry_state.EntryState.TheVariants.{Written}
 use Rattle.name_rows.specs.declared.names.Names.{Names}
@@ -54,13 +54,13 @@ pub record UnlinksEntry (clock : Clock Names Part) (old : Row) (other : Option E
 -- the row and the pass are of this clock, which is one of names
 pub record CanMeet (clock : Clock Names Part) (row : Row) (pass : NamesPass) : Type 0 where
   pub here : IsRowOf clock row
-  pub pass_here : IsOf clock pass
+  pub pass_here : IsPassOf clock pass
   pub names : IsNamesClock clock
 
 -- No record of the row that the pass knew is newer than the row's last, which the pass knows now. The row is as it was, and the pass where it was.
 pub record MeetsPass (clock : Clock Names Part) (old : Row) (was : NamesPass) (new : Row) (is : NamesPass) : Type 0 where
   pub here : IsRowOf clock new
-  pub pass_here : IsOf clock is
+  pub pass_here : IsPassOf clock is
   pub row : (new.number ≡ old.number) × (new.version ≡ old.version) × (new.guest ≡ old.guest)
   pub last : row_last new ≡ row_last old
   pub newest : (r : Record) → In r (view was).host.known → r.row ≡ new.number → r.version ≤ new.version

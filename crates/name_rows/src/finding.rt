@@ -1,5 +1,5 @@
 ghost use Rattle.std.specs.Prelude.{◌≡◌, ◌%◌, ◌^◌};
-ghost use Rattle.smr_clock.specs.Belongs.{IsOf, view, setup_of};
+ghost use Rattle.smr_clock.specs.Belongs.{IsPassOf, view, setup_of};
 ghost use Rattle.name_rows.specs.Belongs.{IsNamesClock};
 ghost use Rattle.name_rows.specs.Finding.{CanFind, CanLoadRow, CanLoadEntry, LoadsEntry, IsRowOfKey};
 ghost use Rattle.name_rows.specs.Reading.{Finds, ReadsRecord, slot_entry};
@@ -45,7 +45,7 @@ fn entry_of(word: u64) -> Option<u32>
 // The entry that the row's word names.
 fn load_row(clock: &Clock<Names>, pass: &mut Pass<Names>, row: u32) -> Option<u32>
     requires { CanLoadRow clock.now pass.old row }
-    ensures here { IsOf clock.now pass.new }
+    ensures here { IsPassOf clock.now pass.new }
     ensures reads { ReadsRecord (view pass.old) row result (view pass.new) }
 {
     let word = clock.host_step::<ReadsRow>(pass, row_place(clock, row), HostAct::Load);
@@ -70,7 +70,7 @@ fn load_value(clock: &Clock<Names>, pass: &mut Pass<Names>, entry: u32) -> u64
 /// section: as long as it is, the entry that the word names isn't written again. Waits for nobody.
 pub fn find(clock: &Clock<Names>, pass: &mut Pass<Names>, key: u64) -> Option<u64>
     requires { CanFind clock.now pass.old }
-    ensures here { IsOf clock.now pass.new }
+    ensures here { IsPassOf clock.now pass.new }
     ensures finds { Finds (view pass.old) (view pass.new) key result }
 {
     let Some(entry) = load_row(clock, pass, row_of(clock, key)) else {

@@ -12,7 +12,7 @@ use crate::root::Root;
 use crate::row::Row;
 use listed::Listed;
 use smr_clock::{Clock, HostSeat, Memory};
-use smr_core::About;
+use smr_core::ClockConfig;
 use std::alloc::{AllocError, Global};
 
 /// The most rows, and the most entries.
@@ -21,11 +21,11 @@ const MOST_ROWS: u32 = 4096;
 const MOST_ENTRIES: u32 = 65536;
 
 // Tests the numbers, in order.
-fn check(about: (u32, u64, u64), rows: u32, entries: u32, version: u64) -> Result<(), NamesRefused>
-    ensures accepted { OnOk result (AcceptsNames (setup about.0 about.1 about.2 (rows, entries)).about rows entries version) }
-    ensures refused { IfErr result (RefusesNames (setup about.0 about.1 about.2 (rows, entries)).about rows entries version) }
+fn check(config: (u32, u64, u64), rows: u32, entries: u32, version: u64) -> Result<(), NamesRefused>
+    ensures accepted { OnOk result (AcceptsNames (setup config.0 config.1 config.2 (rows, entries)).config rows entries version) }
+    ensures refused { IfErr result (RefusesNames (setup config.0 config.1 config.2 (rows, entries)).config rows entries version) }
 {
-    if let Err(refused) = About::checked(about.0, about.1, about.2) {
+    if let Err(refused) = ClockConfig::checked(config.0, config.1, config.2) {
         return Err(NamesRefused::Clock { refused });
     }
     if rows < 1 || rows > MOST_ROWS {
@@ -116,7 +116,7 @@ pub fn make(
     version: u64,
 ) -> Result<Opened, NamesRefused>
     ensures made { IfOk result (IsOpenedWith (setup seats start window (rows, entries)) version) }
-    ensures refused { IfErr result (RefusesNames (setup seats start window (rows, entries)).about rows entries version) }
+    ensures refused { IfErr result (RefusesNames (setup seats start window (rows, entries)).config rows entries version) }
 {
     check((seats, start, window), rows, entries, version)?;
     let Ok(more) = opening_words(alloc, rows, entries, version) else {

@@ -1,6 +1,6 @@
 ghost use Rattle.std.specs.Prelude.{◌≡◌, IfOk};
 ghost use Rattle.smr_core.specs.declared.phase.Phase.{Phase};
-ghost use Rattle.smr_clock.specs.Belongs.{IsOf, holder, setup_of};
+ghost use Rattle.smr_clock.specs.Belongs.{IsPassOf, holder, setup_of};
 ghost use Rattle.name_rows.specs.Belongs.{IsNamesClock};
 ghost use Rattle.name_rows.specs.Roots.{IsRootOf};
 ghost use Rattle.name_rows.specs.Rows.{IsRowOf};
@@ -18,7 +18,7 @@ mod way;
 fn one_row(alloc: Global) -> Result<(Clock<Names>, Pass<Names>, Pass<Names>, Row, Root), Memory>
     ensures names { IfOk result (λ made. IsNamesClock made.0) }
     ensures plan { IfOk result (λ made. (setup_of made.0).plan ≡ (1, 2)) }
-    ensures here { IfOk result (λ made. IsOf made.0 made.1 × IsOf made.0 made.2) }
+    ensures here { IfOk result (λ made. IsPassOf made.0 made.1 × IsPassOf made.0 made.2) }
     ensures outside { IfOk result (λ made. ((holder made.1).phase ≡ Phase.Outside) × ((holder made.2).phase ≡ Phase.Outside)) }
     ensures row { IfOk result (λ made. IsRowOf made.0 made.3 × (made.3.number ≡ 0) × (made.3.version ≡ 0)) }
     ensures root { IfOk result (λ made. IsRootOf made.0 made.4) }

@@ -2,16 +2,16 @@
 use Rattle.std.proofs.Common.{◌≡◌, ℕ, Bool, true, false, cond, List, [], ◌∷◌, Option, Some, None, Result, Ok, Err, refl, sym, ap, ◌∙◌}
 use Rattle.std.specs.Prelude.{codes, is_some, ◌||◌, OnOk, IfErr}
 use Rattle.std.specs.Str.{bytes_eq}
-use Rattle.smr_core.specs.declared.about.About.{About}
+use Rattle.smr_core.specs.declared.clock_config.ClockConfig.{ClockConfig}
 use Rattle.text_lines.specs.declared.refused.TraceKind.TheVariants as kinds
 use Rattle.text_lines.specs.declared.refused.LineRefused.{LineRefused}
 use Rattle.text_lines.specs.declared.refused.LineRefused.TheVariants as refusals
 use Rattle.text_lines.specs.Fields.{◌>>=◌}
 use Rattle.text_lines.specs.TextLines.{TextLine, is_end, is_ended}
-use Rattle.text_lines.specs.Taking.{Takes}
+use Rattle.text_lines.specs.Taking.{ReadsLine}
 use Rattle.schedule_text.specs.declared.reading.reader.ScheduleReader.{ScheduleReader}
-use Rattle.schedule_text.specs.declared.reading.said.Said.{Said}
-use Rattle.schedule_text.specs.declared.reading.said.Said.TheVariants as said
+use Rattle.schedule_text.specs.declared.reading.parsed_line.ParsedLine.{ParsedLine}
+use Rattle.schedule_text.specs.declared.reading.parsed_line.ParsedLine.TheVariants as said
 use Rattle.schedule_text.specs.declared.reading.word.PairWord.TheVariants as pairs
 use Rattle.schedule_text.specs.declared.reading.word.SeatWord.TheVariants as seats
 use Rattle.schedule_text.specs.declared.reading.word.Word.{Word}
@@ -67,9 +67,9 @@ pub not_last : (rest : List (List ℕ)) → false ≡ ends_line false rest
 not_last [] = refl
 not_last (field ∷ rest) = refl
 
-said_last : (version : Version) (word : Word) (rest : List (List ℕ)) (x : Said) → said_by version word rest ≡ Ok x → is_last x ≡ ends_line (is_end_word word) rest
+said_last : (version : Version) (word : Word) (rest : List (List ℕ)) (x : ParsedLine) → said_by version word rest ≡ Ok x → is_last x ≡ ends_line (is_end_word word) rest
 said_last version words.Smr rest x e = absurd cc
-said_last version words.Clock rest x e = let b = bound (clock_in rest) (λ about. Ok (said.Clock about)) x e in let is : said.Clock b.0 ≡ x = cc in ap is_last (sym is) ∙ not_last rest
+said_last version words.Clock rest x e = let b = bound (clock_in rest) (λ config. Ok (said.Clock config)) x e in let is : said.Clock b.0 ≡ x = cc in ap is_last (sym is) ∙ not_last rest
 said_last version (words.Seat word) rest x e =
     let b = bound (seat_in rest) (λ seat. Ok (said.Does (seat_turn version word seat))) x e in
     let is : said.Does (seat_turn version word b.0) ≡ x = cc in ap is_last (sym is) ∙ not_last rest
@@ -81,7 +81,7 @@ said_last version words.End (field ∷ rest) x e = absurd cc
 
 -- ---- a line taken in
 
-pub says_parts : (version : Version) (clocked : Bool) (first : List ℕ) (rest : List (List ℕ)) (x : Said) → says version clocked (first ∷ rest) ≡ Ok x
+pub says_parts : (version : Version) (clocked : Bool) (first : List ℕ) (rest : List (List ℕ)) (x : ParsedLine) → says version clocked (first ∷ rest) ≡ Ok x
     → (word : Word) × (word_named first ≡ Some word) × (fits_place clocked word ≡ true) × (said_by version word rest ≡ Ok x)
 says_parts version clocked first rest x e =
     let a = bound (word_or_wrong (word_named first)) (λ word. known (is_known version word) >>= λ is. (placed (fits_place clocked word) >>= λ fits. said_by version word rest)) x e in
@@ -89,7 +89,7 @@ says_parts version clocked first rest x e =
     let b = bound (placed (fits_place clocked a.0)) (λ fits. said_by version a.0 rest) x k.2 in
     (a.0, is_some_value (word_named first) kinds.Word a.0 a.1, (is_true (fits_place clocked a.0) tt b.0 kinds.Place b.1).0, b.2)
 
-says_last : (version : Version) (clocked : Bool) (fields : List (List ℕ)) (x : Said) → says version clocked fields ≡ Ok x → (is_end fields ≡ is_last x) × (is_last x ≡ true → clocked ≡ true)
+says_last : (version : Version) (clocked : Bool) (fields : List (List ℕ)) (x : ParsedLine) → says version clocked fields ≡ Ok x → (is_end fields ≡ is_last x) × (is_last x ≡ true → clocked ≡ true)
 says_last version clocked [] x e = absurd cc
 says_last version clocked (first ∷ rest) x e =
     let p = says_parts version clocked first rest x e in
@@ -105,14 +105,14 @@ says_last version clocked (first ∷ rest) x e =
       clocked_by (words.Pair word) rest clocked l f = f
       clocked_by words.End rest clocked l f = f
 
-clock_kept : (x : Said) (clock : Option About) → is_last x ≡ true → clock_after (Ok x) clock ≡ clock
-clock_kept (said.Clock about) clock e = absurd cc
+clock_kept : (x : ParsedLine) (clock : Option ClockConfig) → is_last x ≡ true → clock_after (Ok x) clock ≡ clock
+clock_kept (said.Clock config) clock e = absurd cc
 clock_kept (said.Does turn) clock e = absurd cc
 clock_kept said.End clock e = refl
 
-heard : (old new : ScheduleReader) (number : ℕ) (fields : List (List ℕ)) (x : Said)
+heard : (old new : ScheduleReader) (number : ℕ) (fields : List (List ℕ)) (x : ParsedLine)
     → old.begun ≡ true → old.ended ≡ false → says old.version (is_some old.clock) fields ≡ Ok x → Hears number x old new
-    → Takes schedule_test Shows old number fields (Ok tt) new
+    → ReadsLine schedule_test Shows old number fields (Ok tt) new
 heard old new number fields x begun ended is hears [] shown = absurd (false_not_true (sym shown.begun ∙ begun)) where
   false_not_true : false ≡ true → ⊥
   false_not_true e = cc
@@ -134,9 +134,9 @@ heard old new number fields x begun ended is hears (last ∷ before) shown =
       },
     )
 
-pub takes : (old new : ScheduleReader) (number : ℕ) (fields : List (List ℕ)) (x : Said) (r : Result (Unit {0}) LineRefused)
+pub takes : (old new : ScheduleReader) (number : ℕ) (fields : List (List ℕ)) (x : ParsedLine) (r : Result (Unit {0}) LineRefused)
     → old.begun ≡ true → old.ended ≡ false → says old.version (is_some old.clock) fields ≡ Ok x → OnOk r (Hears number x old new) → IfErr r (λ refused. refused ≡ refusals.Memory)
-    → Takes schedule_test Shows old number fields r new
+    → ReadsLine schedule_test Shows old number fields r new
 takes old new number fields x (Ok done) begun ended is hears memory = heard old new number fields x begun ended is hears
 takes old new number fields x (Err refusals.Memory) begun ended is hears memory = tt
 takes old new number fields x (Err (refusals.Kind why)) begun ended is hears memory = absurd cc

@@ -6,12 +6,12 @@ use Rattle.smr_core.specs.declared.seen.Seen.{Seen}
 use Rattle.smr_core.specs.declared.step_refused.StepRefused.{StepRefused}
 use Rattle.smr_core.specs.declared.turn.Turn.{Turn}
 use Rattle.smr_core.specs.CoreState.{State, opening}
-use Rattle.smr_core.specs.CoreStep.{Refuses}
+use Rattle.smr_core.specs.CoreStep.{StepIsRefused}
 use Rattle.smr_core.specs.Turns.{TurnRun, first_step}
 use Rattle.smr_core.specs.TurnLaws.{TurnIsDetermined, TakenIsNotRefused}
 use Rattle.schedule_text.specs.declared.schedule.Schedule.{Schedule}
 use Rattle.schedule_text.specs.declared.schedule.TurnLine.{TurnLine}
-use Rattle.schedule_text.specs.ScheduleText.{IsOutput, Prints, RefusesLine, about_of, hands_line, seen_line, turns_of}
+use Rattle.schedule_text.specs.ScheduleText.{IsOutput, Prints, RefusesLine, config_of, hands_line, seen_line, turns_of}
 use Rattle.schedule_text.specs.ScheduleLaws.{OutputIsOne, RefusedPrintsNothing}
 use Rattle.schedule_text.proofs.ScheduleLemmas.{prints-all}
 
@@ -30,7 +30,7 @@ module _ (determined : TurnIsDetermined) where
 
   pub output-is-one : OutputIsOne
   output-is-one schedule a b p q =
-      let e = turn_run-one (opening (about_of schedule))
+      let e = turn_run-one (opening (config_of schedule))
       (turns_of schedule.lines) p.prints.sees q.prints.sees p.last q.last
       p.prints.run q.prints.run in
       p.text ∙ ap (λ (l : List ℕ). l ++ hands_line p.last) p.prints.text
@@ -49,10 +49,10 @@ module _ (determined : TurnIsDetermined) where
     taken s (x ∷ lines) zero l refused (saw ∷ xs) (y ∷ ys) last mid p there q r = absurd q
     taken s (x ∷ lines) zero l refused (saw ∷ xs) [] last mid p there q r =
         let same : x ≡ l = ap (λ (o : Option TurnLine). option_map_or (λ (z : TurnLine). z) o x) there in
-        let here : Refuses s (first_step l.turn) refused =
-        subst (λ (z : State). Refuses z (first_step l.turn) refused) q r.step in
+        let here : StepIsRefused s (first_step l.turn) refused =
+        subst (λ (z : State). StepIsRefused z (first_step l.turn) refused) q r.step in
         not_refused s p.0 x.turn saw refused p.1 r.not_memory
-        (subst (λ (z : TurnLine). Refuses s (first_step z.turn) refused) (sym same) here)
+        (subst (λ (z : TurnLine). StepIsRefused s (first_step z.turn) refused) (sym same) here)
     taken s (x ∷ lines) (suc n) l refused [] ys last mid p there q r = absurd p
     taken s (x ∷ lines) (suc n) l refused (saw ∷ xs) [] last mid p there q r = absurd q
     taken s (x ∷ lines) (suc n) l refused (saw ∷ xs) (y ∷ ys) last mid p there q r =
@@ -62,17 +62,17 @@ module _ (determined : TurnIsDetermined) where
 
     pub refused-prints-nothing : RefusedPrintsNothing
     refused-prints-nothing schedule a p n l refused r =
-        taken (opening (about_of schedule)) schedule.lines n l refused p.prints.sees r.before.sees p.last r.mid
+        taken (opening (config_of schedule)) schedule.lines n l refused p.prints.sees r.before.sees p.last r.mid
         p.prints.run r.there r.before.run r.refuses
 
 -- all lines print the text before the hands
 pub whole-output : (schedule : Schedule) (n : ℕ) (last : State) (printed text : List ℕ) → length schedule.lines ≤ n
-    → Prints schedule.version (opening (about_of schedule)) (take n schedule.lines) printed last → text ≡ printed ++ hands_line last
+    → Prints schedule.version (opening (config_of schedule)) (take n schedule.lines) printed last → text ≡ printed ++ hands_line last
     → IsOutput schedule text
 whole-output schedule n last printed text all p e =
     record {
       last = last;
       printed = printed;
-      prints = prints-all schedule.version (opening (about_of schedule)) last schedule.lines n printed all p;
+      prints = prints-all schedule.version (opening (config_of schedule)) last schedule.lines n printed all p;
       text = e;
     }

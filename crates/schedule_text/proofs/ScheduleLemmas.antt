@@ -14,7 +14,7 @@ use Rattle.schedule_text.specs.declared.schedule.TurnLine.{TurnLine}
 use Rattle.schedule_text.specs.declared.schedule.Version.{Version}
 use Rattle.schedule_text.specs.declared.refused.ScheduleRefused.{ScheduleRefused}
 use Rattle.schedule_text.specs.declared.refused.ScheduleRefused.TheVariants as schedule_refused
-use Rattle.schedule_text.specs.ScheduleText.{Prints, PrintsLine, RefusesLine, RefusesTurnLine, RefusesSchedule, RefusedAt, about_of, refused_at, seen_line, turns_of}
+use Rattle.schedule_text.specs.ScheduleText.{Prints, PrintsLine, RefusesLine, RefusesTurnLine, RefusesSchedule, RefusedAt, config_of, refused_at, seen_line, turns_of}
 
 -- turns go on by one
 turn_run-push : (s mid s' : State) (turns : List Turn) (sees : List (List Seen)) (turn : Turn) (saw : List Seen)
@@ -69,7 +69,7 @@ module _ (version : Version) where
   prints-all s s' lines n bytes h p = subst (λ (l : List TurnLine). Prints version s l bytes s') (take_all n lines h) p
 
 pub refused-here : (schedule : Schedule) (n : ℕ) (d : TurnLine) (mid : State) (printed : List ℕ) (refused : StepRefused) → n < length schedule.lines
-    → Prints schedule.version (opening (about_of schedule)) (take n schedule.lines) printed mid
+    → Prints schedule.version (opening (config_of schedule)) (take n schedule.lines) printed mid
     → RefusesLine mid (get_or schedule.lines n d) refused
     → RefusedAt schedule n (get_or schedule.lines n d) refused
 refused-here schedule n d mid printed refused below p q =
@@ -91,7 +91,7 @@ refuses_line s l (refusals.Crowded count) r = (refl, record { step = r; not_memo
 
 -- a line that is refused after the lines before it
 pub refuses-schedule : (schedule : Schedule) (n : ℕ) (d : TurnLine) (mid : State) (printed : List ℕ) (refused : ScheduleRefused) → n < length schedule.lines
-    → Prints schedule.version (opening (about_of schedule)) (take n schedule.lines) printed mid
+    → Prints schedule.version (opening (config_of schedule)) (take n schedule.lines) printed mid
     → RefusesTurnLine mid (get_or schedule.lines n d) refused
     → RefusesSchedule schedule refused
 refuses-schedule schedule n d mid printed (schedule_refused.Step at refused) below p q =

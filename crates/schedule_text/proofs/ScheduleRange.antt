@@ -2,7 +2,7 @@
 use Rattle.std.proofs.Common.{◌≡◌, ℕ, ◌^◌, ◌%◌, ◌<◌, ◌≤◌, Bool, eqb, ltb, leb, List, [], ◌∷◌, Option, Some, None, Result, Ok, Err, refl, sym, ap, subst, ◌∙◌, arith}
 use Rattle.std.specs.Prelude.{◌&&◌, is_some}
 use Rattle.std.proofs.lemmas.Bool.{ltb-true, leb-true, eqb-true, and_parts}
-use Rattle.smr_core.specs.declared.about.About.{About}
+use Rattle.smr_core.specs.declared.clock_config.ClockConfig.{ClockConfig}
 use Rattle.smr_core.specs.ClockState.{IsInRange}
 use Rattle.text_lines.specs.declared.refused.TraceKind.{TraceKind}
 use Rattle.text_lines.specs.declared.refused.TraceKind.TheVariants as kinds
@@ -11,12 +11,12 @@ use Rattle.text_lines.specs.TextLines.{TextLine}
 use Rattle.text_lines.proofs.OneVerdict.{one_right_reading}
 use Rattle.schedule_text.specs.declared.schedule.Schedule.{Schedule}
 use Rattle.schedule_text.specs.declared.schedule.Version.{Version}
-use Rattle.schedule_text.specs.declared.reading.said.Said.{Said}
-use Rattle.schedule_text.specs.declared.reading.said.Said.TheVariants as said
+use Rattle.schedule_text.specs.declared.reading.parsed_line.ParsedLine.{ParsedLine}
+use Rattle.schedule_text.specs.declared.reading.parsed_line.ParsedLine.TheVariants as said
 use Rattle.schedule_text.specs.declared.reading.word.Word.{Word}
 use Rattle.schedule_text.specs.declared.reading.word.Word.TheVariants as words
 use Rattle.schedule_text.specs.ScheduleGrammar.{clock_in, start_in, window_in, seat_in, two_numbers_in, seat_turn, pair_turn, said_by, says, clock_after, clock_of, version_of, turn_lines, schedule_test, IsScheduleText, IsValidSchedule}
-use Rattle.schedule_text.specs.ScheduleText.{about_of}
+use Rattle.schedule_text.specs.ScheduleText.{config_of}
 use Rattle.schedule_text.proofs.ScheduleFollowing.{says_parts}
 use Rattle.schedule_text.proofs.Steps.{bound, is_true}
 
@@ -51,7 +51,7 @@ window_fits field n e =
     let P : ℕ → Type 0 = λ k. (k % 2 ≡ 0) × (4 ≤ k) × (k ≤ 2 ^ 30) in
     subst P r.1 (even, low, high)
 
-clock_fits : (fields : List (List ℕ)) (a : About) → clock_in fields ≡ Ok a → IsInRange a
+clock_fits : (fields : List (List ℕ)) (a : ClockConfig) → clock_in fields ≡ Ok a → IsInRange a
 clock_fits fields a e =
     let parts = bound (three_fields fields) (λ (p : List ℕ × List ℕ × List ℕ).
     number_within 1 64 p.0 >>= λ seats. (start_in p.1 >>= λ start. (window_in p.2 >>= λ window. Ok (record { start = start; window = window; seats = seats })))) a e in
@@ -62,47 +62,47 @@ clock_fits fields a e =
     let s = seats_fit parts.0.0 seats.0 seats.1 in
     let b = start_fits parts.0.1 start.0 start.1 in
     let w = window_fits parts.0.2 window.0 window.1 in
-    let P : About → Type 0 = λ about. IsInRange about in
+    let P : ClockConfig → Type 0 = λ config. IsInRange config in
     subst P {x = record { start = start.0; window = window.0; seats = seats.0 }} is (record { some_seat = s.0; few_seats = s.1; odd_start = b.0; low_start = b.1; even_window = w.0; least_window = w.1; greatest_window = w.2 })
 
-said_clock : (version : Version) (word : Word) (rest : List (List ℕ)) (a : About) → said_by version word rest ≡ Ok (said.Clock a) → IsInRange a
+said_clock : (version : Version) (word : Word) (rest : List (List ℕ)) (a : ClockConfig) → said_by version word rest ≡ Ok (said.Clock a) → IsInRange a
 said_clock version words.Smr rest a e = absurd cc
 said_clock version words.Clock rest a e =
-    let b = bound (clock_in rest) (λ about. Ok (said.Clock about)) (said.Clock a) e in
+    let b = bound (clock_in rest) (λ config. Ok (said.Clock config)) (said.Clock a) e in
     let is : b.0 ≡ a = let f = b.2 in cc in
-    let P : About → Type 0 = λ about. IsInRange about in
+    let P : ClockConfig → Type 0 = λ config. IsInRange config in
     subst P is (clock_fits rest b.0 b.1)
 said_clock version (words.Seat word) rest a e = let b = bound (seat_in rest) (λ seat. Ok (said.Does (seat_turn version word seat))) (said.Clock a) e in let f = b.2 in absurd cc
 said_clock version (words.Pair word) rest a e =
     let b = bound (two_numbers_in rest) (λ (n : ℕ × ℕ). Ok (said.Does (pair_turn word n.0 n.1))) (said.Clock a) e in let f = b.2 in absurd cc
 said_clock version words.End rest a e = let b = bound (no_field rest) (λ none. Ok said.End) (said.Clock a) e in let f = b.2 in absurd cc
 
-says_clock : (version : Version) (clocked : Bool) (fields : List (List ℕ)) (a : About) → says version clocked fields ≡ Ok (said.Clock a) → IsInRange a
+says_clock : (version : Version) (clocked : Bool) (fields : List (List ℕ)) (a : ClockConfig) → says version clocked fields ≡ Ok (said.Clock a) → IsInRange a
 says_clock version clocked [] a e = absurd cc
 says_clock version clocked (first ∷ rest) a e = let p = says_parts version clocked first rest (said.Clock a) e in said_clock version p.0 rest a p.3
 
-after_clock : (r : Result Said TraceKind) (before : Option About) (a : About) → ((b : About) → r ≡ Ok (said.Clock b) → IsInRange b) → ((b : About) → before ≡ Some b → IsInRange b) → clock_after r before ≡ Some a → IsInRange a
-after_clock (Ok (said.Clock b)) before a f g e = f a (ap (λ (o : Option About). clock_said o) e) where
-  clock_said : Option About → Result Said TraceKind
+after_clock : (r : Result ParsedLine TraceKind) (before : Option ClockConfig) (a : ClockConfig) → ((b : ClockConfig) → r ≡ Ok (said.Clock b) → IsInRange b) → ((b : ClockConfig) → before ≡ Some b → IsInRange b) → clock_after r before ≡ Some a → IsInRange a
+after_clock (Ok (said.Clock b)) before a f g e = f a (ap (λ (o : Option ClockConfig). clock_said o) e) where
+  clock_said : Option ClockConfig → Result ParsedLine TraceKind
   clock_said (Some x) = Ok (said.Clock x)
   clock_said None = Ok said.End
 after_clock (Ok (said.Does turn)) before a f g e = g a e
 after_clock (Ok said.End) before a f g e = g a e
 after_clock (Err why) before a f g e = g a e
 
-clock_in_range : (lines : List TextLine) (a : About) → clock_of lines ≡ Some a → IsInRange a
+clock_in_range : (lines : List TextLine) (a : ClockConfig) → clock_of lines ≡ Some a → IsInRange a
 clock_in_range [] a e = absurd cc
 clock_in_range (line ∷ before) a e =
     after_clock (says (version_of before) (is_some (clock_of before)) line.fields) (clock_of before) a (λ b f. says_clock (version_of before) (is_some (clock_of before)) line.fields b f) (λ b f. clock_in_range before b f) e
 
-pub valid_in_range : (schedule : Schedule) → IsValidSchedule schedule → IsInRange (about_of schedule)
-valid_in_range schedule valid = clock_in_range valid.1.spoke (about_of schedule) valid.1.clock
+pub valid_in_range : (schedule : Schedule) → IsValidSchedule schedule → IsInRange (config_of schedule)
+valid_in_range schedule valid = clock_in_range valid.1.spoke (config_of schedule) valid.1.clock
 
-same_schedule : (a b : Schedule) → a.version ≡ b.version → about_of a ≡ about_of b → a.lines ≡ b.lines → a ≡ b
+same_schedule : (a b : Schedule) → a.version ≡ b.version → config_of a ≡ config_of b → a.lines ≡ b.lines → a ≡ b
 same_schedule a b version numbers lines =
-    let seats : a.seats ≡ b.seats = ap (λ (x : About). x.seats) numbers in
-    let start : a.start ≡ b.start = ap (λ (x : About). x.start) numbers in
-    let window : a.window ≡ b.window = ap (λ (x : About). x.window) numbers in
+    let seats : a.seats ≡ b.seats = ap (λ (x : ClockConfig). x.seats) numbers in
+    let start : a.start ≡ b.start = ap (λ (x : ClockConfig). x.start) numbers in
+    let window : a.window ≡ b.window = ap (λ (x : ClockConfig). x.window) numbers in
     let made : ◌≡◌ {A = Schedule} (record { version = a.version; seats = a.seats; start = a.start; window = a.window; lines = a.lines }) (record { version = b.version; seats = b.seats; start = b.start; window = b.window; lines = b.lines }) =
     rw (version, seats, start, window, lines) refl in
     made
@@ -110,5 +110,5 @@ same_schedule a b version numbers lines =
 pub one_schedule : (bytes : List ℕ) (a b : Schedule) → IsScheduleText bytes a → IsScheduleText bytes b → a ≡ b
 one_schedule bytes a b x y =
     let same : x.spoke ≡ y.spoke = one_right_reading schedule_test bytes x.spoke y.spoke x.right y.right in
-    let numbers : about_of a ≡ about_of b = let e = sym x.clock ∙ (ap clock_of same ∙ y.clock) in cc in
+    let numbers : config_of a ≡ config_of b = let e = sym x.clock ∙ (ap clock_of same ∙ y.clock) in cc in
     same_schedule a b (x.version ∙ (ap version_of same ∙ sym y.version)) numbers (x.lines ∙ (ap turn_lines same ∙ sym y.lines))

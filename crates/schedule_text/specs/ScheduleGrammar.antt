@@ -2,7 +2,7 @@
 -- of a line looks at the earlier lines, of which the last one comes first. Seats leave and come in version 2 alone.
 use Rattle.std.specs.Prelude.{ℕ, ◌≡◌, ◌%◌, List, [], ◌∷◌, ◌++◌, Bool, true, false, ◌&&◌, ◌==◌, not, nat_le, nat_lt, if◌then◌else◌, Option, Some, None, Result, Ok, Err, codes, is_some}
 use Rattle.std.specs.Str.{bytes_eq}
-use Rattle.smr_core.specs.declared.about.About.{About}
+use Rattle.smr_core.specs.declared.clock_config.ClockConfig.{ClockConfig}
 use Rattle.smr_core.specs.declared.step.Step.TheVariants as steps
 use Rattle.smr_core.specs.declared.turn.Turn.{Turn}
 use Rattle.smr_core.specs.declared.turn.Turn.TheVariants as turns
@@ -14,8 +14,8 @@ use Rattle.schedule_text.specs.declared.schedule.Schedule.{Schedule}
 use Rattle.schedule_text.specs.declared.schedule.TurnLine.{TurnLine}
 use Rattle.schedule_text.specs.declared.schedule.Version.{Version}
 use Rattle.schedule_text.specs.declared.schedule.Version.TheVariants as versions
-use Rattle.schedule_text.specs.declared.reading.said.Said.{Said}
-use Rattle.schedule_text.specs.declared.reading.said.Said.TheVariants as said
+use Rattle.schedule_text.specs.declared.reading.parsed_line.ParsedLine.{ParsedLine}
+use Rattle.schedule_text.specs.declared.reading.parsed_line.ParsedLine.TheVariants as said
 use Rattle.schedule_text.specs.declared.reading.word.PairWord.{PairWord}
 use Rattle.schedule_text.specs.declared.reading.word.PairWord.TheVariants as pairs
 use Rattle.schedule_text.specs.declared.reading.word.SeatWord.{SeatWord}
@@ -109,7 +109,7 @@ window_in field = do
   ranged (n % 2 == 0 && (nat_le 4 n && nat_le n 1073741824)) n
 
 -- SEATS START WINDOW
-abbrev pub clock_in : List (List ℕ) → Result About TraceKind
+abbrev pub clock_in : List (List ℕ) → Result ClockConfig TraceKind
 clock_in fields = do
   parts ← three_fields fields
   seats ← number_within 1 64 parts.0
@@ -157,11 +157,11 @@ pair_turn pairs.Absorb s n = turns.One (steps.Absorb s n)
 pair_turn pairs.Poll s t = turns.Poll s t
 
 -- what a line says by its word and the fields behind it
-abbrev pub said_by : Version → Word → List (List ℕ) → Result Said TraceKind
+abbrev pub said_by : Version → Word → List (List ℕ) → Result ParsedLine TraceKind
 said_by version words.Smr fields = Err kinds.Place
 said_by version words.Clock fields = do
-  about ← clock_in fields
-  Ok (said.Clock about)
+  config ← clock_in fields
+  Ok (said.Clock config)
 said_by version (words.Seat word) fields = do
   seat ← seat_in fields
   Ok (said.Does (seat_turn version word seat))
@@ -173,7 +173,7 @@ said_by version words.End fields = do
   Ok said.End
 
 -- what a line with these fields says behind the head, or the first thing that is wrong with it
-abbrev pub says : Version → Bool → List (List ℕ) → Result Said TraceKind
+abbrev pub says : Version → Bool → List (List ℕ) → Result ParsedLine TraceKind
 says version clocked [] = Err kinds.Word
 says version clocked (first ∷ rest) = do
   word ← word_or_wrong (word_named first)
@@ -193,16 +193,16 @@ version_of [] = versions.One
 version_of (line ∷ []) = version_or_first (version_in line.fields)
 version_of (line ∷ next ∷ before) = version_of (next ∷ before)
 
-abbrev pub clock_after : Result Said TraceKind → Option About → Option About
-clock_after (Ok (said.Clock about)) before = Some about
+abbrev pub clock_after : Result ParsedLine TraceKind → Option ClockConfig → Option ClockConfig
+clock_after (Ok (said.Clock config)) before = Some config
 clock_after line before = before
 
 -- the numbers of the `clock` line among these
-abbrev pub clock_of : List TextLine → Option About
+abbrev pub clock_of : List TextLine → Option ClockConfig
 clock_of [] = None
 clock_of (line ∷ before) = clock_after (says (version_of before) (is_some (clock_of before)) line.fields) (clock_of before)
 
-abbrev pub turns_in : ℕ → Result Said TraceKind → List TurnLine
+abbrev pub turns_in : ℕ → Result ParsedLine TraceKind → List TurnLine
 turns_in number (Ok (said.Does turn)) = record { line = number; turn = turn } ∷ []
 turns_in number line = []
 

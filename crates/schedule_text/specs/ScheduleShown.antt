@@ -1,11 +1,11 @@
 -- The running state of a schedule's reading, and the lines that it is the state after (own).
 use Rattle.std.specs.Prelude.{ℕ, ◌≡◌, ◌∷◌, ◌++◌, [], List, Bool, true, false, ◌||◌, IsSome, IfSome, Ok}
 use Rattle.text_lines.specs.TextLines.{TextLine, is_ended}
-use Rattle.smr_core.specs.declared.about.About.{About}
+use Rattle.smr_core.specs.declared.clock_config.ClockConfig.{ClockConfig}
 use Rattle.schedule_text.specs.declared.schedule.Schedule.{Schedule}
 use Rattle.schedule_text.specs.declared.reading.reader.ScheduleReader.{ScheduleReader}
-use Rattle.schedule_text.specs.declared.reading.said.Said.{Said}
-use Rattle.schedule_text.specs.declared.reading.said.Said.TheVariants as said
+use Rattle.schedule_text.specs.declared.reading.parsed_line.ParsedLine.{ParsedLine}
+use Rattle.schedule_text.specs.declared.reading.parsed_line.ParsedLine.TheVariants as said
 use Rattle.schedule_text.specs.ScheduleGrammar.{version_of, clock_of, turn_lines, clock_after, turns_in}
 
 abbrev pub is_begun : List TextLine → Bool
@@ -22,12 +22,12 @@ pub record Shows (reader : ScheduleReader) (lines : List TextLine) : Type 0 wher
   pub clocked : reader.ended ≡ true → IsSome reader.clock
 
 -- the line is `end`
-abbrev pub is_last : Said → Bool
+abbrev pub is_last : ParsedLine → Bool
 is_last said.End = true
 is_last other = false
 
 -- behind the first line, the state takes in what a line of this number says
-pub record Hears (number : ℕ) (said : Said) (old new : ScheduleReader) : Type 0 where
+pub record Hears (number : ℕ) (said : ParsedLine) (old new : ScheduleReader) : Type 0 where
   pub begun : new.begun ≡ old.begun
   pub version : new.version ≡ old.version
   pub clock : new.clock ≡ clock_after (Ok said) old.clock
@@ -35,7 +35,7 @@ pub record Hears (number : ℕ) (said : Said) (old new : ScheduleReader) : Type 
   pub ended : new.ended ≡ (old.ended || is_last said)
 
 -- the schedule has the numbers and the lines of the state
-pub record IsOf (schedule : Schedule) (reader : ScheduleReader) : Type 0 where
-  pub clock : IfSome reader.clock (λ (about : About). about ≡ record { start = schedule.start; window = schedule.window; seats = schedule.seats })
+pub record IsScheduleOf (schedule : Schedule) (reader : ScheduleReader) : Type 0 where
+  pub clock : IfSome reader.clock (λ (config : ClockConfig). config ≡ record { start = schedule.start; window = schedule.window; seats = schedule.seats })
   pub version : schedule.version ≡ reader.version
   pub lines : schedule.lines ≡ reader.turns.items

@@ -3,7 +3,7 @@
 use Rattle.std.specs.Prelude.{ℕ, ◌≡◌, ◌≢◌, List, [], ◌∷◌, ◌++◌, map, take, slice_get, Bool, true, false, Some, codes}
 use Rattle.std.specs.List.{flat_map}
 use Rattle.std.specs.Fmt.{decimal}
-use Rattle.smr_core.specs.declared.about.About.{About}
+use Rattle.smr_core.specs.declared.clock_config.ClockConfig.{ClockConfig}
 use Rattle.smr_core.specs.declared.seen.Seen.{Seen}
 use Rattle.smr_core.specs.declared.seen.Seen.TheVariants.{Hand, Done, Inside, Late, Spent, TooFar, Goal, Yes, No, Word, Present, Holder}
 use Rattle.smr_core.specs.declared.step_refused.StepRefused.{StepRefused}
@@ -11,7 +11,7 @@ use Rattle.smr_core.specs.declared.step_refused.StepRefused.TheVariants as refus
 use Rattle.smr_core.specs.declared.turn.Turn.{Turn}
 use Rattle.smr_core.specs.ClockState.{read_hand, write_hand}
 use Rattle.smr_core.specs.CoreState.{State, opening}
-use Rattle.smr_core.specs.CoreStep.{Refuses}
+use Rattle.smr_core.specs.CoreStep.{StepIsRefused}
 use Rattle.smr_core.specs.Turns.{IsTurn, TurnRun, first_step}
 use Rattle.schedule_text.specs.declared.schedule.Schedule.{Schedule}
 use Rattle.schedule_text.specs.declared.schedule.TurnLine.{TurnLine}
@@ -62,8 +62,8 @@ hands_line s = line (codes "hands" ∷ decimal (read_hand s.words) ∷ decimal (
 -- ---- what a schedule prints
 
 -- the numbers of its clock
-abbrev pub about_of : Schedule → About
-about_of schedule = record { start = schedule.start; window = schedule.window; seats = schedule.seats }
+abbrev pub config_of : Schedule → ClockConfig
+config_of schedule = record { start = schedule.start; window = schedule.window; seats = schedule.seats }
 
 abbrev pub turns_of : List TurnLine → List Turn
 turns_of lines = map (λ (l : TurnLine). l.turn) lines
@@ -78,14 +78,14 @@ pub record Prints (version : Version) (s : State) (lines : List TurnLine) (bytes
 pub record IsOutput (schedule : Schedule) (bytes : List ℕ) : Type 0 where
   pub last : State
   pub printed : List ℕ
-  pub prints : Prints schedule.version (opening (about_of schedule)) schedule.lines printed last
+  pub prints : Prints schedule.version (opening (config_of schedule)) schedule.lines printed last
   pub text : bytes ≡ printed ++ hands_line last
 
 -- ---- the refusal of a step
 
 -- The line l is refused so in the state s.
 pub record RefusesLine (s : State) (l : TurnLine) (refused : StepRefused) : Type 0 where
-  pub step : Refuses s (first_step l.turn) refused
+  pub step : StepIsRefused s (first_step l.turn) refused
   pub not_memory : refused ≢ refusals.Memory
 
 -- The line of place n is the first that is refused: the lines before it were taken.
@@ -93,7 +93,7 @@ pub record RefusedAt (schedule : Schedule) (n : ℕ) (l : TurnLine) (refused : S
   pub there : slice_get schedule.lines n ≡ Some l
   pub mid : State
   pub printed : List ℕ
-  pub before : Prints schedule.version (opening (about_of schedule)) (take n schedule.lines) printed mid
+  pub before : Prints schedule.version (opening (config_of schedule)) (take n schedule.lines) printed mid
   pub refuses : RefusesLine mid l refused
 
 -- Why a schedule isn't played: a step is refused, the first one, which stands with its line; or memory was wanting.

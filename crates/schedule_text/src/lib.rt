@@ -18,7 +18,7 @@ mod words;
 
 pub use laws::schedules_print_one_thing;
 pub use output::schedule_text;
-pub use reading::said::{start_in, window_in};
+pub use reading::parsed_line::{start_in, window_in};
 pub use reading::{one_schedule_reading, parse_schedule};
 pub use refused::ScheduleRefused;
 pub use schedule::{Schedule, TurnLine, TurnLines, Version};

@@ -6,7 +6,7 @@ ghost use Rattle.smr_core.specs.ClockState.{IsInRange};
 ghost use Rattle.smr_core.specs.CoreState.{opening};
 ghost use Rattle.schedule_text.specs.ScheduleGrammar.{IsValidSchedule};
 ghost use Rattle.schedule_text.specs.ScheduleLaws.{NoneIsRefused};
-ghost use Rattle.schedule_text.specs.ScheduleText.{seen_line, present_line, goal_line, word_line, about_of, IsOutput, PrintsLine, RefusesSchedule, RefusesTurnLine, hands_line};
+ghost use Rattle.schedule_text.specs.ScheduleText.{seen_line, present_line, goal_line, word_line, config_of, IsOutput, PrintsLine, RefusesSchedule, RefusesTurnLine, hands_line};
 
 use crate::{Schedule, ScheduleRefused, TurnLine, Version};
 use smr_core::{Core, Seen};
@@ -33,8 +33,8 @@ pub fn schedule_text(alloc: Global, schedule: &Schedule) -> Result<Vec<u8>, Sche
 
 /// The core that a schedule plays on, before its first line.
 fn open(alloc: Global, schedule: &Schedule) -> Result<Core, ScheduleRefused>
-    requires { IsInRange (about_of schedule.now) }
-    ensures ok { IfOk result (λ core. core ≡ opening (about_of schedule.now)) }
+    requires { IsInRange (config_of schedule.now) }
+    ensures ok { IfOk result (λ core. core ≡ opening (config_of schedule.now)) }
     ensures refused { IfErr result (λ refused. refused ≡ ScheduleRefused.Memory) }
 {
     match Core::new(alloc, schedule.seats, schedule.start, schedule.window) {

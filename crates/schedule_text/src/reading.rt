@@ -10,8 +10,8 @@ use reader::ScheduleReader;
 use std::alloc::Global;
 use text_lines::read_lines;
 
+pub(crate) mod parsed_line;
 mod reader;
-pub(crate) mod said;
 mod word;
 
 /// Reads a schedule. The first bad line is named, and the first thing that is wrong with it.

@@ -33,7 +33,7 @@ none_is_some n e = cc
 module _ (a : Setup) (count : ℕ) where
   -- the clock's words, in front of the host's
   abbrev clock_words : List ℕ
-  clock_words = opening_words a.about
+  clock_words = opening_words a.config
 
   only_keeper : (id n : ℕ) → KeepsCount (first_view a (Some count) ∷ []) id n → (id ≡ 0) × (count ≡ n)
   only_keeper zero n keeps = (refl, let e : Some count ≡ Some n = some-injective (Some count) (Some n) keeps in cc)
@@ -41,14 +41,14 @@ module _ (a : Setup) (count : ℕ) where
 
   pub counting_opens : (more : List ℕ) → more ≡ count ∷ [] → Opens Counted a (Some count) more
   counting_opens more one_word r =
-      let place : count_place a ≡ length clock_words = sym (opening-long a.about) in
+      let place : count_place a ≡ length clock_words = sym (opening-long a.config) in
       let at : slice_index (first_words a (count ∷ [])) (count_place a) ≡ count =
       ap (λ (n : ℕ). slice_index (first_words a (count ∷ [])) n) place
       ∙ get_or-append_seam clock_words count [] 0 in
       subst (λ (m : List ℕ). Counted a (first_words a m) (first_view a (Some count) ∷ [])) (sym one_word)
       (record {
         clock = opens_clocked a (Some count) (count ∷ []) r;
-        there = let all : length (clock_words ++ count ∷ []) ≡ length clock_words + 1 = length-append clock_words (count ∷ []) in let long = opening-long a.about in omega arith;
+        there = let all : length (clock_words ++ count ∷ []) ≡ length clock_words + 1 = length-append clock_words (count ∷ []) in let long = opening-long a.config in omega arith;
         known = λ id n keeps. at ∙ (only_keeper id n keeps).1;
         one = λ id else n m p q. (only_keeper id n p).0 ∙ sym (only_keeper else m q).0;
       })
@@ -188,7 +188,7 @@ module _ (a : Setup) (id : ℕ) (v : View (Option ℕ)) (own : v.setup ≡ a) wh
     still a ws vs id v held at (set ws word (slice_index ws word)) (set vs id (with_host (looked v word (slice_index ws word)) v.host))
         (look_clocked ws vs id v a held.clock at own word v.host hand)
         (length-set ws word (slice_index ws word))
-        (get_or-set_other ws word (count_place a) (slice_index ws word) 0 (λ e. let below = hand_below a.about word hand in omega arith))
+        (get_or-set_other ws word (count_place a) (slice_index ws word) 0 (λ e. let below = hand_below a.config word hand in omega arith))
         (hosts_kept a vs id v (with_host (looked v word (slice_index ws word)) v.host) at refl),
   )
 

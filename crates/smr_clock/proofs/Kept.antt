@@ -29,8 +29,8 @@ holders_plain [] = refl
 holders_plain (v ∷ vs) = ap (λ (l : List Holder). v.holder ∷ l) (holders_plain vs)
 
 -- so the clock's law is that of the plain views
-pub law_plain : {P : Type 0} (a : Setup) (ws : List ℕ) (vs : List (View P)) → ClockLaw a.about ws (holders_of vs) → ClockLaw a.about ws (holders_in (plain_views vs))
-law_plain a ws vs law = subst (λ (l : List Holder). ClockLaw a.about ws l) (sym (holders_plain vs)) law
+pub law_plain : {P : Type 0} (a : Setup) (ws : List ℕ) (vs : List (View P)) → ClockLaw a.config ws (holders_of vs) → ClockLaw a.config ws (holders_in (plain_views vs))
+law_plain a ws vs law = subst (λ (l : List Holder). ClockLaw a.config ws l) (sym (holders_plain vs)) law
 
 module _ {P : Type 0} (a : Setup) (vs : List (View P)) (id : ℕ) (v v' : View P) where
   pub holders_set : holders_of (set vs id v') ≡ set (holders_of vs) id v'.holder
@@ -57,11 +57,11 @@ module _ {P : Type 0} (a : Setup) (vs : List (View P)) (id : ℕ) (v v' : View P
 
   -- the clock's law after a step that changes one view, whatever becomes of the host's part
   pub clocked_after : (ws ws' : List ℕ) → Clocked a ws vs → get_elem? vs id ≡ some v → v.setup ≡ a → v'.setup ≡ v.setup → v'.made ≡ v.made → v'.holder.seat ≡ v.holder.seat
-      → ClockLaw a.about ws' (set (holders_of vs) id v'.holder) → RememberedLaw a.about (set (plain_views vs) id (plain v')) → Clocked a ws' (set vs id v')
+      → ClockLaw a.config ws' (set (holders_of vs) id v'.holder) → RememberedLaw a.config (set (plain_views vs) id (plain v')) → Clocked a ws' (set vs id v')
   clocked_after ws ws' c at own setup same_made seat law memory =
       record {
-        law = subst (λ (l : List Holder). ClockLaw a.about ws' l) (sym holders_set) law;
-        memory = subst (λ (l : List Plain). RememberedLaw a.about l) (sym plain_set) memory;
+        law = subst (λ (l : List Holder). ClockLaw a.config ws' l) (sym holders_set) law;
+        memory = subst (λ (l : List Plain). RememberedLaw a.config l) (sym plain_set) memory;
         setups = λ j w there alive.
             ⊎_elim (λ t. subst (λ (x : View P). x.setup ≡ a) t.1 (setup ∙ own)) (λ t. c.setups j w t.1 alive) (at_set vs id j v' w there);
         makers = λ maker count first made j s there.
@@ -74,8 +74,8 @@ module _ {P : Type 0} (a : Setup) (vs : List (View P)) (id : ℕ) (v v' : View P
 
 module _ {P : Type 0} (holds : Rule P) (includes : Includes holds) (frame : FrameLaw holds) where
   kept : (a : Setup) (ws : List ℕ) (vs : List (View P)) (id : ℕ) (v v' : View P) (i n : ℕ)
-      → holds a ws vs → get_elem? vs id ≡ some v → v.setup ≡ a → SameAside v v' → i < place_after_seats a.about
-      → Later a.about ws (set ws i n) (set (holders_of vs) id v'.holder) → RememberedLaw a.about (set (plain_views vs) id (plain v'))
+      → holds a ws vs → get_elem? vs id ≡ some v → v.setup ≡ a → SameAside v v' → i < place_after_seats a.config
+      → Later a.config ws (set ws i n) (set (holders_of vs) id v'.holder) → RememberedLaw a.config (set (plain_views vs) id (plain v'))
       → holds a (set ws i n) (set vs id v')
   kept a ws vs id v v' i n held at own same below later memory =
       frame a ws vs (set ws i n) (set vs id v') held
@@ -91,10 +91,10 @@ module _ {P : Type 0} (holds : Rule P) (includes : Includes holds) (frame : Fram
       (hosts_kept a vs id v v' at same.host)
 
   mine : (slots id : ℕ) (me : Me (Unit {0}) (View P)) (i : ℕ) (f : ℕ → ℕ) (next : ℕ → View P) (then : ℕ → Me (Unit {0}) (View P) → Type 0)
-      → i < place_after_seats me.0.setup.about → ((found : ℕ) → SameAside me.0 (next found))
-      → Keeps me.0.setup.about id me.0.holder i f (λ found. (next found).holder)
-      → KeepsMemory me.0.setup.about id (plain me.0) i (λ found. plain (next found))
-      → ((ws : List ℕ) (hs : List Holder) → ClockLaw me.0.setup.about ws hs → get_elem? hs id ≡ some me.0.holder → then (slice_index ws i) (next (slice_index ws i), me.1))
+      → i < place_after_seats me.0.setup.config → ((found : ℕ) → SameAside me.0 (next found))
+      → Keeps me.0.setup.config id me.0.holder i f (λ found. (next found).holder)
+      → KeepsMemory me.0.setup.config id (plain me.0) i (λ found. plain (next found))
+      → ((ws : List ℕ) (hs : List Holder) → ClockLaw me.0.setup.config ws hs → get_elem? hs id ≡ some me.0.holder → then (slice_index ws i) (next (slice_index ws i), me.1))
       → Allows (λ (s : State (Unit {0}) (View P)). holds me.0.setup s.words s.views) slots id me i f then
   mine slots id me i f next then below same lawful remembers tells s held counted at small =
       let c : Clocked me.0.setup s.words s.views = includes me.0.setup s.words s.views held in
@@ -111,10 +111,10 @@ module _ {P : Type 0} (holds : Rule P) (includes : Includes holds) (frame : Fram
 
   -- Whatever the table is, the seat may take the step.
   pub allowed : (a : Setup) (slots id : ℕ) (me : Me (Unit {0}) (View P)) (i : ℕ) (f : ℕ → ℕ) (next : ℕ → View P) (then : ℕ → Me (Unit {0}) (View P) → Type 0)
-      → me.0.setup ≡ a → i < place_after_seats me.0.setup.about → ((found : ℕ) → SameAside me.0 (next found))
-      → Keeps me.0.setup.about id me.0.holder i f (λ found. (next found).holder)
-      → KeepsMemory me.0.setup.about id (plain me.0) i (λ found. plain (next found))
-      → ((ws : List ℕ) (hs : List Holder) → ClockLaw me.0.setup.about ws hs → get_elem? hs id ≡ some me.0.holder → then (slice_index ws i) (next (slice_index ws i), me.1))
+      → me.0.setup ≡ a → i < place_after_seats me.0.setup.config → ((found : ℕ) → SameAside me.0 (next found))
+      → Keeps me.0.setup.config id me.0.holder i f (λ found. (next found).holder)
+      → KeepsMemory me.0.setup.config id (plain me.0) i (λ found. plain (next found))
+      → ((ws : List ℕ) (hs : List Holder) → ClockLaw me.0.setup.config ws hs → get_elem? hs id ≡ some me.0.holder → then (slice_index ws i) (next (slice_index ws i), me.1))
       → Allows (λ (s : State (Unit {0}) (View P)). holds a s.words s.views) slots id me i f then
   allowed a slots id me i f next then own below same lawful remembers tells =
       subst (λ (b : Setup). Allows (λ (s : State (Unit {0}) (View P)). holds b s.words s.views) slots id me i f then) own

@@ -15,15 +15,15 @@ use Rattle.smr_clock.specs.Making.{first_words, fresh_view, AreSplitOff, OneForE
 
 -- as many words as the clock's own and the host's
 pub words_made : (a b : Setup) (more given made : List ℕ) (count : ℕ) → made ≡ first_words b given → b ≡ a → given ≡ more → count ≡ length made
-    → count ≡ place_after_seats a.about + length more
+    → count ≡ place_after_seats a.config + length more
 words_made a b more given made count is same whole all =
-    let blank : List ℕ = replicate (place_after_seats b.about) 0 in
-    let write : List ℕ = set blank write_place b.about.start in
-    let hands : List ℕ = set write read_place b.about.start in
-    let own : length (opening_words b.about) ≡ place_after_seats b.about =
-    length-set hands (presence_place b.about) (all_seats b.about) ∙ length-set write read_place b.about.start ∙ length-set blank write_place b.about.start
-    ∙ length-replicate (place_after_seats b.about) 0 in
-    all ∙ ap (λ (l : List ℕ). length l) is ∙ length-append (opening_words b.about) given ∙ (λ i. own i + length (whole i)) ∙ (λ i. place_after_seats (same i).about + length more)
+    let blank : List ℕ = replicate (place_after_seats b.config) 0 in
+    let write : List ℕ = set blank write_place b.config.start in
+    let hands : List ℕ = set write read_place b.config.start in
+    let own : length (opening_words b.config) ≡ place_after_seats b.config =
+    length-set hands (presence_place b.config) (all_seats b.config) ∙ length-set write read_place b.config.start ∙ length-set blank write_place b.config.start
+    ∙ length-replicate (place_after_seats b.config) 0 in
+    all ∙ ap (λ (l : List ℕ). length l) is ∙ length-append (opening_words b.config) given ∙ (λ i. own i + length (whole i)) ∙ (λ i. place_after_seats (same i).config + length more)
 
 module _ {H P : Type 0} {g : Ghosts H P} (table : TableId) (copied : P → P) (a : Setup) (first : P) where
   pub none_yet : AreSplitOff {H = H} {P = P} {g = g} table copied a first []
@@ -57,7 +57,7 @@ module _ {H P : Type 0} {g : Ghosts H P} (table : TableId) (copied : P → P) (a
   seat_at : (at : ℕ) (pass : Pass H P g) → get_elem? passes at ≡ some pass → (holder pass).seat ≡ Some at
   seat_at at pass is = ap (λ (v : View P). v.holder.seat) (made.fresh at pass is)
 
-  pub one-for-each-seat : length passes ≡ a.about.seats → OneForEachSeat a.about.seats passes
+  pub one-for-each-seat : length passes ≡ a.config.seats → OneForEachSeat a.config.seats passes
   one-for-each-seat many =
       record {
         of_a_seat = λ at pass is. (at, seat_at at pass is, let within = place_within passes at pass is in omega arith);

@@ -42,7 +42,7 @@ module _ {P : Type 0} (v : View P) where
   same_aside (Leave s) found = aside _ _ refl refl refl refl
   same_aside (Come s) found = aside _ _ refl refl refl refl
   same_aside AdvanceRead found = aside _ _ refl refl refl refl
-  same_aside AdvanceLoad found = aside _ _ refl refl refl (advance_seat v.setup.about v.holder found)
+  same_aside AdvanceLoad found = aside _ _ refl refl refl (advance_seat v.setup.config v.holder found)
   same_aside AdvanceSwap found = aside _ _ refl refl refl refl
   same_aside PollRead found = aside _ _ refl refl refl refl
   same_aside PollLoad found = aside _ _ refl refl refl refl
@@ -55,57 +55,57 @@ module _ {P : Type 0} (ws : List ℕ) (vs : List (View P)) (id : ℕ) (v : View 
   here = holder_there v.setup vs id v v at
 
   later : (kind : Kind) → Needs kind v
-      → Later v.setup.about ws (set ws (place kind v.setup.about v.holder) (leaves kind v.holder (slice_index ws (place kind v.setup.about v.holder))))
-      (set (holders_of vs) id (view_after kind v (slice_index ws (place kind v.setup.about v.holder))).holder)
-  later WriteLook needs = write_look-keeps v.setup.about id v.holder ws (holders_of vs) c.law here
-  later ReadLook needs = read_look-keeps v.setup.about id v.holder ws (holders_of vs) c.law here
-  later EnterLoad needs = enter_load-keeps v.setup.about id v.holder needs ws (holders_of vs) c.law here
-  later (EnterStore s) needs = enter_store-keeps v.setup.about id v.holder s needs.0 needs.1 ws (holders_of vs) c.law here
-  later EnterCheck needs = enter_check-keeps v.setup.about id v.holder needs ws (holders_of vs) c.law here
-  later (Clear s) needs = clear-keeps v.setup.about id v.holder s needs.0 needs.1 ws (holders_of vs) c.law here
-  later (Leave s) needs = leave-keeps v.setup.about id v.holder s needs.0 needs.1 needs.2 ws (holders_of vs) c.law here
-  later (Come s) needs = come-keeps v.setup.about id v.holder s needs.0 needs.1 ws (holders_of vs) c.law here
-  later AdvanceRead needs = advance_read-keeps v.setup.about id v.holder needs.0 needs.1 ws (holders_of vs) c.law here
-  later AdvanceLoad needs = advance_load-keeps v.setup.about id v.holder needs ws (holders_of vs) c.law here
-  later AdvanceSwap needs = advance_swap-keeps v.setup.about id v.holder needs ws (holders_of vs) c.law here
-  later PollRead needs = poll_read-keeps v.setup.about id v.holder needs ws (holders_of vs) c.law here
-  later PollLoad needs = poll_load-keeps v.setup.about id v.holder needs ws (holders_of vs) c.law here
-  later PollPresent needs = poll_present-keeps v.setup.about id v.holder needs ws (holders_of vs) c.law here
-  later PollScan needs = poll_scan-keeps v.setup.about id v.holder needs.0 needs.1 ws (holders_of vs) c.law here
-  later PollSwap needs = poll_swap-keeps v.setup.about id v.holder needs.0 needs.1 ws (holders_of vs) c.law here
+      → Later v.setup.config ws (set ws (place kind v.setup.config v.holder) (leaves kind v.holder (slice_index ws (place kind v.setup.config v.holder))))
+      (set (holders_of vs) id (view_after kind v (slice_index ws (place kind v.setup.config v.holder))).holder)
+  later WriteLook needs = write_look-keeps v.setup.config id v.holder ws (holders_of vs) c.law here
+  later ReadLook needs = read_look-keeps v.setup.config id v.holder ws (holders_of vs) c.law here
+  later EnterLoad needs = enter_load-keeps v.setup.config id v.holder needs ws (holders_of vs) c.law here
+  later (EnterStore s) needs = enter_store-keeps v.setup.config id v.holder s needs.0 needs.1 ws (holders_of vs) c.law here
+  later EnterCheck needs = enter_check-keeps v.setup.config id v.holder needs ws (holders_of vs) c.law here
+  later (Clear s) needs = clear-keeps v.setup.config id v.holder s needs.0 needs.1 ws (holders_of vs) c.law here
+  later (Leave s) needs = leave-keeps v.setup.config id v.holder s needs.0 needs.1 needs.2 ws (holders_of vs) c.law here
+  later (Come s) needs = come-keeps v.setup.config id v.holder s needs.0 needs.1 ws (holders_of vs) c.law here
+  later AdvanceRead needs = advance_read-keeps v.setup.config id v.holder needs.0 needs.1 ws (holders_of vs) c.law here
+  later AdvanceLoad needs = advance_load-keeps v.setup.config id v.holder needs ws (holders_of vs) c.law here
+  later AdvanceSwap needs = advance_swap-keeps v.setup.config id v.holder needs ws (holders_of vs) c.law here
+  later PollRead needs = poll_read-keeps v.setup.config id v.holder needs ws (holders_of vs) c.law here
+  later PollLoad needs = poll_load-keeps v.setup.config id v.holder needs ws (holders_of vs) c.law here
+  later PollPresent needs = poll_present-keeps v.setup.config id v.holder needs ws (holders_of vs) c.law here
+  later PollScan needs = poll_scan-keeps v.setup.config id v.holder needs.0 needs.1 ws (holders_of vs) c.law here
+  later PollSwap needs = poll_swap-keeps v.setup.config id v.holder needs.0 needs.1 ws (holders_of vs) c.law here
 
-  law : ClockLaw v.setup.about ws (holders_in (plain_views vs))
+  law : ClockLaw v.setup.config ws (holders_in (plain_views vs))
   law = law_plain v.setup ws vs c.law
 
   plainly : get_elem? (plain_views vs) id ≡ some (plain v)
   plainly = plain_there v.setup vs id v v at
 
-  remembers : (kind : Kind) → Needs kind v → RememberedLaw v.setup.about (set (plain_views vs) id (plain (view_after kind v (slice_index ws (place kind v.setup.about v.holder)))))
-  remembers WriteLook needs = write_look-remembers v.setup.about id (plain v) ws (plain_views vs) law c.memory plainly
-  remembers ReadLook needs = read_look-remembers v.setup.about id (plain v) ws (plain_views vs) law c.memory plainly
-  remembers EnterLoad needs = enter_load-remembers v.setup.about id (plain v) ws (plain_views vs) law c.memory plainly
-  remembers (EnterStore s) needs = enter_store-remembers v.setup.about id s (plain v) needs.1 ws (plain_views vs) law c.memory plainly
-  remembers EnterCheck needs = enter_check-remembers v.setup.about id (plain v) needs ws (plain_views vs) law c.memory plainly
-  remembers (Clear s) needs = clear-remembers v.setup.about id s (plain v) ws (plain_views vs) law c.memory plainly
-  remembers (Leave s) needs = leave-remembers v.setup.about id (plain v) ws (plain_views vs) law c.memory plainly
-  remembers (Come s) needs = come-remembers v.setup.about id (plain v) ws (plain_views vs) law c.memory plainly
-  remembers AdvanceRead needs = advance_read-remembers v.setup.about id (plain v) ws (plain_views vs) law c.memory plainly
-  remembers AdvanceLoad needs = advance_load-remembers v.setup.about id (plain v) ws (plain_views vs) law c.memory plainly
-  remembers AdvanceSwap needs = advance_swap-remembers v.setup.about id (plain v) ws (plain_views vs) law c.memory plainly
-  remembers PollRead needs = poll_read-remembers v.setup.about id (plain v) ws (plain_views vs) law c.memory plainly
-  remembers PollLoad needs = poll_load-remembers v.setup.about id (plain v) ws (plain_views vs) law c.memory plainly
-  remembers PollPresent needs = poll_present-remembers v.setup.about id (plain v) ws (plain_views vs) law c.memory plainly
-  remembers PollScan needs = poll_scan-remembers v.setup.about id (plain v) needs.0 needs.1 ws (plain_views vs) law c.memory plainly
-  remembers PollSwap needs = poll_swap-remembers v.setup.about id (plain v) needs.0 needs.1 ws (plain_views vs) law c.memory plainly
+  remembers : (kind : Kind) → Needs kind v → RememberedLaw v.setup.config (set (plain_views vs) id (plain (view_after kind v (slice_index ws (place kind v.setup.config v.holder)))))
+  remembers WriteLook needs = write_look-remembers v.setup.config id (plain v) ws (plain_views vs) law c.memory plainly
+  remembers ReadLook needs = read_look-remembers v.setup.config id (plain v) ws (plain_views vs) law c.memory plainly
+  remembers EnterLoad needs = enter_load-remembers v.setup.config id (plain v) ws (plain_views vs) law c.memory plainly
+  remembers (EnterStore s) needs = enter_store-remembers v.setup.config id s (plain v) needs.1 ws (plain_views vs) law c.memory plainly
+  remembers EnterCheck needs = enter_check-remembers v.setup.config id (plain v) needs ws (plain_views vs) law c.memory plainly
+  remembers (Clear s) needs = clear-remembers v.setup.config id s (plain v) ws (plain_views vs) law c.memory plainly
+  remembers (Leave s) needs = leave-remembers v.setup.config id (plain v) ws (plain_views vs) law c.memory plainly
+  remembers (Come s) needs = come-remembers v.setup.config id (plain v) ws (plain_views vs) law c.memory plainly
+  remembers AdvanceRead needs = advance_read-remembers v.setup.config id (plain v) ws (plain_views vs) law c.memory plainly
+  remembers AdvanceLoad needs = advance_load-remembers v.setup.config id (plain v) ws (plain_views vs) law c.memory plainly
+  remembers AdvanceSwap needs = advance_swap-remembers v.setup.config id (plain v) ws (plain_views vs) law c.memory plainly
+  remembers PollRead needs = poll_read-remembers v.setup.config id (plain v) ws (plain_views vs) law c.memory plainly
+  remembers PollLoad needs = poll_load-remembers v.setup.config id (plain v) ws (plain_views vs) law c.memory plainly
+  remembers PollPresent needs = poll_present-remembers v.setup.config id (plain v) ws (plain_views vs) law c.memory plainly
+  remembers PollScan needs = poll_scan-remembers v.setup.config id (plain v) needs.0 needs.1 ws (plain_views vs) law c.memory plainly
+  remembers PollSwap needs = poll_swap-remembers v.setup.config id (plain v) needs.0 needs.1 ws (plain_views vs) law c.memory plainly
 
   own_acts : (kind : Kind) → Needs kind v
-      → NoLower v.setup (ws, vs) (set ws (place kind v.setup.about v.holder) (leaves kind v.holder (slice_index ws (place kind v.setup.about v.holder))), set vs id (view_after kind v (slice_index ws (place kind v.setup.about v.holder))))
+      → NoLower v.setup (ws, vs) (set ws (place kind v.setup.config v.holder) (leaves kind v.holder (slice_index ws (place kind v.setup.config v.holder))), set vs id (view_after kind v (slice_index ws (place kind v.setup.config v.holder))))
   own_acts kind needs =
-      let found : ℕ = slice_index ws (place kind v.setup.about v.holder) in
+      let found : ℕ = slice_index ws (place kind v.setup.config v.holder) in
       let same = same_aside v kind found in
       let l = later kind needs in
       record {
-        law = clocked_after v.setup vs id v (view_after kind v found) ws (set ws (place kind v.setup.about v.holder) (leaves kind v.holder found)) c at refl same.setup same.made same.seat l.law (remembers kind needs);
+        law = clocked_after v.setup vs id v (view_after kind v found) ws (set ws (place kind v.setup.config v.holder) (leaves kind v.holder found)) c at refl same.setup same.made same.seat l.law (remembers kind needs);
         write_not_lower = l.write_not_lower;
         read_not_lower = l.read_not_lower;
       }
@@ -123,9 +123,9 @@ module _ {P : Type 0} (ws : List ℕ) (vs : List (View P)) (id : ℕ) (v : View 
         read_not_lower = subst (λ (l : List ℕ). read_hand ws ≤ read_hand l) (list_kept word) (le_refl (read_hand ws));
       }
 
-  own_host_acts : (word left : ℕ) (part : P) → place_after_seats v.setup.about ≤ word → NoLower v.setup (ws, vs) (set ws word left, set vs id (with_host v part))
+  own_host_acts : (word left : ℕ) (part : P) → place_after_seats v.setup.config ≤ word → NoLower v.setup (ws, vs) (set ws word left, set vs id (with_host v part))
   own_host_acts word left part above =
-      let l = other_word-keeps v.setup.about word left ws (holders_of vs) above c.law in
+      let l = other_word-keeps v.setup.config word left ws (holders_of vs) above c.law in
       record {
         law = step_clocked ws vs id v v.setup c at refl word left part above;
         write_not_lower = l.write_not_lower;
@@ -137,7 +137,7 @@ same_words : {P : Type 0} (a : Setup) (ws : List ℕ) (vs vs' : List (View P)) �
 same_words a ws vs vs' law = record { law = law; write_not_lower = le_refl (write_hand ws); read_not_lower = le_refl (read_hand ws) }
 
 makes_clocked : {P : Type 0} (copied : P → P) (a : Setup) (ws : List ℕ) (vs : List (View P)) (v : View P) (count : ℕ) → Clocked a ws vs → get_elem? vs 0 ≡ some v
-    → v.setup ≡ a → v.made ≡ Some count → count < a.about.seats → Clocked a ws (set vs 0 (one_more_made v) ++ worker_view copied v ∷ [])
+    → v.setup ≡ a → v.made ≡ Some count → count < a.config.seats → Clocked a ws (set vs 0 (one_more_made v) ++ worker_view copied v ∷ [])
 makes_clocked {P} copied a ws vs v count c at own made below =
     worker_splits {P = P} Clocked (λ b words views law. law) copied (λ b words views words' views' id w seat law moved there seats hosts. moved.after) a 0 v count own refl made below
     (record { words = ws; homes = []; views = vs }) c at
@@ -154,7 +154,7 @@ module _ {P : Type 0} (a : Setup) (now next : Moment P) (c : Clocked a now.0 now
   by_step (host_acts t) =
       subst (λ (m : Moment P). NoLower a now m) (sym t.after)
       (at_setup t.v _ t.own
-      (λ d. own_host_acts now.0 now.1 t.id t.v d t.there t.word t.left t.part (subst (λ (b : Setup). place_after_seats b.about ≤ t.word) (sym t.own) t.of_host)))
+      (λ d. own_host_acts now.0 now.1 t.id t.v d t.there t.word t.left t.part (subst (λ (b : Setup). place_after_seats b.config ≤ t.word) (sym t.own) t.of_host)))
   by_step (hand_loads t) =
       subst (λ (m : Moment P). NoLower a now m) (sym t.after)
       (at_setup t.v _ t.own (λ d. own_hand_loads now.0 now.1 t.id t.v d t.there t.word t.part t.of_hand))

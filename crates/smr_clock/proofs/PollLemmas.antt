@@ -6,7 +6,7 @@ use Rattle.std.proofs.lemmas.List.Sums.{fold-append}
 use Rattle.smr_seq.specs.Reading.{low}
 use Rattle.smr_seq.proofs.ReadingLemmas.{IsReading-unique}
 use Rattle.smr_core.specs.ClockStep.{least_after, last_found}
-use Rattle.smr_core.specs.declared.about.About.{About}
+use Rattle.smr_core.specs.declared.clock_config.ClockConfig.{ClockConfig}
 use Rattle.smr_core.specs.declared.found_word.FoundWord.{FoundWord}
 use Rattle.smr_core.specs.ClockState.{IsPresent, next_present, seats_below}
 use Rattle.smr_core.specs.Remembered.{seats_found, words_found, least_of}
@@ -22,7 +22,7 @@ use Rattle.smr_clock.specs.Polls.{begun, scanned_view, all_scanned, EndsAtLoad, 
 abbrev pub found_at : ℕ → ℕ → FoundWord
 found_at seat word = record { seat = seat; word = word }
 
-pub seats-more : (a : About) (words : List FoundWord) (seat word present : ℕ) → IsPresent present seat → seats_found words ≡ seats_below present seat
+pub seats-more : (a : ClockConfig) (words : List FoundWord) (seat word present : ℕ) → IsPresent present seat → seats_found words ≡ seats_below present seat
     → seats_found (words ++ found_at seat word ∷ []) ≡ seats_below present (next_present a present (seat + 1))
 seats-more a words seat word present is_in before =
     map-append (λ (f : FoundWord). f.seat) words (found_at seat word ∷ []) ∙ ap (λ (l : List ℕ). l ++ seat ∷ []) before
@@ -30,7 +30,7 @@ seats-more a words seat word present is_in before =
 
 module _ {P : Type 0} (v : View P) (words : List FoundWord) (seat word : ℕ) where
   abbrev next : ℕ
-  next = next_present v.setup.about v.holder.present (seat + 1)
+  next = next_present v.setup.config v.holder.present (seat + 1)
 
   words-more : words_found (words ++ found_at seat word ∷ []) ≡ words_found words ++ word ∷ []
   words-more = map-append (λ (f : FoundWord). f.word) words (found_at seat word ∷ [])
@@ -51,12 +51,12 @@ module _ {P : Type 0} (v : View P) (words : List FoundWord) (seat word : ℕ) wh
 
 -- ---- a yes
 
-module _ {P : Type 0} (v : View P) (goal tag : ℕ) (small : v.setup.about.window ≤ 2 ^ 30) (seen : goal ≤ v.holder.seen) (of_goal : low goal ≡ tag) where
+module _ {P : Type 0} (v : View P) (goal tag : ℕ) (small : v.setup.config.window ≤ 2 ^ 30) (seen : goal ≤ v.holder.seen) (of_goal : low goal ≡ tag) where
   at_load : (v' : View P) → EndsAtLoad v tag v' → goal ≤ v'.holder.floor
   at_load v' e =
       let w : v.holder.seen ≤ e.write = e.loads.write_found.not_lower in
       subst (λ (x : View P). goal ≤ x.holder.floor) (sym e.after)
-      (yes-is-known v.setup.about.window tag e.write e.read (begun v e.read e.write).holder.floor goal small (omega arith) (omega arith) e.yes (omega arith) of_goal)
+      (yes-is-known v.setup.config.window tag e.write e.read (begun v e.read e.write).holder.floor goal small (omega arith) (omega arith) e.yes (omega arith) of_goal)
 
   at_exchange : (v' : View P) → EndsAtExchange v tag true v' → goal ≤ v'.holder.floor
   at_exchange v' e =
@@ -64,7 +64,7 @@ module _ {P : Type 0} (v : View P) (goal tag : ℕ) (small : v.setup.about.windo
       let value = last_found (all_scanned v e.read e.write e.present e.words).holder e.found in
       let below = leb-true e.reading (last_found (all_scanned v e.read e.write e.present e.words).holder e.found) (sym e.says) in
       subst (λ (x : View P). goal ≤ x.holder.floor) (sym e.after)
-      (yes-is-known v.setup.about.window tag e.write (last_found (all_scanned v e.read e.write e.present e.words).holder e.found)
+      (yes-is-known v.setup.config.window tag e.write (last_found (all_scanned v e.read e.write e.present e.words).holder e.found)
       (poll_swapping (all_scanned v e.read e.write e.present e.words) e.found).holder.floor goal small (omega arith) (omega arith)
       (λ x r. let same : x ≡ e.reading = IsReading-unique tag e.write x e.reading r e.is_reading in omega arith) (omega arith) of_goal)
 

@@ -13,7 +13,7 @@ use Rattle.smr_clock.proofs.MomentLemmas.{steps-lower-no-hand}
 module _ {P : Type 0} (a : Setup) where
   none_before : (now : Moment P) (goal : ℕ) → Clocked a now.0 now.1 → goal ≤ read_hand now.0 → NoSectionBefore now goal
   none_before now goal c expired id v mark there inside before =
-      let above = marks_above_read a.about now.0 (holders_of now.1) id v.holder v.holder c.law id v.holder (holder_there a now.1 id v v there) inside.0 in
+      let above = marks_above_read a.config now.0 (holders_of now.1) id v.holder v.holder c.law id v.holder (holder_there a now.1 id v v there) inside.0 in
       let is : v.holder.mark ≡ mark = inside.1 in
       omega arith
 

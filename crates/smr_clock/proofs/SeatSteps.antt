@@ -5,7 +5,7 @@ use borrow.Author.Tests.{eqb-true, ne_eqb}
 use mathlib.Core.Option.{some}
 use lib.ListN.{get_elem?}
 use Rattle.atomic_table.specs.Table.{State, Me, Allows, keeps}
-use Rattle.smr_core.specs.declared.about.About.{About}
+use Rattle.smr_core.specs.declared.clock_config.ClockConfig.{ClockConfig}
 use Rattle.smr_core.specs.declared.holder.Holder.{Holder}
 use Rattle.smr_core.specs.ClockState.{write_place, read_place, place_after_seats}
 use Rattle.smr_core.specs.ClockLaw.{ClockLaw}
@@ -24,7 +24,7 @@ by_test : (b : Bool) (Q : Bool → Type 0) → (b ≡ true → Q true) → (b �
 by_test true Q t f = t refl
 by_test false Q t f = f refl
 
-finds : (a : About) (ws : List ℕ) (hs : List Holder) (id : ℕ) (h : Holder) (word : ℕ) → ClockLaw a ws hs → get_elem? hs id ≡ some h → FindsHand h word (slice_index ws word)
+finds : (a : ClockConfig) (ws : List ℕ) (hs : List Holder) (id : ℕ) (h : Holder) (word : ℕ) → ClockLaw a ws hs → get_elem? hs id ≡ some h → FindsHand h word (slice_index ws word)
 finds a ws hs id h word law at =
     by_test (word == write_place) (λ b. FindsAt b (word == read_place) h (slice_index ws word))
     (λ e. subst (λ (n : ℕ). IsWriteFound h (slice_index ws n)) (sym (eqb-true word write_place e)) (write_found a ws hs id h law at))
@@ -34,7 +34,7 @@ finds a ws hs id h word law at =
     (λ f. tt))
 
 -- a hand stands in front of a host's words
-pub hand_below : (a : About) (word : ℕ) → IsHand word → word < place_after_seats a
+pub hand_below : (a : ClockConfig) (word : ℕ) → IsHand word → word < place_after_seats a
 hand_below a word hand = ⊎_elim (λ e. omega arith) (λ e. omega arith) hand
 
 -- a word behind the hands is none
@@ -73,7 +73,7 @@ module _ {P : Type 0} (holds : Rule P) where
         keeps,
         tt,
         t.2,
-        ((finds a.about s.words (holders_of s.views) id me.0.holder word law (holder_there a s.views id me.0 me.0 at), t.0, t.1, refl), refl),
+        ((finds a.config s.words (holders_of s.views) id me.0.holder word law (holder_there a s.views id me.0 me.0 at), t.0, t.1, refl), refl),
       )
 
   pub hand_allowed : (includes : Includes holds) (a k : Setup) (slots id : ℕ) (me : Me (Unit {0}) (View P)) (word : ℕ) (changes : Change P) → a ≡ k → SeatKeeps holds a id me.0 word Load changes

@@ -55,12 +55,12 @@ module _ {P : Type 0} (vs : List (View P)) (id : ℕ) (v left right : View P) wh
       ∙ ap (λ (l : List P). l ++ right.host ∷ []) (hosts_kept right.setup vs id v left at e)
 
   pub clocked_split : (a : Setup) (ws : List ℕ) → Clocked a ws vs → get_elem? vs id ≡ some v → v.setup ≡ a → Parts v left right
-      → Later a.about ws ws (holders_of vs ++ right.holder ∷ []) → RememberedLaw a.about (plain_views vs ++ plain right ∷ [])
+      → Later a.config ws ws (holders_of vs ++ right.holder ∷ []) → RememberedLaw a.config (plain_views vs ++ plain right ∷ [])
       → CountsMade (set vs id left ++ right ∷ []) → Clocked a ws (set vs id left ++ right ∷ [])
   clocked_split a ws c at own p later memory made =
       record {
-        law = subst (λ (l : List Holder). ClockLaw a.about ws l) (sym (holders_split at p.holder)) later.law;
-        memory = subst (λ (l : List Plain). RememberedLaw a.about l) (sym (plain_split at (λ i. (p.holder i, remembered (p.memory i))))) memory;
+        law = subst (λ (l : List Holder). ClockLaw a.config ws l) (sym (holders_split at p.holder)) later.law;
+        memory = subst (λ (l : List Plain). RememberedLaw a.config l) (sym (plain_split at (λ i. (p.holder i, remembered (p.memory i))))) memory;
         setups = λ j w there alive.
             ⊎_elim
             (λ (old : get_elem? (set vs id left) j ≡ some w). ⊎_elim (λ t. subst (λ (x : View P). x.setup ≡ a) t.1 (p.setup ∙ own)) (λ t. c.setups j w t.1 alive) (at_set vs id j left w old))
@@ -117,7 +117,7 @@ module _ {P : Type 0} (copied : P → P) (vs : List (View P)) (id : ℕ) (v : Vi
 
 module _ {P : Type 0} (holds : Rule P) (includes : Includes holds) (copied : P → P) (split : SplitLaw holds copied) where
   split_kept : (a : Setup) (ws : List ℕ) (vs : List (View P)) (id : ℕ) (v left right : View P) → holds a ws vs → get_elem? vs id ≡ some v → v.setup ≡ a
-      → Parts v left right → left.host ≡ v.host → right.host ≡ copied v.host → Later a.about ws ws (holders_of vs ++ right.holder ∷ []) → RememberedLaw a.about (plain_views vs ++ plain right ∷ [])
+      → Parts v left right → left.host ≡ v.host → right.host ≡ copied v.host → Later a.config ws ws (holders_of vs ++ right.holder ∷ []) → RememberedLaw a.config (plain_views vs ++ plain right ∷ [])
       → CountsMade (set vs id left ++ right ∷ []) → holds a ws (set vs id left ++ right ∷ [])
   split_kept a ws vs id v left right held at own p host new_host later memory made =
       split a ws vs ws (set vs id left ++ right ∷ []) id v right.holder.seat held
@@ -137,11 +137,11 @@ module _ {P : Type 0} (holds : Rule P) (includes : Includes holds) (copied : P �
       let c = includes a s.words s.views held in
       split_kept a s.words s.views id v v (note_view copied v) held at own
       (record { holder = refl; memory = refl; setup = refl; new_setup = refl }) refl refl
-      (note-keeps a.about id v.holder s.words (holders_of s.views) c.law (holder_there a s.views id v v at))
-      (note-remembers a.about id (plain v) s.words (plain_views s.views) (law_plain a s.words s.views c.law) c.memory (plain_there a s.views id v v at))
+      (note-keeps a.config id v.holder s.words (holders_of s.views) c.law (holder_there a s.views id v v at))
+      (note-remembers a.config id (plain v) s.words (plain_views s.views) (law_plain a s.words s.views c.law) c.memory (plain_there a s.views id v v at))
       (note_counts s.views id v v (note_view copied v) c.makers at refl refl refl)
 
-  pub worker_splits : (a : Setup) (id : ℕ) (v : View P) (k : ℕ) → v.setup ≡ a → id ≡ 0 → v.made ≡ Some k → k < a.about.seats
+  pub worker_splits : (a : Setup) (id : ℕ) (v : View P) (k : ℕ) → v.setup ≡ a → id ≡ 0 → v.made ≡ Some k → k < a.config.seats
       → Splits (λ (s : State (Unit {0}) (View P)). holds a s.words s.views) id v (one_more_made v) (worker_view copied v)
   worker_splits a id v k own zeroth made below s held at =
       let c = includes a s.words s.views held in
@@ -151,8 +151,8 @@ module _ {P : Type 0} (holds : Rule P) (includes : Includes holds) (copied : P �
       λ j there. let less = c.makers v k at0 made j (count_made v.made) there in absurd (omega arith) in
       split_kept a s.words s.views id v (one_more_made v) (worker_view copied v) held at own
       (record { holder = refl; memory = refl; setup = refl; new_setup = refl }) refl refl
-      (worker-keeps a.about id (count_made v.made) v.holder s.words (holders_of s.views) c.law (holder_there a s.views id v v at) (omega arith) none)
-      (worker-remembers a.about id (count_made v.made) (plain v) s.words (plain_views s.views) (law_plain a s.words s.views c.law) c.memory (plain_there a s.views id v v at))
+      (worker-keeps a.config id (count_made v.made) v.holder s.words (holders_of s.views) c.law (holder_there a s.views id v v at) (omega arith) none)
+      (worker-remembers a.config id (count_made v.made) (plain v) s.words (plain_views s.views) (law_plain a s.words s.views c.law) c.memory (plain_there a s.views id v v at))
       (worker_counts copied s.views id v k c.makers at zeroth made)
 
 -- ---- a note that is taken in
@@ -182,13 +182,13 @@ module _ {P : Type 0} (merged : P → P → P) (blank : P) (vs : List (View P)) 
 
   clocked_joined : (a : Setup) (ws : List ℕ) → Clocked a ws vs → get_elem? vs id ≡ some v → get_elem? (set vs id (joined_view merged v note)) at ≡ some note
       → v.setup ≡ a → note.holder.seat ≡ None
-      → Later a.about ws ws (set (set (holders_of vs) id (clock.joined v.holder note.holder)) at spent)
-      → RememberedLaw a.about (set (set (plain_views vs) id (clock.joined v.holder note.holder, remembered v.memory)) at (spent, nothing_remembered))
+      → Later a.config ws ws (set (set (holders_of vs) id (clock.joined v.holder note.holder)) at spent)
+      → RememberedLaw a.config (set (set (plain_views vs) id (clock.joined v.holder note.holder, remembered v.memory)) at (spent, nothing_remembered))
       → Clocked a ws (set (set vs id (joined_view merged v note)) at (spent_view blank))
   clocked_joined a ws c here there own none later memory =
       record {
-        law = subst (λ (l : List Holder). ClockLaw a.about ws l) (sym holders_joined) later.law;
-        memory = subst (λ (l : List Plain). RememberedLaw a.about l) (sym plain_joined) memory;
+        law = subst (λ (l : List Holder). ClockLaw a.config ws l) (sym holders_joined) later.law;
+        memory = subst (λ (l : List Plain). RememberedLaw a.config l) (sym plain_joined) memory;
         setups = λ j w found alive.
             ⊎_elim
             (λ t. absurd (alive (ap (λ (x : View P). x.holder.phase) (sym t.1))))
@@ -211,9 +211,9 @@ module _ {P : Type 0} (merged : P → P → P) (blank : P) (vs : List (View P)) 
       let there' : get_elem? (set vs id (joined_view merged v note)) at ≡ some note = set_else vs id at (joined_view merged v note) apart ∙ there in
       let holder_at = holder_there a vs at note note there in
       clocked_joined a ws c here there' own
-      (seat_in_phase a.about ws note.holder phase.Note (c.law.holders at note.holder holder_at) is_note)
-      (join-keeps a.about id v.holder at note.holder apart is_note ws (holders_of vs) c.law (holder_there a vs id v v here) holder_at)
-      (join-remembers a.about id (plain v) at (plain note) apart is_note ws (plain_views vs) (law_plain a ws vs c.law) c.memory
+      (seat_in_phase a.config ws note.holder phase.Note (c.law.holders at note.holder holder_at) is_note)
+      (join-keeps a.config id v.holder at note.holder apart is_note ws (holders_of vs) c.law (holder_there a vs id v v here) holder_at)
+      (join-remembers a.config id (plain v) at (plain note) apart is_note ws (plain_views vs) (law_plain a ws vs c.law) c.memory
       (plain_there a vs id v v here) (plain_there a vs at note note there))
 
 module _ {P : Type 0} (holds : Rule P) (includes : Includes holds) (may_note : P → Bool) (merged : P → P → P) (blank : P) (join : JoinLaw holds may_note merged blank) where
@@ -222,7 +222,7 @@ module _ {P : Type 0} (holds : Rule P) (includes : Includes holds) (may_note : P
   note_joins a id v at note own is_note may s held here apart there =
       let c = includes a s.words s.views held in
       let there' : get_elem? s.views at ≡ some note = sym (set_else s.views id at (joined_view merged v note) apart) ∙ there in
-      let none : note.holder.seat ≡ None = seat_in_phase a.about s.words note.holder phase.Note (c.law.holders at note.holder (holder_there a s.views at note note there')) is_note in
+      let none : note.holder.seat ≡ None = seat_in_phase a.config s.words note.holder phase.Note (c.law.holders at note.holder (holder_there a s.views at note note there')) is_note in
       join a s.words s.views s.words (set (set s.views id (joined_view merged v note)) at (spent_view blank)) id at v note held
       (record {
         before = c;

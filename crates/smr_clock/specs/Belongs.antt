@@ -43,5 +43,5 @@ module _ {H P : Type 0} {g : Ghosts H P} where
   pass_clock pass = (pass.seat.table_id, pass.seat.me.0.setup)
 
   -- the pass is of this clock, and has its numbers
-  abbrev pub IsOf : Clock H P → Pass H P g → Type 0
-  IsOf clock pass = pass_clock pass ≡ clock_id clock
+  abbrev pub IsPassOf : Clock H P → Pass H P g → Type 0
+  IsPassOf clock pass = pass_clock pass ≡ clock_id clock

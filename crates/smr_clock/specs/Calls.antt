@@ -20,8 +20,8 @@ use Rattle.smr_clock.specs.declared.pass.Pass.{Pass}
 use Rattle.smr_clock.specs.declared.refused.AdvanceRefused.{AdvanceRefused}
 use Rattle.smr_clock.specs.declared.refused.Overtaken.{Overtaken}
 use Rattle.smr_clock.specs.declared.vacancy.Vacancy.{Vacancy}
-use Rattle.smr_clock.specs.Advances.{Advances, Refuses, SameWorker}
-use Rattle.smr_clock.specs.Belongs.{TableId, IsOf, holder, knows, seat_clock}
+use Rattle.smr_clock.specs.Advances.{Advances, AdvanceIsRefused, SameWorker}
+use Rattle.smr_clock.specs.Belongs.{TableId, IsPassOf, holder, knows, seat_clock}
 use Rattle.smr_clock.specs.Goals.{number_of, tag_of}
 use Rattle.smr_clock.specs.HostSteps.{Change, HostStepped, SeatStepped, HostSplits}
 use Rattle.smr_clock.specs.Notes.{IsNoteOf, IsSeatOf, note_knows, note_holder, note_table, seat_knows, seat_table}
@@ -86,7 +86,7 @@ module _ {P : Type 0} where
 
   pub record FindsPresent (clock : TableId × Setup) (was : View P) (present : ℕ) (seat : Seat (Unit {0}) (View P)) : Type 0 where
     pub here : seat_clock seat ≡ clock
-    pub found : present < 2 ^ clock.1.about.seats
+    pub found : present < 2 ^ clock.1.config.seats
     pub view : knows seat ≡ poll_presenting was present
 
   -- it has loaded the presence word too, and no word of a seat yet
@@ -95,12 +95,12 @@ module _ {P : Type 0} where
     pub scanning : (knows seat).holder.task ≡ task.Scanning
     pub hands : ((knows seat).holder.read ≡ read) × ((knows seat).holder.write ≡ write)
     pub set : (knows seat).holder.present ≡ present
-    pub fresh : knows seat ≡ scanned_view (knows seat) [] (next_present clock.1.about present 0)
+    pub fresh : knows seat ≡ scanned_view (knows seat) [] (next_present clock.1.config present 0)
 
   -- it has loaded the word of each seat in that set
   pub record Scans (clock : TableId × Setup) (was : View P) (present answer : ℕ) (seat : Seat (Unit {0}) (View P)) : Type 0 where
     pub here : seat_clock seat ≡ clock
-    pub scanned : (words : List FoundWord) × OneWordEach clock.1.about.seats present words × (knows seat ≡ scanned_view was words clock.1.about.seats)
+    pub scanned : (words : List FoundWord) × OneWordEach clock.1.config.seats present words × (knows seat ≡ scanned_view was words clock.1.config.seats)
     pub least : answer ≡ (knows seat).holder.least
 
   -- the word of this seat is the next
@@ -108,7 +108,7 @@ module _ {P : Type 0} where
     pub here : seat_clock seat ≡ clock
     pub scanning : (knows seat).holder.task ≡ task.Scanning
     pub next : (knows seat).holder.scanned ≡ number
-    pub known : number < clock.1.about.seats
+    pub known : number < clock.1.config.seats
 
   pub record FindsWord (clock : TableId × Setup) (was : View P) (found : ℕ) (seat : Seat (Unit {0}) (View P)) : Type 0 where
     pub here : seat_clock seat ≡ clock
@@ -119,7 +119,7 @@ module _ {P : Type 0} where
   pub record MayExchangeRead (clock : TableId × Setup) (read least : ℕ) (seat : Seat (Unit {0}) (View P)) : Type 0 where
     pub here : seat_clock seat ≡ clock
     pub scanning : (knows seat).holder.task ≡ task.Scanning
-    pub scanned : (knows seat).holder.scanned ≡ clock.1.about.seats
+    pub scanned : (knows seat).holder.scanned ≡ clock.1.config.seats
     pub hands : ((knows seat).holder.read ≡ read) × ((knows seat).holder.least ≡ least)
 
 module _ {H P : Type 0} {g : Ghosts H P} where
@@ -127,17 +127,17 @@ module _ {H P : Type 0} {g : Ghosts H P} where
 
   -- the pass is of this clock, and stands so with its section
   pub record IsInPhase (clock : Clock H P) (at : Phase) (pass : Pass H P g) : Type 0 where
-    pub here : IsOf clock pass
+    pub here : IsPassOf clock pass
     pub phase : (holder pass).phase ≡ at
 
   -- the pass is of this clock, and in a section, or too late for one
   pub record IsInOrLate (clock : Clock H P) (pass : Pass H P g) : Type 0 where
-    pub here : IsOf clock pass
+    pub here : IsPassOf clock pass
     pub in_or_late : ((holder pass).phase ≡ phase.Inside) ⊎ ((holder pass).phase ≡ phase.Late)
 
   -- the pass is of this clock still, and this is what it knows now
   pub record Becomes (clock : Clock H P) (after : View P) (pass : Pass H P g) : Type 0 where
-    pub here : IsOf clock pass
+    pub here : IsPassOf clock pass
     pub view : knows pass.seat ≡ after
 
   -- so is the vacancy that a pass became
@@ -147,44 +147,44 @@ module _ {H P : Type 0} {g : Ghosts H P} where
 
   -- the pass has loaded the write hand for an enter
   pub record LoadsEnter (clock : Clock H P) (old new : Pass H P g) : Type 0 where
-    pub here : IsOf clock new
+    pub here : IsPassOf clock new
     pub loaded : IsWriteFound (holder old) (holder new).loaded
     pub view : knows new.seat ≡ enter_loading (knows old.seat) (holder new).loaded
 
   -- The third step of an enter: the pass is in a section, or came too late.
   pub record ChecksEnter (clock : Clock H P) (old : Pass H P g) (answer : Result (Unit {0}) Overtaken) (new : Pass H P g) : Type 0 where
-    pub here : IsOf clock new
+    pub here : IsPassOf clock new
     pub entered : OnOk answer (Checks (knows old.seat) (knows new.seat))
     pub overtaken : IfErr answer (λ why. IsOvertaken (knows old.seat) why (knows new.seat))
 
   -- so it is after all three
   pub record TakesEnter (clock : Clock H P) (old : Pass H P g) (answer : Result (Unit {0}) Overtaken) (new : Pass H P g) : Type 0 where
-    pub here : IsOf clock new
+    pub here : IsPassOf clock new
     pub entered : OnOk answer (Enters (knows old.seat) (knows new.seat))
     pub overtaken : IfErr answer (λ why. Misses (knows old.seat) why (knows new.seat))
 
   -- The pass answers a goal, or is refused. It stands with its section as it did.
   pub record TakesAdvance (clock : Clock H P) (old : Pass H P g) (answer : Result Goal AdvanceRefused) (new : Pass H P g) : Type 0 where
-    pub here : IsOf clock new
+    pub here : IsPassOf clock new
     pub phase : (holder new).phase ≡ (holder old).phase
     pub advanced : IfOk answer (λ goal. Advances (knows old.seat) (number_of goal) (knows new.seat))
-    pub refused : IfErr answer (λ why. Refuses (knows old.seat) why (knows new.seat))
+    pub refused : IfErr answer (λ why. AdvanceIsRefused (knows old.seat) why (knows new.seat))
 
   -- both hands were found so, the read hand first
   pub record FindsHands (clock : Clock H P) (old : Pass H P g) (found : ℕ × ℕ) (new : Pass H P g) : Type 0 where
-    pub here : IsOf clock new
+    pub here : IsPassOf clock new
     pub read : IsReadFound (holder old) found.0
     pub write : IsWriteFound (read_looking (knows old.seat) found.0).holder found.1
     pub in_order : found.0 ≤ found.1
     pub seen : (holder new).seen ≡ found.1
-    pub floor : (holder new).floor ≡ max found.0 (found.1 - (knows old.seat).setup.about.window)
+    pub floor : (holder new).floor ≡ max found.0 (found.1 - (knows old.seat).setup.config.window)
     pub view : knows new.seat ≡ write_looking (read_looking (knows old.seat) found.0) found.1
 
   -- ---- notes
 
   -- both are of this clock
   pub record AreOf (clock : Clock H P) (pass : Pass H P g) (note : Note H P g) : Type 0 where
-    pub here : IsOf clock pass
+    pub here : IsPassOf clock pass
     pub note_here : IsNoteOf clock note
 
   -- the note is of this clock, and has seen the goal
@@ -213,7 +213,7 @@ module _ {H P : Type 0} {g : Ghosts H P} where
 
   -- the pass is of this clock still, and took this step on a word of the host's
   pub record TakesHostStep (clock : Clock H P) (was : View P) (word : ℕ) (act : HostAct) (changes : Change P) (found : ℕ) (pass : Pass H P g) : Type 0 where
-    pub here : IsOf clock pass
+    pub here : IsPassOf clock pass
     pub stepped : HostStepped was word act changes found (knows pass.seat)
 
   -- so did the host's seat, whose step may also be a load of a hand

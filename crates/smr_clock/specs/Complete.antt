@@ -5,7 +5,7 @@ use Rattle.smr_core.specs.declared.found_word.FoundWord.{FoundWord}
 use Rattle.smr_clock.specs.declared.view.View.{View}
 use Rattle.smr_clock.specs.declared.refused.AdvanceRefused.{AdvanceRefused}
 use Rattle.smr_clock.specs.declared.refused.AdvanceRefused.TheVariants.{TooFar, Spent}
-use Rattle.smr_clock.specs.Advances.{Refuses}
+use Rattle.smr_clock.specs.Advances.{AdvanceIsRefused}
 use Rattle.smr_clock.specs.Polls.{SaysNo}
 
 -- the write hand that the refused advance loaded
@@ -16,8 +16,8 @@ write_loaded (TooFar read write) = write
 -- No advance is refused where two more than the write hand that it loads is in range, and above what the pass knew of the read hand by at most the window.
 abbrev pub AdvancesWithRoom : Type 0 → Type 0
 AdvancesWithRoom P =
-    (v v' : View P) (refused : AdvanceRefused) → Refuses v refused v'
-    → write_loaded refused + 2 < 2 ^ 63 → write_loaded refused + 2 - v.holder.floor ≤ v.setup.about.window → ⊥
+    (v v' : View P) (refused : AdvanceRefused) → AdvanceIsRefused v refused v'
+    → write_loaded refused + 2 < 2 ^ 63 → write_loaded refused + 2 - v.holder.floor ≤ v.setup.config.window → ⊥
 
 -- No poll says no of a goal that its note knew to be expired, and that is less than 2^31 below the write hand that the poll loads.
 abbrev pub SaysYesOfKnown : Type 0 → Type 0

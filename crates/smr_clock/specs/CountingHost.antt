@@ -14,7 +14,7 @@ use Rattle.smr_clock.specs.HostLaws.{Includes, FrameLaw, SplitLaw, JoinLaw}
 use Rattle.smr_clock.specs.HostSteps.{Change, word_after}
 
 abbrev pub count_place : Setup → ℕ
-count_place a = place_after_seats a.about
+count_place a = place_after_seats a.config
 
 -- the seat keeps the word, in which this stands
 abbrev pub KeepsCount : List (View (Option ℕ)) → ℕ → ℕ → Type 0

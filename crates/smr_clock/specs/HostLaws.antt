@@ -18,7 +18,7 @@ Includes {P} holds = (a : Setup) (ws : List ℕ) (vs : List (View P)) → holds 
 
 -- What is remembered is so: the words that a poll found were stored by the workers of their seats, and what it scanned, and its least mark, follow from them.
 abbrev pub IncludesMemory : {P : Type 0} → Rule P → Type 0
-IncludesMemory {P} holds = (a : Setup) (ws : List ℕ) (vs : List (View P)) → holds a ws vs → RememberedLaw a.about (plain_views vs)
+IncludesMemory {P} holds = (a : Setup) (ws : List ℕ) (vs : List (View P)) → holds a ws vs → RememberedLaw a.config (plain_views vs)
 
 -- A step of the clock, as a host sees it: the clock's law holds before and after, neither hand is lower, and the host's words are as they were.
 pub record Moved {P : Type 0} (a : Setup) (ws : List ℕ) (vs : List (View P)) (ws' : List ℕ) (vs' : List (View P)) : Type 0 where
@@ -27,7 +27,7 @@ pub record Moved {P : Type 0} (a : Setup) (ws : List ℕ) (vs : List (View P)) (
   pub write_not_lower : write_hand ws ≤ write_hand ws'
   pub read_not_lower : read_hand ws ≤ read_hand ws'
   pub as_many : length ws' ≡ length ws
-  pub host_words : (i : ℕ) → place_after_seats a.about ≤ i → slice_index ws' i ≡ slice_index ws i
+  pub host_words : (i : ℕ) → place_after_seats a.config ≤ i → slice_index ws' i ≡ slice_index ws i
 
 -- a step that changes neither a seat's number nor a host part
 abbrev pub FrameLaw : {P : Type 0} → Rule P → Type 0

@@ -2,7 +2,7 @@
 use Rattle.std.specs.Prelude.{◌≡◌, ◌≢◌, ℕ, ◌<◌, ◌≤◌, ◌⊎◌, List, [], ◌∷◌, ◌++◌, slice_index, slice_set, Some, IsSome}
 use mathlib.Core.Option.{some}
 use lib.ListN.{get_elem?}
-use Rattle.smr_core.specs.declared.about.About.{About}
+use Rattle.smr_core.specs.declared.clock_config.ClockConfig.{ClockConfig}
 use Rattle.smr_core.specs.declared.holder.Holder.{Holder}
 use Rattle.smr_core.specs.declared.phase.Phase.TheVariants as phase
 use Rattle.smr_core.specs.declared.task.Task.TheVariants as task
@@ -56,11 +56,11 @@ Needs AdvanceSwap v = v.holder.task ≡ task.AdvLoaded
 Needs PollRead v = v.holder.phase ≢ phase.Vacant
 Needs PollLoad v = v.holder.task ≡ task.PollRead
 Needs PollPresent v = v.holder.task ≡ task.PollLoaded
-Needs PollScan v = (v.holder.task ≡ task.Scanning) × (v.holder.scanned < v.setup.about.seats)
-Needs PollSwap v = (v.holder.task ≡ task.Scanning) × (v.holder.scanned ≡ v.setup.about.seats)
+Needs PollScan v = (v.holder.task ≡ task.Scanning) × (v.holder.scanned < v.setup.config.seats)
+Needs PollSwap v = (v.holder.task ≡ task.Scanning) × (v.holder.scanned ≡ v.setup.config.seats)
 
 -- the place of the word that it acts on
-abbrev pub place : Kind → About → Holder → ℕ
+abbrev pub place : Kind → ClockConfig → Holder → ℕ
 place WriteLook a h = write_place
 place ReadLook a h = read_place
 place EnterLoad a h = write_place
@@ -125,7 +125,7 @@ pub record Acts {P : Type 0} (a : Setup) (now next : Moment P) : Type 0 where
   pub own : v.setup ≡ a
   pub needs : Needs kind v
   pub after :
-      let word = place kind v.setup.about v.holder in
+      let word = place kind v.setup.config v.holder in
       let found = slice_index now.0 word in
       next ≡ (slice_set now.0 word (leaves kind v.holder found), slice_set now.1 id (view_after kind v found))
 
@@ -140,7 +140,7 @@ pub record HostActs {P : Type 0} (a : Setup) (now next : Moment P) : Type 0 wher
   pub part : P
   pub there : get_elem? now.1 id ≡ some v
   pub own : v.setup ≡ a
-  pub of_host : place_after_seats a.about ≤ word
+  pub of_host : place_after_seats a.config ≤ word
   pub after : next ≡ (slice_set now.0 word left, slice_set now.1 id (with_host v part))
 
 -- The host's seat id loads a hand, whatever becomes of the host part.
@@ -174,7 +174,7 @@ pub record MakesWorker {P : Type 0} (a : Setup) (now next : Moment P) : Type 0 w
   pub there : get_elem? now.1 0 ≡ some v
   pub own : v.setup ≡ a
   pub made : v.made ≡ Some count
-  pub below : count < a.about.seats
+  pub below : count < a.config.seats
   pub after : next ≡ (now.0, slice_set now.1 0 (step.one_more_made v) ++ step.worker_view copied v ∷ [])
 
 -- A note, or a host's seat, is taken in, and is spent.

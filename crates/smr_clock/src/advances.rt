@@ -1,5 +1,5 @@
 ghost use Rattle.smr_core.specs.declared.task.Task.{Task};
-ghost use Rattle.smr_clock.specs.Belongs.{IsOf, clock_id, knows};
+ghost use Rattle.smr_clock.specs.Belongs.{IsPassOf, clock_id, knows};
 ghost use Rattle.smr_clock.specs.Calls.{IsInTask, FindsWrite, FindsRead, IsWorkerOf, LoadsWrite, MayExchangeWrite, TakesAdvance};
 ghost use Rattle.smr_clock.specs.Steps.{advance_reading, advance_swapping};
 
@@ -19,7 +19,7 @@ impl<H: Host> Clock<H> {
     /// Answers a goal, two above the write hand that it loads. At most one exchange moves the hand
     /// there; where another pass has moved it first, the hand is there all the same.
     pub fn advance(&self, pass: &mut Pass<H>) -> Result<Goal, AdvanceRefused>
-        requires here { IsOf self.now pass.old }
+        requires here { IsPassOf self.now pass.old }
         ensures { TakesAdvance self.now pass.old result pass.new }
     {
         let read = self.load_read_hand(&mut pass.seat);
@@ -27,7 +27,7 @@ impl<H: Host> Clock<H> {
         if is_spent(write) {
             return Err(AdvanceRefused::Spent { write });
         }
-        if is_too_far(self.setup.about, read, write) {
+        if is_too_far(self.setup.config, read, write) {
             return Err(AdvanceRefused::TooFar { read, write });
         }
         self.exchange_write_hand(&mut pass.seat, write);

@@ -14,7 +14,7 @@ use std::sync::Arc;
 pub struct Clock<H: Host> {
     pub(crate) table: Arc<Table<(), View<H::Part>, Setup, Ruled<H>, Global>>,
     pub(crate) setup: Setup,
-    ghost in_range: { IsInRange setup.about },
+    ghost in_range: { IsInRange setup.config },
     ghost keyed: { (arc_value table).shared.key ≡ setup },
-    ghost worded: { place_after_seats setup.about ≤ (arc_value table).shared.table_id.words },
+    ghost worded: { place_after_seats setup.config ≤ (arc_value table).shared.table_id.words },
 }

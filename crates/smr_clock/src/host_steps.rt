@@ -1,7 +1,7 @@
 ghost use Rattle.std.specs.Prelude.{◌≡◌, ◌<◌, ◌≤◌};
 ghost use Rattle.smr_core.specs.ClockState.{place_after_seats};
 ghost use Rattle.smr_clock.specs.declared.host_act.HostAct.{HostAct};
-ghost use Rattle.smr_clock.specs.Belongs.{IsOf, view, table_of, setup_of};
+ghost use Rattle.smr_clock.specs.Belongs.{IsPassOf, view, table_of, setup_of};
 ghost use Rattle.smr_clock.specs.Calls.{TakesHostStep, TakesSeatStep, StepsOnWord};
 ghost use Rattle.smr_clock.specs.Notes.{IsSeatOf, seat_knows};
 ghost use Rattle.smr_clock.specs.HostSteps.{HostKeeps, IsHand, MaySeatStep, SeatKeeps};
@@ -21,8 +21,8 @@ use atomic_table::Seat;
 impl<H: Host> Clock<H> {
     /// One step of a pass on a word of the host's. Answers the value found.
     pub fn host_step<M: HostPlay<H>>(&self, pass: &mut Pass<H>, word: u32, act: HostAct) -> u64
-        requires here { IsOf self.now pass.old }
-        requires word { (place_after_seats (setup_of self.now).about ≤ word) × (word < (table_of self.now).words) }
+        requires here { IsPassOf self.now pass.old }
+        requires word { (place_after_seats (setup_of self.now).config ≤ word) × (word < (table_of self.now).words) }
         requires keeps { HostKeeps H.holds (setup_of self.now) pass.old.seat.id (view pass.old) word act M.changes }
         ensures { TakesHostStep self.now (view pass.old) word act M.changes result pass.new }
     {

@@ -12,7 +12,7 @@ use crate::setup::Setup;
 use crate::view::View;
 use atomic_table::{Seat, Table};
 use smr_core::places::opening_words;
-use smr_core::{About, CoreRefused, Phase};
+use smr_core::{ClockConfig, CoreRefused, Phase};
 use std::alloc::{AllocError, Global};
 use std::sync::Arc;
 
@@ -21,10 +21,10 @@ pub type ClockRefused = CoreRefused;
 
 /// The words before any step, with the host's behind them.
 fn first_words(alloc: Global, setup: Setup, more: &[u64]) -> Result<Vec<u64>, AllocError>
-    requires { setup.about.seats ≤ 64 }
+    requires { setup.config.seats ≤ 64 }
     ensures { IfOk result (λ words. words.items ≡ first_words setup more.now) }
 {
-    let mut words = opening_words(alloc, setup.about)?;
+    let mut words = opening_words(alloc, setup.config)?;
     words.extend_from_slice(more)?;
     Ok(words)
 }
@@ -50,8 +50,8 @@ impl<H: Host> Clock<H> {
         requires opens { Opens H.holds (setup seats start window plan) (H.first (setup seats start window plan)) more.items }
         ensures { HostsClock H.copied (setup seats start window plan) (H.first (setup seats start window plan)) more.items result }
     {
-        let about = About::checked(seats, start, window)?;
-        let setup = Setup { about, plan };
+        let config = ClockConfig::checked(seats, start, window)?;
+        let setup = Setup { config, plan };
         let words = first_words(alloc, setup, more.as_slice())?;
         let (table, mut maker) = Table::of_words(alloc, words.as_slice(), &setup)?;
         let passes = make_passes(alloc, &table, setup, &mut maker)?;
@@ -71,7 +71,7 @@ fn make_passes<H: Host>(
     ensures { MakesPasses table.now.shared.table_id H.copied setup (H.first setup) result maker.new }
 {
     let mut passes = Vec::new(alloc);
-    for number in 0..setup.about.seats {
+    for number in 0..setup.config.seats {
         let seat = table.shared.split_seat::<WorkerSplits<H>>(maker);
         passes.push(Pass {
             seat,

@@ -16,7 +16,7 @@ pub struct Pass<H: Host> {
     // The write hand that its last enter loaded.
     pub(crate) loaded: u64,
     ghost numbered: { seat.me.0.holder.seat ≡ Some number },
-    ghost known: { number < seat.me.0.setup.about.seats },
+    ghost known: { number < seat.me.0.setup.config.seats },
     ghost in_phase: { seat.me.0.holder.phase ≡ phase },
     ghost worker: { seat.me.0.holder.phase ≢ Phase.Vacant },
     ghost idle: { seat.me.0.holder.task ≡ Task.Idle },

@@ -181,7 +181,7 @@ impl<P> Play<(), View<P>> for PollPresents {
     ghost use Rattle.std.specs.Prelude.{◌≡◌, ◌^◌, ◌<◌};
     ghost use Rattle.smr_clock.specs.Steps.{poll_presenting};
 
-    ghost then = { λ _ before found after. (found < 2 ^ before.0.setup.about.seats) × (after ≡ (poll_presenting before.0 found, before.1)) };
+    ghost then = { λ _ before found after. (found < 2 ^ before.0.setup.config.seats) × (after ≡ (poll_presenting before.0 found, before.1)) };
 }
 
 /// A poll's load of the next seat's word.

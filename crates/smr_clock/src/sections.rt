@@ -80,7 +80,7 @@ impl<H: Host> Clock<H> {
             .table
             .shared
             .load::<EnterChecks>(&mut pass.seat, WRITE_PLACE);
-        pass.phase = if is_overtaken(self.setup.about, pass.loaded, found) {
+        pass.phase = if is_overtaken(self.setup.config, pass.loaded, found) {
             Phase::Late
         } else {
             Phase::Inside

@@ -15,7 +15,7 @@ pub struct Vacancy<H: Host> {
     // The write hand that the last enter of its worker loaded.
     pub(crate) loaded: u64,
     ghost numbered: { seat.me.0.holder.seat ≡ Some number },
-    ghost known: { number < seat.me.0.setup.about.seats },
+    ghost known: { number < seat.me.0.setup.config.seats },
     ghost vacant: { seat.me.0.holder.phase ≡ Phase.Vacant },
     ghost idle: { seat.me.0.holder.task ≡ Task.Idle },
     ghost has_loaded: { seat.me.0.holder.loaded ≡ loaded },

@@ -18,26 +18,26 @@ use Rattle.smr_core.proofs.PlaceLemmas.{set_here, set_else, same_place, at_longe
 
 -- the actor that takes the step, after it
 abbrev pub Becomes : State → Step → Actor → Actor → Type 0
-Becomes s (EnterLoad n) x y = record x { holder = clock.enter_loaded s.about x.holder (write_hand s.words) } ≡ y
+Becomes s (EnterLoad n) x y = record x { holder = clock.enter_loaded s.config x.holder (write_hand s.words) } ≡ y
 Becomes s (EnterStore n) x y = record x { holder = clock.enter_stored x.holder } ≡ y
-Becomes s (EnterCheck n) x y = record x { holder = clock.enter_checked s.about x.holder (write_hand s.words) } ≡ y
+Becomes s (EnterCheck n) x y = record x { holder = clock.enter_checked s.config x.holder (write_hand s.words) } ≡ y
 Becomes s (Clear n) x y = record x { holder = clock.cleared x.holder } ≡ y
 Becomes s (Leave n) x y = record x { holder = clock.left x.holder } ≡ y
 Becomes s (Come n) x y = record x { holder = clock.came x.holder } ≡ y
 Becomes s (AdvanceRead n) x y = record x { holder = clock.advance_read x.holder (read_hand s.words) } ≡ y
-Becomes s (AdvanceLoad n) x y = record x { holder = clock.advance_loaded s.about x.holder (write_hand s.words) } ≡ y
+Becomes s (AdvanceLoad n) x y = record x { holder = clock.advance_loaded s.config x.holder (write_hand s.words) } ≡ y
 Becomes s (AdvanceSwap n) x y = record x { holder = clock.advance_swapped x.holder (write_hand s.words) } ≡ y
 Becomes s (PollRead n tag) x y = record x { holder = clock.poll_read x.holder (read_hand s.words); tag = tag } ≡ y
-Becomes s (PollLoad n) x y = poll_goes_on s.about x (write_hand s.words) (reading x.tag (write_hand s.words)) ≡ y
-Becomes s (PollPresent n) x y = record x { holder = clock.poll_present s.about x.holder (presence_word s.about s.words) } ≡ y
-Becomes s (PollScan n) x y = record x { holder = clock.poll_scanned s.about x.holder (seat_word s.words x.holder.scanned) } ≡ y
+Becomes s (PollLoad n) x y = poll_goes_on s.config x (write_hand s.words) (reading x.tag (write_hand s.words)) ≡ y
+Becomes s (PollPresent n) x y = record x { holder = clock.poll_present s.config x.holder (presence_word s.config s.words) } ≡ y
+Becomes s (PollScan n) x y = record x { holder = clock.poll_scanned s.config x.holder (seat_word s.words x.holder.scanned) } ≡ y
 Becomes s (PollSwap n) x y = record x { holder = clock.poll_swapped x.holder (read_hand s.words) } ≡ y
-Becomes s (Note n) x y = record x { holder = clock.write_loaded s.about x.holder (write_hand s.words) } ≡ y
+Becomes s (Note n) x y = record x { holder = clock.write_loaded s.config x.holder (write_hand s.words) } ≡ y
 Becomes s (Absorb n note) x y = (other : Actor) × (record x { holder = clock.joined x.holder other.holder } ≡ y)
 
 pub data Change (s : State) (step : Step) (n : ℕ) (x y : Actor) : Type 0 where
   stays : x ≡ y → Change s step n x y
-  acts : taker step ≡ n → Needs s.about step x.holder → Becomes s step x y → Change s step n x y
+  acts : taker step ≡ n → Needs s.config step x.holder → Becomes s step x y → Change s step n x y
   taken : x.holder.phase ≡ phase.Note → record x { holder = spent } ≡ y → Change s step n x y
 
 abbrev pub After : State → Step → State → ℕ → Actor → Type 0
@@ -57,7 +57,7 @@ moves_actor s step i f g sees saw s' n x m at own =
     (set_here s.actors n (g m.actor (slice_index s.words (i m.actor.holder))) x at)) in (
       g m.actor (slice_index s.words (i m.actor.holder)),
       there,
-      acts e (subst (λ (z : Actor). Needs s.about step z.holder) me m.needs)
+      acts e (subst (λ (z : Actor). Needs s.config step z.holder) me m.needs)
           (own (g m.actor (slice_index s.words (i m.actor.holder))) (ap (λ (z : Actor). g z (slice_index s.words (i z.holder))) (sym me))),
     ))
     (λ apart. (
@@ -70,7 +70,7 @@ moves_actor s step i f g sees saw s' n x m at own =
 
 note_actor : (s : State) (k : ℕ) (saw : Seen) (s' : State) (n : ℕ) (x : Actor) → MakesNote s (Note k) saw s' → IsActor s n x → After s (Note k) s' n x
 note_actor s k saw s' n x m at =
-    let worker : Actor = record m.actor { holder = clock.write_loaded s.about m.actor.holder (write_hand s.words) } in
+    let worker : Actor = record m.actor { holder = clock.write_loaded s.config m.actor.holder (write_hand s.words) } in
     ⊎_elim
     (λ e.
     let me : m.actor ≡ x = same_place s.actors n m.actor x (subst (λ (j : ℕ). IsActor s j m.actor) e m.there) at in
@@ -79,8 +79,8 @@ note_actor s k saw s' n x m at =
     let there : IsActor s' n worker = subst (λ (t : State). IsActor t n worker) (sym m.after) (at_longer (set s.actors k worker) _ n worker here) in (
       worker,
       there,
-      acts e (subst (λ (z : Actor). Needs s.about (Note k) z.holder) me m.needs)
-          (ap (λ (z : Actor). record z { holder = clock.write_loaded s.about z.holder (write_hand s.words) }) (sym me)),
+      acts e (subst (λ (z : Actor). Needs s.config (Note k) z.holder) me m.needs)
+          (ap (λ (z : Actor). record z { holder = clock.write_loaded s.config z.holder (write_hand s.words) }) (sym me)),
     ))
     (λ apart. (
       x,
@@ -121,7 +121,7 @@ absorb_actor s k other saw s' n x m at =
     let here : get_elem? (set s.actors k both) n ≡ some both = subst (λ (j : ℕ). get_elem? (set s.actors j both) n ≡ some both) (sym e) (set_here s.actors n both x at) in (
       both,
       subst (λ (t : State). IsActor t n both) (sym m.after) (past ∙ here),
-      acts e (subst (λ (z : Actor). Needs s.about (Absorb k other) z.holder) me m.needs)
+      acts e (subst (λ (z : Actor). Needs s.config (Absorb k other) z.holder) me m.needs)
           (m.note, ap (λ (z : Actor). record z { holder = clock.joined z.holder m.note.holder }) (sym me)),
     ))
     (λ aside.

@@ -5,7 +5,7 @@ use Rattle.std.specs.Int.{bit_at}
 use mathlib.Core.Option.{some}
 use lib.ListN.{get_elem?}
 use Rattle.smr_seq.specs.Reading.{low}
-use Rattle.smr_core.specs.declared.about.About.{About}
+use Rattle.smr_core.specs.declared.clock_config.ClockConfig.{ClockConfig}
 use Rattle.smr_core.specs.declared.holder.Holder.{Holder}
 use Rattle.smr_core.specs.declared.phase.Phase.{Phase}
 use Rattle.smr_core.specs.declared.phase.Phase.TheVariants as phase
@@ -23,21 +23,21 @@ by_test false P t f = f refl
 
 -- ---- what the law says of a holder whose phase or task is known
 
-pub in_phase : (a : About) (ws : List ℕ) (h : Holder) (p : Phase) → HolderFits a ws h → h.phase ≡ p → PhaseFits a ws h p
+pub in_phase : (a : ClockConfig) (ws : List ℕ) (h : Holder) (p : Phase) → HolderFits a ws h → h.phase ≡ p → PhaseFits a ws h p
 in_phase a ws h p f e = subst (λ (x : Phase). PhaseFits a ws h x) e f.phase
 
-pub in_task : (a : About) (ws : List ℕ) (h : Holder) (t : Task) → HolderFits a ws h → h.task ≡ t → TaskFits a ws h t
+pub in_task : (a : ClockConfig) (ws : List ℕ) (h : Holder) (t : Task) → HolderFits a ws h → h.task ≡ t → TaskFits a ws h t
 in_task a ws h t f e = subst (λ (x : Task). TaskFits a ws h x) e f.task
 
-pub seat_in_phase : (a : About) (ws : List ℕ) (h : Holder) (p : Phase) → HolderFits a ws h → h.phase ≡ p → SeatFits h.seat p
+pub seat_in_phase : (a : ClockConfig) (ws : List ℕ) (h : Holder) (p : Phase) → HolderFits a ws h → h.phase ≡ p → SeatFits h.seat p
 seat_in_phase a ws h p f e = subst (λ (x : Phase). SeatFits h.seat x) e f.seat
 
-pub presence_in_phase : (a : About) (ws : List ℕ) (h : Holder) (p : Phase) → HolderFits a ws h → h.phase ≡ p → (s : ℕ) → h.seat ≡ Some s → bit_at (presence_word a ws) s ≡ presence_bit p
+pub presence_in_phase : (a : ClockConfig) (ws : List ℕ) (h : Holder) (p : Phase) → HolderFits a ws h → h.phase ≡ p → (s : ℕ) → h.seat ≡ Some s → bit_at (presence_word a ws) s ≡ presence_bit p
 presence_in_phase a ws h p f e s own = f.presence s own ∙ ap presence_bit e
 
 -- ---- the numbers of a phase and of a task stay
 
-pub phase_kept : (a : About) (ws : List ℕ) (h h' : Holder) (p : Phase) → h'.seat ≡ h.seat → h'.loaded ≡ h.loaded → h'.mark ≡ h.mark
+pub phase_kept : (a : ClockConfig) (ws : List ℕ) (h h' : Holder) (p : Phase) → h'.seat ≡ h.seat → h'.loaded ≡ h.loaded → h'.mark ≡ h.mark
     → h.seen ≤ h'.seen → h'.advances ≡ h.advances → (p ≡ phase.Vacant → h.task ≡ task.Idle → h'.task ≡ task.Idle) → PhaseFits a ws h p → PhaseFits a ws h' p
 phase_kept a ws h h' phase.Outside s e m l c v f = ap (word_of ws) s ∙ f
 phase_kept a ws h h' phase.Loaded s e m l c v f = (ap (word_of ws) s ∙ f.0, subst IsOdd (sym e) f.1, omega arith)
@@ -50,7 +50,7 @@ phase_kept a ws h h' phase.Vacant s e m l c v f = (ap (word_of ws) s ∙ f.0, v 
 phase_kept a ws h h' phase.Note s e m l c v f = c ∙ f
 phase_kept a ws h h' phase.Absorbed s e m l c v f = c ∙ f
 
-pub task_kept : (a : About) (ws : List ℕ) (h h' : Holder) (t : Task) → h'.seat ≡ h.seat → h'.read ≡ h.read → h'.write ≡ h.write → h'.least ≡ h.least
+pub task_kept : (a : ClockConfig) (ws : List ℕ) (h h' : Holder) (t : Task) → h'.seat ≡ h.seat → h'.read ≡ h.read → h'.write ≡ h.write → h'.least ≡ h.least
     → h'.present ≡ h.present → h'.scanned ≡ h.scanned → TaskFits a ws h t → TaskFits a ws h' t
 task_kept a ws h h' task.Idle s r w m p k f = tt
 task_kept a ws h h' task.AdvRead s r w m p k f = (subst IsSome (sym s) f.0, omega arith)
@@ -78,7 +78,7 @@ pub record SameSection (h h' : Holder) : Type 0 where
   pub inside : h'.phase ≡ phase.Inside → h.phase ≡ phase.Inside
   pub mark : h'.phase ≡ phase.Inside → h'.mark ≡ h.mark
 
-module _ (a : About) (ws : List ℕ) (hs : List Holder) (id : ℕ) (h h' : Holder) where
+module _ (a : ClockConfig) (ws : List ℕ) (hs : List Holder) (id : ℕ) (h h' : Holder) where
   -- what has to be shown of the scans, where the polls and sections of the others are as they were
   pub record Scans : Type 0 where
     pub scan : h'.task ≡ task.Scanning → (j s : ℕ) (q : Holder) → j ≢ id → get_elem? hs j ≡ some q → q.phase ≡ phase.Inside → q.seat ≡ Some s → ScanCovers h' s q.mark
@@ -128,7 +128,7 @@ module _ (a : About) (ws : List ℕ) (hs : List Holder) (id : ℕ) (h h' : Holde
       }
 
 -- a load is a step that writes what it found
-pub keeps_load : (a : About) (id : ℕ) (h : Holder) (i : ℕ) (g : ℕ → Holder)
+pub keeps_load : (a : ClockConfig) (id : ℕ) (h : Holder) (i : ℕ) (g : ℕ → Holder)
     → ((ws : List ℕ) (hs : List Holder) → ClockLaw a ws hs → get_elem? hs id ≡ some h → Loads a ws hs id h (g (slice_index ws i)))
     → Keeps a id h i same g
 keeps_load a id h i g each ws hs law at =

@@ -3,7 +3,7 @@ use Rattle.std.proofs.Common.{◌≡◌, ℕ, ◌+◌, ◌*◌, ◌^◌, ◌<◌
 use Rattle.std.specs.Int.{bit_at}
 use mathlib.Core.Option.{some}
 use lib.ListN.{get_elem?}
-use Rattle.smr_core.specs.declared.about.About.{About}
+use Rattle.smr_core.specs.declared.clock_config.ClockConfig.{ClockConfig}
 use Rattle.smr_core.specs.declared.holder.Holder.{Holder}
 use Rattle.smr_core.specs.declared.phase.Phase.{Phase}
 use Rattle.smr_core.specs.declared.phase.Phase.TheVariants as phase
@@ -14,7 +14,7 @@ use Rattle.smr_core.specs.ClockLaw.{HandsFit, PhaseFits, TaskFits, HolderFits, O
 use Rattle.smr_core.proofs.PlaceLemmas.{at_set, set_again, at_map, map_set, sum_by_written}
 
 -- what has to be shown of a step of the holder id, from h to h' and from the words ws to ws'
-pub record Moves (a : About) (ws : List ℕ) (hs : List Holder) (ws' : List ℕ) (id : ℕ) (h h' : Holder) : Type 0 where
+pub record Moves (a : ClockConfig) (ws : List ℕ) (hs : List Holder) (ws' : List ℕ) (id : ℕ) (h h' : Holder) : Type 0 where
   pub seat : h'.seat ≡ h.seat
   pub hands : HandsFit a ws'
   pub write_not_lower : write_hand ws ≤ write_hand ws'
@@ -34,7 +34,7 @@ pub record Moves (a : About) (ws : List ℕ) (hs : List Holder) (ws' : List ℕ)
 
 -- ---- a holder that stands still fits after the step
 
-phase_still : (a : About) (ws ws' : List ℕ) (q : Holder) (p : Phase) → PhaseFits a ws q p → word_of ws' q.seat ≡ word_of ws q.seat
+phase_still : (a : ClockConfig) (ws ws' : List ℕ) (q : Holder) (p : Phase) → PhaseFits a ws q p → word_of ws' q.seat ≡ word_of ws q.seat
     → write_hand ws ≤ write_hand ws' → (p ≡ phase.Inside → read_hand ws' ≤ q.mark) → PhaseFits a ws' q p
 phase_still a ws ws' q phase.Outside f e l r = e ∙ f
 phase_still a ws ws' q phase.Loaded f e l r = (e ∙ f.0, f.1, omega arith)
@@ -45,7 +45,7 @@ phase_still a ws ws' q phase.Vacant f e l r = (e ∙ f.0, f.1)
 phase_still a ws ws' q phase.Note f e l r = f
 phase_still a ws ws' q phase.Absorbed f e l r = f
 
-task_still : (a : About) (ws ws' : List ℕ) (q : Holder) (t : Task) → TaskFits a ws q t → write_hand ws ≤ write_hand ws' → read_hand ws ≤ read_hand ws' → TaskFits a ws' q t
+task_still : (a : ClockConfig) (ws ws' : List ℕ) (q : Holder) (t : Task) → TaskFits a ws q t → write_hand ws ≤ write_hand ws' → read_hand ws ≤ read_hand ws' → TaskFits a ws' q t
 task_still a ws ws' q task.Idle f l r = tt
 task_still a ws ws' q task.AdvRead f l r = (f.0, omega arith)
 task_still a ws ws' q task.AdvLoaded f l r = (f.0, omega arith, omega arith, f.3, f.4, f.5)
@@ -53,7 +53,7 @@ task_still a ws ws' q task.PollRead f l r = (f.0, omega arith)
 task_still a ws ws' q task.PollLoaded f l r = (f.0, omega arith, f.2, f.3, omega arith)
 task_still a ws ws' q task.Scanning f l r = (f.0, omega arith, f.2, f.3, f.4, f.5, omega arith, f.7)
 
-pub fits_still : (a : About) (ws ws' : List ℕ) (q : Holder) → HolderFits a ws q → word_of ws' q.seat ≡ word_of ws q.seat
+pub fits_still : (a : ClockConfig) (ws ws' : List ℕ) (q : Holder) → HolderFits a ws q → word_of ws' q.seat ≡ word_of ws q.seat
     → ((s : ℕ) → q.seat ≡ Some s → bit_at (presence_word a ws') s ≡ bit_at (presence_word a ws) s)
     → write_hand ws ≤ write_hand ws' → read_hand ws ≤ read_hand ws' → (q.phase ≡ phase.Inside → read_hand ws' ≤ q.mark) → HolderFits a ws' q
 fits_still a ws ws' q f e bits l r i =
@@ -68,7 +68,7 @@ fits_still a ws ws' q f e bits l r i =
 
 -- ---- the lemma
 
-module _ (a : About) (ws : List ℕ) (hs : List Holder) (ws' : List ℕ) (id : ℕ) (h h' : Holder) where
+module _ (a : ClockConfig) (ws : List ℕ) (hs : List Holder) (ws' : List ℕ) (id : ℕ) (h h' : Holder) where
   -- the seats stay with their workers
   same_seats : get_elem? hs id ≡ some h → h'.seat ≡ h.seat → seats_of (set hs id h') ≡ seats_of hs
   same_seats at e =

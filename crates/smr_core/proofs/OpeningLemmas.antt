@@ -7,7 +7,7 @@ use Rattle.std.proofs.lemmas.List.{map-append, length_push}
 use Rattle.std.proofs.lemmas.List.Sums.{sum_by-append}
 use mathlib.Core.Option.{some, some-injective, some-ne-none}
 use lib.ListN.{get_elem?}
-use Rattle.smr_core.specs.declared.about.About.{About}
+use Rattle.smr_core.specs.declared.clock_config.ClockConfig.{ClockConfig}
 use Rattle.smr_core.specs.declared.actor.Actor.{Actor}
 use Rattle.smr_core.specs.declared.holder.Holder.{Holder}
 use Rattle.smr_core.specs.declared.task.Task.TheVariants as task
@@ -18,12 +18,12 @@ use Rattle.smr_core.specs.CoreState.{CoreLaw, holder_of, holders_of, first_worke
 use Rattle.smr_core.proofs.PlaceLemmas.{at_push, from_map}
 use Rattle.smr_core.proofs.PresenceLemmas.{all-present, all-narrow}
 
-length-first_workers : (a : About) (n : ℕ) → length (first_workers a n) ≡ n
+length-first_workers : (a : ClockConfig) (n : ℕ) → length (first_workers a n) ≡ n
 length-first_workers a zero = refl
 length-first_workers a (suc n) = length_push (first_workers a n) (first_worker a n) ∙ ap (λ (m : ℕ). m + 1) (length-first_workers a n) ∙ add-one n
 
 -- the actor of each number is the worker of that seat
-first_at : (a : About) (n i : ℕ) (x : Actor) → get_elem? (first_workers a n) i ≡ some x → (i < n) × (first_worker a i ≡ x)
+first_at : (a : ClockConfig) (n i : ℕ) (x : Actor) → get_elem? (first_workers a n) i ≡ some x → (i < n) × (first_worker a i ≡ x)
 first_at a zero i x e = absurd (some-ne-none x (sym e))
 first_at a (suc n) i x e =
     ⊎_elim
@@ -31,7 +31,7 @@ first_at a (suc n) i x e =
     (λ t. let l : i ≡ n = t.0 ∙ length-first_workers a n in (omega arith, ap (first_worker a) l ∙ t.1))
     (at_push (first_workers a n) (first_worker a n) x i e)
 
-no_advances : (a : About) (n : ℕ) → all_advances (holders_of (first_workers a n)) ≡ 0
+no_advances : (a : ClockConfig) (n : ℕ) → all_advances (holders_of (first_workers a n)) ≡ 0
 no_advances a zero = refl
 no_advances a (suc n) =
     ap all_advances (map-append holder_of (first_workers a n) (first_worker a n ∷ []))
@@ -50,14 +50,14 @@ no_some s e = cc
 -- ---- the words
 
 -- what is read in the words before any step
-record Opened (a : About) (ws : List ℕ) : Type 0 where
+record Opened (a : ClockConfig) (ws : List ℕ) : Type 0 where
   places : place_after_seats a ≤ length ws
   write : write_hand ws ≡ a.start
   read : read_hand ws ≡ a.start
   seat : (s : ℕ) → s < a.seats → seat_word ws s ≡ 0
   presence : presence_word a ws ≡ all_seats a
 
-module _ (a : About) where
+module _ (a : ClockConfig) where
   blank : List ℕ
   blank = replicate (place_after_seats a) 0
 
@@ -113,7 +113,7 @@ module _ (a : About) where
       }
 
 -- what the law says of these words alone
-module _ (a : About) (ws : List ℕ) (o : Opened a ws) (r : IsInRange a) where
+module _ (a : ClockConfig) (ws : List ℕ) (o : Opened a ws) (r : IsInRange a) where
   opened_hands : HandsFit a ws
   opened_hands =
       let w : write_hand ws ≡ a.start = o.write in let k : read_hand ws ≡ a.start = o.read in
@@ -136,10 +136,10 @@ module _ (a : About) (ws : List ℕ) (o : Opened a ws) (r : IsInRange a) where
   opened_narrow : presence_word a ws < 2 ^ a.seats
   opened_narrow = subst (λ (n : ℕ). n < 2 ^ a.seats) (sym o.presence) (all-narrow a)
 
-pub first_workers_more : (a : About) (n : ℕ) → first_workers a (n + 1) ≡ first_workers a n ++ first_worker a n ∷ []
+pub first_workers_more : (a : ClockConfig) (n : ℕ) → first_workers a (n + 1) ≡ first_workers a n ++ first_worker a n ∷ []
 first_workers_more a n = ap (first_workers a) (add-one n)
 
-module _ (a : About) where
+module _ (a : ClockConfig) where
   holder_at : (i : ℕ) (h : Holder) → get_elem? (holders_of (first_workers a a.seats)) i ≡ some h → (i < a.seats) × (holder_of (first_worker a i) ≡ h)
   holder_at i h e =
       let t = from_map holder_of (first_workers a a.seats) i h e in
@@ -201,7 +201,7 @@ module _ (a : About) where
 
 -- ---- a clock that is only being made
 
-module _ (a : About) (more : List ℕ) (r : IsInRange a) where
+module _ (a : ClockConfig) (more : List ℕ) (r : IsInRange a) where
   only_first : (i : ℕ) (h : Holder) → get_elem? (first_holder a ∷ []) i ≡ some h → first_holder a ≡ h
   only_first zero h e = some-injective (first_holder a) h e
   only_first (suc i) h e = absurd (some-ne-none h (sym e))

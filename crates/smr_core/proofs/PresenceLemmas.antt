@@ -6,7 +6,7 @@ use Rattle.std.proofs.lemmas.Bool.{cases_lt, cases_eq}
 use Rattle.std.proofs.lemmas.Nat.{or_lt, and_le_l, pow_below, pow_pos}
 use Rattle.std.proofs.lemmas.Nat.Bits.{bit_at-lt, bit_at-zero, bit_at_and, bit_at_or, bit_at_ones, bit_at_not, bit_at-pow_same, bit_at-pow_other, bit_at-trailing_zeros, bit_at_mask_inside, bit_at_mask_below, ones_shl}
 use borrow.Author.Tests.{eqb-true, eqb-false}
-use Rattle.smr_core.specs.declared.about.About.{About}
+use Rattle.smr_core.specs.declared.clock_config.ClockConfig.{ClockConfig}
 use Rattle.smr_core.specs.ClockState.{IsPresent, IsAbsent, is_present, all_seats, first_of, next_present, seats_below}
 use Rattle.smr_core.specs.ClockStep.{without, with_seat}
 
@@ -75,7 +75,7 @@ module _ (p : ℕ) where
       ap (seats_below p) last ∙ seats_below-same (k + n) (none (k + n) (omega arith) (omega arith))
       ∙ seats_below-skips k n (λ s above below. none s above (omega arith))
 
-module _ (a : About) (p : ℕ) where
+module _ (a : ClockConfig) (p : ℕ) where
   pub next-above : (k : ℕ) → k ≤ next_present a p k
   next-above k = (first-within p k (a.seats - k)).0
 
@@ -147,10 +147,10 @@ module _ (s p : ℕ) (small : s < 64) where
   with-narrow n within below = or_lt n p (2 ^ s) below (pow_below s n within)
 
 -- all seats are present in the set of all
-pub all-present : (a : About) (s : ℕ) → s < a.seats → IsPresent (all_seats a) s
+pub all-present : (a : ClockConfig) (s : ℕ) → s < a.seats → IsPresent (all_seats a) s
 all-present a s below = bit_at_ones a.seats s below
 
-pub all-narrow : (a : About) → all_seats a < 2 ^ a.seats
+pub all-narrow : (a : ClockConfig) → all_seats a < 2 ^ a.seats
 all-narrow a = let some = pow_pos a.seats in omega arith
 
 -- ---- how the next seat is found in a word
@@ -158,7 +158,7 @@ all-narrow a = let some = pow_pos a.seats in omega arith
 no_ones : trailing_zeros w64 0 ≡ 64
 no_ones = trailing_of_zero 64
 
-module _ (a : About) (p : ℕ) where
+module _ (a : ClockConfig) (p : ℕ) where
   -- it is the one seat from k on that is in the set, or the count, with none before it
   pub next-unique : (k r : ℕ) → k ≤ r → r ≤ a.seats → (r < a.seats → IsPresent p r) → ((s : ℕ) → k ≤ s → s < r → IsAbsent p s) → r ≡ next_present a p k
   next-unique k r above within present none =

@@ -6,7 +6,7 @@ use borrow.Author.Tests.{eqb-true, eqb-false}
 use mathlib.Core.Option.{some, some-injective, some-ne-none}
 use lib.ListN.{get_elem?}
 use Rattle.smr_seq.specs.Reading.{low}
-use Rattle.smr_core.specs.declared.about.About.{About}
+use Rattle.smr_core.specs.declared.clock_config.ClockConfig.{ClockConfig}
 use Rattle.smr_core.specs.declared.found_word.FoundWord.{FoundWord}
 use Rattle.smr_core.specs.declared.holder.Holder.{Holder}
 use Rattle.smr_core.specs.declared.phase.Phase.{Phase}
@@ -66,7 +66,7 @@ stored_pushed vs new s entered h =
 words_still : (vs vs' : List View) (found : List FoundWord) → StillStored vs vs' → WordsWereStored vs found → WordsWereStored vs' found
 words_still vs vs' found still w f in_it = ⊎_elim (λ t. inl t) (λ t. inr (t.0, still f.seat t.0 t.1, t.2)) (w f in_it)
 
-pub remembers_still : (a : About) (vs vs' : List View) (v : View) → StillStored vs vs' → RememberedFits a vs v → RememberedFits a vs' v
+pub remembers_still : (a : ClockConfig) (vs vs' : List View) (v : View) → StillStored vs vs' → RememberedFits a vs v → RememberedFits a vs' v
 remembers_still a vs vs' v still f =
     record {
       stored = f.stored;
@@ -79,7 +79,7 @@ remembers_still a vs vs' v still f =
 
 -- ---- the lemmas for the kinds of step: it is enough that the new view fits among the old ones
 
-module _ (a : About) (vs : List View) where
+module _ (a : ClockConfig) (vs : List View) where
   pub memory_moved : (id : ℕ) (v v' : View) → RememberedLaw a vs → get_elem? vs id ≡ some v → v'.0.seat ≡ v.0.seat
       → ((entered : ℕ) → Contains v.1.stored entered → Contains v'.1.stored entered) → RememberedFits a vs v' → RememberedLaw a (set vs id v')
   memory_moved id v v' law at seat more fits j w there =
@@ -140,7 +140,7 @@ seek (v ∷ vs) s =
     no_worker n none (suc i) e = none i e
 
 -- while a worker's enter is stored, it remembers what its word is the low half of
-in_front : (a : About) (ws : List ℕ) (h : Holder) (r : Remembered) (s : ℕ) (p : Phase) → h.seat ≡ Some s → SeatFits h.seat p → PhaseFits a ws h p → StoredFits p h r
+in_front : (a : ClockConfig) (ws : List ℕ) (h : Holder) (r : Remembered) (s : ℕ) (p : Phase) → h.seat ≡ Some s → SeatFits h.seat p → PhaseFits a ws h p → StoredFits p h r
     → (word_of ws h.seat ≡ 0) ⊎ ((word_of ws h.seat ≡ low h.loaded) × Contains r.stored h.loaded)
 in_front a ws h r s phase.Outside e k f m = inl f
 in_front a ws h r s phase.Loaded e k f m = inl f.0
@@ -152,7 +152,7 @@ in_front a ws h r s phase.Note e k f m = let both : None ≡ Some s = sym k ∙ 
 in_front a ws h r s phase.Absorbed e k f m = let both : None ≡ Some s = sym k ∙ e in absurd (cc)
 
 -- A seat's word is 0, or the low half of a write hand that the worker of that seat has stored.
-pub word_was_stored : (a : About) (ws : List ℕ) (vs : List View) → ClockLaw a ws (holders_in vs) → RememberedLaw a vs → (s : ℕ) → s < a.seats
+pub word_was_stored : (a : ClockConfig) (ws : List ℕ) (vs : List View) → ClockLaw a ws (holders_in vs) → RememberedLaw a vs → (s : ℕ) → s < a.seats
     → (seat_word ws s ≡ 0) ⊎ ((entered : ℕ) × HasStored vs s entered × (seat_word ws s ≡ low entered))
 word_was_stored a ws vs law memory s known =
     ⊎_elim

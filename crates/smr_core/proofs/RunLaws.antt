@@ -6,7 +6,7 @@ use mathlib.Core.Option.{some}
 use lib.ListN.{get_elem?}
 use Rattle.smr_seq.specs.Reading.{low, reading, IsReading}
 use Rattle.smr_seq.proofs.ReadingLemmas.{IsReading-reading, IsReading-unique, none-reading}
-use Rattle.smr_core.specs.declared.about.About.{About}
+use Rattle.smr_core.specs.declared.clock_config.ClockConfig.{ClockConfig}
 use Rattle.smr_core.specs.declared.actor.Actor.{Actor}
 use Rattle.smr_core.specs.declared.holder.Holder.{Holder}
 use Rattle.smr_core.specs.declared.phase.Phase.{Phase}
@@ -49,13 +49,13 @@ yes-means-expired a ws r hands tag l v g lw vr says gl e =
 -- ---- the law over runs
 
 later_refl : (s : State) → CoreLaw s → CoreLater s s
-later_refl s law = record { law = law; about = refl; write_not_lower = omega arith; read_not_lower = omega arith }
+later_refl s law = record { law = law; config = refl; write_not_lower = omega arith; read_not_lower = omega arith }
 
 later_trans : (s t u : State) → CoreLater s t → CoreLater t u → CoreLater s u
 later_trans s t u p q =
     record {
       law = q.law;
-      about = q.about ∙ p.about;
+      config = q.config ∙ p.config;
       write_not_lower = le_trans p.write_not_lower q.write_not_lower;
       read_not_lower = le_trans p.read_not_lower q.read_not_lower;
     }
@@ -69,7 +69,7 @@ run_keeps s [] (saw ∷ sees) s' law r = absurd r
 run_keeps s (step ∷ steps) [] s' law r = absurd r
 
 pub reached-law : (s : State) → IsReached s → CoreLaw s
-reached-law s r = (run_keeps (opening r.about) r.steps r.saw s (opening-law r.about r.in_range) r.run).law
+reached-law s r = (run_keeps (opening r.config) r.steps r.saw s (opening-law r.config r.in_range) r.run).law
 
 leads_later : (s later : State) → CoreLaw s → LeadsTo s later → CoreLater s later
 leads_later s later law r = run_keeps s r.steps r.saw later law r.run
@@ -96,7 +96,7 @@ kept_by_run n P Allowed each s [] (saw ∷ sees) s' x all r at p = absurd r
 kept_by_run n P Allowed each s (step ∷ steps) [] s' x all r at p = absurd r
 
 -- the actor after a load that may end its operation
-poll_load_cases : (a : About) (x : Actor) (found : ℕ) (P : Actor → Type 0) → P (record x { holder = clock.poll_ended a x.holder found })
+poll_load_cases : (a : ClockConfig) (x : Actor) (found : ℕ) (P : Actor → Type 0) → P (record x { holder = clock.poll_ended a x.holder found })
     → ((goal : ℕ) → P (record x { holder = clock.poll_loaded a x.holder found; reading = goal })) → (o : Option ℕ) → P (poll_goes_on a x found o)
 poll_load_cases a x found P ended goes None = ended
 poll_load_cases a x found P ended goes (Some goal) =
@@ -104,7 +104,7 @@ poll_load_cases a x found P ended goes (Some goal) =
     (λ b. P (cond b (record x { holder = clock.poll_ended a x.holder found }) (record x { holder = clock.poll_loaded a x.holder found; reading = goal })))
     (λ _. ended) (λ _. goes goal)
 
-advance_load_cases : (a : About) (x : Actor) (found : ℕ) (P : Actor → Type 0) → P (record x { holder = clock.advance_ended a x.holder found })
+advance_load_cases : (a : ClockConfig) (x : Actor) (found : ℕ) (P : Actor → Type 0) → P (record x { holder = clock.advance_ended a x.holder found })
     → P (record x { holder = record (clock.write_loaded a x.holder found) { task = task.AdvLoaded; write = found } })
     → P (record x { holder = clock.advance_loaded a x.holder found })
 advance_load_cases a x found P ended goes =
@@ -179,7 +179,7 @@ module _ (tag hand goal : ℕ) where
       (HasHand x.holder.task × (x.tag ≡ tag) × (x.holder.write ≡ hand) × (x.reading ≡ goal))
       ⊎ IsNoPoll x.holder.task
 
-  same_poll_acts : (n : ℕ) (s : State) (step : Step) (x y : Actor) → ((t : ℕ) → step ≡ PollRead n t → ⊥) → taker step ≡ n → Needs s.about step x.holder → Becomes s step x y
+  same_poll_acts : (n : ℕ) (s : State) (step : Step) (x y : Actor) → ((t : ℕ) → step ≡ PollRead n t → ⊥) → taker step ≡ n → Needs s.config step x.holder → Becomes s step x y
       → SamePoll x → SamePoll y
   same_poll_acts n s (EnterLoad k) x y ok e needs b p = subst SamePoll b p
   same_poll_acts n s (EnterStore k) x y ok e needs b p = subst SamePoll b p
@@ -189,7 +189,7 @@ module _ (tag hand goal : ℕ) where
   same_poll_acts n s (Come k) x y ok e needs b p = subst SamePoll b p
   same_poll_acts n s (AdvanceRead k) x y ok e needs b p = subst SamePoll b (inr adv_read)
   same_poll_acts n s (AdvanceLoad k) x y ok e needs b p =
-      subst SamePoll b (advance_load_cases s.about x (write_hand s.words) SamePoll (inr idle) (inr adv_loaded))
+      subst SamePoll b (advance_load_cases s.config x (write_hand s.words) SamePoll (inr idle) (inr adv_loaded))
   same_poll_acts n s (AdvanceSwap k) x y ok e needs b p = subst SamePoll b (inr idle)
   same_poll_acts n s (PollRead k t) x y ok e needs b p = absurd (ok t (ap (λ (j : ℕ). PollRead j t) e))
   same_poll_acts n s (PollLoad k) x y ok e needs b p = ⊎_elim (λ q. absurd (both_tasks x.holder.task needs q.0)) (λ q. absurd (q.0 needs)) p
@@ -207,7 +207,7 @@ module _ (tag hand goal : ℕ) where
 -- ---- the load of a poll that goes on, and its yes
 
 -- a load that sees a hand found a reading, and the poll goes on after it
-goes_on : (a : About) (x : Actor) (found hand : ℕ) (o : Option ℕ) → seen.Hand hand ≡ poll_sees x found o
+goes_on : (a : ClockConfig) (x : Actor) (found hand : ℕ) (o : Option ℕ) → seen.Hand hand ≡ poll_sees x found o
     → (goal : ℕ) × (o ≡ Some goal) × (poll_goes_on a x found o ≡ record x { holder = clock.poll_loaded a x.holder found; reading = goal })
 goes_on a x found hand None e = absurd (yes_is_hand e)
 goes_on a x found hand (Some goal) e =
@@ -251,9 +251,9 @@ module _ (s after : State) (n tag g : ℕ) (law : CoreLaw s) (p : IsPolling s n 
       let says = ends_with_yes m.actor (write_hand s.words) y.0 (reading m.actor.tag (write_hand s.words)) refl m.saw_it in
       let of_tag : m.actor.tag ≡ tag = ap (λ (x : Actor). x.tag) me ∙ p.of_tag in
       let says_tag : SaysYes tag (write_hand s.words) m.actor.holder.read = subst (λ (t : ℕ). SaysYes t (write_hand s.words) m.actor.holder.read) of_tag says.1 in
-      let fits : HolderFits s.about s.words m.actor.holder = law.clock.holders n m.actor.holder (holder_there s n m.actor m.there) in
-      let read : m.actor.holder.read ≤ read_hand s.words = (in_task s.about s.words m.actor.holder task.PollRead fits m.needs).1 in
-      yes-means-expired after.about after.words later.law.clock.numbers later.law.clock.hands tag (write_hand s.words) m.actor.holder.read g
+      let fits : HolderFits s.config s.words m.actor.holder = law.clock.holders n m.actor.holder (holder_there s n m.actor m.there) in
+      let read : m.actor.holder.read ≤ read_hand s.words = (in_task s.config s.words m.actor.holder task.PollRead fits m.needs).1 in
+      yes-means-expired after.config after.words later.law.clock.numbers later.law.clock.hands tag (write_hand s.words) m.actor.holder.read g
       later.write_not_lower (le_trans read later.read_not_lower) says_tag le half
 
   -- ---- yes, at the exchange
@@ -265,14 +265,14 @@ module _ (s after : State) (n tag g : ℕ) (law : CoreLaw s) (p : IsPolling s n 
       let m = y.load in
       let me : m.actor ≡ p.actor = same_place s.actors n m.actor p.actor m.there p.there in
       let of_tag : m.actor.tag ≡ tag = ap (λ (x : Actor). x.tag) me ∙ p.of_tag in
-      let on = goes_on s.about m.actor (write_hand s.words) y.hand (reading m.actor.tag (write_hand s.words)) m.saw_it in
+      let on = goes_on s.config m.actor (write_hand s.words) y.hand (reading m.actor.tag (write_hand s.words)) m.saw_it in
       let reads : IsReading tag (write_hand s.words) on.0 =
       subst (λ (t : ℕ). IsReading t (write_hand s.words) on.0) of_tag (IsReading-reading m.actor.tag (write_hand s.words) on.0 on.1) in
-      let there : IsActor y.loaded n (record m.actor { holder = clock.poll_loaded s.about m.actor.holder (write_hand s.words); reading = on.0 }) =
-      subst (λ (t : State). IsActor t n (record m.actor { holder = clock.poll_loaded s.about m.actor.holder (write_hand s.words); reading = on.0 })) (sym m.after)
-      (subst (λ (x : Actor). get_elem? (set s.actors n (poll_goes_on s.about m.actor (write_hand s.words) (reading m.actor.tag (write_hand s.words)))) n ≡ some x) on.2
-      (set_here s.actors n (poll_goes_on s.about m.actor (write_hand s.words) (reading m.actor.tag (write_hand s.words))) m.actor m.there)) in
-      (on.0, record m.actor { holder = clock.poll_loaded s.about m.actor.holder (write_hand s.words); reading = on.0 }, there, reads, inl (inl refl, of_tag, refl, refl))
+      let there : IsActor y.loaded n (record m.actor { holder = clock.poll_loaded s.config m.actor.holder (write_hand s.words); reading = on.0 }) =
+      subst (λ (t : State). IsActor t n (record m.actor { holder = clock.poll_loaded s.config m.actor.holder (write_hand s.words); reading = on.0 })) (sym m.after)
+      (subst (λ (x : Actor). get_elem? (set s.actors n (poll_goes_on s.config m.actor (write_hand s.words) (reading m.actor.tag (write_hand s.words)))) n ≡ some x) on.2
+      (set_here s.actors n (poll_goes_on s.config m.actor (write_hand s.words) (reading m.actor.tag (write_hand s.words))) m.actor m.there)) in
+      (on.0, record m.actor { holder = clock.poll_loaded s.config m.actor.holder (write_hand s.words); reading = on.0 }, there, reads, inl (inl refl, of_tag, refl, refl))
 
   expired_at_swap : YesAtSwap s n after → IsExpired after.words g
   expired_at_swap y =
@@ -288,13 +288,13 @@ module _ (s after : State) (n tag g : ℕ) (law : CoreLaw s) (p : IsPolling s n 
       let aim : m.actor.reading ≡ begun.0 = ⊎_elim (λ q. q.3) (λ q. absurd (q.1 (inr m.needs.0))) mine in
       let answer = swap_with_yes m.actor (read_hand y.scanned.words) y.read m.saw_it in
       let last = core_keeps y.scanned (PollSwap n) (seen.Yes y.read) after scanned.law m in
-      let places : length y.scanned.words ≡ place_after_seats y.scanned.about = scanned.law.words in
+      let places : length y.scanned.words ≡ place_after_seats y.scanned.config = scanned.law.words in
       let hand : read_hand after.words ≡ clock.last_found m.actor.holder (read_hand y.scanned.words) =
       ap (λ (t : State). read_hand t.words) m.after ∙ get_or-set_same y.scanned.words read_place (clock.last_found m.actor.holder (read_hand y.scanned.words)) 0 (omega arith) in
       let come : m.actor.reading ≤ clock.last_found m.actor.holder (read_hand y.scanned.words) = answer.1 in
       let says : SaysYes tag (write_hand s.words) (read_hand after.words) =
       λ x r. let same : x ≡ begun.0 = IsReading-unique tag (write_hand s.words) x begun.0 r begun.3 in omega arith in
-      yes-means-expired after.about after.words last.law.clock.numbers last.law.clock.hands tag (write_hand s.words) (read_hand after.words) g
+      yes-means-expired after.config after.words last.law.clock.numbers last.law.clock.hands tag (write_hand s.words) (read_hand after.words) g
       (le_trans loaded.write_not_lower (le_trans scanned.write_not_lower last.write_not_lower)) (omega arith) says le half
 
   answer_later : AnswersYes s n after → CoreLater s after
@@ -313,8 +313,8 @@ module _ (s after : State) (n tag g : ℕ) (law : CoreLaw s) (p : IsPolling s n 
 -- each open section's mark is at least the read hand
 marks : (s : State) (n : ℕ) (x : Actor) (w : ℕ) → CoreLaw s → IsActor s n x → IsInSection x.holder w → read_hand s.words ≤ w
 marks s n x w law at i =
-    let f : HolderFits s.about s.words x.holder = law.clock.holders n x.holder (holder_there s n x at) in
-    subst (λ (m : ℕ). read_hand s.words ≤ m) i.1 (in_phase s.about s.words x.holder phase.Inside f i.0).5
+    let f : HolderFits s.config s.words x.holder = law.clock.holders n x.holder (holder_there s n x at) in
+    subst (λ (m : ℕ). read_hand s.words ≤ m) i.1 (in_phase s.config s.words x.holder phase.Inside f i.0).5
 
 over : (s : State) (g : ℕ) → CoreLaw s → IsExpired s.words g → IsOver s g
 over s g law e = (e, λ n x w at i before. let m : read_hand s.words ≤ w = marks s n x w law at i in omega arith)
@@ -344,16 +344,16 @@ goal_answered a b m k e = cc
 -- it is at most the write hand from then on
 goal-le-write : (s after : State) (n g : ℕ) (moved : Bool) → CoreLaw s → IsStep s (AdvanceSwap n) (seen.Goal g moved) after → g ≤ write_hand after.words
 goal-le-write s after n g moved law m =
-    let fits : HolderFits s.about s.words m.actor.holder = law.clock.holders n m.actor.holder (holder_there s n m.actor m.there) in
-    let t = in_task s.about s.words m.actor.holder task.AdvLoaded fits m.needs in
-    let places : length s.words ≡ place_after_seats s.about = law.words in
+    let fits : HolderFits s.config s.words m.actor.holder = law.clock.holders n m.actor.holder (holder_there s n m.actor m.there) in
+    let t = in_task s.config s.words m.actor.holder task.AdvLoaded fits m.needs in
+    let places : length s.words ≡ place_after_seats s.config = law.words in
     let left : ℕ = clock.exchanged m.actor.holder.write (clock.goal_of m.actor.holder) (write_hand s.words) in
     let here : write_hand after.words ≡ clock.exchanged m.actor.holder.write (clock.goal_of m.actor.holder) (write_hand s.words) =
     ap (λ (u : State). write_hand u.words) m.after
     ∙ get_or-set_same s.words write_place (clock.exchanged m.actor.holder.write (clock.goal_of m.actor.holder) (write_hand s.words)) 0 (omega arith) in
     let goal : g ≡ clock.goal_of m.actor.holder = goal_answered g (clock.goal_of m.actor.holder) moved _ m.saw_it in
     let below : clock.goal_of m.actor.holder ≤ clock.exchanged m.actor.holder.write (clock.goal_of m.actor.holder) (write_hand s.words) =
-    goal-le-left s.about s.words m.actor.holder law.clock.hands t in
+    goal-le-left s.config s.words m.actor.holder law.clock.hands t in
     omega arith
 
 pub goal-is-expired : means.GoalIsExpired
@@ -364,12 +364,12 @@ goal-is-expired s0 s1 s after later m n g moved r advance leads p y end =
     let rest = leads_later s1 s first.law leads in
     let r' : IsReached s =
     record {
-      about = r.about;
+      config = r.config;
       in_range = r.in_range;
       steps = r.steps ++ AdvanceSwap m ∷ [] ++ leads.steps;
       saw = r.saw ++ seen.Goal g moved ∷ [] ++ leads.saw;
-      run = run-append (opening r.about) s1 s (r.steps ++ AdvanceSwap m ∷ []) leads.steps (r.saw ++ seen.Goal g moved ∷ []) leads.saw
-          (run-push (opening r.about) s0 s1 r.steps r.saw (AdvanceSwap m) (seen.Goal g moved) r.run advance) leads.run;
+      run = run-append (opening r.config) s1 s (r.steps ++ AdvanceSwap m ∷ []) leads.steps (r.saw ++ seen.Goal g moved ∷ []) leads.saw
+          (run-push (opening r.config) s0 s1 r.steps r.saw (AdvanceSwap m) (seen.Goal g moved) r.run advance) leads.run;
     } in
     yes-is-expired s after later n (low g) g r' p y end (le_trans below rest.write_not_lower) refl
 
@@ -387,11 +387,11 @@ module _ (tag : ℕ) where
   of_tag_acts n s (Leave k) x y ok e b p = subst OfTag b p
   of_tag_acts n s (Come k) x y ok e b p = subst OfTag b p
   of_tag_acts n s (AdvanceRead k) x y ok e b p = subst OfTag b (λ h. cc)
-  of_tag_acts n s (AdvanceLoad k) x y ok e b p = subst OfTag b (advance_load_cases s.about x (write_hand s.words) OfTag (λ h. cc) (λ h. cc))
+  of_tag_acts n s (AdvanceLoad k) x y ok e b p = subst OfTag b (advance_load_cases s.config x (write_hand s.words) OfTag (λ h. cc) (λ h. cc))
   of_tag_acts n s (AdvanceSwap k) x y ok e b p = subst OfTag b (λ h. cc)
   of_tag_acts n s (PollRead k t) x y ok e b p = absurd (ok t (ap (λ (j : ℕ). PollRead j t) e))
   of_tag_acts n s (PollLoad k) x y ok e b p =
-      subst OfTag b (poll_load_cases s.about x (write_hand s.words) OfTag (λ h. cc) (λ goal h. cc) (reading x.tag (write_hand s.words)))
+      subst OfTag b (poll_load_cases s.config x (write_hand s.words) OfTag (λ h. cc) (λ goal h. cc) (reading x.tag (write_hand s.words)))
   of_tag_acts n s (PollPresent k) x y ok e b p = subst OfTag b (λ h. cc)
   of_tag_acts n s (PollScan k) x y ok e b p = subst OfTag b p
   of_tag_acts n s (PollSwap k) x y ok e b p = subst OfTag b (λ h. cc)
@@ -425,7 +425,7 @@ module _ (loaded found : ℕ) where
   abbrev InSameSection : Actor → Type 0
   InSameSection x = (x.holder.phase ≡ phase.Inside) × (x.holder.mark ≡ found) × (x.holder.loaded ≡ loaded)
 
-  same_section_acts : (n : ℕ) (s : State) (step : Step) (x y : Actor) → (step ≡ Clear n → ⊥) → taker step ≡ n → Needs s.about step x.holder → Becomes s step x y
+  same_section_acts : (n : ℕ) (s : State) (step : Step) (x y : Actor) → (step ≡ Clear n → ⊥) → taker step ≡ n → Needs s.config step x.holder → Becomes s step x y
       → InSameSection x → InSameSection y
   same_section_acts n s (EnterLoad k) x y ok e needs b p = let r = both_phases x.holder.phase phase.Outside phase.Inside needs p.0 in absurd (outside_inside r)
   same_section_acts n s (EnterStore k) x y ok e needs b p = let r = both_phases x.holder.phase phase.Loaded phase.Inside needs p.0 in absurd (loaded_inside r)
@@ -434,11 +434,11 @@ module _ (loaded found : ℕ) where
   same_section_acts n s (Leave k) x y ok e needs b p = let r = both_phases x.holder.phase phase.Outside phase.Inside needs.0 p.0 in absurd (outside_inside r)
   same_section_acts n s (Come k) x y ok e needs b p = let r = both_phases x.holder.phase phase.Vacant phase.Inside needs p.0 in absurd (vacant_inside r)
   same_section_acts n s (AdvanceRead k) x y ok e needs b p = subst InSameSection b p
-  same_section_acts n s (AdvanceLoad k) x y ok e needs b p = subst InSameSection b (advance_load_cases s.about x (write_hand s.words) InSameSection p p)
+  same_section_acts n s (AdvanceLoad k) x y ok e needs b p = subst InSameSection b (advance_load_cases s.config x (write_hand s.words) InSameSection p p)
   same_section_acts n s (AdvanceSwap k) x y ok e needs b p = subst InSameSection b p
   same_section_acts n s (PollRead k t) x y ok e needs b p = subst InSameSection b p
   same_section_acts n s (PollLoad k) x y ok e needs b p =
-      subst InSameSection b (poll_load_cases s.about x (write_hand s.words) InSameSection p (λ goal. p) (reading x.tag (write_hand s.words)))
+      subst InSameSection b (poll_load_cases s.config x (write_hand s.words) InSameSection p (λ goal. p) (reading x.tag (write_hand s.words)))
   same_section_acts n s (PollPresent k) x y ok e needs b p = subst InSameSection b p
   same_section_acts n s (PollScan k) x y ok e needs b p = subst InSameSection b p
   same_section_acts n s (PollSwap k) x y ok e needs b p = subst InSameSection b p
@@ -451,7 +451,7 @@ module _ (loaded found : ℕ) where
   same_section_kept n s step x y ok (taken note e) p = let r = both_phases x.holder.phase phase.Note phase.Inside note p.0 in absurd (note_inside r)
 
 -- a check that sees the section open
-check_inside : (a : About) (h : Holder) (now loaded found : ℕ) → seen.Inside loaded found ≡ check_sees a h now
+check_inside : (a : ClockConfig) (h : Holder) (now loaded found : ℕ) → seen.Inside loaded found ≡ check_sees a h now
     → (loaded ≡ h.loaded) × (found ≡ now) × ((clock.enter_checked a h now).phase ≡ phase.Inside)
 check_inside a h now loaded found e =
     by_test (clock.is_overtaken a h.loaded now)
@@ -461,13 +461,13 @@ check_inside a h now loaded found e =
 
 pub entry-is-the-third-step : means.EntryIsTheThirdStep
 entry-is-the-third-step s after later n loaded found steps saw r m run none =
-    let c = check_inside s.about m.actor.holder (write_hand s.words) loaded found m.saw_it in
-    let begun : Actor = record m.actor { holder = clock.enter_checked s.about m.actor.holder (write_hand s.words) } in
-    let there : IsActor after n (record m.actor { holder = clock.enter_checked s.about m.actor.holder (write_hand s.words) }) =
-    subst (λ (t : State). IsActor t n (record m.actor { holder = clock.enter_checked s.about m.actor.holder (write_hand s.words) })) (sym m.after)
-    (set_here s.actors n (record m.actor { holder = clock.enter_checked s.about m.actor.holder (write_hand s.words) }) m.actor m.there) in
+    let c = check_inside s.config m.actor.holder (write_hand s.words) loaded found m.saw_it in
+    let begun : Actor = record m.actor { holder = clock.enter_checked s.config m.actor.holder (write_hand s.words) } in
+    let there : IsActor after n (record m.actor { holder = clock.enter_checked s.config m.actor.holder (write_hand s.words) }) =
+    subst (λ (t : State). IsActor t n (record m.actor { holder = clock.enter_checked s.config m.actor.holder (write_hand s.words) })) (sym m.after)
+    (set_here s.actors n (record m.actor { holder = clock.enter_checked s.config m.actor.holder (write_hand s.words) }) m.actor m.there) in
     let kept = kept_by_run n (λ y. InSameSection loaded found y) (λ step. step ≡ Clear n → ⊥)
     (λ u step y z ok change q. same_section_kept loaded found n u step y z ok change q)
-    after steps saw later (record m.actor { holder = clock.enter_checked s.about m.actor.holder (write_hand s.words) })
+    after steps saw later (record m.actor { holder = clock.enter_checked s.config m.actor.holder (write_hand s.words) })
     (λ step h e. none (subst (λ (y : Step). Contains steps y) e h)) run there (c.2, sym c.1, sym c.0) in
     (c.1, (kept.0, kept.1, (kept.2.0, kept.2.1), kept.2.2))

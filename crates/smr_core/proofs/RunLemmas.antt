@@ -5,7 +5,7 @@ use Rattle.smr_core.specs.declared.step.Step.{Step}
 use Rattle.smr_core.specs.declared.seen.Seen.{Seen}
 use Rattle.smr_core.specs.CoreState.{State}
 use Rattle.smr_core.specs.declared.step_refused.StepRefused.{StepRefused}
-use Rattle.smr_core.specs.CoreStep.{IsStep, Run, Refuses, StopsAt}
+use Rattle.smr_core.specs.CoreStep.{IsStep, Run, StepIsRefused, StopsAt}
 
 -- a run goes on by a run
 pub run-append : (s mid s' : State) (steps more : List Step) (sees rest : List Seen) → Run s steps sees mid → Run mid more rest s' → Run s (steps ++ more) (sees ++ rest) s'
@@ -32,12 +32,12 @@ slice_get-below (x ∷ xs) (suc n) d h = slice_get-below xs n d (omega arith)
 
 -- the first n steps of a list, and the next is refused
 pub stops : (s mid s' : State) (steps : List Step) (n : ℕ) (sees : List Seen) (d : Step) (refused : StepRefused) → n < length steps
-    → Run s (take n steps) sees mid → Refuses mid (get_or steps n d) refused → s' ≡ mid → StopsAt s steps n refused s'
+    → Run s (take n steps) sees mid → StepIsRefused mid (get_or steps n d) refused → s' ≡ mid → StopsAt s steps n refused s'
 stops s mid s' steps n sees d refused below p q e =
     record {
       sees = sees;
       run = subst (λ (t : State). Run s (take n steps) sees t) (sym e) p;
-      cause = inl (get_or steps n d, slice_get-below steps n d below, subst (λ (t : State). Refuses t (get_or steps n d) refused) (sym e) q);
+      cause = inl (get_or steps n d, slice_get-below steps n d below, subst (λ (t : State). StepIsRefused t (get_or steps n d) refused) (sym e) q);
     }
 
 -- a run of a whole list

@@ -12,7 +12,7 @@ use Rattle.smr_core.specs.declared.turn.Turn.TheVariants.{One, Enter, Advance, P
 use Rattle.smr_core.specs.ClockState.{write_place, seats_below, spent}
 use Rattle.smr_core.specs.ClockStep as clock
 use Rattle.smr_core.specs.CoreState.{State, IsActor, most_holders}
-use Rattle.smr_core.specs.CoreStep.{IsStep, Moves, MakesNote, TakesIn, Needs, Refuses, Run, IsIdleNote, taker}
+use Rattle.smr_core.specs.CoreStep.{IsStep, Moves, MakesNote, TakesIn, Needs, StepIsRefused, Run, IsIdleNote, taker}
 use Rattle.smr_core.specs.Turns.{is_hand, is_late, saw_at, set_in, set_at, turn_steps}
 use Rattle.smr_core.specs.TurnLaws.{TurnIsDetermined, TakenIsNotRefused}
 use Rattle.smr_core.proofs.PlaceLemmas.{same_place, place_within}
@@ -23,7 +23,7 @@ use Rattle.smr_core.proofs.TurnLemmas.{sure_by}
 moved : State → Step → (Holder → ℕ) → (Holder → ℕ → ℕ) → (Actor → ℕ → Actor) → Actor → State
 moved s step i f g a =
     record {
-      about = s.about;
+      config = s.config;
       words = slice_set s.words (i a.holder) (f a.holder (slice_index s.words (i a.holder)));
       actors = slice_set s.actors (taker step) (g a (slice_index s.words (i a.holder)));
     }
@@ -39,9 +39,9 @@ moves-one s step i f g sees x y m t p q =
 
 noted : State → ℕ → Actor → State
 noted s n a =
-    let worker = clock.write_loaded s.about a.holder (slice_index s.words write_place) in
+    let worker = clock.write_loaded s.config a.holder (slice_index s.words write_place) in
     record {
-      about = s.about;
+      config = s.config;
       words = s.words;
       actors = slice_set s.actors n (record a { holder = worker }) ++ record { holder = clock.note_of worker; tag = 0; reading = 0 } ∷ [];
     }
@@ -55,7 +55,7 @@ note-one s n x y m t p q =
 taken_in : State → ℕ → ℕ → Actor → Actor → State
 taken_in s n other a note =
     record {
-      about = s.about;
+      config = s.config;
       words = s.words;
       actors = slice_set (slice_set s.actors n (record a { holder = clock.joined a.holder note.holder })) other (record note { holder = spent });
     }
@@ -133,7 +133,7 @@ module _ {X : Type 0} (f : Seen → X) (d : X) where
 -- the steps of a poll, by whether it goes on and by its set
 poll_by : State → ℕ → ℕ → Bool → ℕ → List Step
 poll_by s n tag goes set =
-    PollRead n tag ∷ PollLoad n ∷ cond goes (PollPresent n ∷ (map (λ seat. PollScan n) (seats_below set s.about.seats) ++ PollSwap n ∷ [])) []
+    PollRead n tag ∷ PollLoad n ∷ cond goes (PollPresent n ∷ (map (λ seat. PollScan n) (seats_below set s.config.seats) ++ PollSwap n ∷ [])) []
 
 poll-one : (s m t : State) (n tag : ℕ) (goes : Bool) (xs ys : List Seen) → Run s (poll_by s n tag goes (set_at 2 xs)) xs m → Run s (poll_by s n tag goes (set_at 2 ys)) ys t
     → (xs ≡ ys) × (m ≡ t)
@@ -148,15 +148,15 @@ pub turn-is-determined : TurnIsDetermined
 unfolding asked poll_by
 turn-is-determined s m t (One step) xs ys p q = run-one s (step ∷ []) xs ys m t p q
 turn-is-determined s m t (Enter n) xs ys p q =
-    run-one s (turn_steps s.about (Enter n) ys) xs ys m t
+    run-one s (turn_steps s.config (Enter n) ys) xs ys m t
     (subst (λ (c : Bool). Run s (EnterLoad n ∷ EnterStore n ∷ EnterCheck n ∷ cond c (Clear n ∷ []) []) xs m)
     (third-one is_late false s (EnterLoad n) (EnterStore n) (EnterCheck n) _ _ xs ys m t p q) p) q
 turn-is-determined s m t (Advance n) xs ys p q =
-    run-one s (turn_steps s.about (Advance n) ys) xs ys m t
+    run-one s (turn_steps s.config (Advance n) ys) xs ys m t
     (subst (λ (c : Bool). Run s (AdvanceRead n ∷ AdvanceLoad n ∷ cond c (AdvanceSwap n ∷ []) []) xs m)
     (second-one is_hand false s (AdvanceRead n) (AdvanceLoad n) _ _ xs ys m t p q) p) q
 turn-is-determined s m t (PollLoads n) xs ys p q =
-    run-one s (turn_steps s.about (PollLoads n) ys) xs ys m t
+    run-one s (turn_steps s.config (PollLoads n) ys) xs ys m t
     (subst (λ (c : Bool). Run s (PollLoad n ∷ cond c (PollPresent n ∷ []) []) xs m)
     (first-one is_hand false s (PollLoad n) _ _ xs ys m t p q) p) q
 turn-is-determined s m t (Poll n tag) xs ys p q =
@@ -166,7 +166,7 @@ turn-is-determined s m t (Poll n tag) xs ys p q =
 
 -- ---- what is taken isn't refused
 
-note-taken : (s : State) (n : ℕ) (x : Seen) (m : State) → MakesNote s (Note n) x m → (refused : StepRefused) → refused ≢ Memory → Refuses s (Note n) refused → ⊥
+note-taken : (s : State) (n : ℕ) (x : Seen) (m : State) → MakesNote s (Note n) x m → (refused : StepRefused) → refused ≢ Memory → StepIsRefused s (Note n) refused → ⊥
 note-taken s n x m p (NoSeat missing count) no_memory r =
     let here : n < length s.actors = place_within s.actors n p.actor p.there in
     let same : missing ≡ n = r.0.0 in
@@ -174,14 +174,14 @@ note-taken s n x m p (NoSeat missing count) no_memory r =
     absurd (omega arith)
 note-taken s n x m p (OutOfTurn k in_phase in_task) no_memory r =
     let same : r.0 ≡ p.actor = same_place s.actors n r.0 p.actor (subst (λ (j : ℕ). IsActor s j r.0) r.2.0 r.1) p.there in
-    r.2.1 (subst (λ (z : Actor). Needs s.about (Note n) z.holder) (sym same) p.needs)
+    r.2.1 (subst (λ (z : Actor). Needs s.config (Note n) z.holder) (sym same) p.needs)
 note-taken s n x m p (Crowded count) no_memory r =
     let full : length s.actors ≡ most_holders = r.2 in
     let room : length s.actors < most_holders = p.room in
     absurd (omega arith)
 note-taken s n x m p Memory no_memory r = no_memory refl
 
-absorb-taken : (s : State) (n other : ℕ) (x : Seen) (m : State) → TakesIn s (Absorb n other) other x m → (refused : StepRefused) → Refuses s (Absorb n other) refused → ⊥
+absorb-taken : (s : State) (n other : ℕ) (x : Seen) (m : State) → TakesIn s (Absorb n other) other x m → (refused : StepRefused) → StepIsRefused s (Absorb n other) refused → ⊥
 absorb-taken s n other x m p (NoSeat missing count) r =
     let here : n < length s.actors = place_within s.actors n p.actor p.there in
     let there : other < length s.actors = place_within s.actors other p.note p.note_there in
@@ -190,7 +190,7 @@ absorb-taken s n other x m p (OutOfTurn k in_phase in_task) r =
     ⊎_elim
     (λ z.
     let same : r.0 ≡ p.actor = same_place s.actors n r.0 p.actor (subst (λ (j : ℕ). IsActor s j r.0) z.0 r.1) p.there in
-    z.2 (subst (λ (w : Actor). Needs s.about (Absorb n other) w.holder) (sym same) p.needs))
+    z.2 (subst (λ (w : Actor). Needs s.config (Absorb n other) w.holder) (sym same) p.needs))
     (λ z.
     let same : r.0 ≡ p.note = same_place s.actors other r.0 p.note (subst (λ (j : ℕ). IsActor s j r.0) z.0 r.1) p.note_there in
     z.2 (subst (λ (w : Actor). IsIdleNote w.holder) (sym same) p.note_needs))
@@ -198,7 +198,7 @@ absorb-taken s n other x m p (OutOfTurn k in_phase in_task) r =
 absorb-taken s n other x m p (Crowded count) r = r.0
 absorb-taken s n other x m p Memory r = r.0
 
-step-taken : (s : State) (step : Step) (x : Seen) (m : State) → IsStep s step x m → (refused : StepRefused) → refused ≢ Memory → Refuses s step refused → ⊥
+step-taken : (s : State) (step : Step) (x : Seen) (m : State) → IsStep s step x m → (refused : StepRefused) → refused ≢ Memory → StepIsRefused s step refused → ⊥
 step-taken s (EnterLoad n) x m p refused no_memory r = sure_by s (EnterLoad n) p.actor p.there p.needs (λ _ h. h) (λ _ _ z. z) (λ z. z) refused r
 step-taken s (EnterStore n) x m p refused no_memory r = sure_by s (EnterStore n) p.actor p.there p.needs (λ _ h. h) (λ _ _ z. z) (λ z. z) refused r
 step-taken s (EnterCheck n) x m p refused no_memory r = sure_by s (EnterCheck n) p.actor p.there p.needs (λ _ h. h) (λ _ _ z. z) (λ z. z) refused r
@@ -217,7 +217,7 @@ step-taken s (Note n) x m p refused no_memory r = note-taken s n x m p refused n
 step-taken s (Absorb n note) x m p refused no_memory r = absorb-taken s n note x m p refused r
 
 run-taken : (s : State) (step : Step) (steps : List Step) (sees : List Seen) (m : State) (refused : StepRefused)
-    → Run s (step ∷ steps) sees m → refused ≢ Memory → Refuses s step refused → ⊥
+    → Run s (step ∷ steps) sees m → refused ≢ Memory → StepIsRefused s step refused → ⊥
 run-taken s step steps [] m refused p no_memory r = absurd p
 run-taken s step steps (x ∷ sees) m refused p no_memory r = step-taken s step x p.0 p.1 refused no_memory r
 
@@ -228,5 +228,5 @@ taken-is-not-refused s m (Advance n) sees refused p no_memory r = run-taken s (A
 taken-is-not-refused s m (PollLoads n) sees refused p no_memory r = run-taken s (PollLoad n) (cond (saw_at 0 is_hand sees) (PollPresent n ∷ []) []) sees m refused p no_memory r
 taken-is-not-refused s m (Poll n tag) sees refused p no_memory r =
     run-taken s (PollRead n tag)
-    (PollLoad n ∷ cond (saw_at 1 is_hand sees) (PollPresent n ∷ (map (λ seat. PollScan n) (seats_below (set_at 2 sees) s.about.seats) ++ PollSwap n ∷ [])) [])
+    (PollLoad n ∷ cond (saw_at 1 is_hand sees) (PollPresent n ∷ (map (λ seat. PollScan n) (seats_below (set_at 2 sees) s.config.seats) ++ PollSwap n ∷ [])) [])
     sees m refused p no_memory r

@@ -3,7 +3,7 @@ use Rattle.std.proofs.Common.{◌≡◌, ℕ, ◌+◌, ◌<◌, ◌≤◌, ◌�
 use Rattle.std.proofs.lemmas.Bool.{false≢true}
 use Rattle.std.proofs.lemmas.List.{map-append}
 use Rattle.smr_seq.specs.Reading.{reading}
-use Rattle.smr_core.specs.declared.about.About.{About}
+use Rattle.smr_core.specs.declared.clock_config.ClockConfig.{ClockConfig}
 use Rattle.smr_core.specs.declared.actor.Actor.{Actor}
 use Rattle.smr_core.specs.declared.holder.Holder.{Holder}
 use Rattle.smr_core.specs.declared.phase.Phase.TheVariants as phase
@@ -19,7 +19,7 @@ use Rattle.smr_core.specs.declared.turn.Turn.TheVariants.{Enter, PollLoads, Poll
 use Rattle.smr_core.specs.ClockState.{write_place, presence_place, seat_place, next_present, seats_below}
 use Rattle.smr_core.specs.ClockStep as clock
 use Rattle.smr_core.specs.CoreState.{State, IsActor}
-use Rattle.smr_core.specs.CoreStep.{IsStep, Moves, Needs, Refuses, Run, IsMissing, IsOutOfTurn, MayMakeNote, taker, poll_goes_on, poll_sees, load_sees}
+use Rattle.smr_core.specs.CoreStep.{IsStep, Moves, Needs, StepIsRefused, Run, IsMissing, IsOutOfTurn, MayMakeNote, taker, poll_goes_on, poll_sees, load_sees}
 use Rattle.smr_core.specs.Turns.{IsSure, IsTurn, RefusesTurn, Scans, first_step, is_hand, is_late, saw_at, set_in, set_at}
 use Rattle.smr_core.proofs.PlaceLemmas.{set_here, same_place, place_within}
 use Rattle.smr_core.proofs.RunLemmas.{run-push}
@@ -27,11 +27,11 @@ use Rattle.smr_core.proofs.RunLemmas.{run-push}
 -- ---- what isn't refused
 
 -- a step of one actor, which is there and whose phase and task suit it
-pub sure_by : (s : State) (step : Step) (x : Actor) → IsActor s (taker step) x → Needs s.about step x.holder
+pub sure_by : (s : State) (step : Step) (x : Actor) → IsActor s (taker step) x → Needs s.config step x.holder
     → ((m : ℕ) → IsMissing s step m → (m ≡ taker step) × (length s.actors ≤ m))
-    → ((at : ℕ) (h : Holder) → IsOutOfTurn s step at h → (at ≡ taker step) × (Needs s.about step h → ⊥))
+    → ((at : ℕ) (h : Holder) → IsOutOfTurn s step at h → (at ≡ taker step) × (Needs s.config step h → ⊥))
     → (MayMakeNote s step → ⊥)
-    → (refused : StepRefused) → Refuses s step refused → ⊥
+    → (refused : StepRefused) → StepIsRefused s step refused → ⊥
 sure_by s step x at needs missing turn note (NoSeat m count) r =
     let out = missing m r.0 in
     let here : taker step < length s.actors = place_within s.actors (taker step) x at in
@@ -41,7 +41,7 @@ sure_by s step x at needs missing turn note (NoSeat m count) r =
 sure_by s step x at needs missing turn note (OutOfTurn k in_phase in_task) r =
     let out = turn k r.0.holder r.2 in
     let same : r.0 ≡ x = same_place s.actors (taker step) r.0 x (subst (λ (j : ℕ). IsActor s j r.0) out.0 r.1) at in
-    out.1 (subst (λ (z : Actor). Needs s.about step z.holder) (sym same) needs)
+    out.1 (subst (λ (z : Actor). Needs s.config step z.holder) (sym same) needs)
 sure_by s step x at needs missing turn note (Crowded count) r = note r.0
 sure_by s step x at needs missing turn note Memory r = note r.0
 
@@ -69,7 +69,7 @@ by_test false P t f = f
 pub clear-sure : (s : State) (n : ℕ) (saw : Seen) (mid : State) → IsStep s (EnterCheck n) saw mid → IsSure mid (Clear n)
 clear-sure s n saw mid m =
     sure_by mid (Clear n) _ (moved_there s (EnterCheck n) _ _ _ _ saw mid m)
-    (by_test (clock.is_overtaken s.about m.actor.holder.loaded (slice_index s.words write_place))
+    (by_test (clock.is_overtaken s.config m.actor.holder.loaded (slice_index s.words write_place))
     (λ b. (cond b phase.Late phase.Inside ≡ phase.Inside) ⊎ (cond b phase.Late phase.Inside ≡ phase.Late)) (inr refl) (inl refl))
     (λ _ h. h) (λ _ _ z. z) (λ z. z)
 
@@ -79,7 +79,7 @@ pub advance_load-sure : (s : State) (n : ℕ) (saw : Seen) (mid : State) → IsS
 advance_load-sure s n saw mid m =
     sure_by mid (AdvanceLoad n) _ (moved_there s (AdvanceRead n) _ _ _ _ saw mid m) refl (λ _ h. h) (λ _ _ z. z) (λ z. z)
 
-advance_goes : (a : About) (h : Holder) (found : ℕ) → is_hand (load_sees a h found) ≡ true → (clock.advance_loaded a h found).task ≡ task.AdvLoaded
+advance_goes : (a : ClockConfig) (h : Holder) (found : ℕ) → is_hand (load_sees a h found) ≡ true → (clock.advance_loaded a h found).task ≡ task.AdvLoaded
 advance_goes a h found =
     by_test (clock.is_spent found)
     (λ b. is_hand (cond b (seen.Spent found) (cond (clock.is_too_far a h.read found) (seen.TooFar h.read found) (seen.Hand found))) ≡ true
@@ -95,7 +95,7 @@ advance_goes a h found =
 pub advance_swap-sure : (s : State) (n : ℕ) (saw : Seen) (mid : State) → IsStep s (AdvanceLoad n) saw mid → is_hand saw ≡ true → IsSure mid (AdvanceSwap n)
 advance_swap-sure s n saw mid m hand =
     sure_by mid (AdvanceSwap n) _ (moved_there s (AdvanceLoad n) _ _ _ _ saw mid m)
-    (advance_goes s.about m.actor.holder (slice_index s.words write_place) (subst (λ (z : Seen). is_hand z ≡ true) m.saw_it hand))
+    (advance_goes s.config m.actor.holder (slice_index s.words write_place) (subst (λ (z : Seen). is_hand z ≡ true) m.saw_it hand))
     (λ _ h. h) (λ _ _ z. z) (λ z. z)
 
 -- ---- a poll
@@ -104,7 +104,7 @@ pub poll_load-sure : (s : State) (n tag : ℕ) (saw : Seen) (mid : State) → Is
 poll_load-sure s n tag saw mid m =
     sure_by mid (PollLoad n) _ (moved_there s (PollRead n tag) _ _ _ _ saw mid m) refl (λ _ h. h) (λ _ _ z. z) (λ z. z)
 
-poll_goes : (a : About) (x : Actor) (found : ℕ) (o : Option ℕ) → is_hand (poll_sees x found o) ≡ true → (poll_goes_on a x found o).holder.task ≡ task.PollLoaded
+poll_goes : (a : ClockConfig) (x : Actor) (found : ℕ) (o : Option ℕ) → is_hand (poll_sees x found o) ≡ true → (poll_goes_on a x found o).holder.task ≡ task.PollLoaded
 poll_goes a x found None = λ e. absurd (false≢true e)
 poll_goes a x found (Some goal) =
     by_test (leb goal x.holder.read)
@@ -116,45 +116,45 @@ poll_goes a x found (Some goal) =
 pub present-sure : (s : State) (n : ℕ) (saw : Seen) (mid : State) → IsStep s (PollLoad n) saw mid → is_hand saw ≡ true → IsSure mid (PollPresent n)
 present-sure s n saw mid m hand =
     sure_by mid (PollPresent n) _ (moved_there s (PollLoad n) _ _ _ _ saw mid m)
-    (poll_goes s.about m.actor (slice_index s.words write_place) (reading m.actor.tag (slice_index s.words write_place)) (subst (λ (z : Seen). is_hand z ≡ true) m.saw_it hand))
+    (poll_goes s.config m.actor (slice_index s.words write_place) (reading m.actor.tag (slice_index s.words write_place)) (subst (λ (z : Seen). is_hand z ≡ true) m.saw_it hand))
     (λ _ h. h) (λ _ _ z. z) (λ z. z)
 
-pub scans-first : (s : State) (n : ℕ) (saw : Seen) (mid : State) → IsStep s (PollPresent n) saw mid → Scans mid n (set_in saw) (next_present s.about (set_in saw) 0)
+pub scans-first : (s : State) (n : ℕ) (saw : Seen) (mid : State) → IsStep s (PollPresent n) saw mid → Scans mid n (set_in saw) (next_present s.config (set_in saw) 0)
 scans-first s n saw mid m =
-    let found : ℕ = slice_index s.words (presence_place s.about) in
-    let same : slice_index s.words (presence_place s.about) ≡ set_in saw = sym (ap set_in m.saw_it) in
+    let found : ℕ = slice_index s.words (presence_place s.config) in
+    let same : slice_index s.words (presence_place s.config) ≡ set_in saw = sym (ap set_in m.saw_it) in
     record {
-      actor = record m.actor { holder = clock.poll_present s.about m.actor.holder (slice_index s.words (presence_place s.about)) };
+      actor = record m.actor { holder = clock.poll_present s.config m.actor.holder (slice_index s.words (presence_place s.config)) };
       there = moved_there s (PollPresent n) _ _ _ _ saw mid m;
       scanning = refl;
       of_set = same;
-      scanned = ap (λ (z : ℕ). next_present s.about z 0) same;
+      scanned = ap (λ (z : ℕ). next_present s.config z 0) same;
     }
 
-pub scans-next : (s : State) (n set k : ℕ) (saw : Seen) (mid : State) → Scans s n set k → IsStep s (PollScan n) saw mid → Scans mid n set (next_present s.about set (k + 1))
+pub scans-next : (s : State) (n set k : ℕ) (saw : Seen) (mid : State) → Scans s n set k → IsStep s (PollScan n) saw mid → Scans mid n set (next_present s.config set (k + 1))
 scans-next s n set k saw mid sc m =
     let same : sc.actor ≡ m.actor = same_place s.actors n sc.actor m.actor sc.there m.there in
     let of_set : m.actor.holder.present ≡ set = ap (λ (z : Actor). z.holder.present) (sym same) ∙ sc.of_set in
     let at : m.actor.holder.scanned ≡ k = ap (λ (z : Actor). z.holder.scanned) (sym same) ∙ sc.scanned in
     record {
-      actor = record m.actor { holder = clock.poll_scanned s.about m.actor.holder (slice_index s.words (seat_place m.actor.holder.scanned)) };
+      actor = record m.actor { holder = clock.poll_scanned s.config m.actor.holder (slice_index s.words (seat_place m.actor.holder.scanned)) };
       there = moved_there s (PollScan n) _ _ _ _ saw mid m;
       scanning = m.needs.0;
       of_set = of_set;
-      scanned = λ i. next_present s.about (of_set i) (at i + 1);
+      scanned = λ i. next_present s.config (of_set i) (at i + 1);
     }
 
-pub scan-sure : (s : State) (n set k : ℕ) → Scans s n set k → k < s.about.seats → IsSure s (PollScan n)
+pub scan-sure : (s : State) (n set k : ℕ) → Scans s n set k → k < s.config.seats → IsSure s (PollScan n)
 scan-sure s n set k sc below =
-    sure_by s (PollScan n) sc.actor sc.there (sc.scanning, subst (λ (z : ℕ). z < s.about.seats) (sym sc.scanned) below) (λ _ h. h) (λ _ _ z. z) (λ z. z)
+    sure_by s (PollScan n) sc.actor sc.there (sc.scanning, subst (λ (z : ℕ). z < s.config.seats) (sym sc.scanned) below) (λ _ h. h) (λ _ _ z. z) (λ z. z)
 
-pub swap-sure : (s : State) (n set k : ℕ) → Scans s n set k → k ≡ s.about.seats → IsSure s (PollSwap n)
+pub swap-sure : (s : State) (n set k : ℕ) → Scans s n set k → k ≡ s.config.seats → IsSure s (PollSwap n)
 swap-sure s n set k sc all =
     sure_by s (PollSwap n) sc.actor sc.there (sc.scanning, sc.scanned ∙ all) (λ _ h. h) (λ _ _ z. z) (λ z. z)
 
 -- a step leaves the numbers that the clock was made with
-pub scan-about : (s : State) (n : ℕ) (saw : Seen) (mid : State) → IsStep s (PollScan n) saw mid → mid.about ≡ s.about
-scan-about s n saw mid m = ap (λ (t : State). t.about) m.after
+pub scan-config : (s : State) (n : ℕ) (saw : Seen) (mid : State) → IsStep s (PollScan n) saw mid → mid.config ≡ s.config
+scan-config s n saw mid m = ap (λ (t : State). t.config) m.after
 
 -- ---- whole turns
 
@@ -192,13 +192,13 @@ run-scan s mid s' n tag k seats sees saw run step =
     (run-push s mid s' (poll_so_far n tag seats) sees (PollScan n) saw run step)
 
 pub poll-whole : (s mid s' : State) (n tag set k : ℕ) (sees : List Seen) (saw : Seen) → Run s (poll_so_far n tag (seats_below set k)) sees mid
-    → k ≡ s.about.seats → HasBegun set sees → IsStep mid (PollSwap n) saw s' → IsTurn s (Poll n tag) (sees ++ saw ∷ []) s'
+    → k ≡ s.config.seats → HasBegun set sees → IsStep mid (PollSwap n) saw s' → IsTurn s (Poll n tag) (sees ++ saw ∷ []) s'
 poll-whole s mid s' n tag set k sees saw run all begun step =
     let more = begun-stays set sees saw begun in
     subst (λ (b : Bool). Run s (PollRead n tag ∷ PollLoad n
-    ∷ cond b (PollPresent n ∷ (map (λ seat. PollScan n) (seats_below (set_at 2 (sees ++ saw ∷ [])) s.about.seats) ++ PollSwap n ∷ [])) []) (sees ++ saw ∷ []) s')
+    ∷ cond b (PollPresent n ∷ (map (λ seat. PollScan n) (seats_below (set_at 2 (sees ++ saw ∷ [])) s.config.seats) ++ PollSwap n ∷ [])) []) (sees ++ saw ∷ []) s')
     (sym (begun-hand set (sees ++ saw ∷ []) more))
-    (subst (λ (p : ℕ). Run s (PollRead n tag ∷ PollLoad n ∷ PollPresent n ∷ (map (λ seat. PollScan n) (seats_below p s.about.seats) ++ PollSwap n ∷ [])) (sees ++ saw ∷ []) s')
+    (subst (λ (p : ℕ). Run s (PollRead n tag ∷ PollLoad n ∷ PollPresent n ∷ (map (λ seat. PollScan n) (seats_below p s.config.seats) ++ PollSwap n ∷ [])) (sees ++ saw ∷ []) s')
     (sym (begun-set set (sees ++ saw ∷ []) more))
     (subst (λ (j : ℕ). Run s (PollRead n tag ∷ PollLoad n ∷ PollPresent n ∷ (map (λ seat. PollScan n) (seats_below set j) ++ PollSwap n ∷ [])) (sees ++ saw ∷ []) s') all
     (run-push s mid s' (poll_so_far n tag (seats_below set k)) sees (PollSwap n) saw run step)))
@@ -233,7 +233,7 @@ enter-late s m1 m2 m3 s' n x y z w sees e p q r late v =
     (run-three s m1 m2 m3 (EnterLoad n) (EnterStore n) (EnterCheck n) x y z p q r) v))
 
 -- a turn is refused as its first step is
-pub refuses-turn : (s : State) (turn : Turn) (refused : StepRefused) → Refuses s (first_step turn) refused → RefusesTurn s turn refused
+pub refuses-turn : (s : State) (turn : Turn) (refused : StepRefused) → StepIsRefused s (first_step turn) refused → RefusesTurn s turn refused
 refuses-turn s turn (NoSeat m count) r = r
 refuses-turn s turn (OutOfTurn k in_phase in_task) r = r
 refuses-turn s turn (Crowded count) r = r

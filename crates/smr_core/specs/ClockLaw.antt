@@ -20,7 +20,7 @@ use Rattle.std.specs.Int.{bit_at}
 use mathlib.Core.Option.{some}
 use lib.ListN.{get_elem?}
 use Rattle.smr_seq.specs.Reading.{low}
-use Rattle.smr_core.specs.declared.about.About.{About}
+use Rattle.smr_core.specs.declared.clock_config.ClockConfig.{ClockConfig}
 use Rattle.smr_core.specs.declared.holder.Holder.{Holder}
 use Rattle.smr_core.specs.declared.phase.Phase.{Phase}
 use Rattle.smr_core.specs.declared.phase.Phase.TheVariants as phase
@@ -29,7 +29,7 @@ use Rattle.smr_core.specs.declared.task.Task.TheVariants as task
 use Rattle.smr_core.specs.ClockState.{IsOdd, IsInRange, place_after_seats, write_hand, read_hand, seat_word, word_of, seats_of, spent, IsSeatWord, presence_word, IsPresent, IsAbsent}
 
 -- part 1
-pub record HandsFit (a : About) (ws : List ℕ) : Type 0 where
+pub record HandsFit (a : ClockConfig) (ws : List ℕ) : Type 0 where
   pub places : place_after_seats a ≤ length ws
   pub odd_write : IsOdd (write_hand ws)
   pub odd_read : IsOdd (read_hand ws)
@@ -39,7 +39,7 @@ pub record HandsFit (a : About) (ws : List ℕ) : Type 0 where
   pub within_window : write_hand ws - read_hand ws ≤ a.window
 
 -- parts 2 to 4, by the phase of the holder
-abbrev pub PhaseFits : About → List ℕ → Holder → Phase → Type 0
+abbrev pub PhaseFits : ClockConfig → List ℕ → Holder → Phase → Type 0
 PhaseFits a ws h phase.Outside = word_of ws h.seat ≡ 0
 PhaseFits a ws h phase.Loaded = (word_of ws h.seat ≡ 0) × IsOdd h.loaded × (h.loaded ≤ write_hand ws)
 PhaseFits a ws h phase.Stored = (word_of ws h.seat ≡ low h.loaded) × IsOdd h.loaded × (h.loaded ≤ write_hand ws)
@@ -65,11 +65,11 @@ presence_bit phase.Vacant = 0
 presence_bit _ = 1
 
 -- the poll has come to a seat of its set, whose word it will load next, or is at the end
-abbrev pub ScanFits : About → Holder → Type 0
+abbrev pub ScanFits : ClockConfig → Holder → Type 0
 ScanFits a h = (h.scanned ≤ a.seats) × (h.scanned < a.seats → IsPresent h.present h.scanned)
 
 -- Parts 6 and 7, by the task of the holder. An advance is for a worker alone.
-abbrev pub TaskFits : About → List ℕ → Holder → Task → Type 0
+abbrev pub TaskFits : ClockConfig → List ℕ → Holder → Task → Type 0
 TaskFits a ws h task.Idle = Unit {0}
 TaskFits a ws h task.AdvRead = IsSome h.seat × (h.read ≤ read_hand ws)
 TaskFits a ws h task.AdvLoaded =
@@ -82,7 +82,7 @@ TaskFits a ws h task.Scanning =
     × ScanFits a h
 
 -- all that the law says of one holder
-pub record HolderFits (a : About) (ws : List ℕ) (h : Holder) : Type 0 where
+pub record HolderFits (a : ClockConfig) (ws : List ℕ) (h : Holder) : Type 0 where
   pub seen : h.seen ≤ write_hand ws
   pub floor : h.floor ≤ read_hand ws
   pub seat : SeatFits h.seat h.phase
@@ -91,7 +91,7 @@ pub record HolderFits (a : About) (ws : List ℕ) (h : Holder) : Type 0 where
   pub task : TaskFits a ws h h.task
 
 -- part 2 across holders: a seat number has at most one holder, and there is no other number
-pub record OneHolderEach (a : About) (seats : List (Option ℕ)) : Type 0 where
+pub record OneHolderEach (a : ClockConfig) (seats : List (Option ℕ)) : Type 0 where
   pub one : (i j s : ℕ) → get_elem? seats i ≡ some (Some s) → get_elem? seats j ≡ some (Some s) → i ≡ j
   pub known : (i s : ℕ) → get_elem? seats i ≡ some (Some s) → s < a.seats
 
@@ -113,7 +113,7 @@ ScansFit hs =
 abbrev pub all_advances : List Holder → ℕ
 all_advances hs = sum_by (λ h. h.advances) hs
 
-pub record ClockLaw (a : About) (ws : List ℕ) (hs : List Holder) : Type 0 where
+pub record ClockLaw (a : ClockConfig) (ws : List ℕ) (hs : List Holder) : Type 0 where
   pub numbers : IsInRange a
   pub hands : HandsFit a ws
   pub holders : (i : ℕ) (h : Holder) → get_elem? hs i ≡ some h → HolderFits a ws h
@@ -129,24 +129,24 @@ pub record ClockLaw (a : About) (ws : List ℕ) (hs : List Holder) : Type 0 wher
 -- ---- what it means that a step keeps the law
 
 -- the law holds after the step, and neither hand is lower
-pub record Later (a : About) (ws : List ℕ) (ws' : List ℕ) (hs' : List Holder) : Type 0 where
+pub record Later (a : ClockConfig) (ws : List ℕ) (ws' : List ℕ) (hs' : List Holder) : Type 0 where
   pub law : ClockLaw a ws' hs'
   pub write_not_lower : write_hand ws ≤ write_hand ws'
   pub read_not_lower : read_hand ws ≤ read_hand ws'
 
 -- From every state in which the law holds and the holder id is h: the word i becomes f of what it was, and h becomes g of that.
-abbrev pub Keeps : About → ℕ → Holder → ℕ → (ℕ → ℕ) → (ℕ → Holder) → Type 0
+abbrev pub Keeps : ClockConfig → ℕ → Holder → ℕ → (ℕ → ℕ) → (ℕ → Holder) → Type 0
 Keeps a id h i f g =
     (ws : List ℕ) (hs : List Holder) → ClockLaw a ws hs → get_elem? hs id ≡ some h
     → Later a ws (slice_set ws i (f (slice_index ws i))) (slice_set hs id (g (slice_index ws i)))
 
 -- the holder id stays, and there is one holder more
-abbrev pub KeepsSplit : About → ℕ → Holder → Holder → Type 0
+abbrev pub KeepsSplit : ClockConfig → ℕ → Holder → Holder → Type 0
 KeepsSplit a id h new =
     (ws : List ℕ) (hs : List Holder) → ClockLaw a ws hs → get_elem? hs id ≡ some h → Later a ws ws (hs ++ new ∷ [])
 
 -- the holder id becomes both, and the other is spent
-abbrev pub KeepsJoin : About → ℕ → Holder → ℕ → Holder → Holder → Type 0
+abbrev pub KeepsJoin : ClockConfig → ℕ → Holder → ℕ → Holder → Holder → Type 0
 KeepsJoin a id h at other both =
     (ws : List ℕ) (hs : List Holder) → ClockLaw a ws hs → get_elem? hs id ≡ some h → get_elem? hs at ≡ some other
     → Later a ws ws (slice_set (slice_set hs id both) at spent)

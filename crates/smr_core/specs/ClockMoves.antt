@@ -2,7 +2,7 @@
 use Rattle.std.specs.Prelude.{◌≡◌, ◌≢◌, ℕ, ◌<◌, ◌≤◌, ◌⊎◌, List, [], ◌∷◌, ◌++◌, Some, IsSome, slice_set}
 use mathlib.Core.Option.{some}
 use lib.ListN.{get_elem?}
-use Rattle.smr_core.specs.declared.about.About.{About}
+use Rattle.smr_core.specs.declared.clock_config.ClockConfig.{ClockConfig}
 use Rattle.smr_core.specs.declared.holder.Holder.{Holder}
 use Rattle.smr_core.specs.declared.phase.Phase.TheVariants as phase
 use Rattle.smr_core.specs.declared.task.Task.TheVariants as task
@@ -14,37 +14,37 @@ use Rattle.smr_core.specs.ClockLaw.{ClockLaw, HasNoHolder, Later, Keeps, KeepsSp
 -- A clock begins with both hands at the start, every seat's word 0, all seats present and one holder, which is no worker. Behind its words there may be others.
 abbrev pub BeginsLawful : Type 0
 BeginsLawful =
-    (a : About) (more : List ℕ) → IsInRange a → ClockLaw a (opening_words a ++ more) (first_holder a ∷ [])
+    (a : ClockConfig) (more : List ℕ) → IsInRange a → ClockLaw a (opening_words a ++ more) (first_holder a ∷ [])
 
 -- a word behind the clock's own may change as it likes
 abbrev pub OtherWordKeeps : Type 0
 OtherWordKeeps =
-    (a : About) (i v : ℕ) (ws : List ℕ) (hs : List Holder) → place_after_seats a ≤ i → ClockLaw a ws hs → Later a ws (slice_set ws i v) hs
+    (a : ClockConfig) (i v : ℕ) (ws : List ℕ) (hs : List Holder) → place_after_seats a ≤ i → ClockLaw a ws hs → Later a ws (slice_set ws i v) hs
 
 -- ---- any holder may load a hand alone
 
 abbrev pub WriteLookKeeps : Type 0
-WriteLookKeeps = (a : About) (id : ℕ) (h : Holder) → Keeps a id h write_place same (clock.write_loaded a h)
+WriteLookKeeps = (a : ClockConfig) (id : ℕ) (h : Holder) → Keeps a id h write_place same (clock.write_loaded a h)
 
 abbrev pub ReadLookKeeps : Type 0
-ReadLookKeeps = (a : About) (id : ℕ) (h : Holder) → Keeps a id h read_place same (clock.read_loaded h)
+ReadLookKeeps = (a : ClockConfig) (id : ℕ) (h : Holder) → Keeps a id h read_place same (clock.read_loaded h)
 
 -- ---- enter and exit
 
 abbrev pub EnterLoadKeeps : Type 0
-EnterLoadKeeps = (a : About) (id : ℕ) (h : Holder) → h.phase ≡ phase.Outside → Keeps a id h write_place same (clock.enter_loaded a h)
+EnterLoadKeeps = (a : ClockConfig) (id : ℕ) (h : Holder) → h.phase ≡ phase.Outside → Keeps a id h write_place same (clock.enter_loaded a h)
 
 abbrev pub EnterStoreKeeps : Type 0
 EnterStoreKeeps =
-    (a : About) (id : ℕ) (h : Holder) (s : ℕ) → h.seat ≡ Some s → h.phase ≡ phase.Loaded
+    (a : ClockConfig) (id : ℕ) (h : Holder) (s : ℕ) → h.seat ≡ Some s → h.phase ≡ phase.Loaded
     → Keeps a id h (seat_place s) (stored (clock.entry_word h)) (λ found. clock.enter_stored h)
 
 abbrev pub EnterCheckKeeps : Type 0
-EnterCheckKeeps = (a : About) (id : ℕ) (h : Holder) → h.phase ≡ phase.Stored → Keeps a id h write_place same (clock.enter_checked a h)
+EnterCheckKeeps = (a : ClockConfig) (id : ℕ) (h : Holder) → h.phase ≡ phase.Stored → Keeps a id h write_place same (clock.enter_checked a h)
 
 abbrev pub ClearKeeps : Type 0
 ClearKeeps =
-    (a : About) (id : ℕ) (h : Holder) (s : ℕ) → h.seat ≡ Some s → (h.phase ≡ phase.Inside) ⊎ (h.phase ≡ phase.Late)
+    (a : ClockConfig) (id : ℕ) (h : Holder) (s : ℕ) → h.seat ≡ Some s → (h.phase ≡ phase.Inside) ⊎ (h.phase ≡ phase.Late)
     → Keeps a id h (seat_place s) (stored 0) (λ found. clock.cleared h)
 
 -- ---- leave and come
@@ -52,64 +52,64 @@ ClearKeeps =
 -- A worker leaves outside a section, and in no advance or poll.
 abbrev pub LeaveKeeps : Type 0
 LeaveKeeps =
-    (a : About) (id : ℕ) (h : Holder) (s : ℕ) → h.seat ≡ Some s → h.phase ≡ phase.Outside → h.task ≡ task.Idle
+    (a : ClockConfig) (id : ℕ) (h : Holder) (s : ℕ) → h.seat ≡ Some s → h.phase ≡ phase.Outside → h.task ≡ task.Idle
     → Keeps a id h (presence_place a) (without s) (λ found. clock.left h)
 
 abbrev pub ComeKeeps : Type 0
 ComeKeeps =
-    (a : About) (id : ℕ) (h : Holder) (s : ℕ) → h.seat ≡ Some s → h.phase ≡ phase.Vacant
+    (a : ClockConfig) (id : ℕ) (h : Holder) (s : ℕ) → h.seat ≡ Some s → h.phase ≡ phase.Vacant
     → Keeps a id h (presence_place a) (with_seat s) (λ found. clock.came h)
 
 -- ---- advance
 
 abbrev pub AdvanceReadKeeps : Type 0
-AdvanceReadKeeps = (a : About) (id : ℕ) (h : Holder) → IsSome h.seat → h.phase ≢ phase.Vacant → Keeps a id h read_place same (clock.advance_read h)
+AdvanceReadKeeps = (a : ClockConfig) (id : ℕ) (h : Holder) → IsSome h.seat → h.phase ≢ phase.Vacant → Keeps a id h read_place same (clock.advance_read h)
 
 abbrev pub AdvanceLoadKeeps : Type 0
-AdvanceLoadKeeps = (a : About) (id : ℕ) (h : Holder) → h.task ≡ task.AdvRead → Keeps a id h write_place same (clock.advance_loaded a h)
+AdvanceLoadKeeps = (a : ClockConfig) (id : ℕ) (h : Holder) → h.task ≡ task.AdvRead → Keeps a id h write_place same (clock.advance_loaded a h)
 
 abbrev pub AdvanceSwapKeeps : Type 0
 AdvanceSwapKeeps =
-    (a : About) (id : ℕ) (h : Holder) → h.task ≡ task.AdvLoaded → Keeps a id h write_place (exchanged h.write (clock.goal_of h)) (clock.advance_swapped h)
+    (a : ClockConfig) (id : ℕ) (h : Holder) → h.task ≡ task.AdvLoaded → Keeps a id h write_place (exchanged h.write (clock.goal_of h)) (clock.advance_swapped h)
 
 -- ---- poll
 
 abbrev pub PollReadKeeps : Type 0
-PollReadKeeps = (a : About) (id : ℕ) (h : Holder) → h.phase ≢ phase.Vacant → Keeps a id h read_place same (clock.poll_read h)
+PollReadKeeps = (a : ClockConfig) (id : ℕ) (h : Holder) → h.phase ≢ phase.Vacant → Keeps a id h read_place same (clock.poll_read h)
 
 abbrev pub PollLoadKeeps : Type 0
-PollLoadKeeps = (a : About) (id : ℕ) (h : Holder) → h.task ≡ task.PollRead → Keeps a id h write_place same (clock.poll_loaded a h)
+PollLoadKeeps = (a : ClockConfig) (id : ℕ) (h : Holder) → h.task ≡ task.PollRead → Keeps a id h write_place same (clock.poll_loaded a h)
 
 abbrev pub PollEndKeeps : Type 0
-PollEndKeeps = (a : About) (id : ℕ) (h : Holder) → Keeps a id h write_place same (clock.poll_ended a h)
+PollEndKeeps = (a : ClockConfig) (id : ℕ) (h : Holder) → Keeps a id h write_place same (clock.poll_ended a h)
 
 abbrev pub PollPresentKeeps : Type 0
-PollPresentKeeps = (a : About) (id : ℕ) (h : Holder) → h.task ≡ task.PollLoaded → Keeps a id h (presence_place a) same (clock.poll_present a h)
+PollPresentKeeps = (a : ClockConfig) (id : ℕ) (h : Holder) → h.task ≡ task.PollLoaded → Keeps a id h (presence_place a) same (clock.poll_present a h)
 
 abbrev pub PollScanKeeps : Type 0
 PollScanKeeps =
-    (a : About) (id : ℕ) (h : Holder) → h.task ≡ task.Scanning → h.scanned < a.seats → Keeps a id h (seat_place h.scanned) same (clock.poll_scanned a h)
+    (a : ClockConfig) (id : ℕ) (h : Holder) → h.task ≡ task.Scanning → h.scanned < a.seats → Keeps a id h (seat_place h.scanned) same (clock.poll_scanned a h)
 
 abbrev pub PollSwapKeeps : Type 0
 PollSwapKeeps =
-    (a : About) (id : ℕ) (h : Holder) → h.task ≡ task.Scanning → h.scanned ≡ a.seats
+    (a : ClockConfig) (id : ℕ) (h : Holder) → h.task ≡ task.Scanning → h.scanned ≡ a.seats
     → Keeps a id h read_place (exchanged h.read h.least) (clock.poll_swapped h)
 
 -- ---- notes, workers split off, and joins
 
 abbrev pub NoteKeeps : Type 0
-NoteKeeps = (a : About) (id : ℕ) (h : Holder) → KeepsSplit a id h (clock.note_of h)
+NoteKeeps = (a : ClockConfig) (id : ℕ) (h : Holder) → KeepsSplit a id h (clock.note_of h)
 
 -- the worker of a seat that has no holder yet
 abbrev pub WorkerKeeps : Type 0
 WorkerKeeps =
-    (a : About) (id s : ℕ) (h : Holder) (ws : List ℕ) (hs : List Holder) → ClockLaw a ws hs → get_elem? hs id ≡ some h
+    (a : ClockConfig) (id s : ℕ) (h : Holder) (ws : List ℕ) (hs : List Holder) → ClockLaw a ws hs → get_elem? hs id ≡ some h
     → s < a.seats → HasNoHolder (seats_of hs) s → Later a ws ws (hs ++ clock.worker_of s h ∷ [])
 
 -- The holder that is taken in has no seat. It may be in a poll, which nobody goes on with.
 abbrev pub JoinKeeps : Type 0
 JoinKeeps =
-    (a : About) (id : ℕ) (h : Holder) (at : ℕ) (other : Holder) → (at ≡ id → ⊥) → other.phase ≡ phase.Note → KeepsJoin a id h at other (clock.joined h other)
+    (a : ClockConfig) (id : ℕ) (h : Holder) (at : ℕ) (other : Holder) → (at ≡ id → ⊥) → other.phase ≡ phase.Note → KeepsJoin a id h at other (clock.joined h other)
 
 -- ---- all of these
 

@@ -2,7 +2,7 @@
 -- The hands and the seats' words are those of FreeBSD's smr(9), with whole hands of 64 bits in place of wrapping ones (own). The presence word, and what a holder knows, are own.
 use Rattle.std.specs.Prelude.{◌≡◌, ℕ, zero, suc, ◌+◌, ◌-◌, ◌*◌, ◌%◌, ◌^◌, ◌<◌, ◌≤◌, ◌==◌, List, [], ◌∷◌, ◌++◌, map, replicate, slice_index, slice_set, Bool, if◌then◌else◌, Option, Some, None}
 use Rattle.std.specs.Int.{bit_at}
-use Rattle.smr_core.specs.declared.about.About.{About}
+use Rattle.smr_core.specs.declared.clock_config.ClockConfig.{ClockConfig}
 use Rattle.smr_core.specs.declared.holder.Holder.{Holder}
 use Rattle.smr_core.specs.declared.phase.Phase.TheVariants as phase
 use Rattle.smr_core.specs.declared.task.Task.TheVariants as task
@@ -12,7 +12,7 @@ abbrev pub IsOdd : ℕ → Type 0
 IsOdd n = n % 2 ≡ 1
 
 -- the numbers that a clock may be made with
-pub record IsInRange (a : About) : Type 0 where
+pub record IsInRange (a : ClockConfig) : Type 0 where
   pub some_seat : 1 ≤ a.seats
   pub few_seats : a.seats ≤ 64
   pub odd_start : IsOdd a.start
@@ -36,11 +36,11 @@ read_place = 8
 abbrev pub seat_place : ℕ → ℕ
 seat_place s = line (2 + s)
 
-abbrev pub presence_place : About → ℕ
+abbrev pub presence_place : ClockConfig → ℕ
 presence_place a = line (2 + a.seats)
 
 -- the place of the first word after the clock's own, which begins a line too
-abbrev pub place_after_seats : About → ℕ
+abbrev pub place_after_seats : ClockConfig → ℕ
 place_after_seats a = line (3 + a.seats)
 
 abbrev pub write_hand : List ℕ → ℕ
@@ -64,7 +64,7 @@ pub record IsSeatWord (word : ℕ) : Type 0 where
 
 -- ---- sets of seats, as the bits of a word: bit s is that of the seat s
 
-abbrev pub presence_word : About → List ℕ → ℕ
+abbrev pub presence_word : ClockConfig → List ℕ → ℕ
 presence_word a ws = slice_index ws (presence_place a)
 
 -- The seat is in the set, or it isn't. In the presence word are the seats that have a worker.
@@ -78,7 +78,7 @@ abbrev pub is_present : ℕ → ℕ → Bool
 is_present seats s = bit_at seats s == 1
 
 -- the set of all seats of a clock
-abbrev pub all_seats : About → ℕ
+abbrev pub all_seats : ClockConfig → ℕ
 all_seats a = 2 ^ a.seats - 1
 
 -- the least of the n numbers from k on that is in the set, and k + n where none is
@@ -87,7 +87,7 @@ first_of seats k zero = k
 first_of seats k (suc n) = if is_present seats k then k else first_of seats (suc k) n
 
 -- the least seat from k on that is in the set, and the count of seats where none is
-abbrev pub next_present : About → ℕ → ℕ → ℕ
+abbrev pub next_present : ClockConfig → ℕ → ℕ → ℕ
 next_present a seats k = first_of seats k (a.seats - k)
 
 -- the numbers below n that are in the set, in order
@@ -96,7 +96,7 @@ seats_below seats zero = []
 seats_below seats (suc n) = if is_present seats n then seats_below seats n ++ n ∷ [] else seats_below seats n
 
 -- the words before any step: both hands at the start, every seat's word 0, and all seats present
-abbrev pub opening_words : About → List ℕ
+abbrev pub opening_words : ClockConfig → List ℕ
 opening_words a =
     slice_set (slice_set (slice_set (replicate (place_after_seats a) 0) write_place a.start) read_place a.start) (presence_place a) (all_seats a)
 
@@ -126,7 +126,7 @@ spent =
     }
 
 -- The holder with which a clock begins, and from which its workers are split off. It knows where both hands begin.
-abbrev pub first_holder : About → Holder
+abbrev pub first_holder : ClockConfig → Holder
 first_holder a = record spent { phase = phase.Note; seen = a.start; floor = a.start }
 
 -- ---- sections and goals

@@ -3,7 +3,7 @@
 use Rattle.std.specs.Prelude.{◌<◌, ◌≤◌, ℕ, ◌+◌, ◌-◌, ◌^◌, ◌==◌, nat_lt, nat_le, min, max, if◌then◌else◌, Bool, Option, Some, None}
 use Rattle.smr_seq.specs.Reading.{low, reading}
 use Rattle.std.specs.Int.Bits.{bit_and, bit_or}
-use Rattle.smr_core.specs.declared.about.About.{About}
+use Rattle.smr_core.specs.declared.clock_config.ClockConfig.{ClockConfig}
 use Rattle.smr_core.specs.declared.holder.Holder.{Holder}
 use Rattle.smr_core.specs.declared.phase.Phase.TheVariants as phase
 use Rattle.smr_core.specs.declared.task.Task.TheVariants as task
@@ -34,7 +34,7 @@ with_seat s found = bit_or found (2 ^ s)
 -- ---- what every load of a hand teaches
 
 -- Of the write hand: it is seen, and the read hand is at most the window below it.
-abbrev pub write_loaded : About → Holder → ℕ → Holder
+abbrev pub write_loaded : ClockConfig → Holder → ℕ → Holder
 write_loaded a h found = record h { seen = max h.seen found; floor = max h.floor (found - a.window) }
 
 -- Of the read hand: it is at least what was found.
@@ -44,7 +44,7 @@ read_loaded h found = record h { floor = max h.floor found }
 -- ---- enter and exit
 
 -- the first step of an enter, a load of the write hand
-abbrev pub enter_loaded : About → Holder → ℕ → Holder
+abbrev pub enter_loaded : ClockConfig → Holder → ℕ → Holder
 enter_loaded a h found = record (write_loaded a h found) { phase = phase.Loaded; loaded = found }
 
 -- the second step, a store in one's own word
@@ -55,11 +55,11 @@ abbrev pub enter_stored : Holder → Holder
 enter_stored h = record h { phase = phase.Stored }
 
 -- The write hand moved on by the window or more: an enter that finds this is too late.
-abbrev pub is_overtaken : About → ℕ → ℕ → Bool
+abbrev pub is_overtaken : ClockConfig → ℕ → ℕ → Bool
 is_overtaken a loaded found = nat_le a.window (found - loaded)
 
 -- The third step, a load of the write hand again. What it finds is the entry mark.
-abbrev pub enter_checked : About → Holder → ℕ → Holder
+abbrev pub enter_checked : ClockConfig → Holder → ℕ → Holder
 enter_checked a h found =
     record (write_loaded a h found) {
       phase = (if is_overtaken a h.loaded found then phase.Late else phase.Inside);
@@ -91,15 +91,15 @@ abbrev pub is_spent : ℕ → Bool
 is_spent write = nat_le (2 ^ 63) (write + 2)
 
 -- two more than the write hand would be above the read hand by more than the window
-abbrev pub is_too_far : About → ℕ → ℕ → Bool
+abbrev pub is_too_far : ClockConfig → ℕ → ℕ → Bool
 is_too_far a read write = nat_lt a.window (write + 2 - read)
 
 -- a load of the write hand after which the advance ends
-abbrev pub advance_ended : About → Holder → ℕ → Holder
+abbrev pub advance_ended : ClockConfig → Holder → ℕ → Holder
 advance_ended a h found = record (write_loaded a h found) { task = task.Idle }
 
 -- A load of the write hand. The advance goes on only where there is room for two more.
-abbrev pub advance_loaded : About → Holder → ℕ → Holder
+abbrev pub advance_loaded : ClockConfig → Holder → ℕ → Holder
 advance_loaded a h found =
     if is_spent found then advance_ended a h found else
     if is_too_far a h.read found then advance_ended a h found else
@@ -129,15 +129,15 @@ abbrev pub poll_read : Holder → ℕ → Holder
 poll_read h found = record (read_loaded h found) { task = task.PollRead; read = found }
 
 -- a load of the write hand
-abbrev pub poll_loaded : About → Holder → ℕ → Holder
+abbrev pub poll_loaded : ClockConfig → Holder → ℕ → Holder
 poll_loaded a h found = record (write_loaded a h found) { task = task.PollLoaded; write = found }
 
 -- A load of the write hand that ends the poll, since the read hand that it has is not below the goal.
-abbrev pub poll_ended : About → Holder → ℕ → Holder
+abbrev pub poll_ended : ClockConfig → Holder → ℕ → Holder
 poll_ended a h found = record (write_loaded a h found) { task = task.Idle }
 
 -- A load of the presence word: whose words the poll will load. None is loaded yet, and the least mark so far is the write hand itself.
-abbrev pub poll_present : About → Holder → ℕ → Holder
+abbrev pub poll_present : ClockConfig → Holder → ℕ → Holder
 poll_present a h found = record h { task = task.Scanning; present = found; scanned = next_present a found 0; least = h.write }
 
 -- The least mark, with a seat's word that has this reading: an enter that is older than the read hand counts as one at the read hand.
@@ -150,12 +150,12 @@ abbrev pub least_after : ℕ → ℕ → ℕ → ℕ → ℕ
 least_after read write least word = if word == 0 then least else least_with read least (reading word write)
 
 -- the seats are few, and the next number fits
-pub record MayScan (a : About) (h : Holder) : Type 0 where
+pub record MayScan (a : ClockConfig) (h : Holder) : Type 0 where
   pub few : a.seats ≤ 64
   pub within : h.scanned < 2 ^ 31
 
 -- a load of the word of the seat that is next in the set
-abbrev pub poll_scanned : About → Holder → ℕ → Holder
+abbrev pub poll_scanned : ClockConfig → Holder → ℕ → Holder
 poll_scanned a h found =
     record h {
       scanned = next_present a h.present (h.scanned + 1);

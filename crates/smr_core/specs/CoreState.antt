@@ -3,7 +3,7 @@ use Rattle.std.specs.Prelude.{◌≡◌, ℕ, zero, suc, ◌<◌, ◌≤◌, Lis
 use mathlib.Core.Option.{some}
 use lib.ListN.{get_elem?}
 use Rattle.smr_seq.specs.Reading.{IsReading}
-use Rattle.smr_core.specs.declared.about.About.{About}
+use Rattle.smr_core.specs.declared.clock_config.ClockConfig.{ClockConfig}
 use Rattle.smr_core.specs.declared.actor.Actor.{Actor}
 use Rattle.smr_core.specs.declared.holder.Holder.{Holder}
 use Rattle.smr_core.specs.declared.phase.Phase.TheVariants as phase
@@ -12,7 +12,7 @@ use Rattle.smr_core.specs.ClockState.{IsInRange, place_after_seats, opening_word
 use Rattle.smr_core.specs.ClockLaw.{ClockLaw}
 
 pub record State : Type 0 where
-  pub about : About
+  pub config : ClockConfig
   pub words : List ℕ
   -- the workers or vacancies of the seats, in order, and then the notes
   pub actors : List Actor
@@ -34,7 +34,7 @@ most_holders = 65536
 -- ---- how it begins
 
 -- the worker of the seat s before any step. It knows where both hands begin.
-abbrev pub first_worker : About → ℕ → Actor
+abbrev pub first_worker : ClockConfig → ℕ → Actor
 first_worker a s =
     record {
       holder = record {
@@ -57,13 +57,13 @@ first_worker a s =
     }
 
 -- the workers of the first n seats
-abbrev pub first_workers : About → ℕ → List Actor
+abbrev pub first_workers : ClockConfig → ℕ → List Actor
 first_workers a zero = []
 first_workers a (suc n) = first_workers a n ++ first_worker a n ∷ []
 
 -- both hands at the start, every seat's word 0, a worker for each seat, and no note
-abbrev pub opening : About → State
-opening a = record { about = a; words = opening_words a; actors = first_workers a a.seats }
+abbrev pub opening : ClockConfig → State
+opening a = record { config = a; words = opening_words a; actors = first_workers a a.seats }
 
 -- ---- its law
 
@@ -72,20 +72,20 @@ abbrev pub AimFits : Actor → Type 0
 AimFits actor = (actor.holder.task ≡ task.PollLoaded) ⊎ (actor.holder.task ≡ task.Scanning) → IsReading actor.tag actor.holder.write actor.reading × (actor.holder.read < actor.reading)
 
 -- the worker or vacancy of a seat has the seat's number, and no other holder has a seat
-abbrev pub seat_at : About → ℕ → Option ℕ
+abbrev pub seat_at : ClockConfig → ℕ → Option ℕ
 seat_at a n = if nat_lt n a.seats then Some n else None
 
 -- the clock's law, and what the core alone has
 pub record CoreLaw (s : State) : Type 0 where
-  pub clock : ClockLaw s.about s.words (holders_of s.actors)
-  pub words : length s.words ≡ place_after_seats s.about
-  pub workers : s.about.seats ≤ length s.actors
+  pub clock : ClockLaw s.config s.words (holders_of s.actors)
+  pub words : length s.words ≡ place_after_seats s.config
+  pub workers : s.config.seats ≤ length s.actors
   pub few : length s.actors ≤ most_holders
-  pub seats : (n : ℕ) (actor : Actor) → IsActor s n actor → actor.holder.seat ≡ seat_at s.about n
+  pub seats : (n : ℕ) (actor : Actor) → IsActor s n actor → actor.holder.seat ≡ seat_at s.config n
   pub aims : (n : ℕ) (actor : Actor) → IsActor s n actor → AimFits actor
 
 -- a core opens with these numbers, which are in range
-pub record Opens (a : About) (s : State) : Type 0 where
+pub record Opens (a : ClockConfig) (s : State) : Type 0 where
   pub in_range : IsInRange a
   pub opened : s ≡ opening a
   pub law : CoreLaw s

@@ -1,6 +1,6 @@
 -- When a core, or a clock, is refused: the first test that fails, in this order.
 use Rattle.std.specs.Prelude.{◌≡◌, ℕ, ◌%◌, ◌^◌, ◌<◌, ◌≤◌, ◌⊎◌}
-use Rattle.smr_core.specs.declared.about.About.{About}
+use Rattle.smr_core.specs.declared.clock_config.ClockConfig.{ClockConfig}
 use Rattle.smr_core.specs.declared.core_refused.CoreRefused.{CoreRefused}
 use Rattle.smr_core.specs.declared.core_refused.CoreRefused.TheVariants.{Seats, Even, High, Window, Memory}
 use Rattle.smr_core.specs.ClockState.{IsOdd, IsInRange}
@@ -9,7 +9,7 @@ abbrev pub IsSeatCount : ℕ → Type 0
 IsSeatCount seats = (1 ≤ seats) × (seats ≤ 64)
 
 -- these numbers are refused so; want of memory comes only where they are in range
-abbrev pub RefusesNumbers : About → CoreRefused → Type 0
+abbrev pub RefusesNumbers : ClockConfig → CoreRefused → Type 0
 RefusesNumbers a (Seats seats) = (seats ≡ a.seats) × ((a.seats < 1) ⊎ (64 < a.seats))
 RefusesNumbers a (Even start) = (start ≡ a.start) × IsSeatCount a.seats × (a.start % 2 ≡ 0)
 RefusesNumbers a (High start) = (start ≡ a.start) × IsSeatCount a.seats × IsOdd a.start × (2 ^ 63 ≤ a.start)
@@ -18,6 +18,6 @@ RefusesNumbers a (Window window) =
 RefusesNumbers a Memory = IsInRange a
 
 -- made of these numbers, which are in range
-pub record IsMadeWith (a about : About) : Type 0 where
-  pub made : about ≡ a
-  pub in_range : IsInRange about
+pub record IsMadeWith (a config : ClockConfig) : Type 0 where
+  pub made : config ≡ a
+  pub in_range : IsInRange config

@@ -3,7 +3,7 @@ use Rattle.std.specs.Prelude.{◌≡◌, ℕ, ◌+◌, ◌<◌, List, [], ◌∷
 use mathlib.Core.Option.{some}
 use lib.ListN.{get_elem?}
 use Rattle.smr_seq.specs.Reading.{low}
-use Rattle.smr_core.specs.declared.about.About.{About}
+use Rattle.smr_core.specs.declared.clock_config.ClockConfig.{ClockConfig}
 use Rattle.smr_core.specs.declared.holder.Holder.{Holder}
 use Rattle.smr_core.specs.declared.phase.Phase.{Phase}
 use Rattle.smr_core.specs.declared.phase.Phase.TheVariants as phase
@@ -82,7 +82,7 @@ pub record FoundFits (h : Holder) (r : Remembered) : Type 0 where
   pub least : h.least ≡ least_of h.read h.write (words_found r.found)
 
 -- The last poll loaded one word for each seat of its set, and for no other, and its least mark follows from them.
-pub record LastFits (a : About) (last : LastPoll) : Type 0 where
+pub record LastFits (a : ClockConfig) (last : LastPoll) : Type 0 where
   pub seats : seats_found last.found ≡ seats_below last.present a.seats
   pub least : last.least ≡ least_of last.read last.write (words_found last.found)
 
@@ -101,7 +101,7 @@ pub record HasStored (vs : List View) (s entered : ℕ) : Type 0 where
 abbrev pub WordsWereStored : List View → List FoundWord → Type 0
 WordsWereStored vs found = (f : FoundWord) → Contains found f → (f.word ≡ 0) ⊎ ((entered : ℕ) × HasStored vs f.seat entered × (f.word ≡ low entered))
 
-pub record RememberedFits (a : About) (vs : List View) (v : View) : Type 0 where
+pub record RememberedFits (a : ClockConfig) (vs : List View) (v : View) : Type 0 where
   pub stored : StoredFits v.0.phase v.0 v.1
   pub odd : (entered : ℕ) → Contains v.1.stored entered → IsOdd entered
   pub scan : v.0.task ≡ task.Scanning → FoundFits v.0 v.1
@@ -110,5 +110,5 @@ pub record RememberedFits (a : About) (vs : List View) (v : View) : Type 0 where
   pub last_words : WordsWereStored vs v.1.last.found
 
 -- the law of what is remembered, over all views
-abbrev pub RememberedLaw : About → List View → Type 0
+abbrev pub RememberedLaw : ClockConfig → List View → Type 0
 RememberedLaw a vs = (id : ℕ) (v : View) → get_elem? vs id ≡ some v → RememberedFits a vs v

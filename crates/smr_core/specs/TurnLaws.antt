@@ -5,7 +5,7 @@ use Rattle.smr_core.specs.declared.step_refused.StepRefused.{StepRefused}
 use Rattle.smr_core.specs.declared.step_refused.StepRefused.TheVariants.{Memory}
 use Rattle.smr_core.specs.declared.turn.Turn.{Turn}
 use Rattle.smr_core.specs.CoreState.{State}
-use Rattle.smr_core.specs.CoreStep.{Refuses}
+use Rattle.smr_core.specs.CoreStep.{StepIsRefused}
 use Rattle.smr_core.specs.Turns.{IsTurn, first_step}
 
 -- from a state a turn sees one thing, and leads to one state
@@ -16,4 +16,4 @@ TurnIsDetermined =
 -- a turn that may be taken is refused for want of memory at most
 abbrev pub TakenIsNotRefused : Type 0
 TakenIsNotRefused =
-    (s s' : State) (turn : Turn) (sees : List Seen) (refused : StepRefused) → IsTurn s turn sees s' → refused ≢ Memory → Refuses s (first_step turn) refused → ⊥
+    (s s' : State) (turn : Turn) (sees : List Seen) (refused : StepRefused) → IsTurn s turn sees s' → refused ≢ Memory → StepIsRefused s (first_step turn) refused → ⊥

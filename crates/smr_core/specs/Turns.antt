@@ -3,7 +3,7 @@ use Rattle.std.specs.Prelude.{◌≡◌, ◌≤◌, ℕ, ◌+◌, List, [], ◌�
 use Rattle.std.specs.declared.alloc.Global.{Global}
 use Rattle.std.specs.Option.{option_map_or}
 use Rattle.std.specs.Vec.{vec_capacity}
-use Rattle.smr_core.specs.declared.about.About.{About}
+use Rattle.smr_core.specs.declared.clock_config.ClockConfig.{ClockConfig}
 use Rattle.smr_core.specs.declared.actor.Actor.{Actor}
 use Rattle.smr_core.specs.declared.task.Task.TheVariants as task
 use Rattle.smr_core.specs.declared.step.Step.{Step}
@@ -16,7 +16,7 @@ use Rattle.smr_core.specs.declared.turn.Turn.{Turn}
 use Rattle.smr_core.specs.declared.turn.Turn.TheVariants.{One, Enter, Advance, PollLoads, Poll}
 use Rattle.smr_core.specs.ClockState.{seats_below}
 use Rattle.smr_core.specs.CoreState.{State, IsActor, CoreLaw}
-use Rattle.smr_core.specs.CoreStep.{Refuses, Run}
+use Rattle.smr_core.specs.CoreStep.{StepIsRefused, Run}
 
 -- the check of an enter saw that it is late
 abbrev pub is_late : Seen → Bool
@@ -42,7 +42,7 @@ set_at n sees = option_map_or set_in (slice_get sees n) 0
 
 -- The steps of a turn, where they see this: an enter clears its word where its third step finds it late, an advance exchanges only where its second step saw a hand,
 -- and a poll goes on only where its second step saw a hand: it loads the presence word, scans the word of each seat that is in it, and exchanges.
-abbrev pub turn_steps : About → Turn → List Seen → List Step
+abbrev pub turn_steps : ClockConfig → Turn → List Seen → List Step
 turn_steps a (One step) sees = step ∷ []
 turn_steps a (Enter n) sees = EnterLoad n ∷ EnterStore n ∷ EnterCheck n ∷ (if saw_at 2 is_late sees then Clear n ∷ [] else [])
 turn_steps a (Advance n) sees = AdvanceRead n ∷ AdvanceLoad n ∷ (if saw_at 1 is_hand sees then AdvanceSwap n ∷ [] else [])
@@ -53,7 +53,7 @@ turn_steps a (Poll n tag) sees =
 
 -- From s the turn saw this, step by step, and led to s'.
 abbrev pub IsTurn : State → Turn → List Seen → State → Type 0
-IsTurn s turn sees s' = Run s (turn_steps s.about turn sees) sees s'
+IsTurn s turn sees s' = Run s (turn_steps s.config turn sees) sees s'
 
 -- the turns one after another, with what the steps of each saw
 abbrev pub TurnRun : State → List Turn → List (List Seen) → State → Type 0
@@ -73,10 +73,10 @@ first_step (Poll n tag) = PollRead n tag
 -- From s the turn is refused so: as its first step is. Want of memory may be that of the list of what its steps see, which is taken before any step.
 abbrev pub RefusesTurn : State → Turn → StepRefused → Type 0
 RefusesTurn s turn Memory = Unit {0}
-RefusesTurn s turn refused = Refuses s (first_step turn) refused
+RefusesTurn s turn refused = StepIsRefused s (first_step turn) refused
 
 -- at most so many steps
-abbrev pub most_steps : About → Turn → ℕ
+abbrev pub most_steps : ClockConfig → Turn → ℕ
 most_steps a (One step) = 1
 most_steps a (Enter n) = 4
 most_steps a (Advance n) = 3
@@ -87,7 +87,7 @@ most_steps a (Poll n tag) = a.seats + 4
 
 -- from s the step isn't refused
 abbrev pub IsSure : State → Step → Type 0
-IsSure s step = (refused : StepRefused) → Refuses s step refused → ⊥
+IsSure s step = (refused : StepRefused) → StepIsRefused s step refused → ⊥
 
 -- the holder n is in a poll of this set of seats, whose next step loads the word of the seat k, or exchanges where that is the count of seats
 pub record Scans (s : State) (n set k : ℕ) : Type 0 where
@@ -98,7 +98,7 @@ pub record Scans (s : State) (n set k : ℕ) : Type 0 where
   pub scanned : actor.holder.scanned ≡ k
 
 -- what the steps of a turn see has room here, and nothing is in it yet
-pub record IsRoomFor (a : About) (turn : Turn) (sees : Vec Seen Global) : Type 0 where
+pub record IsRoomFor (a : ClockConfig) (turn : Turn) (sees : Vec Seen Global) : Type 0 where
   pub empty : sees.items ≡ []
   pub len : vec_len sees ≡ 0
   pub room : most_steps a turn ≤ vec_capacity sees

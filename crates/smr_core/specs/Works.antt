@@ -3,4 +3,4 @@ use Rattle.smr_core.specs.declared.works.Works.{Works}
 use Rattle.smr_core.specs.CoreState.{State}
 
 abbrev pub state_of : Works → State
-state_of w = record { about = w.about; words = w.words.items; actors = w.actors.items }
+state_of w = record { config = w.config; words = w.words.items; actors = w.actors.items }

@@ -1,7 +1,7 @@
 -- What a poll's yes means, for one step and over every run of the core, and the other laws over runs. The rule is that of the comment on FreeBSD's subr_smr.c; the form is own.
 use Rattle.std.specs.Prelude.{◌≡◌, ℕ, ◌-◌, ◌^◌, ◌≤◌, ◌⊎◌, Bool, List, Contains}
 use Rattle.smr_seq.specs.Reading.{low, IsReading}
-use Rattle.smr_core.specs.declared.about.About.{About}
+use Rattle.smr_core.specs.declared.clock_config.ClockConfig.{ClockConfig}
 use Rattle.smr_core.specs.declared.actor.Actor.{Actor}
 use Rattle.smr_core.specs.declared.task.Task.TheVariants as task
 use Rattle.smr_core.specs.declared.step.Step.{Step}
@@ -27,18 +27,18 @@ YesIsKnown =
 -- Then each number up to l with this low half is expired.
 abbrev pub YesMeansExpired : Type 0
 YesMeansExpired =
-    (a : About) (ws : List ℕ) → IsInRange a → HandsFit a ws
+    (a : ClockConfig) (ws : List ℕ) → IsInRange a → HandsFit a ws
     → (tag l v g : ℕ) → l ≤ write_hand ws → v ≤ read_hand ws → SaysYes tag l v → g ≤ l → low g ≡ tag → IsExpired ws g
 
 -- ---- runs
 
 -- the state is one that a new core comes to
 pub record IsReached (s : State) : Type 0 where
-  pub about : About
-  pub in_range : IsInRange about
+  pub config : ClockConfig
+  pub in_range : IsInRange config
   pub steps : List Step
   pub saw : List Seen
-  pub run : Run (opening about) steps saw s
+  pub run : Run (opening config) steps saw s
 
 -- the one state, and then the other, or the same
 pub record LeadsTo (s later : State) : Type 0 where
@@ -111,7 +111,7 @@ HandsNeverFall = (s later : State) → IsReached s → LeadsTo s later → (read
 
 -- The write hand is never above the read hand by more than the window.
 abbrev pub WindowIsKept : Type 0
-WindowIsKept = (s : State) → IsReached s → (read_hand s.words ≤ write_hand s.words) × (write_hand s.words - read_hand s.words ≤ s.about.window)
+WindowIsKept = (s : State) → IsReached s → (read_hand s.words ≤ write_hand s.words) × (write_hand s.words - read_hand s.words ≤ s.config.window)
 
 -- Each open section's entry mark is at least the read hand.
 abbrev pub MarksAreKept : Type 0

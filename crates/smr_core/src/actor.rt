@@ -1,7 +1,7 @@
 ghost use Rattle.std.specs.Prelude.{◌≡◌};
 ghost use Rattle.smr_core.specs.CoreState.{first_worker};
 
-use crate::about::About;
+use crate::clock_config::ClockConfig;
 use crate::holder::Holder;
 use crate::phase::Phase;
 use crate::step_refused::StepRefused;
@@ -18,14 +18,14 @@ pub struct Actor {
 
 impl Actor {
     /// The worker of a seat before any step. It knows where both hands begin.
-    pub fn first(about: About, seat: u32) -> Self
-        ensures { result ≡ first_worker about seat }
+    pub fn first(config: ClockConfig, seat: u32) -> Self
+        ensures { result ≡ first_worker config seat }
     {
         let holder = Holder {
             seat: Some(seat),
             phase: Phase::Outside,
-            seen: about.start,
-            floor: about.start,
+            seen: config.start,
+            floor: config.start,
             ..Holder::spent()
         };
         Actor {

@@ -38,8 +38,8 @@ impl Works {
         }
         let read = actor.holder.read;
         let found = self.words[WRITE_PLACE];
-        let too_far = actor.holder.is_too_far(self.about, found);
-        let holder = actor.holder.advance_loaded(self.about, found);
+        let too_far = actor.holder.is_too_far(self.config, found);
+        let holder = actor.holder.advance_loaded(self.config, found);
         self.actors[seat as usize] = actor.with(holder);
         if is_spent(found) {
             Ok(Seen::Spent { write: found })

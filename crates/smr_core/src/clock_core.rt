@@ -4,7 +4,7 @@ ghost use Rattle.smr_core.specs.CoreState.{CoreLaw, Opens};
 ghost use Rattle.smr_core.specs.CoreStep.{TakesStep};
 ghost use Rattle.smr_core.specs.Making.{RefusesNumbers};
 
-use crate::about::About;
+use crate::clock_config::ClockConfig;
 use crate::core_refused::CoreRefused;
 use crate::places::{READ_PLACE, WRITE_PLACE, seat_place};
 use crate::seen::Seen;
@@ -38,8 +38,8 @@ impl Core {
         ensures opened { IfOk result (Opens (record { start = start; window = window; seats = seats })) }
         ensures refused { IfErr result (RefusesNumbers (record { start = start; window = window; seats = seats })) }
     {
-        let about = About::checked(seats, start, window)?;
-        let works = Works::open(alloc, about)?;
+        let config = ClockConfig::checked(seats, start, window)?;
+        let works = Works::open(alloc, config)?;
         Ok(Core { works })
     }
 
@@ -53,10 +53,10 @@ impl Core {
 
     /// How many seats there are, 1 to 64: their workers, or vacancies, are the holders below that number.
     pub fn seats(&self) -> u32
-        ensures value { result ≡ self.now.about.seats }
+        ensures value { result ≡ self.now.config.seats }
         ensures law { CoreLaw self.now }
     {
-        self.works.about.seats
+        self.works.config.seats
     }
 
     /// The read hand: odd, below 2^63.
@@ -77,10 +77,10 @@ impl Core {
 
     /// The word of a seat, and None for a number that is no seat.
     pub fn word(&self, seat: u32) -> Option<u32>
-        ensures value { result ≡ (if nat_lt seat self.now.about.seats then Some (seat_word self.now.words seat) else None) }
+        ensures value { result ≡ (if nat_lt seat self.now.config.seats then Some (seat_word self.now.words seat) else None) }
         ensures law { CoreLaw self.now }
     {
-        if seat < self.works.about.seats {
+        if seat < self.works.config.seats {
             Some(self.works.words[seat_place(seat)] as u32)
         } else {
             None

@@ -4,7 +4,7 @@
 ghost use Rattle.std.specs.Prelude.{◌≡◌, ◌^◌, ◌<◌};
 ghost use Rattle.smr_core.specs.ClockStep as clock;
 
-use crate::about::About;
+use crate::clock_config::ClockConfig;
 use smr_seq::Seq;
 
 /// Whether two more than this write hand would be past the end of its range, 2^63 - 1: own.
@@ -16,18 +16,18 @@ pub fn is_spent(write: u64) -> bool
 }
 
 /// Whether two more than this write hand would be above this read hand by more than the window: own.
-pub fn is_too_far(about: About, read: u64, write: u64) -> bool
+pub fn is_too_far(config: ClockConfig, read: u64, write: u64) -> bool
     requires { write < 2 ^ 63 }
-    ensures { result ≡ clock.is_too_far about read write }
+    ensures { result ≡ clock.is_too_far config read write }
 {
-    about.window < (write + 2).saturating_sub(read)
+    config.window < (write + 2).saturating_sub(read)
 }
 
 /// Whether an enter that loaded the one write hand, and then finds the other, is too late: own.
-pub fn is_overtaken(about: About, loaded: u64, found: u64) -> bool
-    ensures { result ≡ clock.is_overtaken about loaded found }
+pub fn is_overtaken(config: ClockConfig, loaded: u64, found: u64) -> bool
+    ensures { result ≡ clock.is_overtaken config loaded found }
 {
-    about.window <= found.saturating_sub(loaded)
+    config.window <= found.saturating_sub(loaded)
 }
 
 /// A word after a compare-exchange that found this.

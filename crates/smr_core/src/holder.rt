@@ -3,7 +3,7 @@ ghost use Rattle.smr_core.specs.ClockState.{spent};
 ghost use Rattle.smr_core.specs.ClockStep as clock;
 ghost use Rattle.smr_core.specs.CoreStep.{IsWorker, IsIdleWorker, IsIdleNote, MayLeave, MayPoll};
 
-use crate::about::About;
+use crate::clock_config::ClockConfig;
 use crate::hands::{exchanged, is_overtaken, is_spent, is_too_far, least_after};
 use crate::phase::Phase;
 use crate::presence::next_present;
@@ -102,12 +102,12 @@ impl Holder {
     }
 
     /// After any load of the write hand.
-    pub fn write_loaded(self, about: About, found: u64) -> Self
-        ensures { result ≡ clock.write_loaded about self found }
+    pub fn write_loaded(self, config: ClockConfig, found: u64) -> Self
+        ensures { result ≡ clock.write_loaded config self found }
     {
         Holder {
             seen: self.seen.max(found),
-            floor: self.floor.max(found.saturating_sub(about.window)),
+            floor: self.floor.max(found.saturating_sub(config.window)),
             ..self
         }
     }
@@ -123,13 +123,13 @@ impl Holder {
     }
 
     /// After the first step of an enter.
-    pub fn enter_loaded(self, about: About, found: u64) -> Self
-        ensures { result ≡ clock.enter_loaded about self found }
+    pub fn enter_loaded(self, config: ClockConfig, found: u64) -> Self
+        ensures { result ≡ clock.enter_loaded config self found }
     {
         Holder {
             phase: Phase::Loaded,
             loaded: found,
-            ..self.write_loaded(about, found)
+            ..self.write_loaded(config, found)
         }
     }
 
@@ -151,24 +151,24 @@ impl Holder {
     }
 
     /// Whether an enter that finds this hand at its third step is too late: own.
-    pub fn is_overtaken(&self, about: About, found: u64) -> bool
-        ensures { result ≡ clock.is_overtaken about self.now.loaded found }
+    pub fn is_overtaken(&self, config: ClockConfig, found: u64) -> bool
+        ensures { result ≡ clock.is_overtaken config self.now.loaded found }
     {
-        is_overtaken(about, self.loaded, found)
+        is_overtaken(config, self.loaded, found)
     }
 
     /// After the third step of an enter: own.
-    pub fn enter_checked(self, about: About, found: u64) -> Self
-        ensures { result ≡ clock.enter_checked about self found }
+    pub fn enter_checked(self, config: ClockConfig, found: u64) -> Self
+        ensures { result ≡ clock.enter_checked config self found }
     {
         Holder {
-            phase: if self.is_overtaken(about, found) {
+            phase: if self.is_overtaken(config, found) {
                 Phase::Late
             } else {
                 Phase::Inside
             },
             mark: found,
-            ..self.write_loaded(about, found)
+            ..self.write_loaded(config, found)
         }
     }
 
@@ -214,20 +214,20 @@ impl Holder {
     }
 
     /// Whether an advance that finds this write hand is too far above the read hand that it has: own.
-    pub fn is_too_far(&self, about: About, found: u64) -> bool
+    pub fn is_too_far(&self, config: ClockConfig, found: u64) -> bool
         requires { found < 2 ^ 63 }
-        ensures { result ≡ clock.is_too_far about self.now.read found }
+        ensures { result ≡ clock.is_too_far config self.now.read found }
     {
-        is_too_far(about, self.read, found)
+        is_too_far(config, self.read, found)
     }
 
     /// After an advance's load of the write hand, which ends it where there is no room for two more.
-    pub fn advance_loaded(self, about: About, found: u64) -> Self
+    pub fn advance_loaded(self, config: ClockConfig, found: u64) -> Self
         requires { found < 2 ^ 63 }
-        ensures { result ≡ clock.advance_loaded about self found }
+        ensures { result ≡ clock.advance_loaded config self found }
     {
-        let known = self.write_loaded(about, found);
-        if is_spent(found) || self.is_too_far(about, found) {
+        let known = self.write_loaded(config, found);
+        if is_spent(found) || self.is_too_far(config, found) {
             Holder {
                 task: Task::Idle,
                 ..known
@@ -268,35 +268,35 @@ impl Holder {
     }
 
     /// After a poll's load of the write hand, where it goes on.
-    pub fn poll_loaded(self, about: About, found: u64) -> Self
-        ensures { result ≡ clock.poll_loaded about self found }
+    pub fn poll_loaded(self, config: ClockConfig, found: u64) -> Self
+        ensures { result ≡ clock.poll_loaded config self found }
     {
         Holder {
             task: Task::PollLoaded,
             write: found,
-            ..self.write_loaded(about, found)
+            ..self.write_loaded(config, found)
         }
     }
 
     /// After a poll's load of the write hand, where it ends.
-    pub fn poll_ended(self, about: About, found: u64) -> Self
-        ensures { result ≡ clock.poll_ended about self found }
+    pub fn poll_ended(self, config: ClockConfig, found: u64) -> Self
+        ensures { result ≡ clock.poll_ended config self found }
     {
         Holder {
             task: Task::Idle,
-            ..self.write_loaded(about, found)
+            ..self.write_loaded(config, found)
         }
     }
 
     /// After a poll's load of the presence word: own.
-    pub fn poll_present(self, about: About, found: u64) -> Self
-        requires { about.seats ≤ 64 }
-        ensures { result ≡ clock.poll_present about self found }
+    pub fn poll_present(self, config: ClockConfig, found: u64) -> Self
+        requires { config.seats ≤ 64 }
+        ensures { result ≡ clock.poll_present config self found }
     {
         Holder {
             task: Task::Scanning,
             present: found,
-            scanned: next_present(about, found, 0),
+            scanned: next_present(config, found, 0),
             least: self.write,
             ..self
         }
@@ -310,12 +310,12 @@ impl Holder {
     }
 
     /// After a poll's load of a seat's word.
-    pub fn poll_scanned(self, about: About, word: u32) -> Self
-        requires { clock.MayScan about self }
-        ensures { result ≡ clock.poll_scanned about self word }
+    pub fn poll_scanned(self, config: ClockConfig, word: u32) -> Self
+        requires { clock.MayScan config self }
+        ensures { result ≡ clock.poll_scanned config self word }
     {
         Holder {
-            scanned: next_present(about, self.present, self.scanned + 1),
+            scanned: next_present(config, self.present, self.scanned + 1),
             least: self.least_after(word),
             ..self
         }

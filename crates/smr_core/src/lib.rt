@@ -35,9 +35,9 @@
 //!   more in schedule_text, since a schedule tests field after field; `valid_in_range` proves that the two agree.
 #![tactic(auto)]
 
-mod about;
 mod actor;
 mod advance_steps;
+mod clock_config;
 mod clock_core;
 mod core_refused;
 mod found_word;
@@ -61,8 +61,8 @@ mod turn;
 mod turns;
 mod works;
 
-pub use about::About;
 pub use actor::Actor;
+pub use clock_config::ClockConfig;
 pub use clock_core::Core;
 pub use core_refused::CoreRefused;
 pub use found_word::FoundWord;

@@ -34,7 +34,7 @@ impl Works {
         }
         let holder = actor
             .holder
-            .write_loaded(self.about, self.words[WRITE_PLACE]);
+            .write_loaded(self.config, self.words[WRITE_PLACE]);
         let note = Actor {
             holder: holder.note(),
             tag: 0,

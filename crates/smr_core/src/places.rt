@@ -8,7 +8,7 @@
 ghost use Rattle.std.specs.Prelude.{◌≡◌, ◌≤◌, IfOk};
 ghost use Rattle.smr_core.specs.ClockState.{seat_place, presence_place, place_after_seats, opening_words};
 
-use crate::about::About;
+use crate::clock_config::ClockConfig;
 use crate::presence::all_seats;
 use std::alloc::{AllocError, Global};
 
@@ -29,28 +29,28 @@ pub fn seat_place(seat: u32) -> usize
 }
 
 /// Where the presence word stands.
-pub fn presence_place(about: About) -> usize
-    ensures { result ≡ presence_place about }
+pub fn presence_place(config: ClockConfig) -> usize
+    ensures { result ≡ presence_place config }
 {
-    LINE * (2 + about.seats as usize)
+    LINE * (2 + config.seats as usize)
 }
 
 /// How many places the clock's own words take: the first place behind them, which begins a line too.
-pub fn place_after_seats(about: About) -> usize
-    ensures { result ≡ place_after_seats about }
+pub fn place_after_seats(config: ClockConfig) -> usize
+    ensures { result ≡ place_after_seats config }
 {
-    LINE * (3 + about.seats as usize)
+    LINE * (3 + config.seats as usize)
 }
 
 /// The words before any step: both hands at the start, the word of every seat 0, and all seats
 /// present.
-pub fn opening_words(alloc: Global, about: About) -> Result<Vec<u64>, AllocError>
-    requires { about.seats ≤ 64 }
-    ensures { IfOk result (λ words. words.items ≡ opening_words about) }
+pub fn opening_words(alloc: Global, config: ClockConfig) -> Result<Vec<u64>, AllocError>
+    requires { config.seats ≤ 64 }
+    ensures { IfOk result (λ words. words.items ≡ opening_words config) }
 {
-    let mut words = vec![in alloc; 0; place_after_seats(about)]?;
-    words[WRITE_PLACE] = about.start;
-    words[READ_PLACE] = about.start;
-    words[presence_place(about)] = all_seats(about);
+    let mut words = vec![in alloc; 0; place_after_seats(config)]?;
+    words[WRITE_PLACE] = config.start;
+    words[READ_PLACE] = config.start;
+    words[presence_place(config)] = all_seats(config);
     Ok(words)
 }

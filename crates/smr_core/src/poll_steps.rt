@@ -46,7 +46,7 @@ impl Works {
         let found = self.words[WRITE_PLACE];
         match (Seq { raw: actor.tag }).read(found) {
             Some(reading) if read < reading => {
-                let holder = actor.holder.poll_loaded(self.about, found);
+                let holder = actor.holder.poll_loaded(self.config, found);
                 self.actors[seat as usize] = Actor {
                     holder,
                     reading,
@@ -55,7 +55,7 @@ impl Works {
                 Ok(Seen::Hand { value: found })
             }
             _ => {
-                let holder = actor.holder.poll_ended(self.about, found);
+                let holder = actor.holder.poll_ended(self.config, found);
                 self.actors[seat as usize] = actor.with(holder);
                 Ok(Seen::Yes { read })
             }
@@ -71,8 +71,8 @@ impl Works {
         if actor.holder.task != Task::PollLoaded {
             return Err(actor.out_of_turn(seat));
         }
-        let found = self.words[presence_place(self.about)];
-        let holder = actor.holder.poll_present(self.about, found);
+        let found = self.words[presence_place(self.config)];
+        let holder = actor.holder.poll_present(self.config, found);
         self.actors[seat as usize] = actor.with(holder);
         Ok(Seen::Present { seats: found })
     }
@@ -84,11 +84,11 @@ impl Works {
     {
         let actor = self.actor(seat)?;
         let scanned = actor.holder.scanned;
-        if actor.holder.task != Task::Scanning || scanned >= self.about.seats {
+        if actor.holder.task != Task::Scanning || scanned >= self.config.seats {
             return Err(actor.out_of_turn(seat));
         }
         let word = self.words[seat_place(scanned)] as u32;
-        let holder = actor.holder.poll_scanned(self.about, word);
+        let holder = actor.holder.poll_scanned(self.config, word);
         self.actors[seat as usize] = actor.with(holder);
         Ok(Seen::Word {
             seat: scanned,
@@ -103,7 +103,7 @@ impl Works {
         ensures { TakesStep (state_of self.old) (Step.PollSwap seat) result (state_of self.new) }
     {
         let actor = self.actor(seat)?;
-        if actor.holder.task != Task::Scanning || actor.holder.scanned != self.about.seats {
+        if actor.holder.task != Task::Scanning || actor.holder.scanned != self.config.seats {
             return Err(actor.out_of_turn(seat));
         }
         let found = self.words[READ_PLACE];

@@ -5,7 +5,7 @@ ghost use Rattle.std.specs.Prelude.{◌≡◌, ◌-◌, ◌^◌, ◌<◌, ◌≤
 ghost use Rattle.smr_core.specs.ClockState.{all_seats, is_present, next_present};
 ghost use Rattle.smr_core.specs.ClockStep as clock;
 
-use crate::about::About;
+use crate::clock_config::ClockConfig;
 
 /// The word with the bit of this seat alone, which is below 64.
 pub fn seat_bit(seat: u32) -> u64
@@ -24,11 +24,11 @@ pub fn all_but(seat: u32) -> u64
 }
 
 /// The set of all seats.
-pub fn all_seats(about: About) -> u64
-    requires { about.seats ≤ 64 }
-    ensures { result ≡ all_seats about }
+pub fn all_seats(config: ClockConfig) -> u64
+    requires { config.seats ≤ 64 }
+    ensures { result ≡ all_seats config }
 {
-    match about.seats {
+    match config.seats {
         0 => 0,
         seats => u64::MAX >> (64 - seats),
     }
@@ -59,13 +59,13 @@ pub fn is_present(seats: u64, seat: u32) -> bool
 }
 
 /// The least seat from this one on that is in the set, and the count of seats where none is.
-pub fn next_present(about: About, seats: u64, from: u32) -> u32
-    requires { about.seats ≤ 64 }
-    ensures { result ≡ next_present about seats from }
+pub fn next_present(config: ClockConfig, seats: u64, from: u32) -> u32
+    requires { config.seats ≤ 64 }
+    ensures { result ≡ next_present config seats from }
 {
-    if from >= about.seats {
+    if from >= config.seats {
         return from;
     }
     let rest = seats & (u64::MAX << from);
-    about.seats.min(rest.trailing_zeros())
+    config.seats.min(rest.trailing_zeros())
 }

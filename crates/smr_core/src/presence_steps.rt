@@ -22,7 +22,7 @@ impl Works {
         if !actor.holder.may_leave() {
             return Err(actor.out_of_turn(seat));
         }
-        let place = presence_place(self.about);
+        let place = presence_place(self.config);
         self.words[place] = without(seat, self.words[place]);
         self.actors[seat as usize] = actor.with(actor.holder.left());
         Ok(Seen::Done)
@@ -37,7 +37,7 @@ impl Works {
         if actor.holder.phase != Phase::Vacant {
             return Err(actor.out_of_turn(seat));
         }
-        let place = presence_place(self.about);
+        let place = presence_place(self.config);
         self.words[place] = with_seat(seat, self.words[place]);
         self.actors[seat as usize] = actor.with(actor.holder.came());
         Ok(Seen::Done)

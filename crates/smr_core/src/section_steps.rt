@@ -22,7 +22,7 @@ impl Works {
             return Err(actor.out_of_turn(seat));
         }
         let found = self.words[WRITE_PLACE];
-        let holder = actor.holder.enter_loaded(self.about, found);
+        let holder = actor.holder.enter_loaded(self.config, found);
         self.actors[seat as usize] = actor.with(holder);
         Ok(Seen::Hand { value: found })
     }
@@ -52,8 +52,8 @@ impl Works {
         }
         let loaded = actor.holder.loaded;
         let found = self.words[WRITE_PLACE];
-        let late = actor.holder.is_overtaken(self.about, found);
-        let holder = actor.holder.enter_checked(self.about, found);
+        let late = actor.holder.is_overtaken(self.config, found);
+        let holder = actor.holder.enter_checked(self.config, found);
         self.actors[seat as usize] = actor.with(holder);
         if late {
             Ok(Seen::Late { loaded, found })

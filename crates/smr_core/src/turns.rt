@@ -32,7 +32,7 @@ impl Core {
 
     /// The room for what the steps of a turn see, however it ends.
     fn room(&self, alloc: Global, turn: Turn) -> Result<Vec<Seen>, StepRefused>
-        ensures room { IfOk result (IsRoomFor self.now.about turn) }
+        ensures room { IfOk result (IsRoomFor self.now.config turn) }
         ensures refused { IfErr result (λ refused. refused ≡ StepRefused.Memory) }
         ensures law { CoreLaw self.now }
     {

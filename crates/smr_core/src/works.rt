@@ -3,8 +3,8 @@ ghost use Rattle.smr_core.specs.CoreState.{CoreLaw, first_workers, opening};
 ghost use Rattle.smr_core.specs.CoreStep.{FindsActor, TakesStep};
 ghost use Rattle.smr_core.specs.Works.{state_of};
 
-use crate::about::About;
 use crate::actor::Actor;
+use crate::clock_config::ClockConfig;
 use crate::places::opening_words;
 use crate::seen::Seen;
 use crate::step::Step;
@@ -13,12 +13,12 @@ use std::alloc::{AllocError, Global};
 
 /// The actors before any step.
 #[tactic(auto, using(crate::proofs::OpeningLemmas::first_workers_more))]
-fn opening_actors(alloc: Global, about: About) -> Result<Vec<Actor>, AllocError>
-    ensures { IfOk result (λ actors. actors.items ≡ first_workers about about.seats) }
+fn opening_actors(alloc: Global, config: ClockConfig) -> Result<Vec<Actor>, AllocError>
+    ensures { IfOk result (λ actors. actors.items ≡ first_workers config config.seats) }
 {
     let mut actors = Vec::new(alloc);
-    for seat in 0..about.seats {
-        actors.push(Actor::first(about, seat))?;
+    for seat in 0..config.seats {
+        actors.push(Actor::first(config, seat))?;
     }
     Ok(actors)
 }
@@ -27,21 +27,21 @@ fn opening_actors(alloc: Global, about: About) -> Result<Vec<Actor>, AllocError>
 /// and `Core` keeps it.
 #[derive(Drop)]
 pub struct Works {
-    pub about: About,
+    pub config: ClockConfig,
     pub words: Vec<u64>,
     pub actors: Vec<Actor>,
 }
 
 impl Works {
     /// Both hands at the start, every seat's word 0, and a worker for each seat.
-    pub fn open(alloc: Global, about: About) -> Result<Self, AllocError>
-        requires { about.seats ≤ 64 }
-        ensures { IfOk result (λ works. state_of works ≡ opening about) }
+    pub fn open(alloc: Global, config: ClockConfig) -> Result<Self, AllocError>
+        requires { config.seats ≤ 64 }
+        ensures { IfOk result (λ works. state_of works ≡ opening config) }
     {
         Ok(Works {
-            about,
-            words: opening_words(alloc, about)?,
-            actors: opening_actors(alloc, about)?,
+            config,
+            words: opening_words(alloc, config)?,
+            actors: opening_actors(alloc, config)?,
         })
     }
 

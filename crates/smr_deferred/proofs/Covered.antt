@@ -14,7 +14,7 @@ pub covers_open : (P : Type 0) (a : Setup) (write : ℕ) → CoversOpen P a writ
 covers_open P a write now id v mark clocked hand there inside =
     let fits = clocked.law.holders id v.holder (holder_there a now.1 id v v there) in
     let seen : v.holder.seen ≤ write_hand now.0 = fits.seen in
-    let marked : v.holder.mark ≤ v.holder.seen = (in_phase a.about now.0 v.holder phase.Inside fits inside.0).3 in
+    let marked : v.holder.mark ≤ v.holder.seen = (in_phase a.config now.0 v.holder phase.Inside fits inside.0).3 in
     let is : v.holder.mark ≡ mark = inside.1 in
     let at : write_hand now.0 ≡ write = hand in
     omega arith

@@ -3,7 +3,7 @@ use Rattle.std.specs.Prelude.{◌≡◌, ◌≤◌, ℕ, Option, Some, None, Mat
 use Rattle.smr_clock.specs.declared.view.View.{View}
 use Rattle.smr_clock.specs.declared.refused.AdvanceRefused.{AdvanceRefused}
 use Rattle.smr_clock.specs.declared.host.Host.{Ghosts}
-use Rattle.smr_clock.specs.Advances.{Advances, Refuses}
+use Rattle.smr_clock.specs.Advances.{Advances, AdvanceIsRefused}
 use Rattle.smr_clock.specs.Notes.{Notes}
 use Rattle.smr_deferred.specs.declared.asked.Asked.{Asked}
 use Rattle.smr_deferred.specs.declared.pace.Pace.{Pace}
@@ -29,7 +29,7 @@ module _ {H P : Type 0} {g : Ghosts H P} where
 
   -- The advance was refused, which is kept. What the list asked before stays.
   pub record Declines (v : View P) (refused : AdvanceRefused) (n : Numbers) (was is : Pace H P g) (v' : View P) : Type 0 where
-    pub cause : Refuses v refused v'
+    pub cause : AdvanceIsRefused v refused v'
     pub refused_is : refused_in is ≡ Some refused
     pub asked : asked_in is ≡ asked_in was
     pub moved : moved_in is ≡ moved_in was

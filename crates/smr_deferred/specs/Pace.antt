@@ -6,7 +6,7 @@ use Rattle.smr_clock.specs.declared.refused.AdvanceRefused.{AdvanceRefused}
 use Rattle.smr_clock.specs.declared.host.Host.{Ghosts}
 use Rattle.smr_clock.specs.declared.clock.Clock.{Clock}
 use Rattle.smr_clock.specs.declared.pass.Pass.{Pass}
-use Rattle.smr_clock.specs.Belongs.{TableId, IsOf, clock_id, view}
+use Rattle.smr_clock.specs.Belongs.{TableId, IsPassOf, clock_id, view}
 use Rattle.smr_clock.specs.Notes.{note_clock}
 use Rattle.smr_deferred.specs.declared.asked.Asked.{Asked}
 use Rattle.smr_deferred.specs.declared.pace.Pace.{Pace}
@@ -45,7 +45,7 @@ module _ {H P : Type 0} {g : Ghosts H P} where
 
   -- the pass is of this clock, and what is kept of any clock is of it too
   pub record AreOfClock (clock : Clock H P) (pass : Pass H P g) (pace : Pace H P g) : Type 0 where
-    pub here : IsOf clock pass
+    pub here : IsPassOf clock pass
     pub mine : IsOfClock (clock_id clock) pace
 
   -- as it is made: nothing was asked or counted, and it is of any clock
@@ -59,7 +59,7 @@ module _ {H P : Type 0} {g : Ghosts H P} where
 
   -- they are, and this much is two above a write hand that the pass has seen, or less
   pub record MayAdvance (clock : Clock H P) (pass : Pass H P g) (moved : ℕ) (pace : Pace H P g) : Type 0 where
-    pub here : IsOf clock pass
+    pub here : IsPassOf clock pass
     pub mine : IsOfClock (clock_id clock) pace
     pub loaded : moved ≤ (view pass).holder.seen + 2
 

@@ -1,5 +1,5 @@
 ghost use Rattle.std.specs.Prelude.{◌≡◌, None, IfSome};
-ghost use Rattle.smr_clock.specs.Belongs.{IsOf, view};
+ghost use Rattle.smr_clock.specs.Belongs.{IsPassOf, view};
 ghost use Rattle.smr_objects.specs.PassCalls.{MayLook};
 ghost use Rattle.smr_hold.specs.Looks.{FindsNone, Looks};
 
@@ -11,7 +11,7 @@ use smr_objects::{Objects, load_cell, load_value};
 /// published then. The pass is inside a section: as long as it is, nobody writes the slot. Waits for nobody.
 pub fn look(clock: &Clock<Objects>, pass: &mut Pass<Objects>, cell: u32) -> Option<Look>
     requires { MayLook clock.now pass.old cell }
-    ensures here { IsOf clock.now pass.new }
+    ensures here { IsPassOf clock.now pass.new }
     ensures none { result ≡ None → FindsNone (view pass.old) cell (view pass.new) }
     ensures some { IfSome result (λ look. Looks (view pass.old) cell look (view pass.new)) }
 {

@@ -74,18 +74,18 @@ module _ (a : Setup) where
   abbrev pub objects_words : List ℕ
   objects_words = replicate (48 * a.plan.0) 0
 
-  clock_long : length (opening_words a.about) ≡ place_after_seats a.about
-  clock_long = opening-long a.about
+  clock_long : length (opening_words a.config) ≡ place_after_seats a.config
+  clock_long = opening-long a.config
 
-  zero_there : (k : ℕ) → k < 48 * a.plan.0 → slice_index (first_words a (replicate (48 * a.plan.0) 0)) (place_after_seats a.about + k) ≡ 0
+  zero_there : (k : ℕ) → k < 48 * a.plan.0 → slice_index (first_words a (replicate (48 * a.plan.0) 0)) (place_after_seats a.config + k) ≡ 0
   zero_there k below =
       ap (λ (n : ℕ). get_or (first_words a (replicate (48 * a.plan.0) 0)) (n + k) 0) (sym clock_long)
-      ∙ get_or-append-add (opening_words a.about) (replicate (48 * a.plan.0) 0) k 0
+      ∙ get_or-append-add (opening_words a.config) (replicate (48 * a.plan.0) 0) k 0
       ∙ get_or-replicate (48 * a.plan.0) k 0 0 below
 
-  words_long : length (first_words a (replicate (48 * a.plan.0) 0)) ≡ place_after_seats a.about + 48 * a.plan.0
+  words_long : length (first_words a (replicate (48 * a.plan.0) 0)) ≡ place_after_seats a.config + 48 * a.plan.0
   words_long =
-      let all : length (first_words a (replicate (48 * a.plan.0) 0)) ≡ length (opening_words a.about) + length (replicate {A = ℕ} (48 * a.plan.0) 0) = length-append (opening_words a.about) (replicate (48 * a.plan.0) 0) in
+      let all : length (first_words a (replicate (48 * a.plan.0) 0)) ≡ length (opening_words a.config) + length (replicate {A = ℕ} (48 * a.plan.0) 0) = length-append (opening_words a.config) (replicate (48 * a.plan.0) 0) in
       let more : length (replicate {A = ℕ} (48 * a.plan.0) 0) ≡ 48 * a.plan.0 = length-replicate (48 * a.plan.0) 0 in
       let clock = clock_long in
       sums _ _ _ _ _ all clock more

@@ -24,7 +24,7 @@ pub record Changes (a : Setup) (ws ws' : List ℕ) (ps : List Part) (p x : Part)
   pub write_not_lower : write_hand ws ≤ write_hand ws'
   pub read_not_lower : read_hand ws ≤ read_hand ws'
   pub as_many : length ws' ≡ length ws
-  pub others : (i : ℕ) → place_after_seats a.about ≤ i → i ≢ value_place a c.number slot → i ≢ hold_place a c.number slot → slice_index ws' i ≡ slice_index ws i
+  pub others : (i : ℕ) → place_after_seats a.config ≤ i → i ≢ value_place a c.number slot → i ≢ hold_place a c.number slot → slice_index ws' i ≡ slice_index ws i
   pub value : slice_index ws' (value_place a c.number slot) ≡ (f (slot_at c.slots slot)).value
   pub word : HoldWordFits (f (slot_at c.slots slot)).state (all_holds ps c.number slot) (slice_index ws' (hold_place a c.number slot))
   pub current : current_slot c.records ≡ Some slot → ((f (slot_at c.slots slot)).state ≡ Open) × ((f (slot_at c.slots slot)).value ≡ (slot_at c.slots slot).value)
@@ -96,11 +96,11 @@ module _ (a : Setup) (ws ws' : List ℕ) (ps : List Part) (p x : Part) (c : Cell
       (λ other. ap (λ (y : SlotView). y.value) (else_slot r.slot other) ∙ value)
       (decide slot r.slot)
 
-  outside_value : (i : ℕ) → (i < place_after_seats a.about + 48 * c.number) ⊎ (place_after_seats a.about + 48 * c.number + 48 ≤ i) → i ≢ value_place a c.number slot
-  outside_value i out e = ⊎_elim (λ (below : i < place_after_seats a.about + 48 * c.number). omega arith) (λ (above : place_after_seats a.about + 48 * c.number + 48 ≤ i). omega arith) out
+  outside_value : (i : ℕ) → (i < place_after_seats a.config + 48 * c.number) ⊎ (place_after_seats a.config + 48 * c.number + 48 ≤ i) → i ≢ value_place a c.number slot
+  outside_value i out e = ⊎_elim (λ (below : i < place_after_seats a.config + 48 * c.number). omega arith) (λ (above : place_after_seats a.config + 48 * c.number + 48 ≤ i). omega arith) out
 
-  outside_hold : (i : ℕ) → (i < place_after_seats a.about + 48 * c.number) ⊎ (place_after_seats a.about + 48 * c.number + 48 ≤ i) → i ≢ hold_place a c.number slot
-  outside_hold i out e = ⊎_elim (λ (below : i < place_after_seats a.about + 48 * c.number). omega arith) (λ (above : place_after_seats a.about + 48 * c.number + 48 ≤ i). omega arith) out
+  outside_hold : (i : ℕ) → (i < place_after_seats a.config + 48 * c.number) ⊎ (place_after_seats a.config + 48 * c.number + 48 ≤ i) → i ≢ hold_place a c.number slot
+  outside_hold i out e = ⊎_elim (λ (below : i < place_after_seats a.config + 48 * c.number). omega arith) (λ (above : place_after_seats a.config + 48 * c.number + 48 ≤ i). omega arith) out
 
   pub slot_rewrites : Rewrites a ws ws' ps p x c (with_slot slot f c)
   slot_rewrites =

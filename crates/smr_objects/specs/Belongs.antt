@@ -12,7 +12,7 @@ use Rattle.smr_objects.specs.ObjectsLaw.{IsPlan}
 
 -- the counts are in range, and there is a word for each
 pub record FitsObjects (a : Setup) (words : ℕ) : Type 0 where
-  pub seats : a.about.seats ≤ 64
+  pub seats : a.config.seats ≤ 64
   pub plan : IsPlan a.plan.0 a.plan.1
   pub room : cell_place a a.plan.0 ≤ words
 

@@ -77,7 +77,7 @@ pub record Quiet (a : Setup) (ws ws' : List ℕ) : Type 0 where
   pub write_not_lower : write_hand ws ≤ write_hand ws'
   pub read_not_lower : read_hand ws ≤ read_hand ws'
   pub as_many : length ws' ≡ length ws
-  pub host_words : (i : ℕ) → place_after_seats a.about ≤ i → slice_index ws' i ≡ slice_index ws i
+  pub host_words : (i : ℕ) → place_after_seats a.config ≤ i → slice_index ws' i ≡ slice_index ws i
 
 -- what each seat holds, has looked at and knows after the step fits what was before it
 pub record SeatsFit (ws : List ℕ) (seats : List (Option ℕ)) (ps ps' : List Part) : Type 0 where
@@ -91,9 +91,9 @@ module _ (a : Setup) (ws ws' : List ℕ) (seats seats' : List (Option ℕ)) (ps 
   slot_same : (n m cell slot : ℕ) (x : SlotView) → m ≡ n → SlotFits a ws n cell slot x → SlotFits a ws' m cell slot x
   slot_same n m cell slot x e fits =
       record {
-        value = quiet.host_words (value_place a cell slot) (le-add_right (place_after_seats a.about) _) ∙ fits.value;
+        value = quiet.host_words (value_place a cell slot) (le-add_right (place_after_seats a.config) _) ∙ fits.value;
         word = subst (λ (k : ℕ). HoldWordFits x.state k (slice_index ws' (hold_place a cell slot))) (sym e)
-            (subst (λ (w : ℕ). HoldWordFits x.state n w) (sym (quiet.host_words (hold_place a cell slot) (le-add_right (place_after_seats a.about) _))) fits.word);
+            (subst (λ (w : ℕ). HoldWordFits x.state n w) (sym (quiet.host_words (hold_place a cell slot) (le-add_right (place_after_seats a.config) _))) fits.word);
       }
 
   cell_same : (v : CellView) → CellFits a ws (all_holds ps) v → CellFits a ws' (all_holds ps') v
@@ -101,7 +101,7 @@ module _ (a : Setup) (ws ws' : List ℕ) (seats seats' : List (Option ℕ)) (ps 
       record {
         number = fits.number;
         sixteen = fits.sixteen;
-        word = quiet.host_words (cell_place a v.number) (le-add_right (place_after_seats a.about) _) ∙ fits.word;
+        word = quiet.host_words (cell_place a v.number) (le-add_right (place_after_seats a.config) _) ∙ fits.word;
         low = fits.low;
         numbered = fits.numbered;
         of_cell = fits.of_cell;

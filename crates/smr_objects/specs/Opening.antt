@@ -2,7 +2,7 @@
 use Rattle.std.specs.Prelude.{◌≡◌, ℕ, ◌-◌, ◌<◌, ◌≤◌, ◌⊎◌, List, length}
 use mathlib.Core.Option.{some}
 use lib.ListN.{get_elem?}
-use Rattle.smr_core.specs.declared.about.About.{About}
+use Rattle.smr_core.specs.declared.clock_config.ClockConfig.{ClockConfig}
 use Rattle.smr_core.specs.Making.{RefusesNumbers}
 use Rattle.smr_clock.specs.declared.clock.Clock.{Clock}
 use Rattle.smr_clock.specs.declared.host.Host.{Ghosts}
@@ -24,14 +24,14 @@ use Rattle.smr_objects.specs.Belongs.{IsObjectsClock}
 use Rattle.smr_objects.specs.CellViews.{IsCellOf, cell_knows}
 
 -- the first test that fails, in this order
-abbrev pub RefusesObjects : About → ℕ → ℕ → HoldRefused → Type 0
+abbrev pub RefusesObjects : ClockConfig → ℕ → ℕ → HoldRefused → Type 0
 RefusesObjects a cells slots (Cells n) = (n ≡ cells) × ((cells < 1) ⊎ (4096 < cells))
 RefusesObjects a cells slots (Slots n) = (1 ≤ cells) × (cells ≤ 4096) × (n ≡ slots) × ((slots < 2) ⊎ (16 < slots))
 RefusesObjects a cells slots (ClockNumber refused) = IsPlan cells slots × RefusesNumbers a refused
 RefusesObjects a cells slots Memory = IsPlan cells slots × IsInRange a
 
 -- all numbers are in range
-pub record AreInRange (a : About) (cells slots : ℕ) : Type 0 where
+pub record AreInRange (a : ClockConfig) (cells slots : ℕ) : Type 0 where
   pub plan : IsPlan cells slots
   pub clock : IsInRange a
 

@@ -11,7 +11,7 @@ use crate::places::WORDS;
 use crate::slot_state::SlotState;
 use listed::Listed;
 use smr_clock::{Clock, HostSeat, HostSplit, Memory};
-use smr_core::About;
+use smr_core::ClockConfig;
 use std::alloc::{AllocError, Global};
 
 /// The most cells, and the most slots.
@@ -31,9 +31,9 @@ impl HostSplit<Objects> for GivesCell {
 }
 
 // Tests the numbers, in order.
-fn check(about: (u32, u64, u64), cells: u32, slots: u32) -> Result<(), HoldRefused>
-    ensures in_range { OnOk result (AreInRange (setup about.0 about.1 about.2 (cells, slots)).about cells slots) }
-    ensures refused { IfErr result (RefusesObjects (setup about.0 about.1 about.2 (cells, slots)).about cells slots) }
+fn check(config: (u32, u64, u64), cells: u32, slots: u32) -> Result<(), HoldRefused>
+    ensures in_range { OnOk result (AreInRange (setup config.0 config.1 config.2 (cells, slots)).config cells slots) }
+    ensures refused { IfErr result (RefusesObjects (setup config.0 config.1 config.2 (cells, slots)).config cells slots) }
 {
     if cells < 1 || cells > MOST_CELLS {
         return Err(HoldRefused::Cells { cells });
@@ -41,7 +41,7 @@ fn check(about: (u32, u64, u64), cells: u32, slots: u32) -> Result<(), HoldRefus
     if slots < 2 || slots > MOST_SLOTS {
         return Err(HoldRefused::Slots { slots });
     }
-    if let Err(refused) = About::checked(about.0, about.1, about.2) {
+    if let Err(refused) = ClockConfig::checked(config.0, config.1, config.2) {
         return Err(HoldRefused::Clock { refused });
     }
     Ok(())
@@ -114,7 +114,7 @@ pub fn make(
     slots: u32,
 ) -> Result<HoldOpened, HoldRefused>
     ensures opened { IfOk result (λ opened. Opened (setup seats start window (cells, slots)) opened.clock opened.passes opened.cells) }
-    ensures refused { IfErr result (RefusesObjects (setup seats start window (cells, slots)).about cells slots) }
+    ensures refused { IfErr result (RefusesObjects (setup seats start window (cells, slots)).config cells slots) }
 {
     check((seats, start, window), cells, slots)?;
     let Ok(more) = opening_words(alloc, cells) else {

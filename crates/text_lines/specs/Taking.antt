@@ -7,13 +7,13 @@ use Rattle.text_lines.specs.declared.refused.ParseRefused.TheVariants as texts
 use Rattle.text_lines.specs.TextLines.{TextLine, Test, spoken, wrong_with, IsRightText}
 
 -- from the state after some lines, the line with this number and these fields leads to the state after it, or its test names this kind
-abbrev pub Takes : {S : Type 0} → Test → (S → List TextLine → Type 0) → S → ℕ → List (List ℕ) → Result Unit LineRefused → S → Type 0
-Takes test shows old number fields (Ok done) new =
+abbrev pub ReadsLine : {S : Type 0} → Test → (S → List TextLine → Type 0) → S → ℕ → List (List ℕ) → Result Unit LineRefused → S → Type 0
+ReadsLine test shows old number fields (Ok done) new =
     (earlier : List TextLine) → shows old earlier
     → (test earlier (record { number = number; fields = fields }) ≡ None) × shows new (record { number = number; fields = fields } ∷ earlier)
-Takes test shows old number fields (Err (refusals.Kind kind)) new =
+ReadsLine test shows old number fields (Err (refusals.Kind kind)) new =
     (earlier : List TextLine) → shows old earlier → test earlier (record { number = number; fields = fields }) ≡ Some kind
-Takes test shows old number fields (Err refusals.Memory) new = Unit
+ReadsLine test shows old number fields (Err refusals.Memory) new = Unit
 
 -- the same of a line as it stands in the text, behind these earlier ones
 abbrev pub TakesLine : {S : Type 0} → Test → (S → List TextLine → Type 0) → S → ℕ → List ℕ → Result Unit LineRefused → S → Type 0

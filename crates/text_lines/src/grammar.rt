@@ -1,6 +1,6 @@
 ghost use Rattle.std.specs.Prelude.{◌≡◌, IfOk, IfErr, List, Option, Some, None};
 ghost use Rattle.text_lines.specs.TextLines.{TextLine, fields_of, is_ended};
-ghost use Rattle.text_lines.specs.Taking.{Takes};
+ghost use Rattle.text_lines.specs.Taking.{ReadsLine};
 ghost use Rattle.text_lines.specs.declared.refused.TraceKind.{TraceKind as KindValue};
 
 use crate::refused::{LineRefused, TraceKind};
@@ -20,7 +20,7 @@ pub trait Grammar {
     /// Takes a line in, or says what is wrong with it. `number` is that of the line, from 1.
     fn take(&mut self, number: u64, line: &[u8]) -> Result<(), LineRefused>
         requires { kept self.old }
-        ensures takes { Takes test shows self.old number (fields_of line.now) result self.new }
+        ensures takes { ReadsLine test shows self.old number (fields_of line.now) result self.new }
         ensures kept { kept self.new };
 
     /// Whether the last line was `end`.

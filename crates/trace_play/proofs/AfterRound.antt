@@ -11,8 +11,8 @@ use Rattle.zone_stats.specs.declared.refusal.Refusal.{Refusal}
 use Rattle.zone_stats.specs.declared.refusal.Refusal.TheVariants.{Ctor}
 use Rattle.zone_stats.specs.declared.ledger.SeatLedger.{SeatLedger}
 use Rattle.trace_worker.specs.declared.name_calls.NameCalls.{Ghosts as NameGhosts}
-use Rattle.trace_worker.specs.declared.naming.Naming.{Naming}
-use Rattle.trace_worker.specs.declared.running.Running.{Running}
+use Rattle.trace_worker.specs.declared.name_work.NameWork.{NameWork}
+use Rattle.trace_worker.specs.declared.worker_run.WorkerRun.{WorkerRun}
 use Rattle.trace_worker.specs.declared.worker.Worker.{Worker}
 use Rattle.trace_worker.specs.Attendance.{worker_in}
 use Rattle.trace_worker.specs.Items.{CountedZone}
@@ -23,12 +23,12 @@ use Rattle.trace_worker.specs.OwnLines.{lines_before, own_ops, worked}
 use Rattle.trace_worker.specs.Stands.{Stands}
 use Rattle.trace_worker.specs.Together.{AllAbsent, AllNamed, AllStand, crew}
 use Rattle.trace_worker.specs.Turn.{HasWorked, IsReady}
-use Rattle.trace_worker.specs.Worker.{Fits, phase_of}
+use Rattle.trace_worker.specs.Worker.{FitsZones, phase_of}
 use Rattle.trace_worker.proofs.EntrySteps.{entries_as}
 use Rattle.trace_worker.proofs.NameSteps.{if_some}
 use Rattle.trace_play.specs.DoneBy.{done_by}
 use Rattle.trace_play.specs.Parts.{after_workers}
-use Rattle.trace_play.specs.Rounds.{AllAsked, AllReady, AllWorked, AreAfter, EachGaveUpAsBefore, GaveUpAsBefore, HasEnded, Suits}
+use Rattle.trace_play.specs.Rounds.{AllAsked, AllReady, AllWorked, AreAfter, EachGaveUpAsBefore, GaveUpAsBefore, HasEnded, FitsTrace}
 use Rattle.trace_play.proofs.Bounds.{few_lines, few_asks, few_given_up, some_more, few_more, one_more, up_by_two, below_as, some_as, sum_as, least_as, most_as, both_as, up_as}
 use Rattle.trace_play.proofs.RoundLists.{map-same, at_other}
 use Rattle.trace_play.proofs.RoundLines.{own_of_round, before-few, own-few}
@@ -37,11 +37,11 @@ use Rattle.trace_play.proofs.SameFor.{SameFor, done_by-few, done_by-worked}
 module _ {N H C S Part : Type 0} {h : Ghosts H Part} where
   -- ---- ready for the round
 
-  pub in_crew : (n : ℕ) (workers : List (Running N H C S Part h)) (r : Running N H C S Part h) → slice_get workers n ≡ Some r → slice_get (crew workers) n ≡ Some (worker_in r)
+  pub in_crew : (n : ℕ) (workers : List (WorkerRun N H C S Part h)) (r : WorkerRun N H C S Part h) → slice_get workers n ≡ Some r → slice_get (crew workers) n ≡ Some (worker_in r)
   in_crew n workers r at = slice_get-map worker_in workers n ∙ ap (option_map worker_in) at
 
 module _ {N H C S Part : Type 0} {h : Ghosts H Part} (names : NameGhosts N H C S Part) (cache : C) where
-  ready_at : (t : Trace) (zones : List (CountedZone H Part h)) (clock : Clock H Part) (k n : ℕ) (workers : List (Running N H C S Part h)) (r : Running N H C S Part h) → Suits names cache t zones clock workers → AreAfter names cache zones clock (lines_before t.rounds k) workers
+  ready_at : (t : Trace) (zones : List (CountedZone H Part h)) (clock : Clock H Part) (k n : ℕ) (workers : List (WorkerRun N H C S Part h)) (r : WorkerRun N H C S Part h) → FitsTrace names cache t zones clock workers → AreAfter names cache zones clock (lines_before t.rounds k) workers
       → k < length t.rounds → slice_get workers n ≡ Some r → IsReady names cache t zones clock k n r
   ready_at t zones clock k n workers r suits after round at =
       let before = lines_before t.rounds k in
@@ -65,7 +65,7 @@ module _ {N H C S Part : Type 0} {h : Ghosts H Part} (names : NameGhosts N H C S
         absent = after.absent n r at;
       }
 
-  pub all_ready : (t : Trace) (zones : List (CountedZone H Part h)) (clock : Clock H Part) (k : ℕ) (workers : List (Running N H C S Part h)) → Suits names cache t zones clock workers → AreAfter names cache zones clock (lines_before t.rounds k) workers
+  pub all_ready : (t : Trace) (zones : List (CountedZone H Part h)) (clock : Clock H Part) (k : ℕ) (workers : List (WorkerRun N H C S Part h)) → FitsTrace names cache t zones clock workers → AreAfter names cache zones clock (lines_before t.rounds k) workers
       → k < length t.rounds → AllReady names cache t zones clock k workers
   all_ready t zones clock k workers suits after round n d below =
       ready_at t zones clock k n workers (get_or workers n d) suits after round (slice_get-get_or workers n d below)
@@ -73,23 +73,23 @@ module _ {N H C S Part : Type 0} {h : Ghosts H Part} (names : NameGhosts N H C S
   -- ---- what each did
 
   -- each worker's turn in the round, by its place in both lists
-  pub record Turns (t : Trace) (zones : List (CountedZone H Part h)) (clock : Clock H Part) (k : ℕ) (old new : List (Running N H C S Part h)) : Type 0 where
+  pub record Turns (t : Trace) (zones : List (CountedZone H Part h)) (clock : Clock H Part) (k : ℕ) (old new : List (WorkerRun N H C S Part h)) : Type 0 where
     pub size : length new ≡ length old
-    pub each : (n : ℕ) (was is : Running N H C S Part h) → slice_get old n ≡ Some was → slice_get new n ≡ Some is → HasWorked names cache t zones clock k n was is
+    pub each : (n : ℕ) (was is : WorkerRun N H C S Part h) → slice_get old n ≡ Some was → slice_get new n ≡ Some is → HasWorked names cache t zones clock k n was is
 
-  has_worked : (t : Trace) (zones : List (CountedZone H Part h)) (clock : Clock H Part) (k n : ℕ) (was is : Running N H C S Part h) → HasEnded is → OnOk is.ended (HasWorked names cache t zones clock k n was is) → HasWorked names cache t zones clock k n was is
+  has_worked : (t : Trace) (zones : List (CountedZone H Part h)) (clock : Clock H Part) (k n : ℕ) (was is : WorkerRun N H C S Part h) → HasEnded is → OnOk is.ended (HasWorked names cache t zones clock k n was is) → HasWorked names cache t zones clock k n was is
   has_worked t zones clock k n was is ended worked =
       let W : Type 0 = HasWorked names cache t zones clock k n was is in
       subst (λ e. OnOk e W) ended worked
 
-  pub turns : (t : Trace) (zones : List (CountedZone H Part h)) (clock : Clock H Part) (k : ℕ) (old new : List (Running N H C S Part h)) → length new ≡ length old → All HasEnded new → AllWorked names cache t zones clock k old new → Turns t zones clock k old new
+  pub turns : (t : Trace) (zones : List (CountedZone H Part h)) (clock : Clock H Part) (k : ℕ) (old new : List (WorkerRun N H C S Part h)) → length new ≡ length old → All HasEnded new → AllWorked names cache t zones clock k old new → Turns t zones clock k old new
   turns t zones clock k old new size ended worked = record {
     size = size;
     each = λ n was is at now.
         let below : n < length old = slice_get_within old n was at in
-        let P : Running N H C S Part h → Type 0 = λ r. HasEnded r in
-        let Q : Running N H C S Part h → Type 0 = λ r. OnOk r.ended (HasWorked names cache t zones clock k n (get_or old n is) r) in
-        let R : Running N H C S Part h → Type 0 = λ r. OnOk is.ended (HasWorked names cache t zones clock k n r is) in
+        let P : WorkerRun N H C S Part h → Type 0 = λ r. HasEnded r in
+        let Q : WorkerRun N H C S Part h → Type 0 = λ r. OnOk r.ended (HasWorked names cache t zones clock k n (get_or old n is) r) in
+        let R : WorkerRun N H C S Part h → Type 0 = λ r. OnOk is.ended (HasWorked names cache t zones clock k n r is) in
         let found : get_or new n is ≡ is = get_or_from_slice_get new n is is now in
         has_worked t zones clock k n was is (subst P found (ended n is (slice_get_within new n is now)))
         (subst R (get_or_from_slice_get old n was is at) (subst Q found (worked n is below)));
@@ -125,12 +125,12 @@ module _ {H Part : Type 0} {h : Ghosts H Part} where
 
 module _ {N H C S Part : Type 0} {h : Ghosts H Part} where
   -- who stands in the crew
-  pub record Member (workers : List (Running N H C S Part h)) (n : ℕ) (w : Worker H Part h) : Type 0 where
-    pub running : Running N H C S Part h
+  pub record Member (workers : List (WorkerRun N H C S Part h)) (n : ℕ) (w : Worker H Part h) : Type 0 where
+    pub running : WorkerRun N H C S Part h
     pub at : slice_get workers n ≡ Some running
     pub is : worker_in running ≡ w
 
-  pub member : (workers : List (Running N H C S Part h)) (n : ℕ) (w : Worker H Part h) → slice_get (crew workers) n ≡ Some w → Member workers n w
+  pub member : (workers : List (WorkerRun N H C S Part h)) (n : ℕ) (w : Worker H Part h) → slice_get (crew workers) n ≡ Some w → Member workers n w
   member [] n w at = absurd (none-some w at)
   member (r ∷ workers) zero w at = record { running = r; at = refl; is = same_Some (worker_in r) w at }
   member (r ∷ workers) (suc n) w at = let rest = member workers n w at in record { running = rest.running; at = rest.at; is = rest.is }
@@ -145,7 +145,7 @@ same_numbers : (n : ℕ) (a b : List Line) → SameFor n a b → SameNumbers n a
 same_numbers n a b same = record { looks_same = same.looks_same; binds_same = same.binds_same; unbinds_same = same.unbinds_same }
 
 module _ {N H C S Part : Type 0} (names : NameGhosts N H C S Part) (cache : C) where
-  pub named_as : (n : ℕ) (a b : List Line) (late : ℕ) (naming : Naming N H C S Part) → SameNumbers n a b → NamesStand names cache n b late naming → NamesStand names cache n a late naming
+  pub named_as : (n : ℕ) (a b : List Line) (late : ℕ) (naming : NameWork N H C S Part) → SameNumbers n a b → NamesStand names cache n b late naming → NamesStand names cache n a late naming
   named_as n a b late naming same stands = record {
     seat = stands.seat;
     counts = record {
@@ -163,15 +163,15 @@ module _ {N H C S Part : Type 0} (names : NameGhosts N H C S Part) (cache : C) w
     }) stands.ledger;
   }
 
-module _ {N H C S Part : Type 0} {h : Ghosts H Part} (names : NameGhosts N H C S Part) (cache : C) (t : Trace) (zones : List (CountedZone H Part h)) (clock : Clock H Part) (k : ℕ) (old new : List (Running N H C S Part h)) (done : Turns names cache t zones clock k old new) where
-  turn_of : (n : ℕ) (is : Running N H C S Part h) → slice_get new n ≡ Some is → HasWorked names cache t zones clock k n (get_or old n is) is
+module _ {N H C S Part : Type 0} {h : Ghosts H Part} (names : NameGhosts N H C S Part) (cache : C) (t : Trace) (zones : List (CountedZone H Part h)) (clock : Clock H Part) (k : ℕ) (old new : List (WorkerRun N H C S Part h)) (done : Turns names cache t zones clock k old new) where
+  turn_of : (n : ℕ) (is : WorkerRun N H C S Part h) → slice_get new n ≡ Some is → HasWorked names cache t zones clock k n (get_or old n is) is
   turn_of n is now = done.each n (get_or old n is) is (at_other old new n is done.size now) now
 
   pub stand_after : AllStand zones clock (after_workers t.rounds k) (crew new)
   stand_after = record {
     fits = λ n w at.
         let m = member new n w at in
-        subst (Fits zones clock) m.is (turn_of n m.running m.at).fits;
+        subst (FitsZones zones clock) m.is (turn_of n m.running m.at).fits;
     stands = λ n w at.
         let m = member new n w at in
         subst (Stands zones clock n (after_workers t.rounds k)) m.is
@@ -201,6 +201,6 @@ module _ {N H C S Part : Type 0} {h : Ghosts H Part} (names : NameGhosts N H C S
 module _ {N H C S Part : Type 0} {h : Ghosts H Part} where
   -- ---- a gate that holds nobody
 
-  pub gave_up_same : (old new : List (Running N H C S Part h)) → length new ≡ length old → EachGaveUpAsBefore old new → GaveUpAsBefore old new
-  gave_up_same old new size each = map-same (λ (r : Running N H C S Part h). r.gave_up) old new size (λ n was is at now.
-      ap (λ (r : Running N H C S Part h). r.gave_up) (sym (get_or_from_slice_get new n is is now)) ∙ (each n is (slice_get_within old n was at) ∙ ap (λ (r : Running N H C S Part h). r.gave_up) (get_or_from_slice_get old n was is at)))
+  pub gave_up_same : (old new : List (WorkerRun N H C S Part h)) → length new ≡ length old → EachGaveUpAsBefore old new → GaveUpAsBefore old new
+  gave_up_same old new size each = map-same (λ (r : WorkerRun N H C S Part h). r.gave_up) old new size (λ n was is at now.
+      ap (λ (r : WorkerRun N H C S Part h). r.gave_up) (sym (get_or_from_slice_get new n is is now)) ∙ (each n is (slice_get_within old n was at) ∙ ap (λ (r : WorkerRun N H C S Part h). r.gave_up) (get_or_from_slice_get old n was is at)))

@@ -20,7 +20,7 @@ use Rattle.trace_worker.specs.LedgerStands.{LedgerStands}
 use Rattle.trace_worker.specs.Making.{AreSeats, IsNewWorker}
 use Rattle.trace_worker.specs.Slots.{slot_at}
 use Rattle.trace_worker.specs.Stands.{Stands, NamesZone}
-use Rattle.trace_worker.specs.Worker.{Fits}
+use Rattle.trace_worker.specs.Worker.{FitsZones}
 use Rattle.trace_play.specs.Beginners.{IsUnused, IsBeginner}
 use Rattle.trace_worker.specs.Clocks.{IsNewPass}
 use Rattle.trace_worker.proofs.EntrySteps.{entries_none}
@@ -65,7 +65,7 @@ module _ {H Part : Type 0} {h : Ghosts H Part} where
         outside = λ _. outside;
         between = inl outside;
         entries = entries_none n w.entered w.late (holder w.pass).phase new.entered new.late;
-        begun = subst (λ (p : Pass H Part h). clock.setup.about.start ≤ (holder p).seen) (sym new.pass_kept) new_pass.begun;
+        begun = subst (λ (p : Pass H Part h). clock.setup.config.start ≤ (holder p).seen) (sym new.pass_kept) new_pass.begun;
         overtaken = λ some. absurd (none_above new.late some);
       }
 
@@ -75,7 +75,7 @@ module _ {H Part : Type 0} {h : Ghosts H Part} where
       let new = are.each z zone.0 seat zone.1 at_seat in
       record { own = new.fresh.own; usable = new.fresh.usable; ledger = new.fresh.ledger }
 
-  pub beginner : (zones : List (CountedZone H Part h)) (clock : Clock H Part) (domain : ℕ) (pass : Pass H Part h) (w : Worker H Part h) → Fits zones clock w → IsNewWorker zones pass domain w → IsNewPass clock pass → IsBeginner zones clock domain w
+  pub beginner : (zones : List (CountedZone H Part h)) (clock : Clock H Part) (domain : ℕ) (pass : Pass H Part h) (w : Worker H Part h) → FitsZones zones clock w → IsNewWorker zones pass domain w → IsNewPass clock pass → IsBeginner zones clock domain w
   beginner zones clock domain pass w fits new new_pass = record {
     fits = fits;
     stands = λ n. stands_new zones clock n domain pass w new new_pass;
@@ -84,7 +84,7 @@ module _ {H Part : Type 0} {h : Ghosts H Part} where
   }
 
   -- the same of what a call answers
-  pub beginner_is : {E : Type 0} (r : Result (Worker H Part h) E) (zones : List (CountedZone H Part h)) (clock : Clock H Part) (domain : ℕ) (pass : Pass H Part h) → IfOk r (Fits zones clock) → IfOk r (IsNewWorker zones pass domain) → IsNewPass clock pass
+  pub beginner_is : {E : Type 0} (r : Result (Worker H Part h) E) (zones : List (CountedZone H Part h)) (clock : Clock H Part) (domain : ℕ) (pass : Pass H Part h) → IfOk r (FitsZones zones clock) → IfOk r (IsNewWorker zones pass domain) → IsNewPass clock pass
       → IfOk r (IsBeginner zones clock domain)
   beginner_is (Ok w) zones clock domain pass fits new new_pass = beginner zones clock domain pass w fits new new_pass
   beginner_is (Err e) zones clock domain pass fits new new_pass = tt

@@ -7,7 +7,7 @@ use Rattle.trace_text.specs.declared.between.Between.{Between}
 use Rattle.trace_text.specs.declared.between.Between.TheVariants.{Give, SetMax}
 use Rattle.trace_text.specs.Lines.{Line, Moves}
 use Rattle.trace_text.specs.Valid.{LinesFit}
-use Rattle.trace_worker.specs.declared.running.Running.{Running}
+use Rattle.trace_worker.specs.declared.worker_run.WorkerRun.{WorkerRun}
 use Rattle.trace_worker.specs.Giving.{MovesOn}
 use Rattle.trace_worker.specs.OwnLines.{stacked}
 use Rattle.trace_worker.specs.Together.{AllStand, crew}
@@ -18,7 +18,7 @@ use Rattle.trace_play.proofs.RoundLines.{stacked-snoc}
 
 module _ {N H C S Part : Type 0} {h : Ghosts H Part} where
   -- before the first one
-  pub moved_none : (betweens : List Between) (workers : List (Running N H C S Part h)) → AllMoved (take 0 betweens) workers workers
+  pub moved_none : (betweens : List Between) (workers : List (WorkerRun N H C S Part h)) → AllMoved (take 0 betweens) workers workers
   unfolding stacked
   moved_none betweens workers zones clock lines fit all = record { stand = all; adds_up = λ z adds. adds }
 
@@ -28,15 +28,15 @@ mapped (x ∷ xs) b = ap (λ (lines : List Line). Moves x ∷ lines) (mapped xs 
 
 module _ {N H C S Part : Type 0} {h : Ghosts H Part} where
   -- a line that changes a limit leaves the workers as they are
-  pub limit_moved : (zone limit : ℕ) (workers : List (Running N H C S Part h)) → IsMoved (SetMax zone limit) workers workers
+  pub limit_moved : (zone limit : ℕ) (workers : List (WorkerRun N H C S Part h)) → IsMoved (SetMax zone limit) workers workers
   limit_moved zone limit workers zones clock lines fit all = limit_moves zones clock lines zone limit (crew workers) all
 
   -- a line that moves what a slot holds, which its call said of it
-  pub give_moved : {T E : Type 0} (r : Result T E) (giver slot taker slot2 : ℕ) (old new : List (Running N H C S Part h)) → OnOk r (MovesOn giver slot taker slot2 old new) → OnOk r (IsMoved (Give giver slot taker slot2) old new)
+  pub give_moved : {T E : Type 0} (r : Result T E) (giver slot taker slot2 : ℕ) (old new : List (WorkerRun N H C S Part h)) → OnOk r (MovesOn giver slot taker slot2 old new) → OnOk r (IsMoved (Give giver slot taker slot2) old new)
   give_moved (Ok x) giver slot taker slot2 old new moves = λ zones clock lines fit all. moves zones clock lines fit.1 all
   give_moved (Err e) giver slot taker slot2 old new moves = tt
 
-  one_behind : (xs : List Between) (b : Between) (old mid new : List (Running N H C S Part h)) → AllMoved xs old mid → IsMoved b mid new → AllMoved (xs ++ b ∷ []) old new
+  one_behind : (xs : List Between) (b : Between) (old mid new : List (WorkerRun N H C S Part h)) → AllMoved xs old mid → IsMoved b mid new → AllMoved (xs ++ b ∷ []) old new
   one_behind xs b old mid new first next zones clock lines fit all =
       let fits = subst (LinesFit lines) (mapped xs b) fit in
       let so_far = first zones clock lines (LinesFit-front (map Moves xs) (Moves b ∷ []) lines fits) all in
@@ -48,7 +48,7 @@ module _ {N H C S Part : Type 0} {h : Ghosts H Part} where
       }
 
   -- with the next one
-  pub moved_more : (betweens : List Between) (i : ℕ) (d : Between) (old mid new : List (Running N H C S Part h)) → i < length betweens → AllMoved (take i betweens) old mid → IsMoved (get_or betweens i d) mid new
+  pub moved_more : (betweens : List Between) (i : ℕ) (d : Between) (old mid new : List (WorkerRun N H C S Part h)) → i < length betweens → AllMoved (take i betweens) old mid → IsMoved (get_or betweens i d) mid new
       → AllMoved (take (i + 1) betweens) old new
   moved_more betweens i d old mid new below first next =
       let P : List Between → Type 0 = λ list. AllMoved list old new in

@@ -32,9 +32,9 @@ use Rattle.trace_worker.specs.contracts.counted.Counted as Counted
 use Rattle.trace_worker.specs.contracts.counted.CountedBody.TheImpl as counted_body
 use Rattle.trace_worker.proofs.counted.Counted.TheSendSync as counted
 use Rattle.trace_worker.proofs.count_hooks.CountHooks.TheSendSync as counts
-use Rattle.trace_worker.specs.contracts.naming.Naming as Naming
-use Rattle.trace_worker.proofs.naming.NameCounts.TheSendSync as counts_of_names
-use Rattle.trace_worker.specs.contracts.running.Running as Running
+use Rattle.trace_worker.specs.contracts.name_work.NameWork as NameWork
+use Rattle.trace_worker.proofs.name_work.NameCounts.TheSendSync as counts_of_names
+use Rattle.trace_worker.specs.contracts.worker_run.WorkerRun as WorkerRun
 use Rattle.trace_worker.proofs.slots.Slots.TheSendSync as slots
 use Rattle.trace_worker.specs.contracts.worker.Worker as Worker
 
@@ -70,15 +70,15 @@ module _ (H P : RattleType) (h : host.Ghosts H.Denot P.Denot) (s : IsSend H) (y 
   clock_sync = search (clock.the_sync, sendable) depth 20
 
 module _ (N H C S P : RattleType) (h : host.Ghosts H.Denot P.Denot) (s : IsSend H) (y : IsSync H) (seat : IsSend S) where
-  naming_field_send : IsSend (Naming.the_field N H C S P).row
-  naming_field_send = struct_send (shape (Naming.the_type N H C S P)) (seat, (search (counts_of_names.the_field_send), tt))
+  naming_field_send : IsSend (NameWork.the_field N H C S P).row
+  naming_field_send = struct_send (shape (NameWork.the_type N H C S P)) (seat, (search (counts_of_names.the_field_send), tt))
 
-  running_field_send : IsSend (Running.the_field N H C S P h).row
-  running_field_send = struct_send (shape (Running.the_type N H C S P h))
+  running_field_send : IsSend (WorkerRun.the_field N H C S P h).row
+  running_field_send = struct_send (shape (WorkerRun.the_type N H C S P h))
       (attendance_field_send H P h s y, (naming_field_send, (search sendable, (search sendable, (search (crosses, sendable) depth 20, (search (padded.the_field_send, sendable), tt))))))
 
-  pub running_send : IsSend (Running.the_row N H C S P h)
-  running_send = recorded_send (Running.the_field N H C S P h).row _ _ (Running.the_type N H C S P h).to_one running_field_send
+  pub running_send : IsSend (WorkerRun.the_row N H C S P h)
+  running_send = recorded_send (WorkerRun.the_field N H C S P h).row _ _ (WorkerRun.the_type N H C S P h).to_one running_field_send
 
 pub trace_sync : IsSync Trace.the_row
 trace_sync = search (trace.the_sync, sendable)

@@ -10,7 +10,7 @@ use Rattle.trace_text.specs.declared.op.Op.{Op}
 use Rattle.trace_text.specs.declared.round.Round.{Round}
 use Rattle.trace_text.specs.declared.trace.Trace.{Trace}
 use Rattle.trace_worker.specs.declared.name_calls.NameCalls.{Ghosts as NameGhosts}
-use Rattle.trace_worker.specs.declared.running.Running.{Running}
+use Rattle.trace_worker.specs.declared.worker_run.WorkerRun.{WorkerRun}
 use Rattle.trace_worker.specs.Items.{CountedZone}
 use Rattle.trace_worker.specs.NameLines.{DoesAll, doing}
 use Rattle.trace_play.specs.Betweens.{DoBetweens, DoesBetween, DoRound, DoRoundAt, DoRounds}
@@ -23,22 +23,22 @@ use Rattle.trace_play.proofs.AfterRound.{turns}
 
 module _ {N H C S Part : Type 0} {h : Ghosts H Part} where
   -- before the first one
-  pub done_none : (zones : List (CountedZone H Part h)) (betweens : List Between) (workers : List (Running N H C S Part h)) → DoBetweens zones (take 0 betweens) workers workers
+  pub done_none : (zones : List (CountedZone H Part h)) (betweens : List Between) (workers : List (WorkerRun N H C S Part h)) → DoBetweens zones (take 0 betweens) workers workers
   unfolding DoBetweens
   done_none zones [] workers = refl
   done_none zones (b ∷ betweens) workers = refl
 
-  done_suc : (zones : List (CountedZone H Part h)) (k : ℕ) (betweens : List Between) (d : Between) (old mid new : List (Running N H C S Part h)) → k < length betweens → DoBetweens zones (take k betweens) old mid → DoesBetween zones (get_or betweens k d) mid new
+  done_suc : (zones : List (CountedZone H Part h)) (k : ℕ) (betweens : List Between) (d : Between) (old mid new : List (WorkerRun N H C S Part h)) → k < length betweens → DoBetweens zones (take k betweens) old mid → DoesBetween zones (get_or betweens k d) mid new
       → DoBetweens zones (take (suc k) betweens) old new
   unfolding DoBetweens
   done_suc zones k [] d old mid new below done next = absurd (omega arith)
   done_suc zones zero (b ∷ betweens) d old mid new below same next =
-      let P : List (Running N H C S Part h) → Type 0 = λ before. DoesBetween zones b before new in
+      let P : List (WorkerRun N H C S Part h) → Type 0 = λ before. DoesBetween zones b before new in
       (new, subst P same next, done_none zones betweens new)
   done_suc zones (suc k) (b ∷ betweens) d old mid new below done next = (done.0, done.1, done_suc zones k betweens d done.0 mid new (omega arith) done.2 next)
 
   -- with the next one
-  pub done_more : (zones : List (CountedZone H Part h)) (betweens : List Between) (k : ℕ) (d : Between) (old mid new : List (Running N H C S Part h)) → k < length betweens → DoBetweens zones (take k betweens) old mid → DoesBetween zones (get_or betweens k d) mid new
+  pub done_more : (zones : List (CountedZone H Part h)) (betweens : List Between) (k : ℕ) (d : Between) (old mid new : List (WorkerRun N H C S Part h)) → k < length betweens → DoBetweens zones (take k betweens) old mid → DoesBetween zones (get_or betweens k d) mid new
       → DoBetweens zones (take (k + 1) betweens) old new
   done_more zones betweens k d old mid new below done next =
       let on : k + 1 ≡ suc k = omega arith in
@@ -46,7 +46,7 @@ module _ {N H C S Part : Type 0} {h : Ghosts H Part} where
       subst P (sym on) (done_suc zones k betweens d old mid new below done next)
 
   -- after the last one
-  pub done_all : (zones : List (CountedZone H Part h)) (betweens : List Between) (k : ℕ) (old new : List (Running N H C S Part h)) → length betweens ≤ k → DoBetweens zones (take k betweens) old new → DoBetweens zones betweens old new
+  pub done_all : (zones : List (CountedZone H Part h)) (betweens : List Between) (k : ℕ) (old new : List (WorkerRun N H C S Part h)) → length betweens ≤ k → DoBetweens zones (take k betweens) old new → DoBetweens zones betweens old new
   done_all zones betweens k old new past done =
       let P : List Between → Type 0 = λ list. DoBetweens zones list old new in
       subst P (take_all k betweens past) done
@@ -55,7 +55,7 @@ module _ {N H C S Part : Type 0} {h : Ghosts H Part} where
 
 module _ {N H C S Part : Type 0} {h : Ghosts H Part} (names : NameGhosts N H C S Part) (cache : C) where
   -- a whole round
-  pub round_done : (t : Trace) (zones : List (CountedZone H Part h)) (clock : Clock H Part) (k : ℕ) (old mid new : List (Running N H C S Part h)) → length mid ≡ length old → All HasEnded mid → AllWorked names cache t zones clock k old mid → DoBetweens zones (betweens_of t.rounds k) mid new
+  pub round_done : (t : Trace) (zones : List (CountedZone H Part h)) (clock : Clock H Part) (k : ℕ) (old mid new : List (WorkerRun N H C S Part h)) → length mid ≡ length old → All HasEnded mid → AllWorked names cache t zones clock k old mid → DoBetweens zones (betweens_of t.rounds k) mid new
       → DoRoundAt names cache zones t.rounds k old new
   round_done t zones clock k old mid new size ended worked done r here =
       let turned = turns names cache t zones clock k old mid size ended worked in
@@ -73,22 +73,22 @@ module _ {N H C S Part : Type 0} {h : Ghosts H Part} (names : NameGhosts N H C S
 
 module _ {N H C S Part : Type 0} {h : Ghosts H Part} (names : NameGhosts N H C S Part) (cache : C) (zones : List (CountedZone H Part h)) where
   -- before the first round
-  pub rounds_begun : (rounds : List Round) (workers : List (Running N H C S Part h)) → DoRounds names cache zones (take 0 rounds) workers workers
+  pub rounds_begun : (rounds : List Round) (workers : List (WorkerRun N H C S Part h)) → DoRounds names cache zones (take 0 rounds) workers workers
   unfolding DoRounds
   rounds_begun [] workers = refl
   rounds_begun (r ∷ rounds) workers = refl
 
-  rounds_suc : (k : ℕ) (rounds : List Round) (old mid new : List (Running N H C S Part h)) → k < length rounds → DoRounds names cache zones (take k rounds) old mid → DoRoundAt names cache zones rounds k mid new
+  rounds_suc : (k : ℕ) (rounds : List Round) (old mid new : List (WorkerRun N H C S Part h)) → k < length rounds → DoRounds names cache zones (take k rounds) old mid → DoRoundAt names cache zones rounds k mid new
       → DoRounds names cache zones (take (suc k) rounds) old new
   unfolding DoRounds
   rounds_suc k [] old mid new below done next = absurd (omega arith)
   rounds_suc zero (r ∷ rounds) old mid new below same next =
-      let P : List (Running N H C S Part h) → Type 0 = λ before. DoRound names cache zones r before new in
+      let P : List (WorkerRun N H C S Part h) → Type 0 = λ before. DoRound names cache zones r before new in
       (new, subst P same (next r refl), rounds_begun rounds new)
   rounds_suc (suc k) (r ∷ rounds) old mid new below done next = (done.0, done.1, rounds_suc k rounds done.0 mid new (omega arith) done.2 next)
 
   -- with the next round
-  pub rounds_more : (rounds : List Round) (k : ℕ) (old mid new : List (Running N H C S Part h)) → k < length rounds → DoRounds names cache zones (take k rounds) old mid → DoRoundAt names cache zones rounds k mid new
+  pub rounds_more : (rounds : List Round) (k : ℕ) (old mid new : List (WorkerRun N H C S Part h)) → k < length rounds → DoRounds names cache zones (take k rounds) old mid → DoRoundAt names cache zones rounds k mid new
       → DoRounds names cache zones (take (k + 1) rounds) old new
   rounds_more rounds k old mid new below done next =
       let on : k + 1 ≡ suc k = omega arith in
@@ -96,7 +96,7 @@ module _ {N H C S Part : Type 0} {h : Ghosts H Part} (names : NameGhosts N H C S
       subst P (sym on) (rounds_suc k rounds old mid new below done next)
 
   -- after the last
-  pub rounds_ended : (rounds : List Round) (k : ℕ) (old new : List (Running N H C S Part h)) → length rounds ≤ k → DoRounds names cache zones (take k rounds) old new → DoRounds names cache zones rounds old new
+  pub rounds_ended : (rounds : List Round) (k : ℕ) (old new : List (WorkerRun N H C S Part h)) → length rounds ≤ k → DoRounds names cache zones (take k rounds) old new → DoRounds names cache zones rounds old new
   rounds_ended rounds k old new past done =
       let P : List Round → Type 0 = λ list. DoRounds names cache zones list old new in
       subst P (take_all k rounds past) done

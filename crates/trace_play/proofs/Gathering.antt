@@ -7,7 +7,7 @@ use Rattle.std.specs.Prelude.{slice_get, slice_set, slice_index_or}
 use Rattle.smr_clock.specs.declared.clock.Clock.{Clock}
 use Rattle.smr_clock.specs.declared.note.Note.{Note}
 use Rattle.smr_clock.specs.declared.host.Host.{Ghosts}
-use Rattle.smr_clock.specs.Belongs.{IsOf, setup_of}
+use Rattle.smr_clock.specs.Belongs.{IsPassOf, setup_of}
 use Rattle.smr_clock.specs.Notes.{note_holder}
 use Rattle.trace_worker.specs.declared.worker.Worker.{Worker}
 use Rattle.trace_worker.specs.Worker.{seen_of}
@@ -16,7 +16,7 @@ use Rattle.trace_play.specs.Clock.{AllLearn, Gathers, Learns, LearnsAt, LooksAt,
 use Rattle.trace_play.proofs.Heard.{one_at, first_set, heard, known, below_both, below_one, none_below, le_both, le_same}
 
 module _ {H Part : Type 0} {h : Ghosts H Part} where
-  learns_self : (clock : Clock H Part) (w : Worker H Part h) → IsOf clock w.pass → Learns clock w w
+  learns_self : (clock : Clock H Part) (w : Worker H Part h) → IsPassOf clock w.pass → Learns clock w w
   learns_self clock w here = record { seats = refl; slots = refl; entered = refl; late = refl; here = here; phase = refl; seen = le_refl (seen_of w); floor = le_refl (floor_of w) }
 
   learns_more : (clock : Clock H Part) (a b c : Worker H Part h) → Learns clock a b → Learns clock b c → Learns clock a c
@@ -31,7 +31,7 @@ module _ {H Part : Type 0} {h : Ghosts H Part} where
     floor = le_both (floor_of a) (floor_of b) (floor_of c) p.floor q.floor;
   }
 
-  learn_none : (clock : Clock H Part) (workers : List (Worker H Part h)) → ((n : ℕ) (w : Worker H Part h) → slice_get workers n ≡ Some w → IsOf clock w.pass) → AllLearn clock workers workers
+  learn_none : (clock : Clock H Part) (workers : List (Worker H Part h)) → ((n : ℕ) (w : Worker H Part h) → slice_get workers n ≡ Some w → IsPassOf clock w.pass) → AllLearn clock workers workers
   learn_none clock workers here = record {
     count = refl;
     each = λ n before after was is. let P : Worker H Part h → Type 0 = λ w. Learns clock before w in subst P (one_at workers n before after was is) (learns_self clock before (here n before was));
@@ -55,7 +55,7 @@ module _ {H Part : Type 0} {h : Ghosts H Part} where
   }
 
   -- each pass is still of the clock
-  pub here_after : (clock : Clock H Part) (old new : List (Worker H Part h)) → AllLearn clock old new → (n : ℕ) (w : Worker H Part h) → slice_get new n ≡ Some w → IsOf clock w.pass
+  pub here_after : (clock : Clock H Part) (old new : List (Worker H Part h)) → AllLearn clock old new → (n : ℕ) (w : Worker H Part h) → slice_get new n ≡ Some w → IsPassOf clock w.pass
   here_after clock old new all n w at = let b = has_too old new n w all.count at in (all.each n b.0 w b.1 at).here
 
   passed_on : (clock : Clock H Part) (k : ℕ) (old mid new : List (Worker H Part h)) → AllLearn clock old mid → PassesOn clock k mid new → AllLearn clock old new
@@ -63,7 +63,7 @@ module _ {H Part : Type 0} {h : Ghosts H Part} where
       learn_step clock 0 old passes.between new passes.takes.after (learn_step clock k old mid passes.between passes.gives.after all passes.gives.learns) passes.takes.learns
 
   -- before the first is told of another
-  pub gathers_one : (clock : Clock H Part) (note : Note H Part h) (old new : List (Worker H Part h)) → ((n : ℕ) (w : Worker H Part h) → slice_get old n ≡ Some w → IsOf clock w.pass) → (setup_of clock).about.start ≤ (note_holder note).floor
+  pub gathers_one : (clock : Clock H Part) (note : Note H Part h) (old new : List (Worker H Part h)) → ((n : ℕ) (w : Worker H Part h) → slice_get old n ≡ Some w → IsPassOf clock w.pass) → (setup_of clock).config.start ≤ (note_holder note).floor
       → TakesAt clock 0 old note new → Gathers clock 1 old new
   gathers_one clock note old new here begun takes = record {
     learn = learn_step clock 0 old old new takes.after (learn_none clock old here) takes.learns;
@@ -71,8 +71,8 @@ module _ {H Part : Type 0} {h : Ghosts H Part} where
     floor = λ n f w below first at. le_same (floor_of w) (floor_of f) (ap floor_of (one_at new 0 w f (first_of_all n w below at) first));
     start = λ f first.
         let P : List (Worker H Part h) → Type 0 = λ l. slice_get l 0 ≡ Some f in
-        let Q : Worker H Part h → Type 0 = λ w. (setup_of clock).about.start ≤ floor_of w in
-        subst Q (first_set old takes.after f (subst P takes.learns.set first)) (le_both (setup_of clock).about.start (note_holder note).floor (floor_of takes.after) begun takes.knows.floor);
+        let Q : Worker H Part h → Type 0 = λ w. (setup_of clock).config.start ≤ floor_of w in
+        subst Q (first_set old takes.after f (subst P takes.learns.set first)) (le_both (setup_of clock).config.start (note_holder note).floor (floor_of takes.after) begun takes.knows.floor);
   }
     where
       first_of_all : (n : ℕ) (w : Worker H Part h) → n < 1 → slice_get new n ≡ Some w → slice_get new 0 ≡ Some w
@@ -105,7 +105,7 @@ module _ {H Part : Type 0} {h : Ghosts H Part} (clock : Clock H Part) (k : ℕ) 
     floor = λ n f w below first at. heard floor_of k mid passes.gives.after passes.takes.after g.floor (λ a b was is. (learned.each 0 a b was (back 0 b is)).floor) told_floor n f w below (there 0 f first) (there n w at);
     start = λ f first.
         let b = has_too mid new 0 f learned.count first in
-        le_both (setup_of clock).about.start (floor_of b.0) (floor_of f) (g.start b.0 b.1) (learned.each 0 b.0 f b.1 first).floor;
+        le_both (setup_of clock).config.start (floor_of b.0) (floor_of f) (g.start b.0 b.1) (learned.each 0 b.0 f b.1 first).floor;
   }
 
 module _ {H Part : Type 0} {h : Ghosts H Part} where
@@ -155,8 +155,8 @@ module _ {H Part : Type 0} {h : Ghosts H Part} (clock : Clock H Part) (old mid n
     read_odd = looks.looks.read_odd;
     write_odd = looks.looks.write_odd;
     start =
-        let P : ℕ → Type 0 = λ s. (setup_of clock).about.start ≤ s in
-        subst P looks.looks.floor (le_both (setup_of clock).about.start (floor_of looks.before) (floor_of looks.after) (g.start looks.before begun) looks.looks.learns.floor);
+        let P : ℕ → Type 0 = λ s. (setup_of clock).config.start ≤ s in
+        subst P looks.looks.floor (le_both (setup_of clock).config.start (floor_of looks.before) (floor_of looks.after) (g.start looks.before begun) looks.looks.learns.floor);
     in_order = looks.looks.in_order;
     within = looks.looks.within;
   }

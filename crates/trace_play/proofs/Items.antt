@@ -11,7 +11,7 @@ use Rattle.trace_text.specs.declared.trace.Trace.{Trace}
 use Rattle.uma_seat.specs.Seat.{ledger_of}
 use Rattle.trace_worker.specs.declared.held.Held.{Held}
 use Rattle.trace_worker.specs.declared.name_calls.NameCalls.{Ghosts as NameGhosts}
-use Rattle.trace_worker.specs.declared.running.Running.{Running}
+use Rattle.trace_worker.specs.declared.worker_run.WorkerRun.{WorkerRun}
 use Rattle.trace_worker.specs.declared.worker.Worker.{Worker}
 use Rattle.trace_worker.specs.Attendance.{worker_in}
 use Rattle.trace_worker.specs.Items.{CountedSeat, CountedZone}
@@ -19,7 +19,7 @@ use Rattle.trace_worker.specs.Live.{is_of, live_count}
 use Rattle.trace_worker.specs.OwnLines.{lines_before}
 use Rattle.trace_worker.specs.Together.{AddsUp, AllStand, crew, all_frees, all_live, ledger_at}
 use Rattle.trace_worker.specs.Turn.{Balances}
-use Rattle.trace_worker.specs.Worker.{Fits}
+use Rattle.trace_worker.specs.Worker.{FitsZones}
 use Rattle.trace_play.proofs.AfterRound.{Turns, member, stand_after}
 use Rattle.trace_play.proofs.Bounds.{past_end, as_counted, none_counts, never_both, past_as}
 use Rattle.trace_play.proofs.RoundLists.{count-none, sums_balance, sums_still}
@@ -40,14 +40,14 @@ module _ {H Part : Type 0} {h : Ghosts H Part} where
 
 module _ {H Part : Type 0} {h : Ghosts H Part} (zones : List (CountedZone H Part h)) (clock : Clock H Part) where
   -- no slot holds an item of a zone that there isn't
-  not_of : (z slot : ℕ) (w : Worker H Part h) (o : Option Held) → Fits zones clock w → length zones ≤ z → slice_get w.slots slot ≡ Some o → is_of z o ≡ false
+  not_of : (z slot : ℕ) (w : Worker H Part h) (o : Option Held) → FitsZones zones clock w → length zones ≤ z → slice_get w.slots slot ≡ Some o → is_of z o ≡ false
   not_of z slot w None fits past at = refl
   not_of z slot w (Some it) fits past at =
       let none : Option Held = None in
       let held = fits.slots slot it (get_or_from_slice_get w.slots slot (Some it) none at) in
       ne_eqb it.zone z (λ same. past_end same (slice_get_within zones it.zone held.zone held.at) past)
 
-  none_live : (z : ℕ) (w : Worker H Part h) → Fits zones clock w → length zones ≤ z → lives_at z w ≡ 0
+  none_live : (z : ℕ) (w : Worker H Part h) → FitsZones zones clock w → length zones ≤ z → lives_at z w ≡ 0
   none_live z w fits past = count-none (is_of z) w.slots (λ slot o at. not_of z slot w o fits past at)
 
   frees_is : (z : ℕ) (w : Worker H Part h) (o : Option (CountedSeat H Part h)) → slice_get w.seats.items z ≡ o → frees_at z w ≡ option_map_or (λ ledger. ledger.frees) (option_map ledger_of o) 0
@@ -56,7 +56,7 @@ module _ {H Part : Type 0} {h : Ghosts H Part} (zones : List (CountedZone H Part
   allocs_is : (z : ℕ) (w : Worker H Part h) (o : Option (CountedSeat H Part h)) → slice_get w.seats.items z ≡ o → allocs_at z w ≡ option_map_or (λ ledger. ledger.allocs) (option_map ledger_of o) 0
   allocs_is z w o at = ap (λ (x : Option (CountedSeat H Part h)). option_map_or (λ ledger. ledger.allocs) (option_map ledger_of x) 0) at
 
-  worker_adds : (z : ℕ) (was is : Worker H Part h) → Fits zones clock was → Fits zones clock is → Balances z was is → Adds z was is
+  worker_adds : (z : ℕ) (was is : Worker H Part h) → FitsZones zones clock was → FitsZones zones clock is → Balances z was is → Adds z was is
   worker_adds z was is fits fits' balances =
       elim (slice_get_cases was.seats.items z).1 [
         | inl w ↦ elim (slice_get_cases is.seats.items z).1 [
@@ -71,7 +71,7 @@ module _ {H Part : Type 0} {h : Ghosts H Part} (zones : List (CountedZone H Part
         ]
       ]
 
-module _ {N H C S Part : Type 0} {h : Ghosts H Part} (names : NameGhosts N H C S Part) (cache : C) (t : Trace) (zones : List (CountedZone H Part h)) (clock : Clock H Part) (k : ℕ) (old new : List (Running N H C S Part h)) (done : Turns names cache t zones clock k old new) where
+module _ {N H C S Part : Type 0} {h : Ghosts H Part} (names : NameGhosts N H C S Part) (cache : C) (t : Trace) (zones : List (CountedZone H Part h)) (clock : Clock H Part) (k : ℕ) (old new : List (WorkerRun N H C S Part h)) (done : Turns names cache t zones clock k old new) where
   each_adds : (z n : ℕ) (was is : Worker H Part h) → AllStand zones clock (lines_before t.rounds k) (crew old) → slice_get (crew old) n ≡ Some was → slice_get (crew new) n ≡ Some is → Adds z was is
   each_adds z n was is all at now =
       let m = member old n was at in

@@ -21,8 +21,8 @@ use Rattle.trace_worker.specs.Items.{counted_life, CountedZone, LiveItem}
 use Rattle.trace_worker.specs.Live.{is_of, item_of, live_count, lives_of}
 use Rattle.trace_worker.specs.Slots.{slot_at}
 use Rattle.trace_worker.specs.Together.{all_live}
-use Rattle.trace_worker.specs.Worker.{Fits, HasSeats, IsHeld}
-use Rattle.smr_clock.specs.Belongs.{IsOf}
+use Rattle.trace_worker.specs.Worker.{FitsZones, HasSeats, IsHeld}
+use Rattle.smr_clock.specs.Belongs.{IsPassOf}
 use Rattle.trace_play.specs.Kegs.{keg_place}
 use Rattle.trace_play.proofs.Lists.{has_too}
 use Rattle.trace_play.specs.Lending.{AllFit, AreFew, KeepsWorker, KeepsWorkers, live_times, lent_times, seen_slot, slot_times}
@@ -117,10 +117,10 @@ module _ {H Part : Type 0} {h : Ghosts H Part} where
       let Q : ℕ × Seen Counted → Type 0 = λ s. (s.1.table ≡ (zone_home held.zone).book) × (s.1.zone ≡ (zone_home held.zone).zone) × (s.1.domain < (zone_home held.zone).domains) in
       record { zone = held.zone; at = subst P (λ i. (same i).0) held.at; home = subst Q same held.home }
 
-  worker_kept : (zones : List (CountedZone H Part h)) (clock : Clock H Part) (old new : Worker H Part h) → KeepsWorker old new → Fits zones clock old → Fits zones clock new
+  worker_kept : (zones : List (CountedZone H Part h)) (clock : Clock H Part) (old new : Worker H Part h) → KeepsWorker old new → FitsZones zones clock old → FitsZones zones clock new
   worker_kept zones clock old new kept fits = record {
     seats = (let P : _ → Type 0 = λ seats. HasSeats zones seats.items in subst P (sym kept.seats) fits.seats);
-    pass = (let P : Pass H Part h → Type 0 = λ pass. IsOf clock pass in subst P (sym kept.pass) fits.pass);
+    pass = (let P : Pass H Part h → Type 0 = λ pass. IsPassOf clock pass in subst P (sym kept.pass) fits.pass);
     slots = λ slot it found.
         let same : Some (seen_held it) ≡ seen_slot (slot_at old.slots slot) = ap seen_slot (sym found) ∙ seen_at new.slots slot ∙ ap (λ (l : List (Option (ℕ × Seen Counted))). slot_at l slot) kept.slots ∙ sym (seen_at old.slots slot) in
         let was = seen_there (slot_at old.slots slot) it same in

@@ -15,8 +15,8 @@ use Rattle.trace_text.specs.Lines.{Line, Moves, lines_of}
 use Rattle.trace_text.specs.Reading.{is_away}
 use Rattle.trace_text.specs.Valid.{BetweenFits, RoundFits}
 use Rattle.trace_worker.specs.declared.name_calls.NameCalls.{Ghosts as NameGhosts}
-use Rattle.trace_worker.specs.declared.naming.Naming.{Naming}
-use Rattle.trace_worker.specs.declared.running.Running.{Running}
+use Rattle.trace_worker.specs.declared.name_work.NameWork.{NameWork}
+use Rattle.trace_worker.specs.declared.worker_run.WorkerRun.{WorkerRun}
 use Rattle.trace_worker.specs.declared.worker.Worker.{Worker}
 use Rattle.trace_worker.specs.Attendance.{worker_in}
 use Rattle.trace_worker.specs.Giving.{KeepsRest, with_slots}
@@ -28,7 +28,7 @@ use Rattle.trace_worker.proofs.Attending.{same_bare, same_out}
 use Rattle.trace_worker.proofs.LineCounts.{binds-more, looks-more, unbinds-more}
 use Rattle.trace_play.specs.DoneBy.{done_by}
 use Rattle.trace_play.specs.Parts.{after_workers, betweens_of, IsAmong}
-use Rattle.trace_play.specs.Rounds.{AllAsked, AllMoved, AllWorked, AreAfter, GaveUpAsBefore, HasEnded, IsBegun, Suits}
+use Rattle.trace_play.specs.Rounds.{AllAsked, AllMoved, AllWorked, AreAfter, GaveUpAsBefore, HasEnded, IsBegun, FitsTrace}
 use Rattle.trace_play.proofs.AfterRound.{SameNumbers, absent_after, turns, stand_after, named_after, named_as, asked_after}
 use Rattle.trace_play.proofs.Bounds.{below_as, some_of, none_done, none_asked, none_given_up, done_as, asked_as}
 use Rattle.trace_play.proofs.Items.{adds_after}
@@ -38,10 +38,10 @@ use Rattle.trace_play.proofs.SameFor.{done_by-more, done_by-none, none_counted}
 
 module _ {N H C S Part : Type 0} {h : Ghosts H Part} (names : NameGhosts N H C S Part) (cache : C) where
   -- there is a worker
-  pub some_workers : (t : Trace) (zones : List (CountedZone H Part h)) (clock : Clock H Part) (workers : List (Running N H C S Part h)) → Suits names cache t zones clock workers → 0 < length workers
+  pub some_workers : (t : Trace) (zones : List (CountedZone H Part h)) (clock : Clock H Part) (workers : List (WorkerRun N H C S Part h)) → FitsTrace names cache t zones clock workers → 0 < length workers
   some_workers t zones clock workers suits = some_of suits.worker_count suits.valid.head.workers.0
 
-  pub suits_still : (t : Trace) (zones : List (CountedZone H Part h)) (clock : Clock H Part) (old new : List (Running N H C S Part h)) → length new ≡ length old → Suits names cache t zones clock old → Suits names cache t zones clock new
+  pub suits_still : (t : Trace) (zones : List (CountedZone H Part h)) (clock : Clock H Part) (old new : List (WorkerRun N H C S Part h)) → length new ≡ length old → FitsTrace names cache t zones clock old → FitsTrace names cache t zones clock new
   suits_still t zones clock old new size suits = record {
     valid = suits.valid;
     served = suits.served;
@@ -62,7 +62,7 @@ all_of_round : (workers zones : ℕ) (h : Head) (r : Round) → workers ≡ h.wo
 all_of_round workers zones h r same all fits i d below = among workers zones h (get_or r.between i d) same all (fits.between i d below)
 
 module _ {N H C S Part : Type 0} {h : Ghosts H Part} (names : NameGhosts N H C S Part) (cache : C) where
-  pub all_among : (t : Trace) (zones : List (CountedZone H Part h)) (clock : Clock H Part) (k : ℕ) (workers : List (Running N H C S Part h)) → Suits names cache t zones clock workers
+  pub all_among : (t : Trace) (zones : List (CountedZone H Part h)) (clock : Clock H Part) (k : ℕ) (workers : List (WorkerRun N H C S Part h)) → FitsTrace names cache t zones clock workers
       → All (IsAmong (length workers) (length zones)) (betweens_of t.rounds k)
   all_among t zones clock k workers suits =
       let P : List Between → Type 0 = λ list. All (IsAmong (length workers) (length zones)) list in
@@ -91,13 +91,13 @@ same_numbers-moves n (b ∷ betweens) lines =
     }
 
 module _ {N H C S Part : Type 0} {h : Ghosts H Part} (names : NameGhosts N H C S Part) (cache : C) where
-  named_moved : (betweens : List Between) (lines : List Line) (old new : List (Running N H C S Part h)) → KeepsRest old new → AllNamed names cache lines old → AllNamed names cache (stacked (map Moves betweens) lines) new
+  named_moved : (betweens : List Between) (lines : List Line) (old new : List (WorkerRun N H C S Part h)) → KeepsRest old new → AllNamed names cache lines old → AllNamed names cache (stacked (map Moves betweens) lines) new
   named_moved betweens lines old new keeps named n r at =
-      let b = before (λ (x : Running N H C S Part h). with_slots x []) old new n r keeps at in
+      let b = before (λ (x : WorkerRun N H C S Part h). with_slots x []) old new n r keeps at in
       let P : ℕ → Type 0 = λ late. NamesStand names cache n (stacked (map Moves betweens) lines) late r.naming in
-      let Q : Naming N H C S Part → Type 0 = λ naming. NamesStand names cache n (stacked (map Moves betweens) lines) (worker_in b.was).late naming in
+      let Q : NameWork N H C S Part → Type 0 = λ naming. NamesStand names cache n (stacked (map Moves betweens) lines) (worker_in b.was).late naming in
       subst P (sym (ap (λ (w : Worker H Part h). w.late) (same_bare r b.was b.same)))
-      (subst Q (sym (ap (λ (x : Running N H C S Part h). x.naming) b.same))
+      (subst Q (sym (ap (λ (x : WorkerRun N H C S Part h). x.naming) b.same))
       (named_as names cache n (stacked (map Moves betweens) lines) lines (worker_in b.was).late b.was.naming (same_numbers-moves n betweens lines) (named n b.was b.at)))
 
 is_away-moves : (n : ℕ) (betweens : List Between) (lines : List Line) → is_away (stacked (map Moves betweens) lines) n ≡ is_away lines n
@@ -106,34 +106,34 @@ is_away-moves n [] lines = refl
 is_away-moves n (b ∷ betweens) lines = is_away-moves n betweens (Moves b ∷ lines)
 
 module _ {N H C S Part : Type 0} {h : Ghosts H Part} where
-  absent_moved : (betweens : List Between) (lines : List Line) (old new : List (Running N H C S Part h)) → KeepsRest old new → AllAbsent lines old → AllAbsent (stacked (map Moves betweens) lines) new
+  absent_moved : (betweens : List Between) (lines : List Line) (old new : List (WorkerRun N H C S Part h)) → KeepsRest old new → AllAbsent lines old → AllAbsent (stacked (map Moves betweens) lines) new
   absent_moved betweens lines old new keeps absent n r at =
-      let b = before (λ (x : Running N H C S Part h). with_slots x []) old new n r keeps at in
+      let b = before (λ (x : WorkerRun N H C S Part h). with_slots x []) old new n r keeps at in
       same_out r b.was b.same ∙ (absent n b.was b.at ∙ sym (is_away-moves n betweens lines))
 
-  asked_moved : (betweens : List Between) (lines : List Line) (old new : List (Running N H C S Part h)) → KeepsRest old new → AllAsked lines old → AllAsked (stacked (map Moves betweens) lines) new
+  asked_moved : (betweens : List Between) (lines : List Line) (old new : List (WorkerRun N H C S Part h)) → KeepsRest old new → AllAsked lines old → AllAsked (stacked (map Moves betweens) lines) new
   asked_moved betweens lines old new keeps asked n r at =
-      let b = before (λ (x : Running N H C S Part h). with_slots x []) old new n r keeps at in
+      let b = before (λ (x : WorkerRun N H C S Part h). with_slots x []) old new n r keeps at in
       let was = asked n b.was b.at in
       let done = done_by-moves n betweens lines in
       record {
-        asked_some = done_as done (ap (λ (x : Running N H C S Part h). x.asked) b.same) was.asked_some;
-        asked_few = asked_as (ap (λ (x : Running N H C S Part h). x.asked) b.same) done was.asked_few;
-        gave_up_few = done_as (ap (λ (x : Running N H C S Part h). x.gave_up) b.same) done was.gave_up_few;
+        asked_some = done_as done (ap (λ (x : WorkerRun N H C S Part h). x.asked) b.same) was.asked_some;
+        asked_few = asked_as (ap (λ (x : WorkerRun N H C S Part h). x.asked) b.same) done was.asked_few;
+        gave_up_few = done_as (ap (λ (x : WorkerRun N H C S Part h). x.gave_up) b.same) done was.gave_up_few;
       }
 
-  gave_up_kept : (old new : List (Running N H C S Part h)) → length new ≡ length old → KeepsRest old new → GaveUpAsBefore old new
-  gave_up_kept old new size keeps = map-same (λ (x : Running N H C S Part h). x.gave_up) old new size (λ n was is at now.
-      let b = before (λ (x : Running N H C S Part h). with_slots x []) old new n is keeps now in
-      ap (λ (x : Running N H C S Part h). x.gave_up) b.same ∙ ap (λ (x : Running N H C S Part h). x.gave_up) (same_Some b.was was (sym b.at ∙ at)))
+  gave_up_kept : (old new : List (WorkerRun N H C S Part h)) → length new ≡ length old → KeepsRest old new → GaveUpAsBefore old new
+  gave_up_kept old new size keeps = map-same (λ (x : WorkerRun N H C S Part h). x.gave_up) old new size (λ n was is at now.
+      let b = before (λ (x : WorkerRun N H C S Part h). with_slots x []) old new n is keeps now in
+      ap (λ (x : WorkerRun N H C S Part h). x.gave_up) b.same ∙ ap (λ (x : WorkerRun N H C S Part h). x.gave_up) (same_Some b.was was (sym b.at ∙ at)))
 
-  pub still_free : (old mid new : List (Running N H C S Part h)) → length new ≡ length mid → KeepsRest mid new → GaveUpAsBefore old mid → GaveUpAsBefore old new
+  pub still_free : (old mid new : List (WorkerRun N H C S Part h)) → length new ≡ length mid → KeepsRest mid new → GaveUpAsBefore old mid → GaveUpAsBefore old new
   still_free old mid new size keeps same = gave_up_kept mid new size keeps ∙ same
 
 module _ {N H C S Part : Type 0} {h : Ghosts H Part} (names : NameGhosts N H C S Part) (cache : C) where
   -- ---- a whole round
 
-  pub after_round : (t : Trace) (zones : List (CountedZone H Part h)) (clock : Clock H Part) (k : ℕ) (old mid new : List (Running N H C S Part h)) → Suits names cache t zones clock old → AreAfter names cache zones clock (lines_before t.rounds k) old
+  pub after_round : (t : Trace) (zones : List (CountedZone H Part h)) (clock : Clock H Part) (k : ℕ) (old mid new : List (WorkerRun N H C S Part h)) → FitsTrace names cache t zones clock old → AreAfter names cache zones clock (lines_before t.rounds k) old
       → length mid ≡ length old → All HasEnded mid → AllWorked names cache t zones clock k old mid → KeepsRest mid new → AllMoved (betweens_of t.rounds k) mid new
       → AreAfter names cache zones clock (lines_before t.rounds (k + 1)) new
   after_round t zones clock k old mid new suits after size ended worked keeps moved =
@@ -150,7 +150,7 @@ module _ {N H C S Part : Type 0} {h : Ghosts H Part} (names : NameGhosts N H C S
 
   -- ---- the first round and the last
 
-  pub begun : (t : Trace) (zones : List (CountedZone H Part h)) (clock : Clock H Part) (workers : List (Running N H C S Part h)) → IsBegun names cache zones clock workers → AreAfter names cache zones clock (lines_before t.rounds 0) workers
+  pub begun : (t : Trace) (zones : List (CountedZone H Part h)) (clock : Clock H Part) (workers : List (WorkerRun N H C S Part h)) → IsBegun names cache zones clock workers → AreAfter names cache zones clock (lines_before t.rounds 0) workers
   begun t zones clock workers ready =
       let P : List Line → Type 0 = λ lines. AreAfter names cache zones clock lines workers in
       subst P (sym (none_before t.rounds)) record {
@@ -165,7 +165,7 @@ module _ {N H C S Part : Type 0} {h : Ghosts H Part} (names : NameGhosts N H C S
         };
       }
 
-  pub ended : (t : Trace) (zones : List (CountedZone H Part h)) (clock : Clock H Part) (k : ℕ) (workers : List (Running N H C S Part h)) → length t.rounds ≤ k → AreAfter names cache zones clock (lines_before t.rounds k) workers
+  pub ended : (t : Trace) (zones : List (CountedZone H Part h)) (clock : Clock H Part) (k : ℕ) (workers : List (WorkerRun N H C S Part h)) → length t.rounds ≤ k → AreAfter names cache zones clock (lines_before t.rounds k) workers
       → AreAfter names cache zones clock (reverse (lines_of t.rounds)) workers
   ended t zones clock k workers past after =
       let P : List Line → Type 0 = λ lines. AreAfter names cache zones clock lines workers in

@@ -3,7 +3,7 @@ use Rattle.std.specs.Prelude.{◌≡◌, ◌<◌, ℕ, List, [], ◌∷◌, OnOk
 use Rattle.smr_clock.specs.declared.host.Host.{Ghosts}
 use Rattle.trace_text.specs.declared.round.Round.{Round}
 use Rattle.trace_worker.specs.declared.gate.Gate.{Ghosts as GateGhosts}
-use Rattle.trace_worker.specs.declared.running.Running.{Running}
+use Rattle.trace_worker.specs.declared.worker_run.WorkerRun.{WorkerRun}
 use Rattle.trace_worker.specs.Asking.{AsksGate, HearsEach, Heard}
 use Rattle.trace_worker.specs.OwnLines.{own_ops}
 use Rattle.trace_play.specs.Plays.{ops_in}
@@ -29,20 +29,20 @@ module _ {G V : Type 0} (gates : GateGhosts G V) (gate : G) where
   AsksRounds n was (r ∷ rounds) is = (next : GateCounts) × AsksIn n (length (ops_in r n)) was next × AsksRounds n next rounds is
 
 module _ {N H C S P : Type 0} {h : Ghosts H P} where
-  abbrev pub gate_counts : Running N H C S P h → GateCounts
+  abbrev pub gate_counts : WorkerRun N H C S P h → GateCounts
   gate_counts r = record { asked = r.asked; gave_up = r.gave_up }
 
   module _ {G V : Type 0} (gates : GateGhosts G V) (gate : G) where
     -- each worker that didn't want memory asked for its own list of round `k`
-    abbrev pub EachAsks : List Round → ℕ → List (Running N H C S P h) → List (Running N H C S P h) → Type 0
-    EachAsks rounds k old new = (n : ℕ) (d : Running N H C S P h) → n < length old
+    abbrev pub EachAsks : List Round → ℕ → List (WorkerRun N H C S P h) → List (WorkerRun N H C S P h) → Type 0
+    EachAsks rounds k old new = (n : ℕ) (d : WorkerRun N H C S P h) → n < length old
         → OnOk (slice_index_or new n d).ended (AsksGate gates gate n (length (own_ops rounds k n)) (slice_index_or old n d) (slice_index_or new n d))
 
     -- each worker asked for its round `k`
-    abbrev pub AllAskRound : List Round → ℕ → List (Running N H C S P h) → List (Running N H C S P h) → Type 0
-    AllAskRound rounds k old new = (n : ℕ) (was is : Running N H C S P h) → slice_get old n ≡ Some was → slice_get new n ≡ Some is
+    abbrev pub AllAskRound : List Round → ℕ → List (WorkerRun N H C S P h) → List (WorkerRun N H C S P h) → Type 0
+    AllAskRound rounds k old new = (n : ℕ) (was is : WorkerRun N H C S P h) → slice_get old n ≡ Some was → slice_get new n ≡ Some is
         → AsksIn gates gate n (length (own_ops rounds k n)) (gate_counts was) (gate_counts is)
 
     -- each worker asked for these rounds
-    abbrev pub AllAsk : List Round → List (Running N H C S P h) → List (Running N H C S P h) → Type 0
-    AllAsk rounds old new = (n : ℕ) (was is : Running N H C S P h) → slice_get old n ≡ Some was → slice_get new n ≡ Some is → AsksRounds gates gate n (gate_counts was) rounds (gate_counts is)
+    abbrev pub AllAsk : List Round → List (WorkerRun N H C S P h) → List (WorkerRun N H C S P h) → Type 0
+    AllAsk rounds old new = (n : ℕ) (was is : WorkerRun N H C S P h) → slice_get old n ≡ Some was → slice_get new n ≡ Some is → AsksRounds gates gate n (gate_counts was) rounds (gate_counts is)

@@ -11,7 +11,7 @@ use Rattle.trace_worker.specs.declared.worker.Worker.{Worker}
 use Rattle.trace_worker.specs.Clocks.{ArePasses}
 use Rattle.trace_worker.specs.Items.{CountedSeat, CountedZone}
 use Rattle.trace_worker.specs.Stands.{Stands}
-use Rattle.trace_worker.specs.Worker.{Fits}
+use Rattle.trace_worker.specs.Worker.{FitsZones}
 
 module _ {H P : Type 0} {h : Ghosts H P} where
   -- so few passes of this clock, and zones with so many domains
@@ -29,7 +29,7 @@ module _ {H P : Type 0} {h : Ghosts H P} where
 
   -- A worker of the zones and the clock with its seats in this domain. It stands for no line.
   pub record IsBeginner (zones : List (CountedZone H P h)) (clock : Clock H P) (domain : ℕ) (w : Worker H P h) : Type 0 where
-    pub fits : Fits zones clock w
+    pub fits : FitsZones zones clock w
     pub stands : (n : ℕ) → Stands zones clock n [] w
     pub empty : w.slots ≡ []
     pub seats : (z : ℕ) (seat : CountedSeat H P h) → slice_get w.seats.items z ≡ Some seat → IsUnused domain seat

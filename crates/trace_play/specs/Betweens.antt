@@ -5,7 +5,7 @@ use Rattle.trace_text.specs.declared.between.Between.{Between}
 use Rattle.trace_text.specs.declared.between.Between.TheVariants.{Give, SetMax}
 use Rattle.trace_text.specs.declared.round.Round.{Round}
 use Rattle.trace_worker.specs.declared.name_calls.NameCalls.{Ghosts as NameGhosts}
-use Rattle.trace_worker.specs.declared.running.Running.{Running}
+use Rattle.trace_worker.specs.declared.worker_run.WorkerRun.{WorkerRun}
 use Rattle.trace_worker.specs.Giving.{Gives}
 use Rattle.trace_worker.specs.Items.{CountedZone}
 use Rattle.trace_worker.specs.NameLines.{DoesAll, doing}
@@ -22,28 +22,28 @@ module _ {H P : Type 0} {h : Ghosts H P} where
 
 module _ {N H C S P : Type 0} {h : Ghosts H P} where
   -- What one line does: a `give` line moves what a slot holds, and a `setmax` line sets the limit of its zone, and leaves the workers.
-  abbrev pub DoesBetween : List (CountedZone H P h) → Between → List (Running N H C S P h) → List (Running N H C S P h) → Type 0
+  abbrev pub DoesBetween : List (CountedZone H P h) → Between → List (WorkerRun N H C S P h) → List (WorkerRun N H C S P h) → Type 0
   DoesBetween zones (Give giver slot taker slot2) old new = Gives giver slot taker slot2 old new
   DoesBetween zones (SetMax zone limit) old new = SetsLimitAt zones zone limit × (new ≡ old)
 
   -- Each of these lines, one after another. A `give` line changes slots alone and a `setmax` line a keg's limit alone, so a limit that is set before the `give` lines ahead of it means the same to every state that is seen.
-  unfoldable pub DoBetweens : List (CountedZone H P h) → List Between → List (Running N H C S P h) → List (Running N H C S P h) → Type 0
+  unfoldable pub DoBetweens : List (CountedZone H P h) → List Between → List (WorkerRun N H C S P h) → List (WorkerRun N H C S P h) → Type 0
   DoBetweens zones [] old new = new ≡ old
-  DoBetweens zones (between ∷ betweens) old new = (next : List (Running N H C S P h)) × DoesBetween zones between old next × DoBetweens zones betweens next new
+  DoBetweens zones (between ∷ betweens) old new = (next : List (WorkerRun N H C S P h)) × DoesBetween zones between old next × DoBetweens zones betweens next new
 
 module _ {N H C S P : Type 0} {h : Ghosts H P} (names : NameGhosts N H C S P) (cache : C) where
   -- One round: each worker did its own list of it, and then the lines behind it were done.
-  pub record DoRound (zones : List (CountedZone H P h)) (r : Round) (old new : List (Running N H C S P h)) : Type 0 where
-    pub worked : List (Running N H C S P h)
+  pub record DoRound (zones : List (CountedZone H P h)) (r : Round) (old new : List (WorkerRun N H C S P h)) : Type 0 where
+    pub worked : List (WorkerRun N H C S P h)
     pub count : length worked ≡ length old
-    pub each : (n : ℕ) (was is : Running N H C S P h) → slice_get old n ≡ Some was → slice_get worked n ≡ Some is → DoesAll names cache zones (doing was) (ops_in r n) (doing is)
+    pub each : (n : ℕ) (was is : WorkerRun N H C S P h) → slice_get old n ≡ Some was → slice_get worked n ≡ Some is → DoesAll names cache zones (doing was) (ops_in r n) (doing is)
     pub behind : DoBetweens zones r.between worked new
 
   -- round `k`
-  abbrev pub DoRoundAt : List (CountedZone H P h) → List Round → ℕ → List (Running N H C S P h) → List (Running N H C S P h) → Type 0
+  abbrev pub DoRoundAt : List (CountedZone H P h) → List Round → ℕ → List (WorkerRun N H C S P h) → List (WorkerRun N H C S P h) → Type 0
   DoRoundAt zones rounds k old new = (r : Round) → slice_get rounds k ≡ Some r → DoRound zones r old new
 
   -- all rounds, one after another
-  unfoldable pub DoRounds : List (CountedZone H P h) → List Round → List (Running N H C S P h) → List (Running N H C S P h) → Type 0
+  unfoldable pub DoRounds : List (CountedZone H P h) → List Round → List (WorkerRun N H C S P h) → List (WorkerRun N H C S P h) → Type 0
   DoRounds zones [] old new = new ≡ old
-  DoRounds zones (r ∷ rounds) old new = (next : List (Running N H C S P h)) × DoRound zones r old next × DoRounds zones rounds next new
+  DoRounds zones (r ∷ rounds) old new = (next : List (WorkerRun N H C S P h)) × DoRound zones r old next × DoRounds zones rounds next new

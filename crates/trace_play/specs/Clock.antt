@@ -3,7 +3,7 @@ use Rattle.std.specs.Prelude.{◌≡◌, ◌≤◌, ◌<◌, ◌+◌, ◌%◌, �
 use Rattle.smr_clock.specs.declared.clock.Clock.{Clock}
 use Rattle.smr_clock.specs.declared.note.Note.{Note}
 use Rattle.smr_clock.specs.declared.host.Host.{Ghosts}
-use Rattle.smr_clock.specs.Belongs.{IsOf, holder, setup_of}
+use Rattle.smr_clock.specs.Belongs.{IsPassOf, holder, setup_of}
 use Rattle.smr_clock.specs.Notes.{IsNoteOf, note_holder}
 use Rattle.trace_worker.specs.declared.worker.Worker.{Worker}
 use Rattle.trace_worker.specs.Clocks.{KnowsBeginning}
@@ -16,7 +16,7 @@ module _ {H P : Type 0} {h : Ghosts H P} where
 
   -- each worker's pass is of this clock
   abbrev pub AreHere : Clock H P → List (Worker H P h) → Type 0
-  AreHere clock workers = (n : ℕ) (w : Worker H P h) → slice_get workers n ≡ Some w → IsOf clock w.pass
+  AreHere clock workers = (n : ℕ) (w : Worker H P h) → slice_get workers n ≡ Some w → IsPassOf clock w.pass
 
   -- There is a worker, each one's pass is of this clock, and the note knows where its hands began.
   pub record CanGather (clock : Clock H P) (workers : List (Worker H P h)) (note : Note H P h) : Type 0 where
@@ -33,14 +33,14 @@ module _ {H P : Type 0} {h : Ghosts H P} where
   pub record CanLookAt (by : Clock H P) (workers : List (Worker H P h)) (gap : ℕ) : Type 0 where
     pub at : 0 < length workers
     pub here : AreHere by workers
-    pub window : gap ≡ (setup_of by).about.window
+    pub window : gap ≡ (setup_of by).config.window
 
   -- the same, and a note of the clock's beginning
   pub record CanReadHands (by : Clock H P) (workers : List (Worker H P h)) (note : Note H P h) (gap : ℕ) : Type 0 where
     pub some : 0 < length workers
     pub here : AreHere by workers
     pub begun : KnowsBeginning by note
-    pub window : gap ≡ (setup_of by).about.window
+    pub window : gap ≡ (setup_of by).config.window
 
   -- Worker 0's pass took in what each other worker's knew, and then loaded both hands: `write` is the write hand, `read` its floor.
   pub record ReadsHands (clock : Clock H P) (workers : List (Worker H P h)) (read write : ℕ) : Type 0 where
@@ -49,9 +49,9 @@ module _ {H P : Type 0} {h : Ghosts H P} where
     pub greatest_floor : (n : ℕ) (w : Worker H P h) → slice_get workers n ≡ Some w → floor_of w ≤ read
     pub read_odd : read % 2 ≡ 1
     pub write_odd : write % 2 ≡ 1
-    pub start : (setup_of clock).about.start ≤ read
+    pub start : (setup_of clock).config.start ≤ read
     pub in_order : read ≤ write
-    pub within : write ≤ read + (setup_of clock).about.window
+    pub within : write ≤ read + (setup_of clock).config.window
 
   -- A worker learned of the hands: its pass is still of the clock and stands where it stood with its section, and forgot nothing; all else of the worker stays.
   pub record Learns (clock : Clock H P) (old new : Worker H P h) : Type 0 where
@@ -59,7 +59,7 @@ module _ {H P : Type 0} {h : Ghosts H P} where
     pub slots : new.slots ≡ old.slots
     pub entered : new.entered ≡ old.entered
     pub late : new.late ≡ old.late
-    pub here : IsOf clock new.pass
+    pub here : IsPassOf clock new.pass
     pub phase : phase_of new ≡ phase_of old
     pub seen : seen_of old ≤ seen_of new
     pub floor : floor_of old ≤ floor_of new
@@ -92,7 +92,7 @@ module _ {H P : Type 0} {h : Ghosts H P} where
     pub learn : AllLearn clock old new
     pub seen : (n : ℕ) (first w : Worker H P h) → n < upto → slice_get new 0 ≡ Some first → slice_get new n ≡ Some w → seen_of w ≤ seen_of first
     pub floor : (n : ℕ) (first w : Worker H P h) → n < upto → slice_get new 0 ≡ Some first → slice_get new n ≡ Some w → floor_of w ≤ floor_of first
-    pub start : (first : Worker H P h) → slice_get new 0 ≡ Some first → (setup_of clock).about.start ≤ floor_of first
+    pub start : (first : Worker H P h) → slice_get new 0 ≡ Some first → (setup_of clock).config.start ≤ floor_of first
 
   -- worker `n` made this note
   pub record NotesAt (clock : Clock H P) (n : ℕ) (old : List (Worker H P h)) (note : Note H P h) (new : List (Worker H P h)) : Type 0 where
@@ -121,7 +121,7 @@ module _ {H P : Type 0} {h : Ghosts H P} where
     pub read_odd : read % 2 ≡ 1
     pub write_odd : write % 2 ≡ 1
     pub in_order : read ≤ write
-    pub within : write ≤ read + (setup_of clock).about.window
+    pub within : write ≤ read + (setup_of clock).config.window
 
   -- worker 0's did
   pub record LooksAt (clock : Clock H P) (old : List (Worker H P h)) (read write : ℕ) (new : List (Worker H P h)) : Type 0 where

@@ -20,7 +20,7 @@ use Rattle.trace_worker.specs.declared.counted.Counted.{Counted}
 use Rattle.trace_worker.specs.Items.{counted_life, CountedZone, LiveItem}
 use Rattle.trace_worker.specs.Live.{lives_of}
 use Rattle.trace_worker.specs.Together.{all_live}
-use Rattle.trace_worker.specs.Worker.{Fits}
+use Rattle.trace_worker.specs.Worker.{FitsZones}
 use Rattle.trace_play.specs.Kegs.{keg_place}
 
 -- how often a live item passed a hook
@@ -77,7 +77,7 @@ module _ {H P : Type 0} {h : Ghosts H P} where
 
   -- the workers' seats, passes and items belong to these zones and this clock
   abbrev pub AllFit : List (CountedZone H P h) → Clock H P → List (Worker H P h) → Type 0
-  AllFit zones clock workers = (n : ℕ) (w : Worker H P h) → slice_get workers n ≡ Some w → Fits zones clock w
+  AllFit zones clock workers = (n : ℕ) (w : Worker H P h) → slice_get workers n ≡ Some w → FitsZones zones clock w
 
   -- there are at most 16 workers, and each has at most 65,536 slots
   pub record AreFew (workers : List (Worker H P h)) : Type 0 where

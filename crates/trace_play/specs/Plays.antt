@@ -5,7 +5,7 @@ use Rattle.smr_clock.specs.declared.host.Host.{Ghosts}
 use Rattle.trace_text.specs.declared.op.Op.{Op}
 use Rattle.trace_text.specs.declared.round.Round.{Round}
 use Rattle.trace_worker.specs.declared.name_calls.NameCalls.{Ghosts as NameGhosts}
-use Rattle.trace_worker.specs.declared.running.Running.{Running}
+use Rattle.trace_worker.specs.declared.worker_run.WorkerRun.{WorkerRun}
 use Rattle.trace_worker.specs.Items.{CountedZone}
 use Rattle.trace_worker.specs.NameLines.{Doing, DoesAll, doing}
 use Rattle.trace_worker.specs.OwnLines.{own_ops}
@@ -35,10 +35,10 @@ module _ {N H C S P : Type 0} {h : Ghosts H P} (names : NameGhosts N H C S P) (c
   PlaysRounds zones n old (r ∷ rounds) new = (next : Doing N H C S P h) × PlaysRound names cache zones (ops_in r n) old next × PlaysRounds zones n next rounds new
 
   -- each worker did its round `k`
-  abbrev pub AllPlayRound : List (CountedZone H P h) → List Round → ℕ → List (Running N H C S P h) → List (Running N H C S P h) → Type 0
-  AllPlayRound zones rounds k old new = (n : ℕ) (was is : Running N H C S P h) → slice_get old n ≡ Some was → slice_get new n ≡ Some is
+  abbrev pub AllPlayRound : List (CountedZone H P h) → List Round → ℕ → List (WorkerRun N H C S P h) → List (WorkerRun N H C S P h) → Type 0
+  AllPlayRound zones rounds k old new = (n : ℕ) (was is : WorkerRun N H C S P h) → slice_get old n ≡ Some was → slice_get new n ≡ Some is
       → PlaysRound names cache zones (own_ops rounds k n) (doing was) (doing is)
 
   -- each worker did these rounds
-  abbrev pub AllPlay : List (CountedZone H P h) → List Round → List (Running N H C S P h) → List (Running N H C S P h) → Type 0
-  AllPlay zones rounds old new = (n : ℕ) (was is : Running N H C S P h) → slice_get old n ≡ Some was → slice_get new n ≡ Some is → PlaysRounds zones n (doing was) rounds (doing is)
+  abbrev pub AllPlay : List (CountedZone H P h) → List Round → List (WorkerRun N H C S P h) → List (WorkerRun N H C S P h) → Type 0
+  AllPlay zones rounds old new = (n : ℕ) (was is : WorkerRun N H C S P h) → slice_get old n ≡ Some was → slice_get new n ≡ Some is → PlaysRounds zones n (doing was) rounds (doing is)

@@ -6,7 +6,7 @@ use Rattle.trace_text.specs.declared.trace.Trace.{Trace}
 use Rattle.trace_text.specs.Lines.{lines_of}
 use Rattle.trace_worker.specs.declared.gate.Gate.{Ghosts as GateGhosts}
 use Rattle.trace_worker.specs.declared.name_calls.NameCalls.{Ghosts as NameGhosts}
-use Rattle.trace_worker.specs.declared.running.Running.{Running}
+use Rattle.trace_worker.specs.declared.worker_run.WorkerRun.{WorkerRun}
 use Rattle.trace_worker.specs.Items.{CountedZone}
 use Rattle.trace_worker.specs.OwnLines.{lines_before}
 use Rattle.trace_worker.specs.Together.{AddsUp, AllNamed, AllStand, crew}
@@ -17,7 +17,7 @@ use Rattle.trace_play.specs.Rounds.{AllAsked, AreAfter}
 
 module _ {N H C S P : Type 0} {h : Ghosts H P} (names : NameGhosts N H C S P) (cache : C) {G V : Type 0} (gates : GateGhosts G V) (gate : G) where
   -- Round `k`, and the lines behind it.
-  pub record IsRoundPlayed (t : Trace) (zones : List (CountedZone H P h)) (clock : Clock H P) (k : ℕ) (old new : List (Running N H C S P h)) : Type 0 where
+  pub record IsRoundPlayed (t : Trace) (zones : List (CountedZone H P h)) (clock : Clock H P) (k : ℕ) (old new : List (WorkerRun N H C S P h)) : Type 0 where
     -- the workers stand for the lines up to its end
     pub after : AreAfter names cache zones clock (lines_before t.rounds (k + 1)) new
     -- each worker did its own list of it, and all did it together
@@ -26,7 +26,7 @@ module _ {N H C S P : Type 0} {h : Ghosts H P} (names : NameGhosts N H C S P) (c
     pub asks : AllAskRound gates gate t.rounds k old new
 
   -- All rounds.
-  pub record IsPlayed (t : Trace) (zones : List (CountedZone H P h)) (clock : Clock H P) (old new : List (Running N H C S P h)) : Type 0 where
+  pub record IsPlayed (t : Trace) (zones : List (CountedZone H P h)) (clock : Clock H P) (old new : List (WorkerRun N H C S P h)) : Type 0 where
     -- the workers stand for all lines, and so does what they have of the names
     pub stands : AllStand zones clock (reverse (lines_of t.rounds)) (crew new)
     pub named : AllNamed names cache (reverse (lines_of t.rounds)) new

@@ -9,7 +9,7 @@ use smr_clock::Host;
 use std::alloc::Global;
 use std::sync::Wait;
 use trace_text::Between;
-use trace_worker::{CountedZone, Memory, NameCalls, Running, move_slot};
+use trace_worker::{CountedZone, Memory, NameCalls, WorkerRun, move_slot};
 
 /// Does the lines between two rounds, in order. Waits where a `setmax` line does. After `Memory` the replay is over.
 pub(crate) fn do_betweens<N: NameCalls, R: Wait>(
@@ -17,7 +17,7 @@ pub(crate) fn do_betweens<N: NameCalls, R: Wait>(
     alloc: Global,
     zones: &[CountedZone<N::H>],
     betweens: &[Between],
-    workers: &mut [Running<N>],
+    workers: &mut [WorkerRun<N>],
 ) -> Result<(), Memory>
     requires { All (IsAmong (length workers.old) (length zones.now)) betweens.now }
     ensures rest { OnOk result (KeepsRest workers.old workers.new) }
@@ -37,7 +37,7 @@ fn do_between<N: NameCalls, R: Wait>(
     alloc: Global,
     zones: &[CountedZone<N::H>],
     between: Between,
-    workers: &mut [Running<N>],
+    workers: &mut [WorkerRun<N>],
 ) -> Result<(), Memory>
     requires { IsAmong (length workers.old) (length zones.now) between }
     ensures rest { OnOk result (KeepsRest workers.old workers.new) }

@@ -1,5 +1,5 @@
 ghost use Rattle.std.specs.Prelude.{◌≡◌, ◌<◌, length};
-ghost use Rattle.smr_clock.specs.Belongs.{IsOf, setup_of};
+ghost use Rattle.smr_clock.specs.Belongs.{IsPassOf, setup_of};
 ghost use Rattle.smr_clock.specs.Notes.{IsNoteOf};
 ghost use Rattle.trace_play.specs.Clock.{AllLearn, AreHere, CanGather, CanLookAt, CanReadHands, Gathers, HasWorker, Knows, Learns, Looks, LooksAt, NotesAt, PassesOn, ReadsHands, TakesAt, Tells};
 
@@ -20,7 +20,7 @@ pub fn read_hands<H: Host>(
     ensures learn { AllLearn clock.now workers.old workers.new }
 {
     gather(clock, workers, begun);
-    look_at(clock, workers, window)
+    hands_by_first(clock, workers, window)
 }
 
 /// Worker 0's pass takes in the note, and what each other worker's knows.
@@ -62,16 +62,16 @@ fn take_at<H: Host>(clock: &Clock<H>, workers: &mut [Worker<H>], number: usize, 
 }
 
 /// The hands, by worker 0's pass.
-fn look_at<H: Host>(clock: &Clock<H>, workers: &mut [Worker<H>], window: u64) -> (u64, u64)
+fn hands_by_first<H: Host>(clock: &Clock<H>, workers: &mut [Worker<H>], window: u64) -> (u64, u64)
     requires { CanLookAt clock.now workers.old window }
     ensures { LooksAt clock.now workers.old result.0 result.1 workers.new }
 {
-    look(clock, &mut workers[0], window)
+    hands_by(clock, &mut workers[0], window)
 }
 
 /// A note of what the worker's pass knows, the write hand as it is now included.
 fn note_of<H: Host>(clock: &Clock<H>, worker: &mut Worker<H>) -> Note<H>
-    requires { IsOf clock.now worker.old.pass }
+    requires { IsPassOf clock.now worker.old.pass }
     ensures learns { Learns clock.now worker.old worker.new }
     ensures tells { Tells clock.now result worker.new }
 {
@@ -80,7 +80,7 @@ fn note_of<H: Host>(clock: &Clock<H>, worker: &mut Worker<H>) -> Note<H>
 
 /// The worker's pass takes the note in.
 fn take_in<H: Host>(clock: &Clock<H>, worker: &mut Worker<H>, note: Note<H>)
-    requires here { IsOf clock.now worker.old.pass }
+    requires here { IsPassOf clock.now worker.old.pass }
     requires note_here { IsNoteOf clock.now note }
     ensures learns { Learns clock.now worker.old worker.new }
     ensures knows { Knows note worker.new }
@@ -89,9 +89,9 @@ fn take_in<H: Host>(clock: &Clock<H>, worker: &mut Worker<H>, note: Note<H>)
 }
 
 /// The read hand, or where it stands at least by the write hand, and the write hand.
-fn look<H: Host>(clock: &Clock<H>, worker: &mut Worker<H>, window: u64) -> (u64, u64)
-    requires here { IsOf clock.now worker.old.pass }
-    requires window { window ≡ (setup_of clock.now).about.window }
+fn hands_by<H: Host>(clock: &Clock<H>, worker: &mut Worker<H>, window: u64) -> (u64, u64)
+    requires here { IsPassOf clock.now worker.old.pass }
+    requires window { window ≡ (setup_of clock.now).config.window }
     ensures { Looks clock.now worker.old result.0 result.1 worker.new }
 {
     let (read, write) = clock.hands(&mut worker.pass);

@@ -1,7 +1,7 @@
 ghost use Rattle.std.specs.Prelude.{◌≡◌, ◌<◌, OnOk, length};
 ghost use Rattle.trace_play.specs.RoundsPlayed.{IsPlayed, IsRoundPlayed};
 ghost use Rattle.trace_play.specs.Parts.{betweens_of as betweens_at};
-ghost use Rattle.trace_play.specs.Rounds.{AreAfter, GaveUpAsBefore, IsBegun, Suits};
+ghost use Rattle.trace_play.specs.Rounds.{AreAfter, GaveUpAsBefore, IsBegun, FitsTrace};
 ghost use Rattle.trace_worker.specs.OwnLines.{lines_before};
 
 use crate::betweens::do_betweens;
@@ -11,7 +11,7 @@ use std::alloc::Global;
 use std::sync::Wait;
 use std::thread::Threads;
 use trace_text::{Between, Trace};
-use trace_worker::{CountedZone, Gate, Memory, NameCalls, ReclaimCalls, Running};
+use trace_worker::{CountedZone, Gate, Memory, NameCalls, ReclaimCalls, WorkerRun};
 
 /// All rounds of a trace: in each round every worker does its own list on a thread of its own, and behind it the lines
 /// between this round and the next are done in order: `give` lines, and `setmax` lines, each of which sets the limit of its
@@ -26,9 +26,9 @@ pub fn play<N: NameCalls + Sync, R: Threads + Wait + Sync, G: Gate + Sync, C: Re
     cache: &N::Cache,
     gate: &G,
     reclaim: &C,
-    workers: &mut [Running<N>],
+    workers: &mut [WorkerRun<N>],
 ) -> Result<(), Memory>
-    requires suits { Suits N.NameCalls cache.now trace.now zones.now clock.now workers.old }
+    requires suits { FitsTrace N.NameCalls cache.now trace.now zones.now clock.now workers.old }
     requires begun { IsBegun N.NameCalls cache.now zones.now clock.now workers.old }
     ensures played { OnOk result (IsPlayed N.NameCalls cache.now G.Gate gate.now trace.now zones.now clock.now workers.old workers.new) }
     ensures count { length workers.new ≡ length workers.old }
@@ -59,9 +59,9 @@ fn play_round<
     gate: &G,
     reclaim: &C,
     round: usize,
-    workers: &mut [Running<N>],
+    workers: &mut [WorkerRun<N>],
 ) -> Result<(), Memory>
-    requires suits { Suits N.NameCalls cache.now trace.now zones.now clock.now workers.old }
+    requires suits { FitsTrace N.NameCalls cache.now trace.now zones.now clock.now workers.old }
     requires round { round < length trace.now.rounds }
     requires after { AreAfter N.NameCalls cache.now zones.now clock.now (lines_before trace.now.rounds round) workers.old }
     ensures played { OnOk result (IsRoundPlayed N.NameCalls cache.now G.Gate gate.now trace.now zones.now clock.now round workers.old workers.new) }

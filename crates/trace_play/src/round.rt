@@ -10,7 +10,7 @@ use std::alloc::Global;
 use std::sync::Wait;
 use std::thread::{self, Threads};
 use trace_text::Trace;
-use trace_worker::{CountedZone, Gate, Memory, NameCalls, ReclaimCalls, Running};
+use trace_worker::{CountedZone, Gate, Memory, NameCalls, ReclaimCalls, WorkerRun};
 
 /// A round: each worker does its own list of it, on a thread of its own, and all threads are joined.
 pub(crate) fn work_round<
@@ -29,7 +29,7 @@ pub(crate) fn work_round<
     gate: &G,
     reclaim: &C,
     round: usize,
-    workers: &mut [Running<N>],
+    workers: &mut [WorkerRun<N>],
 )
     requires some { 0 < length workers.old }
     requires ready { AllReady N.NameCalls cache.now trace.now zones.now clock.now round workers.old }
@@ -42,7 +42,7 @@ pub(crate) fn work_round<
         rt,
         workers,
         threads,
-        &|number, running: &mut Running<N>|
+        &|number, running: &mut WorkerRun<N>|
             requires { IsReady N.NameCalls cache.now trace.now zones.now clock.now round number running.old }
             ensures free { G.is_free gate.entry.now → running.new.gave_up ≡ running.old.gave_up }
             ensures worked { OnOk running.new.ended (HasWorked N.NameCalls cache.entry.now trace.entry.now zones.entry.now clock.entry.now round number running.old running.new) }
@@ -56,7 +56,7 @@ pub(crate) fn work_round<
 }
 
 /// Whether each worker's last turn ended without want of memory.
-pub(crate) fn all_ended<N: NameCalls>(workers: &[Running<N>]) -> Result<(), Memory>
+pub(crate) fn all_ended<N: NameCalls>(workers: &[WorkerRun<N>]) -> Result<(), Memory>
     ensures { OnOk result (All HasEnded workers.now) }
 {
     for running in workers {

@@ -1,5 +1,5 @@
 ghost use Rattle.std.specs.Prelude.{◌≡◌, ◌<◌, ◌≤◌, ◌%◌, All, length, IfOk, Some, slice_get};
-ghost use Rattle.smr_clock.specs.Belongs.{IsOf};
+ghost use Rattle.smr_clock.specs.Belongs.{IsPassOf};
 ghost use Rattle.uma_zone.specs.Zone.{zone_domains};
 ghost use Rattle.trace_play.specs.Beginners.{CanMakeWorkers, IsBeginner, AreBeginners};
 ghost use Rattle.trace_worker.specs.Clocks.{IsNewPass, ArePasses};

@@ -21,9 +21,9 @@ use Rattle.trace_text.specs.declared.op.Op.{Op}
 use Rattle.trace_text.specs.declared.op.Op.TheVariants.{Alloc, Free, Enter, Exit, Bind, Unbind, Look, Trim, Drain, DrainSeat, Prealloc, Away, Back}
 use Rattle.trace_text.specs.declared.round.Round.{Round}
 use Rattle.trace_text.specs.declared.trace.Trace.{Trace}
-use Rattle.trace_text.specs.declared.trace_reading.said.Said.{Said}
-use Rattle.trace_text.specs.declared.trace_reading.said.Said.TheVariants as said
-use Rattle.trace_text.specs.declared.trace_reading.said.ZoneWork.TheVariants as works
+use Rattle.trace_text.specs.declared.trace_reading.parsed_line.ParsedLine.{ParsedLine}
+use Rattle.trace_text.specs.declared.trace_reading.parsed_line.ParsedLine.TheVariants as said
+use Rattle.trace_text.specs.declared.trace_reading.parsed_line.ZoneWork.TheVariants as works
 use Rattle.trace_text.specs.declared.trace_reading.stage.Stage.{Stage}
 use Rattle.trace_text.specs.declared.trace_reading.word.HeadWord.TheVariants as heads
 use Rattle.trace_text.specs.declared.trace_reading.word.Word.{Word}
@@ -43,30 +43,30 @@ use Rattle.trace_text.proofs.RowZones.{nowhere}
 
 -- ---- what the rows of a trace say, in the order of the text
 
-abbrev pub clock_saids : Option ClockHead → List Said
+abbrev pub clock_saids : Option ClockHead → List ParsedLine
 clock_saids None = []
 clock_saids (Some c) = said.Clock c ∷ []
 
-abbrev pub detail_saids : Bool → List Said
+abbrev pub detail_saids : Bool → List ParsedLine
 detail_saids false = []
 detail_saids true = said.Detail ∷ []
 
 -- a zone by its parent
-abbrev pub zone_saying : List ZoneHead → Option ℕ → ZoneHead → Said
+abbrev pub zone_saying : List ZoneHead → Option ℕ → ZoneHead → ParsedLine
 zone_saying zones None z = said.Zone z
 zone_saying zones (Some parent) z =
     said.Second (record { name = z.name; of = zone_name zones parent; bucket = z.bucket; limit = z.limit; kind = z.kind })
 
-abbrev pub names_saids : Option NamesHead → List Said
+abbrev pub names_saids : Option NamesHead → List ParsedLine
 names_saids None = []
 names_saids (Some n) = said.Names n ∷ []
 
-abbrev pub head_saids : Head → List Said
+abbrev pub head_saids : Head → List ParsedLine
 head_saids h =
     said.Workers h.workers ∷ said.Domains h.domains
     ∷ (clock_saids h.clock ++ (detail_saids h.detail ++ (map (λ (z : ZoneHead). zone_saying h.zones z.parent z) h.zones ++ names_saids h.names)))
 
-abbrev pub op_saying : List ZoneHead → ℕ → Op → Said
+abbrev pub op_saying : List ZoneHead → ℕ → Op → ParsedLine
 op_saying zones w (Alloc zone slot arg reserve) = said.InZone w (zone_name zones zone) (works.Alloc slot arg reserve)
 op_saying zones w (Free slot) = said.Work w (Free slot)
 op_saying zones w Enter = said.Work w Enter
@@ -81,22 +81,22 @@ op_saying zones w (Drain zone) = said.InZone w (zone_name zones zone) works.Drai
 op_saying zones w (DrainSeat zone) = said.InZone w (zone_name zones zone) works.DrainSeat
 op_saying zones w (Prealloc zone items) = said.InZone w (zone_name zones zone) (works.Prealloc items)
 
-abbrev pub ops_saids : List ZoneHead → ℕ → List (List Op) → List Said
+abbrev pub ops_saids : List ZoneHead → ℕ → List (List Op) → List ParsedLine
 ops_saids zones w [] = []
 ops_saids zones w (ops ∷ lists) = map (op_saying zones w) ops ++ ops_saids zones (w + 1) lists
 
-abbrev pub between_saying : List ZoneHead → Between → Said
+abbrev pub between_saying : List ZoneHead → Between → ParsedLine
 between_saying zones (Give giver slot taker slot2) = said.Give giver slot taker slot2
 between_saying zones (SetMax zone limit) = said.SetMax (zone_name zones zone) limit
 
-abbrev pub rounds_saids : List ZoneHead → List Round → List Said
+abbrev pub rounds_saids : List ZoneHead → List Round → List ParsedLine
 rounds_saids zones [] = []
 rounds_saids zones (r ∷ []) = ops_saids zones 0 r.ops
 rounds_saids zones (r ∷ next ∷ rounds) =
     ops_saids zones 0 r.ops ++ (said.Round ∷ (map (between_saying zones) r.between ++ rounds_saids zones (next ∷ rounds)))
 
 -- behind the first line
-abbrev pub other_saids : Trace → List Said
+abbrev pub other_saids : Trace → List ParsedLine
 other_saids t = head_saids t.head ++ (rounds_saids t.head.zones t.rounds ++ said.End ∷ [])
 
 -- ---- one field
@@ -142,7 +142,7 @@ window_says c fits =
 -- ---- the line by its word
 
 -- a line with a word that may stand there says what the fields behind it do
-by_word : (version : Version) (stage : Stage) (workers : ℕ) (first : List ℕ) (rest : List (List ℕ)) (word : Word) (r : Result Said TraceKind)
+by_word : (version : Version) (stage : Stage) (workers : ℕ) (first : List ℕ) (rest : List (List ℕ)) (word : Word) (r : Result ParsedLine TraceKind)
     → word_named first ≡ Some word → is_known version word ≡ true → may_follow stage word ≡ true → said_by workers word rest ≡ r → says version stage workers (first ∷ rest) ≡ r
 by_word version stage workers first rest word r named has follows is = rw (named, has, follows) is
 

@@ -7,8 +7,8 @@ use Rattle.trace_text.specs.declared.head.Head.{Head}
 use Rattle.trace_text.specs.declared.head.NamesHead.{NamesHead}
 use Rattle.trace_text.specs.declared.head.ZoneHead.{ZoneHead}
 use Rattle.trace_text.specs.declared.trace_reading.entry.Entry.{Entry}
-use Rattle.trace_text.specs.declared.trace_reading.said.Said.{Said}
-use Rattle.trace_text.specs.Grammar.{stage_of, last_stage, version_after, version_of, workers_after, workers_of, domains_after, clock_after, detail_after, names_after, new_zone, zones_of, head_of, entry_of, entries_of, line_of, done, clash_after}
+use Rattle.trace_text.specs.declared.trace_reading.parsed_line.ParsedLine.{ParsedLine}
+use Rattle.trace_text.specs.Grammar.{stage_of, last_stage, version_after, version_of, workers_after, workers_of, domains_after, clock_after, detail_after, names_after, new_zone, zones_of, head_of, entry_of, entries_of, line_of, done, conflict_after}
 use Rattle.trace_text.specs.Lines.{Line}
 use Rattle.trace_text.specs.Reading.{held, in_section, is_away}
 use Rattle.trace_text.specs.TraceLine.{says, rank, is_within}
@@ -16,21 +16,21 @@ use Rattle.trace_text.specs.Valid.{IsKnown, LinesFit}
 use Rattle.trace_text.proofs.TraceTests.{IsClear, no_clash}
 
 -- said one after another, behind those
-abbrev pub behind : List Said → List Said → List Said
+abbrev pub behind : List ParsedLine → List ParsedLine → List ParsedLine
 behind [] before = before
 behind (s ∷ more) before = behind more (s ∷ before)
 
 -- each row says this behind the earlier ones, and clashes with none of them
-abbrev pub SaysAll : List Said → List (List (List ℕ)) → List Said → Type 0
+abbrev pub SaysAll : List ParsedLine → List (List (List ℕ)) → List ParsedLine → Type 0
 SaysAll before [] [] = Unit {0}
 SaysAll before (r ∷ rows) (s ∷ saids) =
-    (says (version_of before) (last_stage before) (workers_of before) r ≡ Ok s) × (clash_after before s ≡ None) × SaysAll (s ∷ before) rows saids
+    (says (version_of before) (last_stage before) (workers_of before) r ≡ Ok s) × (conflict_after before s ≡ None) × SaysAll (s ∷ before) rows saids
 SaysAll before [] (s ∷ saids) = ⊥
 SaysAll before (r ∷ rows) [] = ⊥
 
 -- Behind these lines there are this header and these entries, each of the lines that are still to come fits, the version has it, and
 -- the last line is one from this place in the order of a text to that one.
-pub record Stands (before : List Said) (h : Head) (entries : List Entry) (rest : List Line) (low high : ℕ) : Type 0 where
+pub record Stands (before : List ParsedLine) (h : Head) (entries : List Entry) (rest : List Line) (low high : ℕ) : Type 0 where
   pub head_is : head_of before ≡ h
   pub entries_are : entries_of before ≡ entries
   pub fit : LinesFit (done before) rest
@@ -39,39 +39,39 @@ pub record Stands (before : List Said) (h : Head) (entries : List Entry) (rest :
   pub below : rank (last_stage before) ≤ high
 
 -- the rows say this, and so it stands behind them
-pub record Hears (before : List Said) (rows : List (List (List ℕ))) (saids : List Said) (h : Head) (entries : List Entry) (rest : List Line) (low high : ℕ) : Type 0 where
+pub record Hears (before : List ParsedLine) (rows : List (List (List ℕ))) (saids : List ParsedLine) (h : Head) (entries : List Entry) (rest : List Line) (low high : ℕ) : Type 0 where
   pub says_all : SaysAll before rows saids
   pub stands : Stands (behind saids before) h entries rest low high
 
 -- ---- one after another
 
-pub behind_append : (saids more before : List Said) → behind (saids ++ more) before ≡ behind more (behind saids before)
+pub behind_append : (saids more before : List ParsedLine) → behind (saids ++ more) before ≡ behind more (behind saids before)
 behind_append [] more before = refl
 behind_append (s ∷ saids) more before = behind_append saids more (s ∷ before)
 
-pub says_all_append : (before : List Said) (rows : List (List (List ℕ))) (saids : List Said) (others : List (List (List ℕ))) (more : List Said)
+pub says_all_append : (before : List ParsedLine) (rows : List (List (List ℕ))) (saids : List ParsedLine) (others : List (List (List ℕ))) (more : List ParsedLine)
     → SaysAll before rows saids → SaysAll (behind saids before) others more → SaysAll before (rows ++ others) (saids ++ more)
 says_all_append before [] [] others more says then = then
 says_all_append before [] (s ∷ saids) others more says then = absurd says
 says_all_append before (r ∷ rows) [] others more says then = absurd says
 says_all_append before (r ∷ rows) (s ∷ saids) others more says then = (says.0, says.1, says_all_append (s ∷ before) rows saids others more says.2 then)
 
-pub hears_nothing : {before : List Said} {h : Head} {entries : List Entry} {rest : List Line} {low high : ℕ}
+pub hears_nothing : {before : List ParsedLine} {h : Head} {entries : List Entry} {rest : List Line} {low high : ℕ}
     → Stands before h entries rest low high → Hears before [] [] h entries rest low high
 hears_nothing stands = record { says_all = tt; stands = stands }
 
-pub hears_append : {before : List Said} {rows others : List (List (List ℕ))} {saids more : List Said} {h g : Head} {entries added : List Entry} {rest left : List Line} {low high from to : ℕ}
+pub hears_append : {before : List ParsedLine} {rows others : List (List (List ℕ))} {saids more : List ParsedLine} {h g : Head} {entries added : List Entry} {rest left : List Line} {low high from to : ℕ}
     → Hears before rows saids h entries rest low high → Hears (behind saids before) others more g added left from to
     → Hears before (rows ++ others) (saids ++ more) g added left from to
 hears_append {before = before} {rows = rows} {others = others} {saids = saids} {more = more} {g = g} {added = added} {left = left} {from = from} {to = to} first then = record {
   says_all = says_all_append before rows saids others more first.says_all then.says_all;
-  stands = subst (λ (b : List Said). Stands b g added left from to) (sym (behind_append saids more before)) then.stands;
+  stands = subst (λ (b : List ParsedLine). Stands b g added left from to) (sym (behind_append saids more before)) then.stands;
 }
 
 -- ---- what stands
 
 -- a place in the order within more
-pub stands_within : {before : List Said} {h : Head} {entries : List Entry} {rest : List Line} {low high : ℕ} (from to : ℕ) → from ≤ low → high ≤ to
+pub stands_within : {before : List ParsedLine} {h : Head} {entries : List Entry} {rest : List Line} {low high : ℕ} (from to : ℕ) → from ≤ low → high ≤ to
     → Stands before h entries rest low high → Stands before h entries rest from to
 stands_within {before = before} {low = low} {high = high} from to less more stands =
     let above : low ≤ rank (last_stage before) = stands.above in
@@ -79,7 +79,7 @@ stands_within {before = before} {low = low} {high = high} from to less more stan
     record { head_is = stands.head_is; entries_are = stands.entries_are; fit = stands.fit; known = stands.known; above = omega arith; below = omega arith }
 
 -- the next line may follow the last one
-pub may_stand : {before : List Said} {h : Head} {entries : List Entry} {rest : List Line} {low high : ℕ} (from to : ℕ) → from ≤ low → high ≤ to
+pub may_stand : {before : List ParsedLine} {h : Head} {entries : List Entry} {rest : List Line} {low high : ℕ} (from to : ℕ) → from ≤ low → high ≤ to
     → Stands before h entries rest low high → is_within from to (last_stage before) ≡ true
 may_stand {before = before} {low = low} {high = high} from to less more stands =
     let above : low ≤ rank (last_stage before) = stands.above in
@@ -90,11 +90,11 @@ may_stand {before = before} {low = low} {high = high} from to less more stands =
 -- ---- a line that fails none of the tests
 
 -- behind this header and these lines
-abbrev pub IsClearBehind : Head → List Line → Said → Type 0
+abbrev pub IsClearBehind : Head → List Line → ParsedLine → Type 0
 IsClearBehind h lines s = IsClear (is_some h.clock) (is_some h.names) h.zones (λ worker slot. is_some (held lines worker slot)) (λ worker. in_section lines worker) (λ worker. is_away lines worker) s
 
 -- the header with what this line says of it
-abbrev pub and_so : Said → Head → Head
+abbrev pub and_so : ParsedLine → Head → Head
 and_so s h = record {
   workers = workers_after s h.workers;
   domains = domains_after s h.domains;
@@ -104,13 +104,13 @@ and_so s h = record {
   names = names_after s h.names;
 }
 
-clear_behind : (before : List Said) (s : Said) (h : Head) → head_of before ≡ h → IsClearBehind h (done before) s → clash_after before s ≡ None
+clear_behind : (before : List ParsedLine) (s : ParsedLine) (h : Head) → head_of before ≡ h → IsClearBehind h (done before) s → conflict_after before s ≡ None
 clear_behind before s h is clear =
     let at : IsClearBehind (head_of before) (done before) s = subst (λ (g : Head). IsClearBehind g (done before) s) (sym is) clear in
     no_clash (is_some (head_of before).clock) (is_some (head_of before).names) (head_of before).zones (λ worker slot. is_some (held (done before) worker slot)) (λ worker. in_section (done before) worker) (λ worker. is_away (done before) worker) s at
 
 -- what one line more adds
-pub record Adds (before : List Said) (s : Said) (h g : Head) (added : List Entry) (left : List Line) (low high : ℕ) : Type 0 where
+pub record Adds (before : List ParsedLine) (s : ParsedLine) (h g : Head) (added : List Entry) (left : List Line) (low high : ℕ) : Type 0 where
   pub clear : IsClearBehind h (done before) s
   pub head_is : and_so s h ≡ g
   pub entry_is : entry_of h.zones s ≡ added
@@ -119,7 +119,7 @@ pub record Adds (before : List Said) (s : Said) (h g : Head) (added : List Entry
   pub above : low ≤ rank (stage_of s)
   pub below : rank (stage_of s) ≤ high
 
-stands_next : {before : List Said} {s : Said} {h g : Head} {entries added : List Entry} {rest left : List Line} {low high from to : ℕ}
+stands_next : {before : List ParsedLine} {s : ParsedLine} {h g : Head} {entries added : List Entry} {rest left : List Line} {low high from to : ℕ}
     → Stands before h entries rest low high → Adds before s h g added left from to → Stands (s ∷ before) g (entries ++ added) left from to
 stands_next {before = before} {s = s} {entries = entries} {added = added} {left = left} stands adds =
     let entry : entry_of (zones_of before) s ≡ added = subst (λ (f : Head). entry_of f.zones s ≡ added) (sym stands.head_is) adds.entry_is in
@@ -133,7 +133,7 @@ stands_next {before = before} {s = s} {entries = entries} {added = added} {left 
     }
 
 -- a row that says this line is heard
-pub next_line : {before : List Said} {h g : Head} {entries added : List Entry} {rest left : List Line} {low high from to : ℕ} (row : List (List ℕ)) (s : Said)
+pub next_line : {before : List ParsedLine} {h g : Head} {entries added : List Entry} {rest left : List Line} {low high from to : ℕ} (row : List (List ℕ)) (s : ParsedLine)
     → Stands before h entries rest low high → says (version_of before) (last_stage before) (workers_of before) row ≡ Ok s → Adds before s h g added left from to
     → Hears before (row ∷ []) (s ∷ []) g (entries ++ added) left from to
 next_line {before = before} {h = h} row s stands says adds =

@@ -4,8 +4,8 @@ use Rattle.std.specs.Prelude.{All, IfSome, codes}
 use Rattle.std.specs.Fmt.{decimal}
 use Rattle.trace_text.specs.declared.head.ClockHead.{ClockHead}
 use Rattle.trace_text.specs.declared.head.Head.{Head}
-use Rattle.trace_text.specs.declared.trace_reading.said.Said.{Said}
-use Rattle.trace_text.specs.declared.trace_reading.said.Said.TheVariants as said
+use Rattle.trace_text.specs.declared.trace_reading.parsed_line.ParsedLine.{ParsedLine}
+use Rattle.trace_text.specs.declared.trace_reading.parsed_line.ParsedLine.TheVariants as said
 use Rattle.trace_text.specs.declared.version.Version.{Version}
 use Rattle.trace_text.specs.Grammar.{last_stage, version_of, workers_of}
 use Rattle.trace_text.specs.Lines.{Line}
@@ -17,7 +17,7 @@ use Rattle.trace_print.proofs.TraceRebuiltZones.{zones_step, names_step}
 
 -- ---- the lines that stand once
 
-clock_step : (h : Head) (o : Option ClockHead) (before : List Said) (rest : List Line) → IfSome o ClockFits → Stands before (part h None false [] None) [] rest 3 3
+clock_step : (h : Head) (o : Option ClockHead) (before : List ParsedLine) (rest : List Line) → IfSome o ClockFits → Stands before (part h None false [] None) [] rest 3 3
     → Hears before (clock_rows o) (clock_saids o) (part h o false [] None) [] rest 3 4
 clock_step h None before rest fits stands =
     hears_nothing (stands_within 3 4 (omega arith) (omega arith) stands)
@@ -35,7 +35,7 @@ clock_step h (Some c) before rest fits stands =
       below = omega arith;
     })
 
-detail_step : (h : Head) (clock : Option ClockHead) (d : Bool) (before : List Said) (rest : List Line) → Stands before (part h clock false [] None) [] rest 3 4
+detail_step : (h : Head) (clock : Option ClockHead) (d : Bool) (before : List ParsedLine) (rest : List Line) → Stands before (part h clock false [] None) [] rest 3 4
     → Hears before (detail_rows d) (detail_saids d) (part h clock d [] None) [] rest 3 6
 detail_step h clock false before rest stands =
     hears_nothing (stands_within 3 6 (omega arith) (omega arith) stands)
@@ -96,7 +96,7 @@ domains_step version h rest fits fit known stands =
 pub head_step : (version : Version) (h : Head) (rest : List Line) → HeadFits h → LinesFit [] rest → All (IsKnown version) rest
     → Hears (said.Uma version ∷ []) (head_rows h) (head_saids h) h [] rest 3 9
 head_step version h rest fits fit known =
-    let before : List Said = said.Domains h.domains ∷ said.Workers h.workers ∷ said.Uma version ∷ [] in
+    let before : List ParsedLine = said.Domains h.domains ∷ said.Workers h.workers ∷ said.Uma version ∷ [] in
     let workers = workers_step version h rest fits fit known in
     let domains = domains_step version h rest fits fit known workers.stands in
     let clock = clock_step h h.clock before rest fits.clock domains.stands in

@@ -13,8 +13,8 @@ use Rattle.trace_text.specs.declared.op.Op.TheVariants.{Alloc, Free, Enter, Exit
 use Rattle.trace_text.specs.declared.round.Round.{Round}
 use Rattle.trace_text.specs.declared.trace_reading.entry.Entry.{Entry}
 use Rattle.trace_text.specs.declared.trace_reading.entry.Entry.TheVariants as entries
-use Rattle.trace_text.specs.declared.trace_reading.said.Said.{Said}
-use Rattle.trace_text.specs.declared.trace_reading.said.Said.TheVariants as said
+use Rattle.trace_text.specs.declared.trace_reading.parsed_line.ParsedLine.{ParsedLine}
+use Rattle.trace_text.specs.declared.trace_reading.parsed_line.ParsedLine.TheVariants as said
 use Rattle.trace_print.specs.CanonicalText.{between_fields, op_fields}
 use Rattle.trace_text.specs.NamedZones.{zone_name}
 use Rattle.trace_text.specs.Grammar.{stage_of, last_stage, version_after, version_of, workers_of, entry_of, done, zone_named}
@@ -281,10 +281,10 @@ op_entry h w (DrainSeat zone) head fits = rw (zone_is_there h zone head fits) re
 op_entry h w (Prealloc zone items) head fits = rw (zone_is_there h zone head fits.0) refl
 
 -- the header's workers
-workers_are : (before : List Said) (h : Head) (earlier : List Entry) (rest : List Line) (low high : ℕ) → Stands before h earlier rest low high → workers_of before ≡ h.workers
+workers_are : (before : List ParsedLine) (h : Head) (earlier : List Entry) (rest : List Line) (low high : ℕ) → Stands before h earlier rest low high → workers_of before ≡ h.workers
 workers_are before h earlier rest low high stands = ap (λ (g : Head). g.workers) stands.head_is
 
-op_step : (h : Head) (w : ℕ) (op : Op) (before : List Said) (earlier : List Entry) (rest : List Line) → HeadFits h → w < h.workers → OpFits h op
+op_step : (h : Head) (w : ℕ) (op : Op) (before : List ParsedLine) (earlier : List Entry) (rest : List Line) → HeadFits h → w < h.workers → OpFits h op
     → Stands before h earlier (Does w op ∷ rest) 3 9
     → Hears before (op_fields h.zones w op ∷ []) (op_saying h.zones w op ∷ []) h (earlier ++ entries.Does w op ∷ []) rest 3 9
 op_step h w op before earlier rest head lt fits stands =
@@ -325,7 +325,7 @@ give_finds_free : (lines : List Line) (giver slot taker slot2 : ℕ) → is_some
 give_finds_free lines giver slot taker slot2 full free =
     rw (not_to_itself lines giver slot taker slot2 (eqb giver taker) (eqb slot slot2) refl refl full free, free) refl
 
-between_adds : (h : Head) (b : Between) (before : List Said) (rest : List Line) → HeadFits h → BetweenFits h b → LineFits (done before) (Moves b) → LinesFit (Moves b ∷ done before) rest
+between_adds : (h : Head) (b : Between) (before : List ParsedLine) (rest : List Line) → HeadFits h → BetweenFits h b → LineFits (done before) (Moves b) → LinesFit (Moves b ∷ done before) rest
     → All (IsKnown (version_of before)) rest → Adds before (between_saying h.zones b) h h (entries.Moves b ∷ []) rest 9 9
 between_adds h (Give giver slot taker slot2) before rest head fits line fit known = record {
   clear = record {
@@ -370,7 +370,7 @@ between_adds h (SetMax zone limit) before rest head fits line fit known = record
   below = omega arith;
 }
 
-between_step : (h : Head) (b : Between) (before : List Said) (earlier : List Entry) (rest : List Line) → HeadFits h → BetweenFits h b
+between_step : (h : Head) (b : Between) (before : List ParsedLine) (earlier : List Entry) (rest : List Line) → HeadFits h → BetweenFits h b
     → Stands before h earlier (Moves b ∷ rest) 9 9
     → Hears before (between_fields h.zones b ∷ []) (between_saying h.zones b ∷ []) h (earlier ++ entries.Moves b ∷ []) rest 9 9
 between_step h b before earlier rest head fits stands =
@@ -381,7 +381,7 @@ between_step h b before earlier rest head fits stands =
     (between_row_says (version_of before) (last_stage before) (workers_of before) h b (may_stand 9 9 (omega arith) (omega arith) stands) known (omega arith) (omega arith) (zones_are_named h head) fits)
     (between_adds h b before rest head fits stands.fit.0 stands.fit.1 (All-tail (IsKnown (version_of before)) (Moves b) rest stands.known))
 
-round_step : (h : Head) (before : List Said) (earlier : List Entry) (rest : List Line) → Stands before h earlier rest 3 9
+round_step : (h : Head) (before : List ParsedLine) (earlier : List Entry) (rest : List Line) → Stands before h earlier rest 3 9
     → Hears before ((codes "round" ∷ []) ∷ []) (said.Round ∷ []) h (earlier ++ entries.Round ∷ []) rest 9 9
 round_step h before earlier rest stands =
     next_line (codes "round" ∷ []) said.Round stands
@@ -397,7 +397,7 @@ round_step h before earlier rest stands =
     })
 
 -- `end` adds nothing
-pub end_step : (h : Head) (before : List Said) (earlier : List Entry) → Stands before h earlier [] 3 9
+pub end_step : (h : Head) (before : List ParsedLine) (earlier : List Entry) → Stands before h earlier [] 3 9
     → Hears before ((codes "end" ∷ []) ∷ []) (said.End ∷ []) h (earlier ++ []) [] 10 10
 end_step h before earlier stands =
     next_line (codes "end" ∷ []) said.End stands
@@ -415,7 +415,7 @@ end_step h before earlier stands =
 -- ---- the lines of a round
 
 -- the entries of two parts, one after the other
-hears_more : {before : List Said} {rows others : List (List (List ℕ))} {saids more : List Said} {h : Head} {rest left : List Line} {low high from to : ℕ} (earlier first then : List Entry)
+hears_more : {before : List ParsedLine} {rows others : List (List (List ℕ))} {saids more : List ParsedLine} {h : Head} {rest left : List Line} {low high from to : ℕ} (earlier first then : List Entry)
     → Hears before rows saids h (earlier ++ first) rest low high → Hears (behind saids before) others more h ((earlier ++ first) ++ then) left from to
     → Hears before (rows ++ others) (saids ++ more) h (earlier ++ (first ++ then)) left from to
 hears_more {before = before} {rows = rows} {others = others} {saids = saids} {more = more} {h = h} {left = left} {from = from} {to = to} earlier first then one two =
@@ -423,19 +423,19 @@ hears_more {before = before} {rows = rows} {others = others} {saids = saids} {mo
     subst (λ (es : List Entry). Hears before (rows ++ others) (saids ++ more) h es left from to) (append_assoc earlier first then) both
 
 -- no line adds no entry
-hears_no_more : {before : List Said} {h : Head} {earlier : List Entry} {rest : List Line} {low high : ℕ}
+hears_no_more : {before : List ParsedLine} {h : Head} {earlier : List Entry} {rest : List Line} {low high : ℕ}
     → Stands before h earlier rest low high → Hears before [] [] h (earlier ++ []) rest low high
 hears_no_more {before = before} {h = h} {earlier = earlier} {rest = rest} {low = low} {high = high} stands =
     hears_nothing (subst (λ (es : List Entry). Stands before h es rest low high) (sym (append-nil earlier)) stands)
 
 -- the lines to come, written another way
-stands_as : {before : List Said} {h : Head} {earlier : List Entry} {rest : List Line} {low high : ℕ} (left : List Line) → rest ≡ left
+stands_as : {before : List ParsedLine} {h : Head} {earlier : List Entry} {rest : List Line} {low high : ℕ} (left : List Line) → rest ≡ left
     → Stands before h earlier rest low high → Stands before h earlier left low high
 stands_as {before = before} {h = h} {earlier = earlier} {low = low} {high = high} left same stands =
     subst (λ (lines : List Line). Stands before h earlier lines low high) same stands
 
 -- a worker's lines
-ops_step : (h : Head) (w : ℕ) (ops : List Op) (before : List Said) (earlier : List Entry) (rest : List Line) → HeadFits h → w < h.workers → All (OpFits h) ops
+ops_step : (h : Head) (w : ℕ) (ops : List Op) (before : List ParsedLine) (earlier : List Entry) (rest : List Line) → HeadFits h → w < h.workers → All (OpFits h) ops
     → Stands before h earlier (map (Does w) ops ++ rest) 3 9
     → Hears before (map (op_fields h.zones w) ops) (map (op_saying h.zones w) ops) h (earlier ++ map (entries.Does w) ops) rest 3 9
 ops_step h w [] before earlier rest head lt fits stands = hears_no_more stands
@@ -444,7 +444,7 @@ ops_step h w (op ∷ ops) before earlier rest head lt fits stands =
     hears_more earlier (entries.Does w op ∷ []) (map (entries.Does w) ops) first (ops_step h w ops (op_saying h.zones w op ∷ before) (earlier ++ entries.Does w op ∷ []) rest head lt (All-tail (OpFits h) op ops fits) first.stands)
 
 -- the lines of the workers from this one on
-lists_step : (h : Head) (w : ℕ) (lists : List (List Op)) (before : List Said) (earlier : List Entry) (rest : List Line) → HeadFits h → w + length lists ≡ h.workers
+lists_step : (h : Head) (w : ℕ) (lists : List (List Op)) (before : List ParsedLine) (earlier : List Entry) (rest : List Line) → HeadFits h → w + length lists ≡ h.workers
     → All (All (OpFits h)) lists → Stands before h earlier (worker_lines w lists ++ rest) 3 9
     → Hears before (ops_rows h.zones w lists) (ops_saids h.zones w lists) h (earlier ++ ops_entries w lists) rest 3 9
 lists_step h w [] before earlier rest head all fits stands = hears_no_more stands
@@ -456,7 +456,7 @@ lists_step h w (ops ∷ lists) before earlier rest head all fits stands =
     (lists_step h (w + 1) lists (behind (map (op_saying h.zones w) ops) before) (earlier ++ map (entries.Does w) ops) rest head (omega arith) (All-tail (All (OpFits h)) ops lists fits) first.stands)
 
 -- the lines between two rounds
-betweens_step : (h : Head) (betweens : List Between) (before : List Said) (earlier : List Entry) (rest : List Line) → HeadFits h → All (BetweenFits h) betweens
+betweens_step : (h : Head) (betweens : List Between) (before : List ParsedLine) (earlier : List Entry) (rest : List Line) → HeadFits h → All (BetweenFits h) betweens
     → Stands before h earlier (map Moves betweens ++ rest) 9 9
     → Hears before (map (between_fields h.zones) betweens) (map (between_saying h.zones) betweens) h (earlier ++ map entries.Moves betweens) rest 9 9
 betweens_step h [] before earlier rest head fits stands = hears_no_more stands
@@ -468,7 +468,7 @@ betweens_step h (b ∷ betweens) before earlier rest head fits stands =
 -- ---- the rounds
 
 -- each row of the rounds says its line, and behind them stand just their lines
-pub rounds_step : (h : Head) (r : Round) (rounds : List Round) (before : List Said) (earlier : List Entry) → HeadFits h → All (RoundFits h) (r ∷ rounds) → LastRoundEnds (r ∷ rounds)
+pub rounds_step : (h : Head) (r : Round) (rounds : List Round) (before : List ParsedLine) (earlier : List Entry) → HeadFits h → All (RoundFits h) (r ∷ rounds) → LastRoundEnds (r ∷ rounds)
     → Stands before h earlier (lines_of (r ∷ rounds)) 3 9
     → Hears before (rounds_rows h.zones (r ∷ rounds)) (rounds_saids h.zones (r ∷ rounds)) h (earlier ++ rounds_entries (r ∷ rounds)) [] 3 9
 rounds_step h r [] before earlier head fits last stands =

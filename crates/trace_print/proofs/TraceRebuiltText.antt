@@ -11,8 +11,8 @@ use Rattle.trace_text.specs.declared.head.Head.{Head}
 use Rattle.trace_text.specs.declared.round.Round.{Round}
 use Rattle.trace_text.specs.declared.trace.Trace.{Trace}
 use Rattle.trace_text.specs.declared.trace_reading.entry.Entry.{Entry}
-use Rattle.trace_text.specs.declared.trace_reading.said.Said.{Said}
-use Rattle.trace_text.specs.declared.trace_reading.said.Said.TheVariants as said
+use Rattle.trace_text.specs.declared.trace_reading.parsed_line.ParsedLine.{ParsedLine}
+use Rattle.trace_text.specs.declared.trace_reading.parsed_line.ParsedLine.TheVariants as said
 use Rattle.trace_text.specs.declared.trace_reading.stage.Stage.{Stage}
 use Rattle.trace_text.specs.declared.trace_reading.stage.Stage.TheVariants as stages
 use Rattle.trace_text.specs.declared.trace_reading.word.HeadWord.TheVariants as heads
@@ -38,7 +38,7 @@ use Rattle.trace_print.proofs.TraceRebuiltRounds.{rounds_step, end_step}
 
 -- ---- what all rows say
 
-rounds_heard : (h : Head) (rounds : List Round) (before : List Said) (earlier : List Entry) → HeadFits h → All (RoundFits h) rounds → LastRoundEnds rounds
+rounds_heard : (h : Head) (rounds : List Round) (before : List ParsedLine) (earlier : List Entry) → HeadFits h → All (RoundFits h) rounds → LastRoundEnds rounds
     → Stands before h earlier (lines_of rounds) 3 9 → Hears before (rounds_rows h.zones rounds) (rounds_saids h.zones rounds) h (earlier ++ rounds_entries rounds) [] 3 9
 rounds_heard h [] before earlier head fits last stands = absurd last
 rounds_heard h (r ∷ rounds) before earlier head fits last stands = rounds_step h r rounds before earlier head fits last stands
@@ -52,11 +52,11 @@ trace_heard t valid =
     hears_append head (hears_append rounds last)
 
 -- only the first line says a version
-says_no_version : (version : Version) (stage : Stage) (workers : ℕ) (row : List (List ℕ)) (s : Said) (old : Version) → says version stage workers row ≡ Ok s → version_after s old ≡ old
+says_no_version : (version : Version) (stage : Stage) (workers : ℕ) (row : List (List ℕ)) (s : ParsedLine) (old : Version) → says version stage workers row ≡ Ok s → version_after s old ≡ old
 says_no_version version stage workers row (said.Uma other) old e = absurd (let place = (says_right version stage workers row (said.Uma other) e).place in omega arith)
 says_no_version version stage workers row s old e = refl
 
-version_stays : (before : List Said) (rows : List (List (List ℕ))) (saids : List Said) → SaysAll before rows saids → version_of (behind saids before) ≡ version_of before
+version_stays : (before : List ParsedLine) (rows : List (List (List ℕ))) (saids : List ParsedLine) → SaysAll before rows saids → version_of (behind saids before) ≡ version_of before
 version_stays before [] [] says_all = refl
 version_stays before [] (s ∷ saids) says_all = absurd says_all
 version_stays before (row ∷ rows) [] says_all = absurd says_all
@@ -67,7 +67,7 @@ version_stays before (row ∷ rows) (s ∷ saids) says_all =
 pub trace_rebuilt : (t : Trace) → IsValid t → trace_of (behind (other_saids t) (said.Uma t.version ∷ [])) ≡ t
 trace_rebuilt t valid =
     let stands = (trace_heard t valid).stands in
-    let before : List Said = behind (other_saids t) (said.Uma t.version ∷ []) in
+    let before : List ParsedLine = behind (other_saids t) (said.Uma t.version ∷ []) in
     let version : version_of before ≡ t.version = version_stays (said.Uma t.version ∷ []) (other_rows t) (other_saids t) (trace_heard t valid).says_all in
     let made : Head → List Entry → Trace = λ h es. record { version = version_of before; head = h; rounds = rounds_in h.workers (slice_split is_round es) } in
     let with_rounds : List Round → Trace = λ rounds. record { version = version_of before; head = t.head; rounds = rounds } in
@@ -94,30 +94,30 @@ nothing_follows words.Give = refl
 nothing_follows words.SetMax = refl
 nothing_follows words.End = refl
 
-unplaced_says_nothing : (has : Bool) (workers : ℕ) (word : Word) (rest : List (List ℕ)) (s : Said)
+unplaced_says_nothing : (has : Bool) (workers : ℕ) (word : Word) (rest : List (List ℕ)) (s : ParsedLine)
     → (known has >>= (λ is. placed false >>= (λ fits. said_by workers word rest))) ≡ Ok s → ⊥
 unplaced_says_nothing true workers word rest s e = cc
 unplaced_says_nothing false workers word rest s e = cc
 
-no_word_follows : (version : Version) (o : Option Word) (workers : ℕ) (rest : List (List ℕ)) (s : Said)
+no_word_follows : (version : Version) (o : Option Word) (workers : ℕ) (rest : List (List ℕ)) (s : ParsedLine)
     → (word_or_wrong o >>= (λ (word : Word). known (is_known version word) >>= (λ is. placed (may_follow stages.End word) >>= (λ fits. said_by workers word rest)))) ≡ Ok s → ⊥
 no_word_follows version None workers rest s e = cc
 no_word_follows version (Some word) workers rest s e = let none = rw (nothing_follows word) at e in unplaced_says_nothing (is_known version word) workers word rest s none
 
-nothing_is_said : (version : Version) (workers : ℕ) (row : List (List ℕ)) (s : Said) → says version stages.End workers row ≡ Ok s → ⊥
+nothing_is_said : (version : Version) (workers : ℕ) (row : List (List ℕ)) (s : ParsedLine) → says version stages.End workers row ≡ Ok s → ⊥
 nothing_is_said version workers [] s e = cc
 nothing_is_said version workers (first ∷ rest) s e = no_word_follows version (word_named first) workers rest s e
 
-not_behind_end : (version : Version) (stage : Stage) (workers : ℕ) (row : List (List ℕ)) (s : Said) → says version stage workers row ≡ Ok s → stage ≡ stages.End → ⊥
+not_behind_end : (version : Version) (stage : Stage) (workers : ℕ) (row : List (List ℕ)) (s : ParsedLine) → says version stage workers row ≡ Ok s → stage ≡ stages.End → ⊥
 not_behind_end version stage workers row s says_it end =
     nothing_is_said version workers row s (subst (λ (g : Stage). says version g workers row ≡ Ok s) end says_it)
 
 -- the row `end` says just that
-end_or_place : (fits : Bool) (s : Said) → (placed fits >>= (λ done. Ok said.End)) ≡ Ok s → s ≡ said.End
+end_or_place : (fits : Bool) (s : ParsedLine) → (placed fits >>= (λ done. Ok said.End)) ≡ Ok s → s ≡ said.End
 end_or_place true s e = cc
 end_or_place false s e = absurd cc
 
-end_is_said : (version : Version) (stage : Stage) (workers : ℕ) (row : List (List ℕ)) (s : Said) → is_end row ≡ true → says version stage workers row ≡ Ok s → s ≡ said.End
+end_is_said : (version : Version) (stage : Stage) (workers : ℕ) (row : List (List ℕ)) (s : ParsedLine) → is_end row ≡ true → says version stage workers row ≡ Ok s → s ≡ said.End
 end_is_said version stage workers [] s is e = absurd cc
 end_is_said version stage workers (word ∷ []) s is e =
     let word_is : word ≡ codes "end" = (bytes_eq-Decides word (codes "end")).0 is in
@@ -127,7 +127,7 @@ end_is_said version stage workers (word ∷ next ∷ more) s is e = absurd cc
 -- ---- each row passes its test
 
 -- behind a row that says this
-next_sayings : (last : TextLine) (earlier : List TextLine) (row : List (List ℕ)) (s : Said)
+next_sayings : (last : TextLine) (earlier : List TextLine) (row : List (List ℕ)) (s : ParsedLine)
     → says (version_of (sayings (last ∷ earlier))) (last_stage (sayings (last ∷ earlier))) (workers_of (sayings (last ∷ earlier))) row ≡ Ok s
     → sayings (line_behind (last ∷ earlier) row ∷ last ∷ earlier) ≡ s ∷ sayings (last ∷ earlier)
 next_sayings last earlier row s says_it = rw says_it refl
@@ -136,33 +136,33 @@ next_sayings last earlier row s says_it = rw says_it refl
 abbrev KnowsEnd : TextLine → List TextLine → Type 0
 KnowsEnd last earlier = is_end last.fields ≡ true → last_stage (sayings (last ∷ earlier)) ≡ stages.End
 
-knows_next : (last : TextLine) (earlier : List TextLine) (row : List (List ℕ)) (s : Said)
+knows_next : (last : TextLine) (earlier : List TextLine) (row : List (List ℕ)) (s : ParsedLine)
     → says (version_of (sayings (last ∷ earlier))) (last_stage (sayings (last ∷ earlier))) (workers_of (sayings (last ∷ earlier))) row ≡ Ok s → KnowsEnd (line_behind (last ∷ earlier) row) (last ∷ earlier)
 knows_next last earlier row s says_it ends =
     let said_is : s ≡ said.End = end_is_said (version_of (sayings (last ∷ earlier))) (last_stage (sayings (last ∷ earlier))) (workers_of (sayings (last ∷ earlier))) row s ends says_it in
-    ap (λ (b : List Said). last_stage b) (next_sayings last earlier row s says_it)
-    ∙ ap (λ (x : Said). last_stage (x ∷ sayings (last ∷ earlier))) said_is
+    ap (λ (b : List ParsedLine). last_stage b) (next_sayings last earlier row s says_it)
+    ∙ ap (λ (x : ParsedLine). last_stage (x ∷ sayings (last ∷ earlier))) said_is
 
-row_passes : (last : TextLine) (earlier : List TextLine) (row : List (List ℕ)) (s : Said) → KnowsEnd last earlier
+row_passes : (last : TextLine) (earlier : List TextLine) (row : List (List ℕ)) (s : ParsedLine) → KnowsEnd last earlier
     → SaysAll (sayings (last ∷ earlier)) (row ∷ []) (s ∷ []) → trace_test (last ∷ earlier) (line_behind (last ∷ earlier) row) ≡ None
 row_passes last earlier row s knows says_all =
-    let before : List Said = sayings (last ∷ earlier) in
+    let before : List ParsedLine = sayings (last ∷ earlier) in
     let unended : is_end last.fields ≡ false = false_from_ne_true (is_end last.fields) (λ e. not_behind_end (version_of before) (last_stage before) (workers_of before) row s says_all.0 (knows e)) in
     rw (unended, says_all.0, says_all.1) refl
 
 -- the rows pass, and so they are understood
-record Understood (rows : List (List (List ℕ))) (saids : List Said) (last : TextLine) (earlier : List TextLine) : Type 0 where
+record Understood (rows : List (List (List ℕ))) (saids : List ParsedLine) (last : TextLine) (earlier : List TextLine) : Type 0 where
   pass : PassAll trace_test rows (last ∷ earlier)
   sayings_are : sayings (numbered rows (last ∷ earlier)) ≡ behind saids (sayings (last ∷ earlier))
 
-understood : (rows : List (List (List ℕ))) (saids : List Said) (last : TextLine) (earlier : List TextLine) → KnowsEnd last earlier
+understood : (rows : List (List (List ℕ))) (saids : List ParsedLine) (last : TextLine) (earlier : List TextLine) → KnowsEnd last earlier
     → SaysAll (sayings (last ∷ earlier)) rows saids → Understood rows saids last earlier
 understood [] [] last earlier knows says_all = record { pass = tt; sayings_are = refl }
 understood [] (s ∷ saids) last earlier knows says_all = absurd says_all
 understood (row ∷ rows) [] last earlier knows says_all = absurd says_all
 understood (row ∷ rows) (s ∷ saids) last earlier knows says_all =
     let next : sayings (line_behind (last ∷ earlier) row ∷ last ∷ earlier) ≡ s ∷ sayings (last ∷ earlier) = next_sayings last earlier row s says_all.0 in
-    let then : SaysAll (sayings (line_behind (last ∷ earlier) row ∷ last ∷ earlier)) rows saids = subst (λ (b : List Said). SaysAll b rows saids) (sym next) says_all.2 in
+    let then : SaysAll (sayings (line_behind (last ∷ earlier) row ∷ last ∷ earlier)) rows saids = subst (λ (b : List ParsedLine). SaysAll b rows saids) (sym next) says_all.2 in
     let more = understood rows saids (line_behind (last ∷ earlier) row) (last ∷ earlier) (knows_next last earlier row s says_all.0) then in
     record {
       pass = (row_passes last earlier row s knows (says_all.0, says_all.1, tt), more.pass);
@@ -210,7 +210,7 @@ valid_has_text t valid =
     record {
       spoke = spoke;
       right = subst (λ (bytes : List ℕ). IsRightText trace_test bytes spoke) (sym (text_is t)) right;
-      trace_is = sym (ap (λ (before : List Said). trace_of before) known.sayings_are
+      trace_is = sym (ap (λ (before : List ParsedLine). trace_of before) known.sayings_are
           ∙ ap (λ (version : Version). trace_of (behind (other_saids t) (said.Uma version ∷ []))) (first_says t.version)
           ∙ trace_rebuilt t valid);
     }

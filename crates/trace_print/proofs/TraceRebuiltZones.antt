@@ -13,8 +13,8 @@ use Rattle.trace_text.specs.declared.head.NamesHead.{NamesHead}
 use Rattle.trace_text.specs.declared.head.ZoneHead.{ZoneHead}
 use Rattle.trace_text.specs.declared.head.ZoneKind.{ZoneKind}
 use Rattle.trace_text.specs.declared.head.ZoneKind.TheVariants.{Plain, Smr}
-use Rattle.trace_text.specs.declared.trace_reading.said.Said.{Said}
-use Rattle.trace_text.specs.declared.trace_reading.said.Said.TheVariants as said
+use Rattle.trace_text.specs.declared.trace_reading.parsed_line.ParsedLine.{ParsedLine}
+use Rattle.trace_text.specs.declared.trace_reading.parsed_line.ParsedLine.TheVariants as said
 use Rattle.trace_print.specs.CanonicalText.{zone_fields}
 use Rattle.trace_text.specs.NamedZones.{zone_name}
 use Rattle.trace_text.specs.Grammar.{last_stage, version_of, workers_of, done, is_smr, zone_named, primary_named, second_zone}
@@ -119,7 +119,7 @@ name_is_new h front more z fits e =
     let differ : Differ (called (front ++ z ∷ more)) = subst (λ (zs : List ZoneHead). Differ (called zs)) e (zones_differ h fits.names_differ) in
     ap (λ (o : Option ℕ). is_some o) (zone_not_named_yet front z more differ)
 
-zone_adds : (h : Head) (front more : List ZoneHead) (z : ZoneHead) (parent : Option ℕ) (before : List Said) (rest : List Line) → HeadFits h → h.zones ≡ front ++ z ∷ more
+zone_adds : (h : Head) (front more : List ZoneHead) (z : ZoneHead) (parent : Option ℕ) (before : List ParsedLine) (rest : List Line) → HeadFits h → h.zones ≡ front ++ z ∷ more
     → z.parent ≡ parent → KegFits h.zones (length front) parent z → LinesFit (done before) rest → All (IsKnown (version_of before)) rest
     → Adds before (zone_saying h.zones parent z) (part h h.clock h.detail front None) (part h h.clock h.detail (front ++ z ∷ []) None) [] rest 3 6
 zone_adds h front more z None before rest fits e is keg fit known =
@@ -175,7 +175,7 @@ zone_adds h front more z (Some p) before rest fits e is keg fit known =
       below = omega arith;
     }
 
-zone_step : (h : Head) (front more : List ZoneHead) (z : ZoneHead) (before : List Said) (rest : List Line) → HeadFits h → h.zones ≡ front ++ z ∷ more
+zone_step : (h : Head) (front more : List ZoneHead) (z : ZoneHead) (before : List ParsedLine) (rest : List Line) → HeadFits h → h.zones ≡ front ++ z ∷ more
     → Stands before (part h h.clock h.detail front None) [] rest 3 6
     → Hears before (zone_fields h.zones z.parent z ∷ []) (zone_saying h.zones z.parent z ∷ []) (part h h.clock h.detail (front ++ z ∷ []) None) [] rest 3 6
 zone_step h front more z before rest fits e stands =
@@ -187,7 +187,7 @@ zone_step h front more z before rest fits e stands =
 
 -- ---- the rows of all zones, behind the first ones
 
-pub zones_step : (h : Head) (front more : List ZoneHead) (before : List Said) (rest : List Line) → HeadFits h → h.zones ≡ front ++ more
+pub zones_step : (h : Head) (front more : List ZoneHead) (before : List ParsedLine) (rest : List Line) → HeadFits h → h.zones ≡ front ++ more
     → Stands before (part h h.clock h.detail front None) [] rest 3 6
     → Hears before (map (λ (z : ZoneHead). zone_fields h.zones z.parent z) more) (map (λ (z : ZoneHead). zone_saying h.zones z.parent z) more) (part h h.clock h.detail h.zones None) [] rest 3 6
 zones_step h front [] before rest fits e stands =
@@ -212,7 +212,7 @@ names_have_room h n fits is =
     let one : length (option_map_or named h.names []) ≡ 1 = ap (λ (names : List (List ℕ)). length names) last in
     omega (arith, fits.most_zones, length-append (map (λ (z : ZoneHead). z.name) h.zones) (option_map_or named h.names []), length-map h.zones (λ (z : ZoneHead). z.name))
 
-names_by : (h : Head) (o : Option NamesHead) (before : List Said) (rest : List Line) → HeadFits h → h.names ≡ o
+names_by : (h : Head) (o : Option NamesHead) (before : List ParsedLine) (rest : List Line) → HeadFits h → h.names ≡ o
     → Stands before (part h h.clock h.detail h.zones None) [] rest 3 6 → Hears before (names_rows o) (names_saids o) (part h h.clock h.detail h.zones o) [] rest 3 9
 names_by h None before rest fits is stands =
     hears_nothing (stands_within 3 9 (omega arith) (omega arith) stands)
@@ -245,6 +245,6 @@ names_by h (Some n) before rest fits is stands =
       below = omega arith;
     })
 
-pub names_step : (h : Head) (before : List Said) (rest : List Line) → HeadFits h
+pub names_step : (h : Head) (before : List ParsedLine) (rest : List Line) → HeadFits h
     → Stands before (part h h.clock h.detail h.zones None) [] rest 3 6 → Hears before (names_rows h.names) (names_saids h.names) h [] rest 3 9
 names_step h before rest fits stands = names_by h h.names before rest fits refl stands

@@ -7,9 +7,9 @@ use Rattle.text_lines.specs.Fields.{two_fields, four_fields, five_fields, number
 use Rattle.zone_stats.specs.Name.{IsName}
 use Rattle.trace_text.specs.declared.head.NamesHead.{NamesHead}
 use Rattle.trace_text.specs.declared.head.ZoneHead.{ZoneHead}
-use Rattle.trace_text.specs.declared.trace_reading.said.Said.{Said}
-use Rattle.trace_text.specs.declared.trace_reading.said.Said.TheVariants as said
-use Rattle.trace_text.specs.declared.trace_reading.said.SecondHead.{SecondHead}
+use Rattle.trace_text.specs.declared.trace_reading.parsed_line.ParsedLine.{ParsedLine}
+use Rattle.trace_text.specs.declared.trace_reading.parsed_line.ParsedLine.TheVariants as said
+use Rattle.trace_text.specs.declared.trace_reading.parsed_line.SecondHead.{SecondHead}
 use Rattle.trace_text.specs.Limits.{IsWithin}
 use Rattle.schedule_text.specs.ScheduleGrammar.{start_in, window_in}
 use Rattle.trace_text.specs.TraceLine.{is_name, name_in, kind_in, clock_in, seven_fields, zone_in, second_in, names_in}
@@ -42,7 +42,7 @@ pub record NamesAreRead (n : NamesHead) : Type 0 where
   pub bucket : IsWithin 4 64 n.bucket
 
 -- what a header line says
-abbrev pub HeadIsRead : Said → Type 0
+abbrev pub HeadIsRead : ParsedLine → Type 0
 HeadIsRead (said.Workers count) = IsWithin 1 16 count
 HeadIsRead (said.Domains count) = IsWithin 1 4 count
 HeadIsRead (said.Clock clock) = ClockFits clock

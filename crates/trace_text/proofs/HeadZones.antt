@@ -14,7 +14,7 @@ use Rattle.trace_text.specs.declared.head.ClockHead.{ClockHead}
 use Rattle.trace_text.specs.declared.head.ZoneHead.{ZoneHead}
 use Rattle.trace_text.specs.declared.head.ZoneKind.{ZoneKind}
 use Rattle.trace_text.specs.declared.head.ZoneKind.TheVariants.{Plain, Smr}
-use Rattle.trace_text.specs.declared.trace_reading.said.SecondHead.{SecondHead}
+use Rattle.trace_text.specs.declared.trace_reading.parsed_line.SecondHead.{SecondHead}
 use Rattle.trace_text.specs.Grammar.{zone_named, primary_named, second_over, second_zone, is_smr, fills_keg}
 use Rattle.trace_text.specs.Limits.{IsWithin}
 use Rattle.trace_text.specs.Valid.{KegFits, KindFits, sharer_count}

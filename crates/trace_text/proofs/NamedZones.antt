@@ -14,7 +14,7 @@ use Rattle.std.proofs.lemmas.Slice.Eq.{bytes_eq-Decides}
 use Rattle.indexmap.specs.IndexMap.{insert_entry}
 use Rattle.indexmap.proofs.MapLemmas.{Missing, Missing-position, insert_entry-absent}
 use Rattle.trace_text.specs.declared.head.ZoneHead.{ZoneHead}
-use Rattle.trace_text.specs.declared.trace_reading.said.SecondHead.{SecondHead}
+use Rattle.trace_text.specs.declared.trace_reading.parsed_line.SecondHead.{SecondHead}
 use Rattle.trace_text.specs.Grammar.{zone_named, primary_named, second_zone, second_over}
 use Rattle.trace_text.specs.NamedZones.{AreByName}
 use Rattle.trace_text.proofs.HeadZones.{not_named}

@@ -11,9 +11,9 @@ use Rattle.trace_text.specs.declared.op.Op.{Op}
 use Rattle.trace_text.specs.declared.between.Between.{Between}
 use Rattle.trace_text.specs.declared.head.ZoneHead.{ZoneHead}
 use Rattle.trace_text.specs.declared.trace.Trace.{Trace}
-use Rattle.trace_text.specs.declared.trace_reading.said.Said.{Said}
-use Rattle.trace_text.specs.declared.trace_reading.said.Said.TheVariants as said
-use Rattle.trace_text.specs.declared.trace_reading.said.ZoneWork.{ZoneWork}
+use Rattle.trace_text.specs.declared.trace_reading.parsed_line.ParsedLine.{ParsedLine}
+use Rattle.trace_text.specs.declared.trace_reading.parsed_line.ParsedLine.TheVariants as said
+use Rattle.trace_text.specs.declared.trace_reading.parsed_line.ZoneWork.{ZoneWork}
 use Rattle.trace_text.specs.declared.trace_reading.entry.Entry.{Entry}
 use Rattle.trace_text.specs.declared.trace_reading.entry.Entry.TheVariants as entries
 use Rattle.trace_text.specs.Grammar.{and_said, entries_of, entry_in, entry_of, limit_in, between_in, is_round, last_stage, op_by, ops_in, rounds_in, sayings, version_of, workers_of, zone_named, zones_of}
@@ -67,7 +67,7 @@ spoken_few : (all : List (List ℕ)) → length (spoken all) ≤ length all
 spoken_few [] = omega arith
 spoken_few (line ∷ earlier) = spoken_by (is_skipped (fields_of line)) (record { number = length earlier + 1; fields = fields_of line }) (spoken earlier) (length earlier) (spoken_few earlier)
 
-said_by : (s : Result Said TraceKind) (before : List Said) (count : ℕ) → length before ≤ count → length (and_said s before) ≤ suc count
+said_by : (s : Result ParsedLine TraceKind) (before : List ParsedLine) (count : ℕ) → length before ≤ count → length (and_said s before) ≤ suc count
 said_by (Ok s) before count few = omega arith
 said_by (Err why) before count few = omega arith
 
@@ -86,7 +86,7 @@ one_limit : (limit : ℕ) (zone : Option ℕ) → length (limit_in limit zone) �
 one_limit limit None = omega arith
 one_limit limit (Some zone) = omega arith
 
-one_entry : (zones : List ZoneHead) (s : Said) → length (entry_of zones s) ≤ 1
+one_entry : (zones : List ZoneHead) (s : ParsedLine) → length (entry_of zones s) ≤ 1
 one_entry zones (said.Work worker op) = omega arith
 one_entry zones (said.InZone worker zone work) = in_zone worker work (zone_named zones zone)
 one_entry zones said.Round = omega arith
@@ -97,7 +97,7 @@ one_entry zones other = omega arith
 one_more : (count total more : ℕ) → total ≡ count + more → more ≤ 1 → (limit : ℕ) → count ≤ limit → total ≤ suc limit
 one_more count total more is few limit le = omega arith
 
-entries_few : (before : List Said) → length (entries_of before) ≤ length before
+entries_few : (before : List ParsedLine) → length (entries_of before) ≤ length before
 entries_few [] = omega arith
 entries_few (s ∷ before) =
     one_more (length (entries_of before)) (length (entries_of (s ∷ before))) (length (entry_of (zones_of before) s))
@@ -234,7 +234,7 @@ six lines entries before spoke spoken all whole bytes a b c d e f g = omega arit
 
 pub traces_are_no_longer : TracesAreNoLonger
 traces_are_no_longer bytes trace text =
-    let before : List Said = sayings text.spoke in
+    let before : List ParsedLine = sayings text.spoke in
     let all = text.right.all in
     let P : Trace → Type 0 = λ t. length (lines_of t.rounds) ≤ length bytes in
     let cut = lines_of_entries (workers_of before) (entries_of before) in

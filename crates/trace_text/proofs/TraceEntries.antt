@@ -18,10 +18,10 @@ use Rattle.trace_text.specs.declared.op.Op.{Op}
 use Rattle.trace_text.specs.declared.op.Op.TheVariants as ops
 use Rattle.trace_text.specs.declared.trace_reading.entry.Entry.{Entry}
 use Rattle.trace_text.specs.declared.trace_reading.entry.Entry.TheVariants as entries
-use Rattle.trace_text.specs.declared.trace_reading.said.Said.{Said}
-use Rattle.trace_text.specs.declared.trace_reading.said.Said.TheVariants as said
-use Rattle.trace_text.specs.declared.trace_reading.said.ZoneWork.{ZoneWork}
-use Rattle.trace_text.specs.declared.trace_reading.said.ZoneWork.TheVariants as works
+use Rattle.trace_text.specs.declared.trace_reading.parsed_line.ParsedLine.{ParsedLine}
+use Rattle.trace_text.specs.declared.trace_reading.parsed_line.ParsedLine.TheVariants as said
+use Rattle.trace_text.specs.declared.trace_reading.parsed_line.ZoneWork.{ZoneWork}
+use Rattle.trace_text.specs.declared.trace_reading.parsed_line.ZoneWork.TheVariants as works
 use Rattle.trace_text.specs.declared.version.Version.{Version}
 use Rattle.trace_text.specs.Grammar.{clock_after, clock_of, done, entries_of, entry_in, entry_of, finds_away, finds_filled, finds_there, head_of, last_stage, limit_in, line_of, names_after, names_of, new_zone, stage_of, version_of, work_op, workers_after, workers_of, zone_named, zones_of}
 use Rattle.trace_text.specs.Lines.{Line, Does}
@@ -37,10 +37,10 @@ use Rattle.trace_text.proofs.TraceTold.{Told}
 -- ---- the lines of the header come first
 
 -- the last line is one of the header
-abbrev pub is_in_head : List Said → Bool
+abbrev pub is_in_head : List ParsedLine → Bool
 is_in_head before = leb (rank (last_stage before)) 7
 
-none_more : (before : List Said) (s : Said) → Behind before s → (is_in_head before ≡ true → entries_of before ≡ []) → leb (rank (stage_of s)) 7 ≡ true → entries_of (s ∷ before) ≡ []
+none_more : (before : List ParsedLine) (s : ParsedLine) → Behind before s → (is_in_head before ≡ true → entries_of before ≡ []) → leb (rank (stage_of s)) 7 ≡ true → entries_of (s ∷ before) ≡ []
 none_more before (said.Uma version) b none e = absurd (let p = b.place in omega arith)
 none_more before (said.Workers count) b none e = append-nil (entries_of before) ∙ none (let place = b.place in le-leb (rank (last_stage before)) 7 (omega arith))
 none_more before (said.Domains count) b none e = append-nil (entries_of before) ∙ none (let place = b.place in le-leb (rank (last_stage before)) 7 (omega arith))
@@ -57,7 +57,7 @@ none_more before (said.SetMax zone limit) b none e = absurd cc
 none_more before said.End b none e = absurd cc
 
 -- no line below the header stands behind nothing but header lines
-pub head_has_none : (before : List Said) → Told before → is_in_head before ≡ true → entries_of before ≡ []
+pub head_has_none : (before : List ParsedLine) → Told before → is_in_head before ≡ true → entries_of before ≡ []
 head_has_none = by_lines (λ before. is_in_head before ≡ true → entries_of before ≡ []) (λ e. refl) (λ version e. refl) (λ before s t b none. none_more before s b none)
 
 -- ---- what the header says only grows
@@ -92,22 +92,22 @@ still_fits old new g (entries.Moves (Give giver slot taker slot2)) f =
 still_fits old new g (entries.Moves (SetMax zone limit)) f = let more : zone < length new.zones = let a = f.0 in let b = g.zones in omega arith in (more, f.1)
 still_fits old new g entries.Round f = tt
 
-pub clock_kept : (s : Said) (before : Option ClockHead) → IsSome before → IsSome (clock_after s before)
+pub clock_kept : (s : ParsedLine) (before : Option ClockHead) → IsSome before → IsSome (clock_after s before)
 clock_kept (said.Clock clock) before h = refl
 clock_kept other before h = h
 
-names_kept : (s : Said) (before : Option NamesHead) → IsSome before → IsSome (names_after s before)
+names_kept : (s : ParsedLine) (before : Option NamesHead) → IsSome before → IsSome (names_after s before)
 names_kept (said.Names names) before h = refl
 names_kept other before h = h
 
-grows : (before : List Said) (s : Said) → workers_of before ≡ workers_after s (workers_of before) → Grows (head_of before) (head_of (s ∷ before))
+grows : (before : List ParsedLine) (s : ParsedLine) → workers_of before ≡ workers_after s (workers_of before) → Grows (head_of before) (head_of (s ∷ before))
 grows before s same =
     let more : length (zones_of before) ≤ length (zones_of before ++ new_zone (zones_of before) s) = omega (arith, length-append (zones_of before) (new_zone (zones_of before) s)) in
     record { workers = same; zones = more; clock = clock_kept s (clock_of before); names = names_kept s (names_of before) }
 
 -- ---- the line's own
 
-op_fits : (before : List Said) (worker : ℕ) (op : Op) → OpNumbersFit op → ClashesWithNone before (said.Work worker op) → OpFits (head_of before) op
+op_fits : (before : List ParsedLine) (worker : ℕ) (op : Op) → OpNumbersFit op → ClashesWithNone before (said.Work worker op) → OpFits (head_of before) op
 op_fits before worker (ops.Free slot) n c = n
 op_fits before worker ops.Enter n c = not-false (is_some (clock_of before)) c.clock
 op_fits before worker ops.Exit n c = not-false (is_some (clock_of before)) c.clock
@@ -142,7 +142,7 @@ limit_fits : (h : Head) (limit : ℕ) (o : Option ℕ) → limit ≤ 1000000 →
 limit_fits h limit None le there = All-nil (FitsHead h)
 limit_fits h limit (Some zone) le there = All-push (FitsHead h) [] (entries.Moves (SetMax zone limit)) (All-nil (FitsHead h)) (there zone refl, le)
 
-entry_fits : (before : List Said) (s : Said) → Behind before s → All (FitsHead (head_of before)) (entry_of (zones_of before) s)
+entry_fits : (before : List ParsedLine) (s : ParsedLine) → Behind before s → All (FitsHead (head_of before)) (entry_of (zones_of before) s)
 entry_fits before (said.Work worker op) b =
     All-push (FitsHead (head_of before)) [] (entries.Does worker op) (All-nil (FitsHead (head_of before))) (b.numbers.0, op_fits before worker op b.numbers.1 b.clashes)
 entry_fits before (said.InZone worker zone work) b =
@@ -157,14 +157,14 @@ entry_fits before other b = All-nil (FitsHead (head_of before))
 -- ---- all lines' own
 
 -- only a `workers` line, which stands in the header, says how many workers there are
-fit_more : (before : List Said) (s : Said) → Told before → Behind before s → All (FitsHead (head_of before)) (entries_of (s ∷ before)) → All (FitsHead (head_of (s ∷ before))) (entries_of (s ∷ before))
+fit_more : (before : List ParsedLine) (s : ParsedLine) → Told before → Behind before s → All (FitsHead (head_of before)) (entries_of (s ∷ before)) → All (FitsHead (head_of (s ∷ before))) (entries_of (s ∷ before))
 fit_more before (said.Workers count) t b fit =
     let none : entries_of (said.Workers count ∷ before) ≡ [] = append-nil (entries_of before) ∙ head_has_none before t (let place = b.place in le-leb (rank (last_stage before)) 7 (omega arith)) in
     All-same (FitsHead (head_of (said.Workers count ∷ before))) (entries_of (said.Workers count ∷ before)) [] none (All-nil (FitsHead (head_of (said.Workers count ∷ before))))
 fit_more before other t b fit =
     All-weaker (FitsHead (head_of before)) (FitsHead (head_of (other ∷ before))) (still_fits (head_of before) (head_of (other ∷ before)) (grows before other refl)) (entries_of (other ∷ before)) fit
 
-pub entries_fit : (before : List Said) → Told before → All (FitsHead (head_of before)) (entries_of before)
+pub entries_fit : (before : List ParsedLine) → Told before → All (FitsHead (head_of before)) (entries_of before)
 entries_fit =
     by_lines (λ before. All (FitsHead (head_of before)) (entries_of before)) (All-nil (FitsHead (head_of []))) (λ version. All-nil (FitsHead (head_of (said.Uma version ∷ []))))
     (λ before s t b fit. fit_more before s t b (All-append (FitsHead (head_of before)) (entries_of before) (entry_of (zones_of before) s) fit (entry_fits before s b)))
@@ -191,7 +191,7 @@ limit_known : (version : Version) (limit : ℕ) (o : Option ℕ) → changes_lim
 limit_known version limit None is = All-nil (HasEntry version)
 limit_known version limit (Some zone) is = All-push (HasEntry version) [] (entries.Moves (SetMax zone limit)) (All-nil (HasEntry version)) is
 
-entry_known : (before : List Said) (s : Said) → Behind before s → All (HasEntry (version_of before)) (entry_of (zones_of before) s)
+entry_known : (before : List ParsedLine) (s : ParsedLine) → Behind before s → All (HasEntry (version_of before)) (entry_of (zones_of before) s)
 entry_known before (said.Work worker op) b =
     All-push (HasEntry (version_of before)) [] (entries.Does worker op) (All-nil (HasEntry (version_of before))) (op_known (version_of before) worker op b.known)
 entry_known before (said.InZone worker zone work) b = in_zone_known (version_of before) worker work (zone_named (zones_of before) zone)
@@ -202,16 +202,16 @@ entry_known before (said.SetMax zone limit) b = limit_known (version_of before) 
 entry_known before other b = All-nil (HasEntry (version_of before))
 
 -- only the first line says the version
-version_kept : (before : List Said) (s : Said) → Behind before s → version_of before ≡ version_of (s ∷ before)
+version_kept : (before : List ParsedLine) (s : ParsedLine) → Behind before s → version_of before ≡ version_of (s ∷ before)
 version_kept before (said.Uma version) b = absurd (let p = b.place in omega arith)
 version_kept before other b = refl
 
-known_more : (before : List Said) (s : Said) → Behind before s → All (HasEntry (version_of before)) (entries_of before) → All (HasEntry (version_of (s ∷ before))) (entries_of (s ∷ before))
+known_more : (before : List ParsedLine) (s : ParsedLine) → Behind before s → All (HasEntry (version_of before)) (entries_of before) → All (HasEntry (version_of (s ∷ before))) (entries_of (s ∷ before))
 known_more before s b all =
     let P : Version → Type 0 = λ version. All (HasEntry version) (entries_of (s ∷ before)) in
     subst P (version_kept before s b) (All-append (HasEntry (version_of before)) (entries_of before) (entry_of (zones_of before) s) all (entry_known before s b))
 
-pub entries_known : (before : List Said) → Told before → All (HasEntry (version_of before)) (entries_of before)
+pub entries_known : (before : List ParsedLine) → Told before → All (HasEntry (version_of before)) (entries_of before)
 entries_known =
     by_lines (λ before. All (HasEntry (version_of before)) (entries_of before)) (All-nil (HasEntry (version_of []))) (λ version. All-nil (HasEntry version))
     (λ before s t b all. known_more before s b all)
@@ -242,15 +242,15 @@ begun_limit begun limit None there = absurd cc
 begun_limit begun limit (Some zone) there = refl
 
 -- a `setmax` line that is told names a zone
-limit_last : (zone : List ℕ) (limit : ℕ) (before : List Said) → Told (said.SetMax zone limit ∷ before) → begun_by false (entries_of (said.SetMax zone limit ∷ before)) ≡ true
+limit_last : (zone : List ℕ) (limit : ℕ) (before : List ParsedLine) → Told (said.SetMax zone limit ∷ before) → begun_by false (entries_of (said.SetMax zone limit ∷ before)) ≡ true
 limit_last zone limit [] t = absurd (let first = t.1 in cc)
 limit_last zone limit (last ∷ before) t =
-    let earlier : List Said = last ∷ before in
+    let earlier : List ParsedLine = last ∷ before in
     let place : Option ℕ = zone_named (zones_of earlier) zone in
     let there : is_some place ≡ true = not-false (is_some place) (behind last before (said.SetMax zone limit) t).clashes.zone in
     begun_by-append false (entries_of earlier) (limit_in limit place) ∙ begun_limit (begun_by false (entries_of earlier)) limit place there
 
-begun_last : (before : List Said) → Told before → IsWithin 9 9 (rank (last_stage before)) → begun_by false (entries_of before) ≡ true
+begun_last : (before : List ParsedLine) → Told before → IsWithin 9 9 (rank (last_stage before)) → begun_by false (entries_of before) ≡ true
 begun_last [] t e = absurd (omega arith)
 begun_last (said.Round ∷ before) t e = begun_by-append false (entries_of before) (entries.Round ∷ [])
 begun_last (said.Give giver slot taker slot2 ∷ before) t e = begun_by-append false (entries_of before) (entries.Moves (Give giver slot taker slot2) ∷ [])
@@ -265,13 +265,13 @@ limit_stands : (begun : Bool) (limit : ℕ) (o : Option ℕ) → begun ≡ true 
 limit_stands begun limit None is = tt
 limit_stands begun limit (Some zone) is = (is, tt)
 
-entry_stands : (before : List Said) (s : Said) → Told before → Behind before s → BetweensStand (begun_by false (entries_of before)) (entry_of (zones_of before) s)
+entry_stands : (before : List ParsedLine) (s : ParsedLine) → Told before → Behind before s → BetweensStand (begun_by false (entries_of before)) (entry_of (zones_of before) s)
 entry_stands before (said.Give giver slot taker slot2) t b = (begun_last before t b.place, tt)
 entry_stands before (said.SetMax zone limit) t b = limit_stands (begun_by false (entries_of before)) limit (zone_named (zones_of before) zone) (begun_last before t b.place)
 entry_stands before (said.InZone worker zone work) t b = in_zone_stands (begun_by false (entries_of before)) worker work (zone_named (zones_of before) zone)
 entry_stands before other t b = tt
 
-pub betweens_stand : (before : List Said) → Told before → BetweensStand false (entries_of before)
+pub betweens_stand : (before : List ParsedLine) → Told before → BetweensStand false (entries_of before)
 betweens_stand =
     by_lines (λ before. BetweensStand false (entries_of before)) tt (λ version. tt)
     (λ before s t b stand. stand-append false (entries_of before) (entry_of (zones_of before) s) stand (entry_stands before s t b))
@@ -299,13 +299,13 @@ limit_done : (limit : ℕ) (o : Option ℕ) (earlier : List Line) → onto (flat
 limit_done limit None earlier = refl
 limit_done limit (Some zone) earlier = refl
 
-entry_done : (zones : List ZoneHead) (s : Said) (earlier : List Line) → onto (flat_map entry_line (entry_of zones s)) earlier ≡ line_of (entry_of zones s) ++ earlier
+entry_done : (zones : List ZoneHead) (s : ParsedLine) (earlier : List Line) → onto (flat_map entry_line (entry_of zones s)) earlier ≡ line_of (entry_of zones s) ++ earlier
 entry_done zones (said.InZone worker zone work) earlier = in_zone_done worker work (zone_named zones zone) earlier
 entry_done zones (said.SetMax zone limit) earlier = limit_done limit (zone_named zones zone) earlier
 entry_done zones other earlier = refl
 
 -- what was done is what the lines below the header do
-pub done_is : (before : List Said) → onto (flat_map entry_line (entries_of before)) [] ≡ done before
+pub done_is : (before : List ParsedLine) → onto (flat_map entry_line (entries_of before)) [] ≡ done before
 done_is [] = refl
 done_is (s ∷ before) =
     let new : List Entry = entry_of (zones_of before) s in
@@ -317,7 +317,7 @@ none_held : (o : Option ℕ) → is_some o ≡ false → o ≡ None
 none_held None e = refl
 none_held (Some x) e = absurd cc
 
-op_slot_fits : (before : List Said) (worker : ℕ) (op : Op) → OpNumbersFit op → ClashesWithNone before (said.Work worker op) → SlotFits (done before) worker op
+op_slot_fits : (before : List ParsedLine) (worker : ℕ) (op : Op) → OpNumbersFit op → ClashesWithNone before (said.Work worker op) → SlotFits (done before) worker op
 op_slot_fits before worker (ops.Free slot) n c = not-false (is_some (held (done before) worker slot)) c.empty
 op_slot_fits before worker ops.Enter n c = c.opened
 op_slot_fits before worker ops.Exit n c = not-false (in_section (done before) worker) c.closed
@@ -342,7 +342,7 @@ presence_fits earlier worker (ops.DrainSeat zone) away there = away
 presence_fits earlier worker (ops.Prealloc zone items) away there = away
 presence_fits earlier worker ops.Away away there = away
 
-op_line_fits : (before : List Said) (worker : ℕ) (op : Op) → OpNumbersFit op → ClashesWithNone before (said.Work worker op) → LineFits (done before) (Does worker op)
+op_line_fits : (before : List ParsedLine) (worker : ℕ) (op : Op) → OpNumbersFit op → ClashesWithNone before (said.Work worker op) → LineFits (done before) (Does worker op)
 op_line_fits before worker op n c = (op_slot_fits before worker op n c, presence_fits (done before) worker op c.away c.there)
 
 work_line_fits : (earlier : List Line) (worker : ℕ) (name : List ℕ) (work : ZoneWork) (zone : ℕ) → finds_filled (λ w slot. is_some (held earlier w slot)) (said.InZone worker name work) ≡ false
@@ -362,7 +362,7 @@ limit_line_fits : (earlier : List Line) (limit : ℕ) (o : Option ℕ) → Lines
 limit_line_fits earlier limit None = tt
 limit_line_fits earlier limit (Some zone) = (tt, tt)
 
-entry_line_fits : (before : List Said) (s : Said) → Behind before s → LinesFit (done before) (flat_map entry_line (entry_of (zones_of before) s))
+entry_line_fits : (before : List ParsedLine) (s : ParsedLine) → Behind before s → LinesFit (done before) (flat_map entry_line (entry_of (zones_of before) s))
 entry_line_fits before (said.Work worker op) b = (op_line_fits before worker op b.numbers.1 b.clashes, tt)
 entry_line_fits before (said.InZone worker zone work) b = in_zone_line_fits (done before) worker zone work (zone_named (zones_of before) zone) b.clashes.filled b.clashes.away
 entry_line_fits before (said.SetMax zone limit) b = limit_line_fits (done before) limit (zone_named (zones_of before) zone)
@@ -371,7 +371,7 @@ entry_line_fits before (said.Give giver slot taker slot2) b =
     ((not-false (is_some (held (done before) giver slot)) b.clashes.empty, none_held (held (done before) taker slot2) to.1), tt)
 entry_line_fits before other b = tt
 
-line_more : (before : List Said) (s : Said) → Behind before s → LinesFit [] (flat_map entry_line (entries_of before)) → LinesFit [] (flat_map entry_line (entries_of (s ∷ before)))
+line_more : (before : List ParsedLine) (s : ParsedLine) → Behind before s → LinesFit [] (flat_map entry_line (entries_of before)) → LinesFit [] (flat_map entry_line (entries_of (s ∷ before)))
 line_more before s b fit =
     let old : List Line = flat_map entry_line (entries_of before) in
     let new : List Line = flat_map entry_line (entry_of (zones_of before) s) in
@@ -379,5 +379,5 @@ line_more before s b fit =
     let Q : List Line → Type 0 = λ lines. LinesFit [] lines in
     subst Q (sym (flat_map-append entry_line (entries_of before) (entry_of (zones_of before) s))) (fit-append [] old new fit (subst P (sym (done_is before)) (entry_line_fits before s b)))
 
-pub lines_fit : (before : List Said) → Told before → LinesFit [] (flat_map entry_line (entries_of before))
+pub lines_fit : (before : List ParsedLine) → Told before → LinesFit [] (flat_map entry_line (entries_of before))
 lines_fit = by_lines (λ before. LinesFit [] (flat_map entry_line (entries_of before))) tt (λ version. tt) (λ before s t b fit. line_more before s b fit)

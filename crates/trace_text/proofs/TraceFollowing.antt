@@ -9,7 +9,7 @@ use Rattle.text_lines.specs.declared.refused.LineRefused.{LineRefused}
 use Rattle.text_lines.specs.declared.refused.LineRefused.TheVariants as refusals
 use Rattle.text_lines.specs.Fields.{wrong}
 use Rattle.text_lines.specs.TextLines.{TextLine, is_ended}
-use Rattle.text_lines.specs.Taking.{Takes}
+use Rattle.text_lines.specs.Taking.{ReadsLine}
 use Rattle.trace_text.specs.declared.between.Between.TheVariants.{Give, SetMax}
 use Rattle.trace_text.specs.declared.head.ZoneHead.{ZoneHead}
 use Rattle.trace_text.specs.declared.op.Op.{Op}
@@ -17,18 +17,18 @@ use Rattle.trace_text.specs.declared.op.Op.TheVariants as ops
 use Rattle.trace_text.specs.declared.trace_reading.entry.Entry.{Entry}
 use Rattle.trace_text.specs.declared.trace_reading.entry.Entry.TheVariants as entries
 use Rattle.trace_text.specs.declared.trace_reading.reader.TraceReader.{TraceReader}
-use Rattle.trace_text.specs.declared.trace_reading.said.Said.{Said}
-use Rattle.trace_text.specs.declared.trace_reading.said.Said.TheVariants as said
-use Rattle.trace_text.specs.declared.trace_reading.said.ZoneWork.{ZoneWork}
-use Rattle.trace_text.specs.declared.trace_reading.said.ZoneWork.TheVariants as works
+use Rattle.trace_text.specs.declared.trace_reading.parsed_line.ParsedLine.{ParsedLine}
+use Rattle.trace_text.specs.declared.trace_reading.parsed_line.ParsedLine.TheVariants as said
+use Rattle.trace_text.specs.declared.trace_reading.parsed_line.ZoneWork.{ZoneWork}
+use Rattle.trace_text.specs.declared.trace_reading.parsed_line.ZoneWork.TheVariants as works
 use Rattle.trace_text.specs.declared.trace_reading.stage.Stage.TheVariants as stages
 use Rattle.trace_text.specs.declared.trace_reading.tables.Tables.{Tables}
 use Rattle.trace_text.specs.declared.version.Version.{Version}
 use Rattle.trace_text.specs.declared.version.Version.TheVariants as versions
-use Rattle.trace_text.specs.Grammar.{head_wrong, stage_of, version_after, version_of, version_or_first, workers_after, domains_after, clock_after, detail_after, names_after, new_zone, last_stage, workers_of, zones_of, entry_of, entry_in, limit_in, zone_named, line_of, done, finds_filled, finds_empty, finds_open, finds_closed, finds_away, finds_there, clash_after, is_filled_by, is_open_by, is_away_by, sayings, and_said, tells, trace_test}
+use Rattle.trace_text.specs.Grammar.{head_wrong, stage_of, version_after, version_of, version_or_first, workers_after, domains_after, clock_after, detail_after, names_after, new_zone, last_stage, workers_of, zones_of, entry_of, entry_in, limit_in, zone_named, line_of, done, finds_filled, finds_empty, finds_open, finds_closed, finds_away, finds_there, conflict_after, is_filled_by, is_open_by, is_away_by, sayings, and_said, tells, trace_test}
 use Rattle.trace_text.specs.Limits.{last_slot, slots}
 use Rattle.trace_text.specs.Reading.{held, in_section, is_away}
-use Rattle.trace_text.specs.TraceHeard.{Hears, MarksAll, clash_found}
+use Rattle.trace_text.specs.TraceHeard.{Hears, MarksAll, conflict_found}
 use Rattle.trace_text.specs.TraceKnown.{Knows, KnowsSaid, KnowsTables, is_start, is_last}
 use Rattle.trace_text.specs.TraceLine.{says, version_in}
 use Rattle.trace_text.specs.TraceShown.{slot_at, is_marked, filled_by, filled_after, opened_after, left_after, NamesFit}
@@ -45,7 +45,7 @@ SameSlots a b = (w slot : ℕ) → slot ≤ last_slot → a w slot ≡ b w slot
 abbrev pub SameWorkers : (ℕ → Bool) → (ℕ → Bool) → Type 0
 SameWorkers p q = (w : ℕ) → p w ≡ q w
 
-same_filled : (a b : ℕ → ℕ → Bool) → SameSlots a b → (n : ℕ) (s : Said) → NamesFit n s → finds_filled a s ≡ finds_filled b s
+same_filled : (a b : ℕ → ℕ → Bool) → SameSlots a b → (n : ℕ) (s : ParsedLine) → NamesFit n s → finds_filled a s ≡ finds_filled b s
 same_filled a b same n (said.Uma version) fit = refl
 same_filled a b same n (said.Workers count) fit = refl
 same_filled a b same n (said.Domains count) fit = refl
@@ -65,7 +65,7 @@ same_filled a b same n (said.Give giver slot taker slot2) fit = ap (λ x. (giver
 same_filled a b same n (said.SetMax zone limit) fit = refl
 same_filled a b same n said.End fit = refl
 
-same_empty : (a b : ℕ → ℕ → Bool) → SameSlots a b → (n : ℕ) (s : Said) → NamesFit n s → finds_empty a s ≡ finds_empty b s
+same_empty : (a b : ℕ → ℕ → Bool) → SameSlots a b → (n : ℕ) (s : ParsedLine) → NamesFit n s → finds_empty a s ≡ finds_empty b s
 same_empty a b same n (said.Uma version) fit = refl
 same_empty a b same n (said.Workers count) fit = refl
 same_empty a b same n (said.Domains count) fit = refl
@@ -108,7 +108,7 @@ open_op p q same w (ops.Prealloc zone items) = (refl, refl)
 open_op p q same w ops.Away = (same w, refl)
 open_op p q same w ops.Back = (refl, refl)
 
-same_open : (p q : ℕ → Bool) → SameWorkers p q → (s : Said) → (finds_open p s ≡ finds_open q s) × (finds_closed p s ≡ finds_closed q s)
+same_open : (p q : ℕ → Bool) → SameWorkers p q → (s : ParsedLine) → (finds_open p s ≡ finds_open q s) × (finds_closed p s ≡ finds_closed q s)
 same_open p q same (said.Uma version) = (refl, refl)
 same_open p q same (said.Workers count) = (refl, refl)
 same_open p q same (said.Domains count) = (refl, refl)
@@ -139,12 +139,12 @@ away_op p q same w (ops.Prealloc zone items) = (same w, refl)
 away_op p q same w ops.Away = (same w, refl)
 away_op p q same w ops.Back = (refl, ap not (same w))
 
-same_away : (p q : ℕ → Bool) → SameWorkers p q → (s : Said) → (finds_away p s ≡ finds_away q s) × (finds_there p s ≡ finds_there q s)
+same_away : (p q : ℕ → Bool) → SameWorkers p q → (s : ParsedLine) → (finds_away p s ≡ finds_away q s) × (finds_there p s ≡ finds_there q s)
 same_away p q same (said.Work w op) = away_op p q same w op
 same_away p q same (said.InZone w zone work) = (same w, refl)
 same_away p q same other = (refl, refl)
 
-same_found : (reader : TraceReader) (before : List Said) (n : ℕ) (s : Said) → NamesFit n s → KnowsSaid reader before → clash_found reader s ≡ clash_after before s
+same_found : (reader : TraceReader) (before : List ParsedLine) (n : ℕ) (s : ParsedLine) → NamesFit n s → KnowsSaid reader before → conflict_found reader s ≡ conflict_after before s
 same_found reader before n s fit knows =
     let filled = same_filled (slot_at reader.tables.slots.items) (is_filled_by before) knows.tables.filled n s fit in
     let empty = same_empty (slot_at reader.tables.slots.items) (is_filled_by before) knows.tables.filled n s fit in
@@ -172,7 +172,7 @@ limit_first : (limit : ℕ) (place : Option ℕ) → FirstFits (limit_in limit p
 limit_first limit None = tt
 limit_first limit (Some place) = tt
 
-first_fits : (n : ℕ) (zones : List ZoneHead) (s : Said) → NamesFit n s → FirstFits (entry_of zones s)
+first_fits : (n : ℕ) (zones : List ZoneHead) (s : ParsedLine) → NamesFit n s → FirstFits (entry_of zones s)
 first_fits n zones (said.Uma version) fit = tt
 first_fits n zones (said.Workers count) fit = tt
 first_fits n zones (said.Domains count) fit = tt
@@ -237,7 +237,7 @@ knows_none reader stage version workers domains clock detail zones names entries
 -- the first line
 pub begins : (old new : TraceReader) (number : ℕ) (fields : List (List ℕ)) (version : Version) → is_start old.stage ≡ true → version_in fields ≡ Some version
     → new ≡ record old { stage = stages.Uma; version = version }
-    → Takes trace_test Knows old number fields (Ok tt) new
+    → ReadsLine trace_test Knows old number fields (Ok tt) new
 begins old new number fields version start head is [] shown =
     let e : head_wrong (is_some (version_in fields)) ≡ None = ap (λ (o : Option Version). head_wrong (is_some o)) head in
     let P : TraceReader → Type 0 = λ r. Knows r (record { number = number; fields = fields } ∷ []) in
@@ -259,16 +259,16 @@ begins old new number fields version start head is [] shown =
 begins old new number fields version start head is (last ∷ before) shown = absurd (let some = shown.begun in cc)
 
 pub bad_head : (old new : TraceReader) (number : ℕ) (fields : List (List ℕ)) → is_start old.stage ≡ true → version_in fields ≡ None
-    → Takes trace_test Knows old number fields (Err (refusals.Kind kinds.Head)) new
+    → ReadsLine trace_test Knows old number fields (Err (refusals.Kind kinds.Head)) new
 bad_head old new number fields start head [] shown = ap (λ (o : Option Version). head_wrong (is_some o)) head
 bad_head old new number fields start head (last ∷ before) shown = absurd (let some = shown.begun in cc)
 
-pub after_end : (old new : TraceReader) (number : ℕ) (fields : List (List ℕ)) → old.stage ≡ stages.End → Takes trace_test Knows old number fields (Err (refusals.Kind kinds.After)) new
+pub after_end : (old new : TraceReader) (number : ℕ) (fields : List (List ℕ)) → old.stage ≡ stages.End → ReadsLine trace_test Knows old number fields (Err (refusals.Kind kinds.After)) new
 after_end old new number fields end [] shown = absurd (let none = shown.begun in let e = ap is_start end in cc)
 after_end old new number fields end (last ∷ before) shown =
     let ended : is_ended (last ∷ before) ≡ true = sym shown.ended ∙ ap is_last end in rw ended refl
 
-tables_next : (old new : Tables) (before : List Said) (found : List Entry) → FirstFits found → MarksAll found old new → KnowsTables old.slots.items old.sections.items old.away.items before
+tables_next : (old new : Tables) (before : List ParsedLine) (found : List Entry) → FirstFits found → MarksAll found old new → KnowsTables old.slots.items old.sections.items old.away.items before
     → ((w slot : ℕ) → slot ≤ last_slot → slot_at new.slots.items w slot ≡ is_some (held (line_of found ++ done before) w slot))
     × ((w : ℕ) → is_marked new.sections.items w ≡ in_section (line_of found ++ done before) w)
     × ((w : ℕ) → is_marked new.away.items w ≡ is_away (line_of found ++ done before) w)
@@ -287,7 +287,7 @@ tables_next old new before (e ∷ more) fits marks knows = (
 )
 
 -- the state after lines that said this, and then what it took in
-said_next : (old new : TraceReader) (before : List Said) (n : ℕ) (s : Said) → NamesFit n s → Hears s old new → KnowsSaid old before → KnowsSaid new (s ∷ before)
+said_next : (old new : TraceReader) (before : List ParsedLine) (n : ℕ) (s : ParsedLine) → NamesFit n s → Hears s old new → KnowsSaid old before → KnowsSaid new (s ∷ before)
 said_next old new before n s fit hears knows =
     let P : List ZoneHead → Type 0 = λ zones. MarksAll (entry_of zones s) old.tables new.tables in
     let tables = tables_next old.tables new.tables before (entry_of (zones_of before) s) (first_fits n (zones_of before) s fit) (subst P knows.zones hears.marks) knows.tables in
@@ -306,7 +306,7 @@ said_next old new before n s fit hears knows =
 
 -- ---- a line taken in, or refused
 
-begun_by : (s : Said) → is_start (stage_of s) ≡ false
+begun_by : (s : ParsedLine) → is_start (stage_of s) ≡ false
 begun_by (said.Uma version) = refl
 begun_by (said.Workers count) = refl
 begun_by (said.Domains count) = refl
@@ -333,25 +333,25 @@ behind_some reader [] begun unended knows P f = absurd (let none = knows.begun i
 behind_some reader (last ∷ before) begun unended knows P f = f last before (record { knows = knows.said; unended = sym knows.ended ∙ unended })
 
 -- what the fields say, by the state
-says_there : (reader : TraceReader) (before : List Said) (fields : List (List ℕ)) → KnowsSaid reader before
+says_there : (reader : TraceReader) (before : List ParsedLine) (fields : List (List ℕ)) → KnowsSaid reader before
     → says reader.version reader.stage reader.workers fields ≡ says (version_of before) (last_stage before) (workers_of before) fields
 says_there reader before fields knows = rw (knows.version, knows.stage, knows.workers) refl
 
 tested : (last : TextLine) (before : List TextLine) (line : TextLine) → is_ended (last ∷ before) ≡ false → trace_test (last ∷ before) line ≡ wrong (tells (sayings (last ∷ before)) line.fields)
 tested last before line unended = rw unended refl
 
-heard : (old new : TraceReader) (number : ℕ) (fields : List (List ℕ)) (n : ℕ) (s : Said)
-    → is_start old.stage ≡ false → is_last old.stage ≡ false → says old.version old.stage old.workers fields ≡ Ok s → NamesFit n s → clash_found old s ≡ None → Hears s old new
-    → Takes trace_test Knows old number fields (Ok tt) new
+heard : (old new : TraceReader) (number : ℕ) (fields : List (List ℕ)) (n : ℕ) (s : ParsedLine)
+    → is_start old.stage ≡ false → is_last old.stage ≡ false → says old.version old.stage old.workers fields ≡ Ok s → NamesFit n s → conflict_found old s ≡ None → Hears s old new
+    → ReadsLine trace_test Knows old number fields (Ok tt) new
 heard old new number fields n s begun unended is fit none hears lines shown =
     behind_some old lines begun unended shown (λ all. (trace_test all (record { number = number; fields = fields }) ≡ None) × Knows new (record { number = number; fields = fields } ∷ all)) (λ last before behind.
     let line : TextLine = record { number = number; fields = fields } in
-    let earlier : List Said = sayings (last ∷ before) in
+    let earlier : List ParsedLine = sayings (last ∷ before) in
     let says_it : says (version_of earlier) (last_stage earlier) (workers_of earlier) fields ≡ Ok s = sym (says_there old earlier fields behind.knows) ∙ is in
-    let no_clash : clash_after earlier s ≡ None = sym (same_found old earlier n s fit behind.knows) ∙ none in
+    let no_clash : conflict_after earlier s ≡ None = sym (same_found old earlier n s fit behind.knows) ∙ none in
     let tells_it : tells earlier fields ≡ Ok s = rw (says_it, no_clash) refl in
     let all : sayings (line ∷ last ∷ before) ≡ s ∷ earlier = ap (λ r. and_said r earlier) says_it in
-    let P : List Said → Type 0 = λ before. KnowsSaid new before in (
+    let P : List ParsedLine → Type 0 = λ before. KnowsSaid new before in (
       tested last before line behind.unended ∙ ap wrong tells_it,
       record {
         said = subst P (sym all) (said_next old new earlier n s fit hears behind.knows);
@@ -360,31 +360,31 @@ heard old new number fields n s begun unended is fit none hears lines shown =
       },
     ))
 
-pub takes : (old new : TraceReader) (number : ℕ) (fields : List (List ℕ)) (n : ℕ) (s : Said) (r : Result (Unit {0}) LineRefused)
-    → is_start old.stage ≡ false → is_last old.stage ≡ false → says old.version old.stage old.workers fields ≡ Ok s → NamesFit n s → clash_found old s ≡ None
+pub takes : (old new : TraceReader) (number : ℕ) (fields : List (List ℕ)) (n : ℕ) (s : ParsedLine) (r : Result (Unit {0}) LineRefused)
+    → is_start old.stage ≡ false → is_last old.stage ≡ false → says old.version old.stage old.workers fields ≡ Ok s → NamesFit n s → conflict_found old s ≡ None
     → OnOk r (Hears s old new) → IfErr r (λ refused. refused ≡ refusals.Memory)
-    → Takes trace_test Knows old number fields r new
+    → ReadsLine trace_test Knows old number fields r new
 takes old new number fields n s (Ok done) begun unended is fit none hears memory = heard old new number fields n s begun unended is fit none hears
 takes old new number fields n s (Err refusals.Memory) begun unended is fit none hears memory = tt
 takes old new number fields n s (Err (refusals.Kind why)) begun unended is fit none hears memory = absurd cc
 
-pub clashes : (old new : TraceReader) (number : ℕ) (fields : List (List ℕ)) (n : ℕ) (s : Said) (why : TraceKind)
-    → is_start old.stage ≡ false → is_last old.stage ≡ false → says old.version old.stage old.workers fields ≡ Ok s → NamesFit n s → clash_found old s ≡ Some why
-    → Takes trace_test Knows old number fields (Err (refusals.Kind why)) new
+pub clashes : (old new : TraceReader) (number : ℕ) (fields : List (List ℕ)) (n : ℕ) (s : ParsedLine) (why : TraceKind)
+    → is_start old.stage ≡ false → is_last old.stage ≡ false → says old.version old.stage old.workers fields ≡ Ok s → NamesFit n s → conflict_found old s ≡ Some why
+    → ReadsLine trace_test Knows old number fields (Err (refusals.Kind why)) new
 clashes old new number fields n s why begun unended is fit found lines shown =
     behind_some old lines begun unended shown (λ all. trace_test all (record { number = number; fields = fields }) ≡ Some why) (λ last before behind.
-    let earlier : List Said = sayings (last ∷ before) in
+    let earlier : List ParsedLine = sayings (last ∷ before) in
     let says_it : says (version_of earlier) (last_stage earlier) (workers_of earlier) fields ≡ Ok s = sym (says_there old earlier fields behind.knows) ∙ is in
-    let clash : clash_after earlier s ≡ Some why = sym (same_found old earlier n s fit behind.knows) ∙ found in
-    let tells_it : tells earlier fields ≡ Err why = rw (says_it, clash) refl in
+    let conflict : conflict_after earlier s ≡ Some why = sym (same_found old earlier n s fit behind.knows) ∙ found in
+    let tells_it : tells earlier fields ≡ Err why = rw (says_it, conflict) refl in
     tested last before (record { number = number; fields = fields }) behind.unended ∙ ap wrong tells_it)
 
 pub says_wrong : (old new : TraceReader) (number : ℕ) (fields : List (List ℕ)) (why : TraceKind)
     → is_start old.stage ≡ false → is_last old.stage ≡ false → says old.version old.stage old.workers fields ≡ Err why
-    → Takes trace_test Knows old number fields (Err (refusals.Kind why)) new
+    → ReadsLine trace_test Knows old number fields (Err (refusals.Kind why)) new
 says_wrong old new number fields why begun unended is lines shown =
     behind_some old lines begun unended shown (λ all. trace_test all (record { number = number; fields = fields }) ≡ Some why) (λ last before behind.
-    let earlier : List Said = sayings (last ∷ before) in
+    let earlier : List ParsedLine = sayings (last ∷ before) in
     let says_it : says (version_of earlier) (last_stage earlier) (workers_of earlier) fields ≡ Err why = sym (says_there old earlier fields behind.knows) ∙ is in
     let tells_it : tells earlier fields ≡ Err why = rw says_it refl in
     tested last before (record { number = number; fields = fields }) behind.unended ∙ ap wrong tells_it)

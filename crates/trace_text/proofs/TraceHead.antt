@@ -8,8 +8,8 @@ use Rattle.trace_text.specs.declared.head.ClockHead.{ClockHead}
 use Rattle.trace_text.specs.declared.head.Head.{Head}
 use Rattle.trace_text.specs.declared.head.NamesHead.{NamesHead}
 use Rattle.trace_text.specs.declared.head.ZoneHead.{ZoneHead}
-use Rattle.trace_text.specs.declared.trace_reading.said.Said.{Said}
-use Rattle.trace_text.specs.declared.trace_reading.said.Said.TheVariants as said
+use Rattle.trace_text.specs.declared.trace_reading.parsed_line.ParsedLine.{ParsedLine}
+use Rattle.trace_text.specs.declared.trace_reading.parsed_line.ParsedLine.TheVariants as said
 use Rattle.trace_text.specs.declared.trace_reading.stage.Stage.TheVariants as stages
 use Rattle.trace_text.specs.declared.version.Version.{Version}
 use Rattle.trace_text.specs.Grammar.{stage_of, last_stage, workers_after, workers_of, domains_after, domains_of, clock_after, clock_of, names_after, names_of, new_zone, zones_of, head_of, fills_keg, primary_named}
@@ -25,25 +25,25 @@ use Rattle.trace_text.proofs.TraceTold.{Told}
 -- ---- what a line changes
 
 -- each part of the header keeps its range from one line to the next
-workers_next : (before : List Said) (s : Said) → Behind before s → (2 ≤ rank (last_stage before) → IsWithin 1 16 (workers_of before)) → 2 ≤ rank (stage_of s) → IsWithin 1 16 (workers_after s (workers_of before))
+workers_next : (before : List ParsedLine) (s : ParsedLine) → Behind before s → (2 ≤ rank (last_stage before) → IsWithin 1 16 (workers_of before)) → 2 ≤ rank (stage_of s) → IsWithin 1 16 (workers_after s (workers_of before))
 workers_next before (said.Workers count) b h le = b.own
 workers_next before other b h le = let place = b.place in h (omega arith)
 
-domains_next : (before : List Said) (s : Said) → Behind before s → (3 ≤ rank (last_stage before) → IsWithin 1 4 (domains_of before)) → 3 ≤ rank (stage_of s) → IsWithin 1 4 (domains_after s (domains_of before))
+domains_next : (before : List ParsedLine) (s : ParsedLine) → Behind before s → (3 ≤ rank (last_stage before) → IsWithin 1 4 (domains_of before)) → 3 ≤ rank (stage_of s) → IsWithin 1 4 (domains_after s (domains_of before))
 domains_next before (said.Domains count) b h le = b.own
 domains_next before other b h le = let place = b.place in h (omega arith)
 
-clock_next : (before : List Said) (s : Said) → Behind before s → IfSome (clock_of before) ClockFits → IfSome (clock_after s (clock_of before)) ClockFits
+clock_next : (before : List ParsedLine) (s : ParsedLine) → Behind before s → IfSome (clock_of before) ClockFits → IfSome (clock_after s (clock_of before)) ClockFits
 clock_next before (said.Clock clock) b h = b.own
 clock_next before other b h = h
 
 -- before the names line there are no names
-unnamed_next : (before : List Said) (s : Said) → Behind before s → (rank (last_stage before) ≤ 6 → names_of before ≡ None) → rank (stage_of s) ≤ 6 → names_after s (names_of before) ≡ None
+unnamed_next : (before : List ParsedLine) (s : ParsedLine) → Behind before s → (rank (last_stage before) ≤ 6 → names_of before ≡ None) → rank (stage_of s) ≤ 6 → names_after s (names_of before) ≡ None
 unnamed_next before (said.Names names) b h le = absurd (omega arith)
 unnamed_next before other b h le = let place = b.place in h (omega arith)
 
 -- the zone that a line names may be named next, and all zones are right again
-zone_joins_next : (before : List Said) (s : Said) → Behind before s → Join (clock_after s (clock_of before)) (zones_of before) (new_zone (zones_of before) s)
+zone_joins_next : (before : List ParsedLine) (s : ParsedLine) → Behind before s → Join (clock_after s (clock_of before)) (zones_of before) (new_zone (zones_of before) s)
 zone_joins_next before (said.Zone zone) b = zone_joins (clock_of before) (zones_of before) zone b.own b.clashes.clock b.clashes.name b.clashes.most
 zone_joins_next before (said.Second second) b =
     let zones : List ZoneHead = zones_of before in
@@ -51,7 +51,7 @@ zone_joins_next before (said.Second second) b =
     second_joins (clock_of before) zones second (primary_named zones second.of) refl b.own b.clashes.clock b.clashes.name most.0 most.1
 zone_joins_next before other b = tt
 
-zones_next : (before : List Said) (s : Said) → Behind before s → AreRight (clock_of before) (zones_of before) → AreRight (clock_after s (clock_of before)) (zones_of before ++ new_zone (zones_of before) s)
+zones_next : (before : List ParsedLine) (s : ParsedLine) → Behind before s → AreRight (clock_of before) (zones_of before) → AreRight (clock_after s (clock_of before)) (zones_of before ++ new_zone (zones_of before) s)
 zones_next before s b right =
     join_right (clock_after s (clock_of before)) (zones_of before) (new_zone (zones_of before) s)
     (with_clock (clock_of before) (clock_after s (clock_of before)) (zones_of before) (clock_kept s (clock_of before)) right) (zone_joins_next before s b)
@@ -68,7 +68,7 @@ pub record NamesStand (clock : Option ClockHead) (zones : List ZoneHead) (n : Na
 abbrev pub NamesRight : Option ClockHead → List ZoneHead → Option NamesHead → Type 0
 NamesRight clock zones names = IfSome names (NamesStand clock zones)
 
-names_stand : (before : List Said) (n : NamesHead) → Behind before (said.Names n) → AreRight (clock_of before) (zones_of before) → NamesStand (clock_of before) (zones_of before) n
+names_stand : (before : List ParsedLine) (n : NamesHead) → Behind before (said.Names n) → AreRight (clock_of before) (zones_of before) → NamesStand (clock_of before) (zones_of before) n
 names_stand before n b right = record {
   read = b.own;
   clocked = not-false (is_some (clock_of before)) b.clashes.clock;
@@ -83,7 +83,7 @@ no_names clock zones (Some n) e = absurd cc
 no_zone_more : (clock : Option ClockHead) (zones : List ZoneHead) (names : Option NamesHead) → NamesRight clock zones names → NamesRight clock (zones ++ []) names
 no_zone_more clock zones names h = subst (λ (zs : List ZoneHead). NamesRight clock zs names) (sym (append-nil zones)) h
 
-names_next : (before : List Said) (s : Said) → Behind before s → AreRight (clock_of before) (zones_of before) → (rank (last_stage before) ≤ 6 → names_of before ≡ None)
+names_next : (before : List ParsedLine) (s : ParsedLine) → Behind before s → AreRight (clock_of before) (zones_of before) → (rank (last_stage before) ≤ 6 → names_of before ≡ None)
     → NamesRight (clock_of before) (zones_of before) (names_of before)
     → NamesRight (clock_after s (clock_of before)) (zones_of before ++ new_zone (zones_of before) s) (names_after s (names_of before))
 names_next before (said.Names n) b right unnamed h = no_zone_more (clock_of before) (zones_of before) (Some n) (names_stand before n b right)
@@ -95,7 +95,7 @@ names_next before other b right unnamed h = no_zone_more (clock_of before) (zone
 -- ---- what holds of the header behind each line
 
 -- The counts are in their ranges once their lines were said, and no names stand before the last zone.
-pub record HeadHolds (before : List Said) : Type 0 where
+pub record HeadHolds (before : List ParsedLine) : Type 0 where
   pub workers : 2 ≤ rank (last_stage before) → IsWithin 1 16 (workers_of before)
   pub domains : 3 ≤ rank (last_stage before) → IsWithin 1 4 (domains_of before)
   pub clock : IfSome (clock_of before) ClockFits
@@ -103,7 +103,7 @@ pub record HeadHolds (before : List Said) : Type 0 where
   pub names : NamesRight (clock_of before) (zones_of before) (names_of before)
   pub unnamed : rank (last_stage before) ≤ 6 → names_of before ≡ None
 
-holds_next : (before : List Said) (s : Said) → Behind before s → HeadHolds before → HeadHolds (s ∷ before)
+holds_next : (before : List ParsedLine) (s : ParsedLine) → Behind before s → HeadHolds before → HeadHolds (s ∷ before)
 holds_next before s b h = record {
   workers = workers_next before s b h.workers;
   domains = domains_next before s b h.domains;
@@ -133,7 +133,7 @@ holds_at_first version = record {
   unnamed = λ le. refl;
 }
 
-pub head_holds : (before : List Said) → Told before → HeadHolds before
+pub head_holds : (before : List ParsedLine) → Told before → HeadHolds before
 head_holds = by_lines HeadHolds holds_at_start holds_at_first (λ before s t b h. holds_next before s b h)
 
 -- ---- a whole header
@@ -167,7 +167,7 @@ zone_names_are h None e = rw e refl
 zone_names_are h (Some n) e = rw e refl
 
 -- from the `domains` line on the header is valid behind each line
-pub fits_from_holds : (before : List Said) → HeadHolds before → 3 ≤ rank (last_stage before) → HeadFits (head_of before)
+pub fits_from_holds : (before : List ParsedLine) → HeadHolds before → 3 ≤ rank (last_stage before) → HeadFits (head_of before)
 fits_from_holds before holds late =
     let h : Head = head_of before in
     let names : zone_names h ≡ all_called (zones_of before) (names_of before) = zone_names_are h (names_of before) refl in
@@ -182,6 +182,6 @@ fits_from_holds before holds late =
       most_of_a_keg = λ place within. holds.zones.shared place;
     }
 
-pub head_fits : (before : List Said) → Told before → last_stage before ≡ stages.End → HeadFits (head_of before)
+pub head_fits : (before : List ParsedLine) → Told before → last_stage before ≡ stages.End → HeadFits (head_of before)
 head_fits before told ended =
     let last : rank (last_stage before) ≡ 10 = ap rank ended in fits_from_holds before (head_holds before told) (omega arith)

@@ -8,14 +8,14 @@ use Rattle.trace_text.specs.declared.between.Between.TheVariants.{Give, SetMax}
 use Rattle.trace_text.specs.declared.head.ZoneHead.{ZoneHead}
 use Rattle.trace_text.specs.declared.head.ZoneKind.TheVariants.{Plain}
 use Rattle.trace_text.specs.declared.op.Op.TheVariants as ops
-use Rattle.trace_text.specs.declared.trace_reading.said.Said.{Said}
-use Rattle.trace_text.specs.declared.trace_reading.said.Said.TheVariants as said
-use Rattle.trace_text.specs.declared.trace_reading.said.SecondHead.{SecondHead}
-use Rattle.trace_text.specs.declared.trace_reading.said.ZoneWork.TheVariants as works
+use Rattle.trace_text.specs.declared.trace_reading.parsed_line.ParsedLine.{ParsedLine}
+use Rattle.trace_text.specs.declared.trace_reading.parsed_line.ParsedLine.TheVariants as said
+use Rattle.trace_text.specs.declared.trace_reading.parsed_line.SecondHead.{SecondHead}
+use Rattle.trace_text.specs.declared.trace_reading.parsed_line.ZoneWork.TheVariants as works
 use Rattle.trace_text.specs.declared.trace_reading.word.Word.TheVariants as words
 use Rattle.trace_text.specs.declared.trace_reading.word.HeadWord.TheVariants as heads
 use Rattle.trace_text.specs.declared.version.Version.TheVariants as versions
-use Rattle.trace_text.specs.Grammar.{clash_after, last_stage, rounds_of}
+use Rattle.trace_text.specs.Grammar.{conflict_after, last_stage, rounds_of}
 use Rattle.trace_text.specs.TraceLine.{alloc_said, may_follow, says}
 
 box : ZoneHead
@@ -25,31 +25,31 @@ second : List ℕ → SecondHead
 second name = record { name = name; of = codes "box"; bucket = 4; limit = 0; kind = Plain }
 
 -- four lines, the last one first, without a clock and with one
-four : List Said
+four : List ParsedLine
 four = said.Zone box ∷ said.Domains 1 ∷ said.Workers 1 ∷ said.Uma versions.One ∷ []
 
-five : List Said
+five : List ParsedLine
 five = said.Zone box ∷ said.Clock (record { start = 1; window = 8 }) ∷ said.Domains 1 ∷ said.Workers 1 ∷ said.Uma versions.One ∷ []
 
-asks : ℕ → Said
+asks : ℕ → ParsedLine
 asks slot = said.InZone 0 (codes "box") (works.Alloc slot 0 false)
 
 bad_lines :
     (may_follow (last_stage four) (words.Head heads.Workers) ≡ false)
     × (alloc_said 1 (codes "0" ∷ codes "box" ∷ []) ≡ Err kinds.Fields)
-    × (clash_after four (said.Work 0 ops.Enter) ≡ Some kinds.NoClock)
-    × (clash_after four (said.Work 0 (ops.Look 3)) ≡ Some kinds.NoNames)
-    × (clash_after four (said.Zone box) ≡ Some kinds.DoubleName)
-    × (clash_after four (said.InZone 0 (codes "bax") (works.Alloc 0 0 false)) ≡ Some kinds.NoZone)
-    × (clash_after (said.Work 0 ops.Enter ∷ five) (said.Work 0 ops.Enter) ≡ Some kinds.SectionOpen)
-    × (clash_after five (said.Work 0 ops.Exit) ≡ Some kinds.SectionClosed)
-    × (clash_after (said.Work 0 ops.Exit ∷ said.Work 0 ops.Enter ∷ five) (said.Work 0 ops.Enter) ≡ None)
-    × (clash_after (asks 0 ∷ four) (asks 0) ≡ Some kinds.SlotBusy)
-    × (clash_after (said.Work 0 (ops.Free 0) ∷ asks 0 ∷ four) (asks 0) ≡ None)
-    × (clash_after four (said.Work 0 (ops.Free 0)) ≡ Some kinds.SlotEmpty)
-    × (clash_after (said.Round ∷ four) (said.Give 0 0 0 0) ≡ Some kinds.SlotBusy)
-    × (clash_after (said.Give 0 0 0 7 ∷ said.Round ∷ asks 0 ∷ four) (said.Work 0 (ops.Free 0)) ≡ Some kinds.SlotEmpty)
-    × (clash_after (said.Give 0 0 0 7 ∷ said.Round ∷ asks 0 ∷ four) (said.Work 0 (ops.Free 7)) ≡ None)
+    × (conflict_after four (said.Work 0 ops.Enter) ≡ Some kinds.NoClock)
+    × (conflict_after four (said.Work 0 (ops.Look 3)) ≡ Some kinds.NoNames)
+    × (conflict_after four (said.Zone box) ≡ Some kinds.DoubleName)
+    × (conflict_after four (said.InZone 0 (codes "bax") (works.Alloc 0 0 false)) ≡ Some kinds.NoZone)
+    × (conflict_after (said.Work 0 ops.Enter ∷ five) (said.Work 0 ops.Enter) ≡ Some kinds.SectionOpen)
+    × (conflict_after five (said.Work 0 ops.Exit) ≡ Some kinds.SectionClosed)
+    × (conflict_after (said.Work 0 ops.Exit ∷ said.Work 0 ops.Enter ∷ five) (said.Work 0 ops.Enter) ≡ None)
+    × (conflict_after (asks 0 ∷ four) (asks 0) ≡ Some kinds.SlotBusy)
+    × (conflict_after (said.Work 0 (ops.Free 0) ∷ asks 0 ∷ four) (asks 0) ≡ None)
+    × (conflict_after four (said.Work 0 (ops.Free 0)) ≡ Some kinds.SlotEmpty)
+    × (conflict_after (said.Round ∷ four) (said.Give 0 0 0 0) ≡ Some kinds.SlotBusy)
+    × (conflict_after (said.Give 0 0 0 7 ∷ said.Round ∷ asks 0 ∷ four) (said.Work 0 (ops.Free 0)) ≡ Some kinds.SlotEmpty)
+    × (conflict_after (said.Give 0 0 0 7 ∷ said.Round ∷ asks 0 ∷ four) (said.Work 0 (ops.Free 7)) ≡ None)
     × (may_follow (last_stage four) words.Give ≡ false)
 unfolding four five asks box
 bad_lines = (refl, refl, refl, refl, refl, refl, refl, refl, refl, refl, refl, refl, refl, refl, refl, refl)
@@ -67,13 +67,13 @@ bad_limits :
     × (says versions.Two (last_stage (said.Round ∷ four)) 1 (lowers (codes "bax") (codes "02")) ≡ Err kinds.Number)
     × (says versions.Two (last_stage (said.Round ∷ four)) 1 (lowers (codes "bax") (codes "1000001")) ≡ Err kinds.Range)
     × (says versions.Two (last_stage (said.Round ∷ four)) 1 (lowers (codes "box") (codes "1000000")) ≡ Ok (said.SetMax (codes "box") 1000000))
-    × (clash_after (said.Round ∷ four) (said.SetMax (codes "bax") 2) ≡ Some kinds.NoZone)
-    × (clash_after (said.Round ∷ four) (said.SetMax (codes "box") 2) ≡ None)
+    × (conflict_after (said.Round ∷ four) (said.SetMax (codes "bax") 2) ≡ Some kinds.NoZone)
+    × (conflict_after (said.Round ∷ four) (said.SetMax (codes "box") 2) ≡ None)
 unfolding number_of digits lowers four box
 bad_limits = (refl, refl, refl, refl, refl, refl, refl, refl, refl, refl)
 
 -- a worker that leaves and comes back, of version 3: the slots and the section are tested before whether it is there, and a `give` may name it
-left : List Said
+left : List ParsedLine
 left = said.Work 0 ops.Away ∷ asks 0 ∷ five
 
 bad_presence :
@@ -81,36 +81,36 @@ bad_presence :
     × (says versions.Two (last_stage five) 1 (codes "back" ∷ codes "0" ∷ []) ≡ Err kinds.Word)
     × (says versions.Three (last_stage five) 1 (codes "away" ∷ codes "0" ∷ []) ≡ Ok (said.Work 0 ops.Away))
     × (says versions.Three (last_stage five) 1 (codes "back" ∷ codes "1" ∷ []) ≡ Err kinds.Range)
-    × (clash_after four (said.Work 0 ops.Away) ≡ Some kinds.NoClock)
-    × (clash_after four (said.Work 0 ops.Back) ≡ Some kinds.NoClock)
-    × (clash_after (said.Work 0 ops.Enter ∷ five) (said.Work 0 ops.Away) ≡ Some kinds.SectionOpen)
-    × (clash_after (said.Work 0 ops.Enter ∷ five) (said.Work 0 ops.Back) ≡ Some kinds.Present)
-    × (clash_after five (said.Work 0 ops.Back) ≡ Some kinds.Present)
-    × (clash_after left (said.Work 0 ops.Back) ≡ None)
-    × (clash_after left (said.Work 0 ops.Away) ≡ Some kinds.Absent)
-    × (clash_after left (said.Work 0 ops.Enter) ≡ Some kinds.Absent)
-    × (clash_after left (said.Work 0 ops.Exit) ≡ Some kinds.SectionClosed)
-    × (clash_after left (said.Work 0 (ops.Free 0)) ≡ Some kinds.Absent)
-    × (clash_after left (said.Work 0 (ops.Free 1)) ≡ Some kinds.SlotEmpty)
-    × (clash_after left (asks 0) ≡ Some kinds.SlotBusy)
-    × (clash_after left (asks 1) ≡ Some kinds.Absent)
-    × (clash_after (said.Round ∷ left) (said.Give 0 0 0 7) ≡ None)
-    × (clash_after (said.Work 0 ops.Back ∷ left) (asks 1) ≡ None)
+    × (conflict_after four (said.Work 0 ops.Away) ≡ Some kinds.NoClock)
+    × (conflict_after four (said.Work 0 ops.Back) ≡ Some kinds.NoClock)
+    × (conflict_after (said.Work 0 ops.Enter ∷ five) (said.Work 0 ops.Away) ≡ Some kinds.SectionOpen)
+    × (conflict_after (said.Work 0 ops.Enter ∷ five) (said.Work 0 ops.Back) ≡ Some kinds.Present)
+    × (conflict_after five (said.Work 0 ops.Back) ≡ Some kinds.Present)
+    × (conflict_after left (said.Work 0 ops.Back) ≡ None)
+    × (conflict_after left (said.Work 0 ops.Away) ≡ Some kinds.Absent)
+    × (conflict_after left (said.Work 0 ops.Enter) ≡ Some kinds.Absent)
+    × (conflict_after left (said.Work 0 ops.Exit) ≡ Some kinds.SectionClosed)
+    × (conflict_after left (said.Work 0 (ops.Free 0)) ≡ Some kinds.Absent)
+    × (conflict_after left (said.Work 0 (ops.Free 1)) ≡ Some kinds.SlotEmpty)
+    × (conflict_after left (asks 0) ≡ Some kinds.SlotBusy)
+    × (conflict_after left (asks 1) ≡ Some kinds.Absent)
+    × (conflict_after (said.Round ∷ left) (said.Give 0 0 0 7) ≡ None)
+    × (conflict_after (said.Work 0 ops.Back ∷ left) (asks 1) ≡ None)
 unfolding number_of digits left five four asks box
 bad_presence = (refl, refl, refl, refl, refl, refl, refl, refl, refl, refl, refl, refl, refl, refl, refl, refl, refl, refl, refl)
 
 -- seven secondary zones, and an eighth
-seven : List Said
+seven : List ParsedLine
 seven =
     said.Second (second (codes "s7")) ∷ said.Second (second (codes "s6")) ∷ said.Second (second (codes "s5")) ∷ said.Second (second (codes "s4"))
     ∷ said.Second (second (codes "s3")) ∷ said.Second (second (codes "s2")) ∷ said.Second (second (codes "s1")) ∷ four
 
-a_ninth_zone_of_a_keg : clash_after seven (said.Second (second (codes "s8"))) ≡ Some kinds.Zones
+a_ninth_zone_of_a_keg : conflict_after seven (said.Second (second (codes "s8"))) ≡ Some kinds.Zones
 unfolding seven four second box
 a_ninth_zone_of_a_keg = refl
 
 -- a secondary zone of a secondary one is none of the kind wanted
-a_second_of_a_second : clash_after (said.Second (second (codes "bag")) ∷ four) (said.Second (record { name = codes "sac"; of = codes "bag"; bucket = 4; limit = 0; kind = Plain })) ≡ Some kinds.NoZone
+a_second_of_a_second : conflict_after (said.Second (second (codes "bag")) ∷ four) (said.Second (record { name = codes "sac"; of = codes "bag"; bucket = 4; limit = 0; kind = Plain })) ≡ Some kinds.NoZone
 unfolding four second box
 a_second_of_a_second = refl
 

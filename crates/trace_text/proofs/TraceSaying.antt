@@ -12,10 +12,10 @@ use Rattle.text_lines.specs.TextLines.{is_end}
 use Rattle.text_lines.proofs.Numbers.{IsNumber-from_number_of}
 use Rattle.trace_text.specs.declared.op.Op.{Op}
 use Rattle.trace_text.specs.declared.op.Op.TheVariants as ops
-use Rattle.trace_text.specs.declared.trace_reading.said.Said.{Said}
-use Rattle.trace_text.specs.declared.trace_reading.said.Said.TheVariants as said
-use Rattle.trace_text.specs.declared.trace_reading.said.ZoneWork.{ZoneWork}
-use Rattle.trace_text.specs.declared.trace_reading.said.ZoneWork.TheVariants as works
+use Rattle.trace_text.specs.declared.trace_reading.parsed_line.ParsedLine.{ParsedLine}
+use Rattle.trace_text.specs.declared.trace_reading.parsed_line.ParsedLine.TheVariants as said
+use Rattle.trace_text.specs.declared.trace_reading.parsed_line.ZoneWork.{ZoneWork}
+use Rattle.trace_text.specs.declared.trace_reading.parsed_line.ZoneWork.TheVariants as works
 use Rattle.trace_text.specs.declared.trace_reading.stage.Stage.{Stage}
 use Rattle.trace_text.specs.declared.trace_reading.word.HeadWord.{HeadWord}
 use Rattle.trace_text.specs.declared.trace_reading.word.HeadWord.TheVariants as heads
@@ -38,7 +38,7 @@ use Rattle.schedule_text.proofs.Steps.{bound, step, any, where_true, is_some_val
 -- ---- what is told of a line by what it says
 
 -- the first and the last place in the order of a text that the line before may have
-abbrev pub earliest : Said → ℕ
+abbrev pub earliest : ParsedLine → ℕ
 earliest (said.Uma version) = 1
 earliest (said.Workers count) = 1
 earliest (said.Domains count) = 2
@@ -46,7 +46,7 @@ earliest (said.Give giver slot taker slot2) = 9
 earliest (said.SetMax zone limit) = 9
 earliest other = 3
 
-abbrev pub latest : Said → ℕ
+abbrev pub latest : ParsedLine → ℕ
 latest (said.Uma version) = 0
 latest (said.Workers count) = 1
 latest (said.Domains count) = 2
@@ -58,14 +58,14 @@ latest (said.Names names) = 6
 latest other = 9
 
 -- where it may stand
-abbrev pub follows : Stage → Said → Bool
+abbrev pub follows : Stage → ParsedLine → Bool
 follows stage s = is_within (earliest s) (latest s) stage
 
 -- it stands behind one of this stage
-abbrev pub StandsBehind : Stage → Said → Type 0
+abbrev pub StandsBehind : Stage → ParsedLine → Type 0
 StandsBehind stage s = IsWithin (earliest s) (latest s) (rank stage)
 
-pub stands_behind : (stage : Stage) (s : Said) → follows stage s ≡ true → StandsBehind stage s
+pub stands_behind : (stage : Stage) (s : ParsedLine) → follows stage s ≡ true → StandsBehind stage s
 stands_behind stage s e =
     let both = and_parts (leb (earliest s) (rank stage)) (leb (rank stage) (latest s)) e in (leb-true (earliest s) (rank stage) both.0, leb-true (rank stage) (latest s) both.1)
 
@@ -88,7 +88,7 @@ WorkNumbersFit (works.Prealloc items) = items ≤ 262144
 WorkNumbersFit other = Unit {0}
 
 -- of so many workers, those that the line names are some, and its other numbers are in their ranges
-abbrev pub NumbersFit : ℕ → Said → Type 0
+abbrev pub NumbersFit : ℕ → ParsedLine → Type 0
 NumbersFit workers (said.Work worker op) = (worker < workers) × OpNumbersFit op
 NumbersFit workers (said.InZone worker zone work) = (worker < workers) × WorkNumbersFit work
 NumbersFit workers (said.Give giver slot taker slot2) = (giver < workers) × (slot ≤ last_slot) × (taker < workers) × (slot2 ≤ last_slot)
@@ -96,13 +96,13 @@ NumbersFit workers (said.SetMax zone limit) = limit ≤ 1000000
 NumbersFit workers other = Unit {0}
 
 -- the version has a line that says this
-abbrev pub is_known_saying : Version → Said → Bool
+abbrev pub is_known_saying : Version → ParsedLine → Bool
 is_known_saying version (said.SetMax zone limit) = changes_limits version
 is_known_saying version (said.Work worker ops.Away) = lets_leave version
 is_known_saying version (said.Work worker ops.Back) = lets_leave version
 is_known_saying version other = true
 
-pub record SaysRight (version : Version) (stage : Stage) (workers : ℕ) (fields : List (List ℕ)) (s : Said) : Type 0 where
+pub record SaysRight (version : Version) (stage : Stage) (workers : ℕ) (fields : List (List ℕ)) (s : ParsedLine) : Type 0 where
   pub known : is_known_saying version s ≡ true
   pub place : StandsBehind stage s
   pub ends : is_end fields ≡ is_last (stage_of s)
@@ -131,7 +131,7 @@ abbrev is_end_word : Word → Bool
 is_end_word words.End = true
 is_end_word word = false
 
-record SaidBy (workers : ℕ) (word : Word) (rest : List (List ℕ)) (s : Said) : Type 0 where
+record SaidBy (workers : ℕ) (word : Word) (rest : List (List ℕ)) (s : ParsedLine) : Type 0 where
   known : (version : Version) → is_known_saying version s ≡ is_known version word
   place : (stage : Stage) → follows stage s ≡ may_follow stage word
   ends : is_last (stage_of s) ≡ ends_line (is_end_word word) rest
@@ -309,7 +309,7 @@ word_is_end first =
 
 -- ---- the line
 
-pub says_right : (version : Version) (stage : Stage) (workers : ℕ) (fields : List (List ℕ)) (s : Said) → says version stage workers fields ≡ Ok s → SaysRight version stage workers fields s
+pub says_right : (version : Version) (stage : Stage) (workers : ℕ) (fields : List (List ℕ)) (s : ParsedLine) → says version stage workers fields ≡ Ok s → SaysRight version stage workers fields s
 says_right version stage workers [] s e = absurd cc
 says_right version stage workers (first ∷ rest) s e =
     let a = bound (word_or_wrong (word_named first)) (λ word. known (is_known version word) >>= λ is. (placed (may_follow stage word) >>= λ fits. said_by workers word rest)) s e in

@@ -6,11 +6,11 @@ use Rattle.text_lines.specs.declared.refused.TraceKind.{TraceKind}
 use Rattle.text_lines.specs.declared.refused.TraceKind.TheVariants as kinds
 use Rattle.text_lines.specs.Fields.{wrong}
 use Rattle.text_lines.specs.TextLines.{TextLine, Test, AreRight, IsRightText, fields_of, is_allowed, is_end, is_ended, is_skipped, spoken}
-use Rattle.trace_text.specs.declared.trace_reading.said.Said.{Said}
+use Rattle.trace_text.specs.declared.trace_reading.parsed_line.ParsedLine.{ParsedLine}
 use Rattle.trace_text.specs.declared.trace_reading.stage.Stage.{Stage}
 use Rattle.trace_text.specs.declared.trace_reading.stage.Stage.TheVariants as stages
 use Rattle.trace_text.specs.declared.version.Version.{Version}
-use Rattle.trace_text.specs.Grammar.{and_said, clash_after, head_wrong, last_stage, or_clash, sayings, stage_of, tells, trace_test, version_of, version_or_first, workers_of}
+use Rattle.trace_text.specs.Grammar.{and_said, conflict_after, head_wrong, last_stage, or_clash, sayings, stage_of, tells, trace_test, version_of, version_or_first, workers_of}
 use Rattle.trace_text.specs.TraceKnown.{is_last}
 use Rattle.trace_text.specs.TraceLine.{says, version_in}
 use Rattle.schedule_text.proofs.Steps.{bound}
@@ -45,7 +45,7 @@ not_wrong : {A : Type 0} (r : Result A TraceKind) → wrong r ≡ None → (x : 
 not_wrong (Ok x) e = (x, refl)
 not_wrong (Err why) e = absurd cc
 
-no_clash : (o : Option TraceKind) (x s : Said) → or_clash o x ≡ Ok s → (o ≡ None) × (x ≡ s)
+no_clash : (o : Option TraceKind) (x s : ParsedLine) → or_clash o x ≡ Ok s → (o ≡ None) × (x ≡ s)
 no_clash None x s e = (refl, cc)
 no_clash (Some why) x s e = absurd cc
 
@@ -54,38 +54,38 @@ not_after true o e = absurd cc
 not_after false o e = e
 
 -- of a line behind others
-pub record SaidBehind (last : TextLine) (before : List TextLine) (line : TextLine) (s : Said) : Type 0 where
+pub record SaidBehind (last : TextLine) (before : List TextLine) (line : TextLine) (s : ParsedLine) : Type 0 where
   pub says_it : says (version_of (sayings (last ∷ before))) (last_stage (sayings (last ∷ before))) (workers_of (sayings (last ∷ before))) line.fields ≡ Ok s
-  pub fits : clash_after (sayings (last ∷ before)) s ≡ None
+  pub fits : conflict_after (sayings (last ∷ before)) s ≡ None
   pub all : sayings (line ∷ last ∷ before) ≡ s ∷ sayings (last ∷ before)
 
-tells_parts : (before : List Said) (fields : List (List ℕ)) (s : Said) → tells before fields ≡ Ok s → (says (version_of before) (last_stage before) (workers_of before) fields ≡ Ok s) × (clash_after before s ≡ None)
+tells_parts : (before : List ParsedLine) (fields : List (List ℕ)) (s : ParsedLine) → tells before fields ≡ Ok s → (says (version_of before) (last_stage before) (workers_of before) fields ≡ Ok s) × (conflict_after before s ≡ None)
 tells_parts before fields s e =
-    let b = bound (says (version_of before) (last_stage before) (workers_of before) fields) (λ x. or_clash (clash_after before x) x) s e in
-    let c = no_clash (clash_after before b.0) b.0 s b.2 in
-    let P : Said → Type 0 = λ x. (says (version_of before) (last_stage before) (workers_of before) fields ≡ Ok x) × (clash_after before x ≡ None) in
+    let b = bound (says (version_of before) (last_stage before) (workers_of before) fields) (λ x. or_clash (conflict_after before x) x) s e in
+    let c = no_clash (conflict_after before b.0) b.0 s b.2 in
+    let P : ParsedLine → Type 0 = λ x. (says (version_of before) (last_stage before) (workers_of before) fields ≡ Ok x) × (conflict_after before x ≡ None) in
     subst P c.1 (b.1, c.0)
 
-pub said_behind : (last : TextLine) (before : List TextLine) (line : TextLine) → trace_test (last ∷ before) line ≡ None → (s : Said) × SaidBehind last before line s
+pub said_behind : (last : TextLine) (before : List TextLine) (line : TextLine) → trace_test (last ∷ before) line ≡ None → (s : ParsedLine) × SaidBehind last before line s
 said_behind last before line e =
-    let earlier : List Said = sayings (last ∷ before) in
+    let earlier : List ParsedLine = sayings (last ∷ before) in
     let told = not_wrong (tells earlier line.fields) (not_after (is_ended (last ∷ before)) (wrong (tells earlier line.fields)) e) in
     let parts = tells_parts earlier line.fields told.0 told.1 in
     (told.0, record { says_it = parts.0; fits = parts.1; all = ap (λ r. and_said r earlier) parts.0 })
 
 -- ---- all lines
 
-and_said_some : (r : Result Said TraceKind) (earlier : List Said) → (earlier ≡ [] → ⊥) → and_said r earlier ≡ [] → ⊥
+and_said_some : (r : Result ParsedLine TraceKind) (earlier : List ParsedLine) → (earlier ≡ [] → ⊥) → and_said r earlier ≡ [] → ⊥
 and_said_some (Ok s) earlier some e = cc
 and_said_some (Err why) earlier some e = some e
 
 sayings_some : (line : TextLine) (before : List TextLine) → sayings (line ∷ before) ≡ [] → ⊥
 sayings_some line [] e = cc
 sayings_some line (last ∷ before) e =
-    let earlier : List Said = sayings (last ∷ before) in
+    let earlier : List ParsedLine = sayings (last ∷ before) in
     and_said_some (says (version_of earlier) (last_stage earlier) (workers_of earlier) line.fields) earlier (sayings_some last before) e
 
-told_next : (earlier : List Said) (s : Said) → (earlier ≡ [] → ⊥) → IsSaid earlier s → clash_after earlier s ≡ None → Told earlier → Told (s ∷ earlier)
+told_next : (earlier : List ParsedLine) (s : ParsedLine) → (earlier ≡ [] → ⊥) → IsSaid earlier s → conflict_after earlier s ≡ None → Told earlier → Told (s ∷ earlier)
 told_next [] s some is fits t = absurd (some refl)
 told_next (last ∷ before) s some is fits t = (is, fits, t)
 
@@ -95,7 +95,7 @@ passing_told (line ∷ []) p = (version_or_first (version_in line.fields), refl)
 passing_told (line ∷ last ∷ before) p =
     let b = said_behind last before line p.0 in
     let is : IsSaid (sayings (last ∷ before)) b.0 = record { fields = line.fields; says_it = b.1.says_it } in
-    let P : List Said → Type 0 = λ all. Told all in
+    let P : List ParsedLine → Type 0 = λ all. Told all in
     subst P (sym b.1.all) (told_next (sayings (last ∷ before)) b.0 (sayings_some last before) is b.1.fits (passing_told (last ∷ before) p.1))
 
 -- ---- the last line
@@ -114,7 +114,7 @@ end_stage_is stages.Works e = absurd cc
 end_stage_is stages.Between e = absurd cc
 
 -- a line says `end` where it is an `end` line
-pub end_is_told : (version : Version) (stage : Stage) (workers : ℕ) (fields : List (List ℕ)) (s : Said) → says version stage workers fields ≡ Ok s → is_end fields ≡ is_last (stage_of s)
+pub end_is_told : (version : Version) (stage : Stage) (workers : ℕ) (fields : List (List ℕ)) (s : ParsedLine) → says version stage workers fields ≡ Ok s → is_end fields ≡ is_last (stage_of s)
 end_is_told version stage workers fields s e = (says_right version stage workers fields s e).ends
 
 pub head_no_end : (fields : List (List ℕ)) → head_wrong (is_some (version_in fields)) ≡ None → is_end fields ≡ false
@@ -128,8 +128,8 @@ ended_is_told [] p = refl
 ended_is_told (line ∷ []) p = head_no_end line.fields p.0
 ended_is_told (line ∷ last ∷ before) p =
     let b = said_behind last before line p.0 in
-    let earlier : List Said = sayings (last ∷ before) in
-    end_is_told (version_of earlier) (last_stage earlier) (workers_of earlier) line.fields b.0 b.1.says_it ∙ sym (ap (λ (all : List Said). is_last (last_stage all)) b.1.all)
+    let earlier : List ParsedLine = sayings (last ∷ before) in
+    end_is_told (version_of earlier) (last_stage earlier) (workers_of earlier) line.fields b.0 b.1.says_it ∙ sym (ap (λ (all : List ParsedLine). is_last (last_stage all)) b.1.all)
 
 pub ended_where_end : (lines : List TextLine) → Passes trace_test lines → (is_ended lines ≡ true) ↔ (last_stage (sayings lines) ≡ stages.End)
 ended_where_end lines p =

@@ -4,11 +4,11 @@ use Rattle.std.specs.Prelude.{◌&&◌, not}
 use Rattle.text_lines.specs.declared.refused.TraceKind.{TraceKind}
 use Rattle.text_lines.specs.declared.refused.TraceKind.TheVariants as kinds
 use Rattle.trace_text.specs.declared.head.ZoneHead.{ZoneHead}
-use Rattle.trace_text.specs.declared.trace_reading.said.Said.{Said}
-use Rattle.trace_text.specs.Grammar.{needs_clock, needs_names, takes_name, lacks_zone, passes_most, finds_filled, finds_empty, finds_open, finds_closed, finds_away, finds_there, clash}
+use Rattle.trace_text.specs.declared.trace_reading.parsed_line.ParsedLine.{ParsedLine}
+use Rattle.trace_text.specs.Grammar.{needs_clock, needs_names, takes_name, lacks_zone, passes_most, finds_filled, finds_empty, finds_open, finds_closed, finds_away, finds_there, conflict}
 
 -- a line that fails none of the tests
-pub record IsClear (has_clock has_names : Bool) (zones : List ZoneHead) (is_filled : ℕ → ℕ → Bool) (is_open is_away : ℕ → Bool) (s : Said) : Type 0 where
+pub record IsClear (has_clock has_names : Bool) (zones : List ZoneHead) (is_filled : ℕ → ℕ → Bool) (is_open is_away : ℕ → Bool) (s : ParsedLine) : Type 0 where
   pub clock : (needs_clock s && not has_clock) ≡ false
   pub names : (needs_names s && not has_names) ≡ false
   pub name : takes_name zones s ≡ false
@@ -21,8 +21,8 @@ pub record IsClear (has_clock has_names : Bool) (zones : List ZoneHead) (is_fill
   pub away : finds_away is_away s ≡ false
   pub there : finds_there is_away s ≡ false
 
-pub no_clash : (has_clock has_names : Bool) (zones : List ZoneHead) (is_filled : ℕ → ℕ → Bool) (is_open is_away : ℕ → Bool) (s : Said)
-    → IsClear has_clock has_names zones is_filled is_open is_away s → clash has_clock has_names zones is_filled is_open is_away s ≡ None
+pub no_clash : (has_clock has_names : Bool) (zones : List ZoneHead) (is_filled : ℕ → ℕ → Bool) (is_open is_away : ℕ → Bool) (s : ParsedLine)
+    → IsClear has_clock has_names zones is_filled is_open is_away s → conflict has_clock has_names zones is_filled is_open is_away s ≡ None
 no_clash has_clock has_names zones is_filled is_open is_away s clear =
     rw (clear.clock, clear.names, clear.name, clear.zone, clear.most, clear.filled, clear.empty, clear.opened, clear.closed, clear.away, clear.there) refl
 
@@ -30,8 +30,8 @@ passed : (failed : Bool) (why : TraceKind) (more : Option TraceKind) → cond fa
 passed true why more e = absurd cc
 passed false why more e = (refl, e)
 
-pub clear_without_clash : (has_clock has_names : Bool) (zones : List ZoneHead) (is_filled : ℕ → ℕ → Bool) (is_open is_away : ℕ → Bool) (s : Said)
-    → clash has_clock has_names zones is_filled is_open is_away s ≡ None → IsClear has_clock has_names zones is_filled is_open is_away s
+pub clear_without_clash : (has_clock has_names : Bool) (zones : List ZoneHead) (is_filled : ℕ → ℕ → Bool) (is_open is_away : ℕ → Bool) (s : ParsedLine)
+    → conflict has_clock has_names zones is_filled is_open is_away s ≡ None → IsClear has_clock has_names zones is_filled is_open is_away s
 clear_without_clash has_clock has_names zones is_filled is_open is_away s e =
     let a = passed (needs_clock s && not has_clock) kinds.NoClock _ e in
     let b = passed (needs_names s && not has_names) kinds.NoNames _ a.1 in

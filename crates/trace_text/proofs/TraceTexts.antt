@@ -4,7 +4,7 @@ use Rattle.text_lines.specs.Taking.{ShowsText}
 use Rattle.text_lines.specs.TextLines.{TextLine}
 use Rattle.text_lines.proofs.OneVerdict.{one_right_reading}
 use Rattle.trace_text.specs.declared.trace.Trace.{Trace}
-use Rattle.trace_text.specs.declared.trace_reading.said.Said.{Said}
+use Rattle.trace_text.specs.declared.trace_reading.parsed_line.ParsedLine.{ParsedLine}
 use Rattle.trace_text.specs.Grammar.{IsTraceText, entries_of, head_of, sayings, trace_of, trace_test, version_of, workers_of}
 use Rattle.trace_text.specs.TraceLaws.{TextsAreOfOneTrace, TextsAreOfValidTraces}
 use Rattle.trace_text.specs.declared.trace_reading.reader.TraceReader.{TraceReader}
@@ -22,7 +22,7 @@ one_trace bytes trace other x y =
 
 pub valid_trace : TextsAreOfValidTraces
 valid_trace bytes trace text =
-    let before : List Said = sayings text.spoke in
+    let before : List ParsedLine = sayings text.spoke in
     let all = told bytes text.spoke text.right in
     let fit = entries_fit before all.0 in
     let lines = lines_still_fit (head_of before) (entries_of before) fit (betweens_stand before all.0) (lines_fit before all.0) in
@@ -36,7 +36,7 @@ valid_trace bytes trace text =
     })
 
 -- the state after the lines of a right text is that of the text's trace
-trace_same : (reader : TraceReader) (before : List Said) → KnowsSaid reader before → trace_by reader ≡ trace_of before
+trace_same : (reader : TraceReader) (before : List ParsedLine) → KnowsSaid reader before → trace_by reader ≡ trace_of before
 trace_same reader before k = rw (k.version, k.workers, k.domains, k.clock, k.detail, k.zones, k.names, k.entries) refl
 
 pub read_trace : (bytes : List ℕ) (reader : TraceReader) (trace : Trace) → ShowsText trace_test Knows bytes reader → trace ≡ trace_by reader → IsTraceText bytes trace

@@ -4,7 +4,7 @@ use Rattle.text_lines.specs.declared.refused.TraceKind.{TraceKind}
 use Rattle.text_lines.specs.declared.refused.TraceKind.TheVariants as kinds
 use Rattle.text_lines.specs.Fields.{◌>>=◌}
 use Rattle.text_lines.specs.TextLines.{fields_of}
-use Rattle.trace_text.specs.declared.trace_reading.said.Said.{Said}
+use Rattle.trace_text.specs.declared.trace_reading.parsed_line.ParsedLine.{ParsedLine}
 use Rattle.trace_text.specs.declared.trace_reading.stage.Stage.{Stage}
 use Rattle.trace_text.specs.declared.trace_reading.word.Word.{Word}
 use Rattle.trace_text.specs.declared.trace_reading.word.Word.TheVariants as words
@@ -16,7 +16,7 @@ use Rattle.trace_text.specs.TraceWord.{word_from}
 
 -- ---- the word, and then what is behind it
 
-abbrev behind : Version → Stage → ℕ → Word × List (List ℕ) → Result Said TraceKind
+abbrev behind : Version → Stage → ℕ → Word × List (List ℕ) → Result ParsedLine TraceKind
 behind version stage workers x = do
   is ← known (is_known version x.0)
   fits ← placed (may_follow stage x.0)

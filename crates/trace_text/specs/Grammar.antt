@@ -23,11 +23,11 @@ use Rattle.trace_text.specs.declared.version.Version.{Version}
 use Rattle.trace_text.specs.declared.version.Version.TheVariants as versions
 use Rattle.trace_text.specs.declared.trace_reading.entry.Entry.{Entry}
 use Rattle.trace_text.specs.declared.trace_reading.entry.Entry.TheVariants as entries
-use Rattle.trace_text.specs.declared.trace_reading.said.Said.{Said}
-use Rattle.trace_text.specs.declared.trace_reading.said.Said.TheVariants as said
-use Rattle.trace_text.specs.declared.trace_reading.said.SecondHead.{SecondHead}
-use Rattle.trace_text.specs.declared.trace_reading.said.ZoneWork.{ZoneWork}
-use Rattle.trace_text.specs.declared.trace_reading.said.ZoneWork.TheVariants as works
+use Rattle.trace_text.specs.declared.trace_reading.parsed_line.ParsedLine.{ParsedLine}
+use Rattle.trace_text.specs.declared.trace_reading.parsed_line.ParsedLine.TheVariants as said
+use Rattle.trace_text.specs.declared.trace_reading.parsed_line.SecondHead.{SecondHead}
+use Rattle.trace_text.specs.declared.trace_reading.parsed_line.ZoneWork.{ZoneWork}
+use Rattle.trace_text.specs.declared.trace_reading.parsed_line.ZoneWork.TheVariants as works
 use Rattle.trace_text.specs.declared.trace_reading.stage.Stage.{Stage}
 use Rattle.trace_text.specs.declared.trace_reading.stage.Stage.TheVariants as stages
 use Rattle.trace_text.specs.Lines.{Line, Does, Moves}
@@ -37,7 +37,7 @@ use Rattle.trace_text.specs.Valid.{sharer_count}
 
 -- ---- what the earlier lines said: the header
 
-abbrev pub stage_of : Said → Stage
+abbrev pub stage_of : ParsedLine → Stage
 stage_of (said.Uma version) = stages.Uma
 stage_of (said.Workers count) = stages.Workers
 stage_of (said.Domains count) = stages.Domains
@@ -54,57 +54,57 @@ stage_of (said.SetMax zone limit) = stages.Between
 stage_of said.End = stages.End
 
 -- what the last line was
-abbrev pub last_stage : List Said → Stage
+abbrev pub last_stage : List ParsedLine → Stage
 last_stage [] = stages.Start
 last_stage (last ∷ before) = stage_of last
 
 -- the version
-abbrev pub version_after : Said → Version → Version
+abbrev pub version_after : ParsedLine → Version → Version
 version_after (said.Uma version) before = version
 version_after other before = before
 
-abbrev pub version_of : List Said → Version
+abbrev pub version_of : List ParsedLine → Version
 version_of [] = versions.One
 version_of (s ∷ before) = version_after s (version_of before)
 
 -- how many workers there are
-abbrev pub workers_after : Said → ℕ → ℕ
+abbrev pub workers_after : ParsedLine → ℕ → ℕ
 workers_after (said.Workers count) before = count
 workers_after other before = before
 
-abbrev pub workers_of : List Said → ℕ
+abbrev pub workers_of : List ParsedLine → ℕ
 workers_of [] = 0
 workers_of (s ∷ before) = workers_after s (workers_of before)
 
-abbrev pub domains_after : Said → ℕ → ℕ
+abbrev pub domains_after : ParsedLine → ℕ → ℕ
 domains_after (said.Domains count) before = count
 domains_after other before = before
 
-abbrev pub domains_of : List Said → ℕ
+abbrev pub domains_of : List ParsedLine → ℕ
 domains_of [] = 0
 domains_of (s ∷ before) = domains_after s (domains_of before)
 
-abbrev pub clock_after : Said → Option ClockHead → Option ClockHead
+abbrev pub clock_after : ParsedLine → Option ClockHead → Option ClockHead
 clock_after (said.Clock clock) before = Some clock
 clock_after other before = before
 
-abbrev pub clock_of : List Said → Option ClockHead
+abbrev pub clock_of : List ParsedLine → Option ClockHead
 clock_of [] = None
 clock_of (s ∷ before) = clock_after s (clock_of before)
 
-abbrev pub detail_after : Said → Bool → Bool
+abbrev pub detail_after : ParsedLine → Bool → Bool
 detail_after said.Detail before = true
 detail_after other before = before
 
-abbrev pub has_detail : List Said → Bool
+abbrev pub has_detail : List ParsedLine → Bool
 has_detail [] = false
 has_detail (s ∷ before) = detail_after s (has_detail before)
 
-abbrev pub names_after : Said → Option NamesHead → Option NamesHead
+abbrev pub names_after : ParsedLine → Option NamesHead → Option NamesHead
 names_after (said.Names names) before = Some names
 names_after other before = before
 
-abbrev pub names_of : List Said → Option NamesHead
+abbrev pub names_of : List ParsedLine → Option NamesHead
 names_of [] = None
 names_of (s ∷ before) = names_after s (names_of before)
 
@@ -127,17 +127,17 @@ second_zone None zones second = []
 second_zone (Some place) zones second = second_over place (slice_get zones place) second
 
 -- the zone that a line names for the first time, behind these
-abbrev pub new_zone : List ZoneHead → Said → List ZoneHead
+abbrev pub new_zone : List ZoneHead → ParsedLine → List ZoneHead
 new_zone zones (said.Zone zone) = zone ∷ []
 new_zone zones (said.Second second) = second_zone (primary_named zones second.of) zones second
 new_zone zones other = []
 
 -- the zones in order of naming
-abbrev pub zones_of : List Said → List ZoneHead
+abbrev pub zones_of : List ParsedLine → List ZoneHead
 zones_of [] = []
 zones_of (s ∷ before) = zones_of before ++ new_zone (zones_of before) s
 
-abbrev pub head_of : List Said → Head
+abbrev pub head_of : List ParsedLine → Head
 head_of before = record {
   workers = workers_of before;
   domains = domains_of before;
@@ -165,7 +165,7 @@ limit_in limit None = []
 limit_in limit (Some zone) = entries.Moves (SetMax zone limit) ∷ []
 
 -- what a line adds to those below the header
-abbrev pub entry_of : List ZoneHead → Said → List Entry
+abbrev pub entry_of : List ZoneHead → ParsedLine → List Entry
 entry_of zones (said.Work worker op) = entries.Does worker op ∷ []
 entry_of zones (said.InZone worker zone work) = entry_in worker work (zone_named zones zone)
 entry_of zones said.Round = entries.Round ∷ []
@@ -174,7 +174,7 @@ entry_of zones (said.SetMax zone limit) = limit_in limit (zone_named zones zone)
 entry_of zones other = []
 
 -- the lines below the header, in order
-abbrev pub entries_of : List Said → List Entry
+abbrev pub entries_of : List ParsedLine → List Entry
 entries_of [] = []
 entries_of (s ∷ before) = entries_of before ++ entry_of (zones_of before) s
 
@@ -186,7 +186,7 @@ line_of (entries.Moves between ∷ more) = Moves between ∷ []
 line_of (entries.Round ∷ more) = []
 
 -- the last one first
-abbrev pub done : List Said → List Line
+abbrev pub done : List ParsedLine → List Line
 done [] = []
 done (s ∷ before) = line_of (entry_of (zones_of before) s) ++ done before
 
@@ -197,7 +197,7 @@ abbrev pub is_smr : ZoneKind → Bool
 is_smr Plain = false
 is_smr Smr = true
 
-abbrev pub needs_clock : Said → Bool
+abbrev pub needs_clock : ParsedLine → Bool
 needs_clock (said.Zone zone) = is_smr zone.kind
 needs_clock (said.Second second) = is_smr second.kind
 needs_clock (said.Names names) = true
@@ -207,21 +207,21 @@ needs_clock (said.Work worker ops.Away) = true
 needs_clock (said.Work worker ops.Back) = true
 needs_clock other = false
 
-abbrev pub needs_names : Said → Bool
+abbrev pub needs_names : ParsedLine → Bool
 needs_names (said.Work worker (ops.Bind key value)) = true
 needs_names (said.Work worker (ops.Unbind key)) = true
 needs_names (said.Work worker (ops.Look key)) = true
 needs_names other = false
 
 -- a name given before
-abbrev pub takes_name : List ZoneHead → Said → Bool
+abbrev pub takes_name : List ZoneHead → ParsedLine → Bool
 takes_name zones (said.Zone zone) = is_some (zone_named zones zone.name)
 takes_name zones (said.Second second) = is_some (zone_named zones second.name)
 takes_name zones (said.Names names) = is_some (zone_named zones names.name)
 takes_name zones other = false
 
 -- a zone that isn't there, or none of the kind wanted
-abbrev pub lacks_zone : List ZoneHead → Said → Bool
+abbrev pub lacks_zone : List ZoneHead → ParsedLine → Bool
 lacks_zone zones (said.Second second) = not (is_some (primary_named zones second.of))
 lacks_zone zones (said.InZone worker zone work) = not (is_some (zone_named zones zone))
 lacks_zone zones (said.SetMax zone limit) = not (is_some (zone_named zones zone))
@@ -233,43 +233,43 @@ fills_keg zones None = false
 fills_keg zones (Some primary) = nat_le 7 (sharer_count zones primary)
 
 -- a ninth zone of a keg, or a seventeenth zone, that of the names among them
-abbrev pub passes_most : List ZoneHead → Said → Bool
+abbrev pub passes_most : List ZoneHead → ParsedLine → Bool
 passes_most zones (said.Zone zone) = nat_le 16 (length zones)
 passes_most zones (said.Second second) = nat_le 16 (length zones) || fills_keg zones (primary_named zones second.of)
 passes_most zones (said.Names names) = nat_le 16 (length zones)
 passes_most zones other = false
 
 -- A filled slot is to be filled. A `give` from a slot to itself counts as this.
-abbrev pub finds_filled : (ℕ → ℕ → Bool) → Said → Bool
+abbrev pub finds_filled : (ℕ → ℕ → Bool) → ParsedLine → Bool
 finds_filled is_filled (said.InZone worker zone (works.Alloc slot arg reserve)) = is_filled worker slot
 finds_filled is_filled (said.Give giver slot taker slot2) = (giver == taker && slot == slot2) || is_filled taker slot2
 finds_filled is_filled other = false
 
 -- an empty slot is to be emptied
-abbrev pub finds_empty : (ℕ → ℕ → Bool) → Said → Bool
+abbrev pub finds_empty : (ℕ → ℕ → Bool) → ParsedLine → Bool
 finds_empty is_filled (said.Work worker (ops.Free slot)) = not (is_filled worker slot)
 finds_empty is_filled (said.Give giver slot taker slot2) = not (is_filled giver slot)
 finds_empty is_filled other = false
 
 -- the worker of an `enter` or `away` line is in a section
-abbrev pub finds_open : (ℕ → Bool) → Said → Bool
+abbrev pub finds_open : (ℕ → Bool) → ParsedLine → Bool
 finds_open is_open (said.Work worker ops.Enter) = is_open worker
 finds_open is_open (said.Work worker ops.Away) = is_open worker
 finds_open is_open other = false
 
-abbrev pub finds_closed : (ℕ → Bool) → Said → Bool
+abbrev pub finds_closed : (ℕ → Bool) → ParsedLine → Bool
 finds_closed is_open (said.Work worker ops.Exit) = not (is_open worker)
 finds_closed is_open other = false
 
 -- the worker of an operation other than `back` is away
-abbrev pub finds_away : (ℕ → Bool) → Said → Bool
+abbrev pub finds_away : (ℕ → Bool) → ParsedLine → Bool
 finds_away is_away (said.Work worker ops.Back) = false
 finds_away is_away (said.Work worker op) = is_away worker
 finds_away is_away (said.InZone worker zone work) = is_away worker
 finds_away is_away other = false
 
 -- the worker of a `back` line isn't away
-abbrev pub finds_there : (ℕ → Bool) → Said → Bool
+abbrev pub finds_there : (ℕ → Bool) → ParsedLine → Bool
 finds_there is_away (said.Work worker ops.Back) = not (is_away worker)
 finds_there is_away other = false
 
@@ -279,7 +279,7 @@ first_failed [] = None
 first_failed ((failed, kind) ∷ more) = if failed then Some kind else first_failed more
 
 -- the tests of what a line says of a worker: of its slots, of its section, and of whether it is away
-abbrev pub worker_tests : (ℕ → ℕ → Bool) → (ℕ → Bool) → (ℕ → Bool) → Said → List (Bool × TraceKind)
+abbrev pub worker_tests : (ℕ → ℕ → Bool) → (ℕ → Bool) → (ℕ → Bool) → ParsedLine → List (Bool × TraceKind)
 worker_tests is_filled is_open is_away s =
     (finds_filled is_filled s, kinds.SlotBusy)
     ∷ (finds_empty is_filled s, kinds.SlotEmpty)
@@ -290,8 +290,8 @@ worker_tests is_filled is_open is_away s =
     ∷ []
 
 -- what is wrong with a line that says this, where there are these zones, slots and sections, and workers that are away
-abbrev pub clash : Bool → Bool → List ZoneHead → (ℕ → ℕ → Bool) → (ℕ → Bool) → (ℕ → Bool) → Said → Option TraceKind
-clash has_clock has_names zones is_filled is_open is_away s = first_failed (
+abbrev pub conflict : Bool → Bool → List ZoneHead → (ℕ → ℕ → Bool) → (ℕ → Bool) → (ℕ → Bool) → ParsedLine → Option TraceKind
+conflict has_clock has_names zones is_filled is_open is_away s = first_failed (
     (needs_clock s && not has_clock, kinds.NoClock)
     ∷ (needs_names s && not has_names, kinds.NoNames)
     ∷ (takes_name zones s, kinds.DoubleName)
@@ -300,18 +300,18 @@ clash has_clock has_names zones is_filled is_open is_away s = first_failed (
     ∷ worker_tests is_filled is_open is_away s)
 
 -- whether a slot is filled, whether a worker is in a section, and whether it is away, after what was said
-abbrev pub is_filled_by : List Said → ℕ → ℕ → Bool
+abbrev pub is_filled_by : List ParsedLine → ℕ → ℕ → Bool
 is_filled_by before worker slot = is_some (held (done before) worker slot)
 
-abbrev pub is_open_by : List Said → ℕ → Bool
+abbrev pub is_open_by : List ParsedLine → ℕ → Bool
 is_open_by before worker = in_section (done before) worker
 
-abbrev pub is_away_by : List Said → ℕ → Bool
+abbrev pub is_away_by : List ParsedLine → ℕ → Bool
 is_away_by before worker = is_away (done before) worker
 
-abbrev pub clash_after : List Said → Said → Option TraceKind
-clash_after before s =
-    clash (is_some (clock_of before)) (is_some (names_of before)) (zones_of before) (is_filled_by before) (is_open_by before) (is_away_by before) s
+abbrev pub conflict_after : List ParsedLine → ParsedLine → Option TraceKind
+conflict_after before s =
+    conflict (is_some (clock_of before)) (is_some (names_of before)) (zones_of before) (is_filled_by before) (is_open_by before) (is_away_by before) s
 
 -- ---- all lines
 
@@ -321,25 +321,25 @@ version_or_first (Some version) = version
 version_or_first None = versions.One
 
 -- what these lines said, the last one first
-abbrev pub and_said : Result Said TraceKind → List Said → List Said
+abbrev pub and_said : Result ParsedLine TraceKind → List ParsedLine → List ParsedLine
 and_said (Ok s) before = s ∷ before
 and_said (Err why) before = before
 
-abbrev pub sayings : List TextLine → List Said
+abbrev pub sayings : List TextLine → List ParsedLine
 sayings [] = []
 sayings (line ∷ []) = said.Uma (version_or_first (version_in line.fields)) ∷ []
 sayings (line ∷ last ∷ before) =
     let earlier = sayings (last ∷ before) in and_said (says (version_of earlier) (last_stage earlier) (workers_of earlier) line.fields) earlier
 
-abbrev pub or_clash : Option TraceKind → Said → Result Said TraceKind
+abbrev pub or_clash : Option TraceKind → ParsedLine → Result ParsedLine TraceKind
 or_clash None s = Ok s
 or_clash (Some kind) s = Err kind
 
 -- what a line with these fields says behind lines that said this, or the first thing that is wrong with it
-abbrev pub tells : List Said → List (List ℕ) → Result Said TraceKind
+abbrev pub tells : List ParsedLine → List (List ℕ) → Result ParsedLine TraceKind
 tells before fields = do
   s ← says (version_of before) (last_stage before) (workers_of before) fields
-  or_clash (clash_after before s) s
+  or_clash (conflict_after before s) s
 
 abbrev pub head_wrong : Bool → Option TraceKind
 head_wrong is = if is then None else Some kinds.Head
@@ -377,10 +377,10 @@ rounds_in workers (part ∷ []) = record { ops = ops_in workers part; between = 
 rounds_in workers (part ∷ next ∷ parts) =
     record { ops = ops_in workers part; between = flat_map between_in next } ∷ rounds_in workers (next ∷ parts)
 
-abbrev pub rounds_of : List Said → List Round
+abbrev pub rounds_of : List ParsedLine → List Round
 rounds_of before = rounds_in (workers_of before) (slice_split is_round (entries_of before))
 
-abbrev pub trace_of : List Said → Trace
+abbrev pub trace_of : List ParsedLine → Trace
 trace_of before = record { version = version_of before; head = head_of before; rounds = rounds_of before }
 
 -- the bytes are a text of this trace

@@ -3,16 +3,16 @@ use Rattle.std.specs.Prelude.{◌≡◌, List, [], ◌∷◌, ◌++◌, Option, 
 use Rattle.text_lines.specs.declared.refused.TraceKind.{TraceKind}
 use Rattle.trace_text.specs.declared.trace_reading.entry.Entry.{Entry}
 use Rattle.trace_text.specs.declared.trace_reading.reader.TraceReader.{TraceReader}
-use Rattle.trace_text.specs.declared.trace_reading.said.Said.{Said}
+use Rattle.trace_text.specs.declared.trace_reading.parsed_line.ParsedLine.{ParsedLine}
 use Rattle.trace_text.specs.declared.trace_reading.tables.Tables.{Tables}
-use Rattle.trace_text.specs.Grammar.{stage_of, version_after, workers_after, domains_after, clock_after, detail_after, names_after, new_zone, entry_of, clash}
+use Rattle.trace_text.specs.Grammar.{stage_of, version_after, workers_after, domains_after, clock_after, detail_after, names_after, new_zone, entry_of, conflict}
 use Rattle.trace_text.specs.TraceShown.{slot_at, is_marked}
 use Rattle.trace_text.specs.TraceTables.{Marks}
 
 -- what is wrong with a line that says this, by the running state
-abbrev pub clash_found : TraceReader → Said → Option TraceKind
-clash_found reader s =
-    clash (is_some reader.clock) (is_some reader.names) reader.zones (slot_at reader.tables.slots.items) (is_marked reader.tables.sections.items) (is_marked reader.tables.away.items) s
+abbrev pub conflict_found : TraceReader → ParsedLine → Option TraceKind
+conflict_found reader s =
+    conflict (is_some reader.clock) (is_some reader.names) reader.zones (slot_at reader.tables.slots.items) (is_marked reader.tables.sections.items) (is_marked reader.tables.away.items) s
 
 -- what the header says is as it was
 pub record KeepsHead (old new : TraceReader) : Type 0 where
@@ -42,7 +42,7 @@ MarksAll [] old new = new ≡ old
 MarksAll (entry ∷ more) old new = Marks entry old new
 
 -- what a line behind the first one says is taken in
-pub record Hears (s : Said) (old new : TraceReader) : Type 0 where
+pub record Hears (s : ParsedLine) (old new : TraceReader) : Type 0 where
   pub stage : new.stage ≡ stage_of s
   pub version : new.version ≡ version_after s old.version
   pub workers : new.workers ≡ workers_after s old.workers

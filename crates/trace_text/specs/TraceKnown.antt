@@ -3,7 +3,7 @@ use Rattle.std.specs.Prelude.{ℕ, ◌≡◌, ◌≤◌, List, [], ◌∷◌, Bo
 use Rattle.std.specs.List.{slice_split}
 use Rattle.text_lines.specs.TextLines.{TextLine, is_ended}
 use Rattle.trace_text.specs.declared.trace_reading.reader.TraceReader.{TraceReader}
-use Rattle.trace_text.specs.declared.trace_reading.said.Said.{Said}
+use Rattle.trace_text.specs.declared.trace_reading.parsed_line.ParsedLine.{ParsedLine}
 use Rattle.trace_text.specs.declared.trace_reading.stage.Stage.{Stage}
 use Rattle.trace_text.specs.declared.trace_reading.stage.Stage.TheVariants as stages
 use Rattle.trace_text.specs.declared.trace.Trace.{Trace}
@@ -30,13 +30,13 @@ are_none [] = true
 are_none (last ∷ before) = false
 
 -- the tables are those after lines that said this
-pub record KnowsTables (slots sections away : List Bool) (before : List Said) : Type 0 where
+pub record KnowsTables (slots sections away : List Bool) (before : List ParsedLine) : Type 0 where
   pub filled : (w slot : ℕ) → slot ≤ last_slot → slot_at slots w slot ≡ is_filled_by before w slot
   pub opened : (w : ℕ) → is_marked sections w ≡ is_open_by before w
   pub left : (w : ℕ) → is_marked away w ≡ is_away_by before w
 
 -- the state is the one after lines that said this, the last one first
-pub record KnowsSaid (reader : TraceReader) (before : List Said) : Type 0 where
+pub record KnowsSaid (reader : TraceReader) (before : List ParsedLine) : Type 0 where
   pub stage : reader.stage ≡ last_stage before
   pub version : reader.version ≡ version_of before
   pub workers : reader.workers ≡ workers_of before

@@ -13,10 +13,10 @@ use Rattle.trace_text.specs.declared.head.ZoneHead.{ZoneHead}
 use Rattle.trace_text.specs.declared.head.ZoneKind.{ZoneKind}
 use Rattle.trace_text.specs.declared.head.ZoneKind.TheVariants.{Plain, Smr}
 use Rattle.trace_text.specs.declared.op.Op.TheVariants as ops
-use Rattle.trace_text.specs.declared.trace_reading.said.Said.{Said}
-use Rattle.trace_text.specs.declared.trace_reading.said.Said.TheVariants as said
-use Rattle.trace_text.specs.declared.trace_reading.said.SecondHead.{SecondHead}
-use Rattle.trace_text.specs.declared.trace_reading.said.ZoneWork.TheVariants as works
+use Rattle.trace_text.specs.declared.trace_reading.parsed_line.ParsedLine.{ParsedLine}
+use Rattle.trace_text.specs.declared.trace_reading.parsed_line.ParsedLine.TheVariants as said
+use Rattle.trace_text.specs.declared.trace_reading.parsed_line.SecondHead.{SecondHead}
+use Rattle.trace_text.specs.declared.trace_reading.parsed_line.ZoneWork.TheVariants as works
 use Rattle.trace_text.specs.declared.trace_reading.stage.Stage.{Stage}
 use Rattle.trace_text.specs.declared.trace_reading.stage.Stage.TheVariants as stages
 use Rattle.trace_text.specs.declared.trace_reading.word.HeadWord.{HeadWord}
@@ -211,7 +211,7 @@ names_in fields = do
   bucket ← number_within 4 64 parts.3
   Ok (record { name = name; rows = rows; slabs = slabs; bucket = bucket })
 
-abbrev pub head_said : HeadWord → List (List ℕ) → Result Said TraceKind
+abbrev pub head_said : HeadWord → List (List ℕ) → Result ParsedLine TraceKind
 head_said heads.Uma fields = Err kinds.Place
 head_said heads.Workers fields = do
   field ← one_field fields
@@ -270,7 +270,7 @@ abbrev pub arg_in : Option (List ℕ) → Result ℕ TraceKind
 arg_in None = Ok 0
 arg_in (Some field) = number_within 0 254 field
 
-abbrev pub alloc_said : ℕ → List (List ℕ) → Result Said TraceKind
+abbrev pub alloc_said : ℕ → List (List ℕ) → Result ParsedLine TraceKind
 alloc_said workers fields = do
   parts ← alloc_fields fields
   worker ← worker_in workers parts.0.0
@@ -288,7 +288,7 @@ worker_and_zone workers fields = do
   Ok (worker, zone)
 
 -- W ZONE N
-abbrev pub prealloc_said : ℕ → List (List ℕ) → Result Said TraceKind
+abbrev pub prealloc_said : ℕ → List (List ℕ) → Result ParsedLine TraceKind
 prealloc_said workers fields = do
   parts ← three_fields fields
   worker ← worker_in workers parts.0
@@ -296,7 +296,7 @@ prealloc_said workers fields = do
   items ← number_within 0 262144 parts.2
   Ok (said.InZone worker zone (works.Prealloc items))
 
-abbrev pub zone_said : ℕ → ZoneWord → List (List ℕ) → Result Said TraceKind
+abbrev pub zone_said : ℕ → ZoneWord → List (List ℕ) → Result ParsedLine TraceKind
 zone_said workers in_zone.Alloc fields = alloc_said workers fields
 zone_said workers in_zone.Trim fields = do
   parts ← worker_and_zone workers fields
@@ -324,7 +324,7 @@ worker_and_key workers fields = do
   Ok (worker, key)
 
 -- W SLOT
-abbrev pub free_said : ℕ → List (List ℕ) → Result Said TraceKind
+abbrev pub free_said : ℕ → List (List ℕ) → Result ParsedLine TraceKind
 free_said workers fields = do
   parts ← two_fields fields
   worker ← worker_in workers parts.0
@@ -332,7 +332,7 @@ free_said workers fields = do
   Ok (said.Work worker (ops.Free slot))
 
 -- W KEY VALUE
-abbrev pub bind_said : ℕ → List (List ℕ) → Result Said TraceKind
+abbrev pub bind_said : ℕ → List (List ℕ) → Result ParsedLine TraceKind
 bind_said workers fields = do
   parts ← three_fields fields
   worker ← worker_in workers parts.0
@@ -340,7 +340,7 @@ bind_said workers fields = do
   value ← number_in parts.2
   Ok (said.Work worker (ops.Bind key value))
 
-abbrev pub work_said : ℕ → WorkWord → List (List ℕ) → Result Said TraceKind
+abbrev pub work_said : ℕ → WorkWord → List (List ℕ) → Result ParsedLine TraceKind
 work_said workers by_self.Free fields = free_said workers fields
 work_said workers by_self.Enter fields = do
   worker ← only_worker workers fields
@@ -363,7 +363,7 @@ work_said workers by_self.Back fields = do
   Ok (said.Work worker ops.Back)
 
 -- W SLOT V SLOT2
-abbrev pub give_said : ℕ → List (List ℕ) → Result Said TraceKind
+abbrev pub give_said : ℕ → List (List ℕ) → Result ParsedLine TraceKind
 give_said workers fields = do
   parts ← four_fields fields
   giver ← worker_in workers parts.0
@@ -373,7 +373,7 @@ give_said workers fields = do
   Ok (said.Give giver slot taker slot2)
 
 -- ZONE N
-abbrev pub setmax_said : List (List ℕ) → Result Said TraceKind
+abbrev pub setmax_said : List (List ℕ) → Result ParsedLine TraceKind
 setmax_said fields = do
   parts ← two_fields fields
   zone ← name_in parts.0
@@ -383,7 +383,7 @@ setmax_said fields = do
 -- ---- the line
 
 -- what a line says by its word and the fields behind it, where there are so many workers
-abbrev pub said_by : ℕ → Word → List (List ℕ) → Result Said TraceKind
+abbrev pub said_by : ℕ → Word → List (List ℕ) → Result ParsedLine TraceKind
 said_by workers (words.Head word) fields = head_said word fields
 said_by workers (words.Work word) fields = work_said workers word fields
 said_by workers (words.Zone word) fields = zone_said workers word fields
@@ -397,7 +397,7 @@ said_by workers words.End fields = do
   Ok said.End
 
 -- what a line with these fields says behind the first line, or the first thing that is wrong with it
-abbrev pub says : Version → Stage → ℕ → List (List ℕ) → Result Said TraceKind
+abbrev pub says : Version → Stage → ℕ → List (List ℕ) → Result ParsedLine TraceKind
 says version stage workers [] = Err kinds.Word
 says version stage workers (first ∷ rest) = do
   word ← word_or_wrong (word_named first)

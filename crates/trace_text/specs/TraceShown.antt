@@ -5,10 +5,10 @@ use Rattle.trace_text.specs.declared.op.Op.{Op}
 use Rattle.trace_text.specs.declared.op.Op.TheVariants.{Alloc, Free}
 use Rattle.trace_text.specs.declared.trace_reading.entry.Entry.{Entry}
 use Rattle.trace_text.specs.declared.trace_reading.entry.Entry.TheVariants as entries
-use Rattle.trace_text.specs.declared.trace_reading.said.Said.{Said}
-use Rattle.trace_text.specs.declared.trace_reading.said.Said.TheVariants as said
-use Rattle.trace_text.specs.declared.trace_reading.said.ZoneWork.{ZoneWork}
-use Rattle.trace_text.specs.declared.trace_reading.said.ZoneWork.TheVariants as works
+use Rattle.trace_text.specs.declared.trace_reading.parsed_line.ParsedLine.{ParsedLine}
+use Rattle.trace_text.specs.declared.trace_reading.parsed_line.ParsedLine.TheVariants as said
+use Rattle.trace_text.specs.declared.trace_reading.parsed_line.ZoneWork.{ZoneWork}
+use Rattle.trace_text.specs.declared.trace_reading.parsed_line.ZoneWork.TheVariants as works
 use Rattle.trace_text.specs.Limits.{last_slot, most_workers, slots}
 use Rattle.trace_text.specs.Reading.{open_after, away_after}
 
@@ -58,7 +58,7 @@ WorkSlotFits (works.Alloc slot arg reserve) = slot ≤ last_slot
 WorkSlotFits work = Unit {0}
 
 -- of so many workers, those that a line names are some, and so are the slots that it names of a worker's; and a `workers` line names as many as there may be
-abbrev pub NamesFit : ℕ → Said → Type 0
+abbrev pub NamesFit : ℕ → ParsedLine → Type 0
 NamesFit workers (said.Workers count) = count ≤ most_workers
 NamesFit workers (said.Work worker op) = (worker < workers) × OpSlotFits op
 NamesFit workers (said.InZone worker zone work) = (worker < workers) × WorkSlotFits work

@@ -5,7 +5,7 @@ use Rattle.trace_worker.specs.declared.gate.Call.{Call}
 use Rattle.trace_worker.specs.declared.gate.Call.TheVariants.{Asked, Done}
 use Rattle.trace_worker.specs.declared.gate.Go.{Go}
 use Rattle.trace_worker.specs.declared.gate.Go.TheVariants as answers
-use Rattle.trace_worker.specs.declared.running.Running.{Running}
+use Rattle.trace_worker.specs.declared.worker_run.WorkerRun.{WorkerRun}
 use Rattle.trace_worker.specs.Asking.{HearsEach, HearsOne, Heard, IsAskedLast, LetsGo, Waits, heard_by, held_for}
 use Rattle.trace_worker.specs.Turn.{most_asks}
 
@@ -61,11 +61,11 @@ hears-all n place ops own was is past within same hears =
     subst (λ (k : ℕ). HearsEach n was k is) (last ∙ ap length same) hears
 
 module _ {N H C S Part : Type 0} {h : Ghosts H Part} where
-  pub hears-begun : (n : ℕ) (calls : List Call) (r : Running N H C S Part h) → calls ≡ [] → HearsEach n (heard_by [] r) 0 (heard_by calls r)
+  pub hears-begun : (n : ℕ) (calls : List Call) (r : WorkerRun N H C S Part h) → calls ≡ [] → HearsEach n (heard_by [] r) 0 (heard_by calls r)
   unfolding HearsEach
   hears-begun n calls r none = ap (λ (calls : List Call). heard_by calls r) none
 
   -- the operation leaves what was counted of the gate
-  pub told_so : (n i : ℕ) (calls told : List Call) (waited next : Running N H C S Part h) → told ≡ calls ++ Done n i ∷ [] → next.asked ≡ waited.asked → next.gave_up ≡ waited.gave_up
+  pub told_so : (n i : ℕ) (calls told : List Call) (waited next : WorkerRun N H C S Part h) → told ≡ calls ++ Done n i ∷ [] → next.asked ≡ waited.asked → next.gave_up ≡ waited.gave_up
       → heard_by told next ≡ record (heard_by calls waited) { calls = calls ++ Done n i ∷ [] }
   told_so n i calls told waited next heard asked gave_up = λ j. record { calls = heard j; asked = asked j; gave_up = gave_up j }

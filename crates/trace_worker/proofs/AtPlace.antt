@@ -5,7 +5,7 @@ use Rattle.std.specs.Prelude.{All, slice_get, slice_set, option_map}
 use Rattle.smr_clock.specs.declared.clock.Clock.{Clock}
 use Rattle.smr_clock.specs.declared.host.Host.{Ghosts}
 use Rattle.smr_clock.specs.declared.view.View.{View}
-use Rattle.smr_clock.specs.Belongs.{IsOf, clock_id, view}
+use Rattle.smr_clock.specs.Belongs.{IsPassOf, clock_id, view}
 use Rattle.uma_bucket.specs.Home.{IsHome}
 use Rattle.uma_life.specs.Live.{live_ticket}
 use Rattle.uma_seat.specs.Seat.{ledger_of, seat_domain}
@@ -20,7 +20,7 @@ use Rattle.trace_worker.specs.Live.{holding}
 use Rattle.trace_worker.specs.Performs.{Allocs, BringsIn, EntersInTime, EntersLate, FreesSlot, KeepsHolds, KeepsSection, Reclaims}
 use Rattle.trace_worker.specs.Requests.{BringsItems, Ends, IsGivenBack, Reaches, Requests}
 use Rattle.trace_worker.specs.Slots.{slot_at, filled, emptied}
-use Rattle.trace_worker.specs.Worker.{AreOfClock, Fits, HasSeats, IsHeld}
+use Rattle.trace_worker.specs.Worker.{AreOfClock, FitsZones, HasSeats, IsHeld}
 use Rattle.trace_worker.proofs.Belongs.{AreHeld, AreHeld-filled, AreHeld-emptied, HasSeats-set}
 use Rattle.trace_worker.proofs.Numbers.{below_as}
 use Rattle.trace_worker.proofs.SlotLemmas.{emptied_none}
@@ -46,7 +46,7 @@ module _ {H Part : Type 0} {h : Ghosts H Part} where
       subst P (sym is) (rooms place seat below)
 
   -- what the calls of a zone need of the worker's pass and its seat there
-  pub can_call_at : (zones : List (CountedZone H Part h)) (clock : Clock H Part) (w : Worker H Part h) (place : ℕ) (zone : CountedZone H Part h) (seat : CountedSeat H Part h) → AreOfClock clock zones → Fits zones clock w → place < length zones
+  pub can_call_at : (zones : List (CountedZone H Part h)) (clock : Clock H Part) (w : Worker H Part h) (place : ℕ) (zone : CountedZone H Part h) (seat : CountedSeat H Part h) → AreOfClock clock zones → FitsZones zones clock w → place < length zones
       → zone ≡ get_or zones place zone → seat ≡ get_or w.seats.items place seat → CanCall zone clock w.pass seat
   can_call_at zones clock w place zone seat of fits below is_zone is_seat = record {
     seat = seat_at zones w.seats.items place zone seat fits.seats below is_zone is_seat;
@@ -56,9 +56,9 @@ module _ {H Part : Type 0} {h : Ghosts H Part} where
 
   -- a worker after a request
   pub fits_alloc : (zones : List (CountedZone H Part h)) (clock : Clock H Part) (old new : Worker H Part h) (place slot : ℕ) (zone : CountedZone H Part h) (before after : CountedSeat H Part h) (ask : AllocAsk) (got : Option LiveItem)
-      → Fits zones clock old → place < length zones → zone ≡ get_or zones place zone → before ≡ get_or old.seats.items place before
-      → IsSeatOf zone after → IsOf clock new.pass → Ends zone ask before got after
-      → new.seats.items ≡ slice_set old.seats.items place after → new.slots ≡ filled old.slots slot (option_map (holding place) got) → Fits zones clock new
+      → FitsZones zones clock old → place < length zones → zone ≡ get_or zones place zone → before ≡ get_or old.seats.items place before
+      → IsSeatOf zone after → IsPassOf clock new.pass → Ends zone ask before got after
+      → new.seats.items ≡ slice_set old.seats.items place after → new.slots ≡ filled old.slots slot (option_map (holding place) got) → FitsZones zones clock new
   fits_alloc zones clock old new place slot zone before after ask got fits below is_zone is_seat is_seat_of pass ends seats slots =
       let at_zone = entry_at zones place zone below is_zone in
       let at_seat = entry_at old.seats.items place before (below_as below fits.seats.count) is_seat in
@@ -72,9 +72,9 @@ module _ {H Part : Type 0} {h : Ghosts H Part} where
 
   -- a worker after a free
   pub fits_free : (zones : List (CountedZone H Part h)) (clock : Clock H Part) (old new : Worker H Part h) (place slot : ℕ) (zone : CountedZone H Part h) (before after : CountedSeat H Part h)
-      → Fits zones clock old → place < length zones → zone ≡ get_or zones place zone → before ≡ get_or old.seats.items place before
-      → IsSeatOf zone after → IsOf clock new.pass
-      → new.seats.items ≡ slice_set old.seats.items place after → new.slots ≡ emptied old.slots slot → Fits zones clock new
+      → FitsZones zones clock old → place < length zones → zone ≡ get_or zones place zone → before ≡ get_or old.seats.items place before
+      → IsSeatOf zone after → IsPassOf clock new.pass
+      → new.seats.items ≡ slice_set old.seats.items place after → new.slots ≡ emptied old.slots slot → FitsZones zones clock new
   fits_free zones clock old new place slot zone before after fits below is_zone is_seat is_seat_of pass seats slots =
       let at_zone = entry_at zones place zone below is_zone in
       let at_seat = entry_at old.seats.items place before (below_as below fits.seats.count) is_seat in
@@ -88,9 +88,9 @@ module _ {H Part : Type 0} {h : Ghosts H Part} where
 
   -- a worker after a call of reclaim
   pub fits_reclaim : (zones : List (CountedZone H Part h)) (clock : Clock H Part) (old new : Worker H Part h) (place : ℕ) (zone : CountedZone H Part h) (before after : CountedSeat H Part h)
-      → Fits zones clock old → place < length zones → zone ≡ get_or zones place zone → before ≡ get_or old.seats.items place before
-      → IsSeatOf zone after → IsOf clock new.pass
-      → new.seats.items ≡ slice_set old.seats.items place after → new.slots ≡ old.slots → Fits zones clock new
+      → FitsZones zones clock old → place < length zones → zone ≡ get_or zones place zone → before ≡ get_or old.seats.items place before
+      → IsSeatOf zone after → IsPassOf clock new.pass
+      → new.seats.items ≡ slice_set old.seats.items place after → new.slots ≡ old.slots → FitsZones zones clock new
   fits_reclaim zones clock old new place zone before after fits below is_zone is_seat is_seat_of pass seats slots =
       let at_zone = entry_at zones place zone below is_zone in
       let at_seat = entry_at old.seats.items place before (below_as below fits.seats.count) is_seat in
@@ -103,7 +103,7 @@ module _ {H Part : Type 0} {h : Ghosts H Part} where
       }
 
   -- a worker whose seats and slots stay
-  pub fits_kept : (zones : List (CountedZone H Part h)) (clock : Clock H Part) (old new : Worker H Part h) → Fits zones clock old → IsOf clock new.pass → KeepsHolds old new → Fits zones clock new
+  pub fits_kept : (zones : List (CountedZone H Part h)) (clock : Clock H Part) (old new : Worker H Part h) → FitsZones zones clock old → IsPassOf clock new.pass → KeepsHolds old new → FitsZones zones clock new
   fits_kept zones clock old new fits pass holds =
       let P : List (CountedSeat H Part h) → Type 0 = HasSeats zones in
       let Q : List (Option Held) → Type 0 = AreHeld zones in
@@ -132,7 +132,7 @@ module _ {H Part : Type 0} {h : Ghosts H Part} where
   -- ---- what the lines do
 
   pub allocs_at : (zones : List (CountedZone H Part h)) (clock : Clock H Part) (old new : Worker H Part h) (place slot : ℕ) (zone : CountedZone H Part h) (before after : CountedSeat H Part h) (ask : AllocAsk) (got : Option LiveItem)
-      → Fits zones clock old → place < length zones → zone ≡ get_or zones place zone → before ≡ get_or old.seats.items place before
+      → FitsZones zones clock old → place < length zones → zone ≡ get_or zones place zone → before ≡ get_or old.seats.items place before
       → Requests zone ask before got after → Reaches zone (view old.pass) before after (view new.pass) → new.seats.items ≡ slice_set old.seats.items place after → new.slots ≡ filled old.slots slot (option_map (holding place) got)
       → KeepsSection old new → Allocs zones old place slot ask new
   allocs_at zones clock old new place slot zone before after ask got fits below is_zone is_seat requests reaches seats slots section = record {
@@ -150,7 +150,7 @@ module _ {H Part : Type 0} {h : Ghosts H Part} where
   }
 
   pub frees_at : (zones : List (CountedZone H Part h)) (clock : Clock H Part) (old new : Worker H Part h) (slot : ℕ) (it : Held) (zone : CountedZone H Part h) (before after : CountedSeat H Part h)
-      → Fits zones clock old → slot_at old.slots slot ≡ Some it → zone ≡ get_or zones it.zone zone → before ≡ get_or old.seats.items it.zone before
+      → FitsZones zones clock old → slot_at old.slots slot ≡ Some it → zone ≡ get_or zones it.zone zone → before ≡ get_or old.seats.items it.zone before
       → IsGivenBack zone (view old.pass) before it.item after (view new.pass) → new.seats.items ≡ slice_set old.seats.items it.zone after → new.slots ≡ emptied old.slots slot
       → KeepsSection old new → FreesSlot zones old slot new
   frees_at zones clock old new slot it zone before after fits holds is_zone is_seat gives_back seats slots section =
@@ -173,7 +173,7 @@ module _ {H Part : Type 0} {h : Ghosts H Part} where
       )
 
   pub reclaims_at : (zones : List (CountedZone H Part h)) (clock : Clock H Part) (Leaves : CountedZone H Part h → View Part → CountedSeat H Part h → CountedSeat H Part h → Type 0) (old new : Worker H Part h) (place : ℕ) (zone : CountedZone H Part h) (before after : CountedSeat H Part h)
-      → Fits zones clock old → place < length zones → zone ≡ get_or zones place zone → before ≡ get_or old.seats.items place before
+      → FitsZones zones clock old → place < length zones → zone ≡ get_or zones place zone → before ≡ get_or old.seats.items place before
       → Leaves zone (view old.pass) before after → new.seats.items ≡ slice_set old.seats.items place after → new.slots ≡ old.slots
       → KeepsSection old new → Reclaims zones Leaves old place new
   reclaims_at zones clock Leaves old new place zone before after fits below is_zone is_seat leaves seats slots section = record {
@@ -200,7 +200,7 @@ module _ {H Part : Type 0} {h : Ghosts H Part} where
   }
 
   -- an empty slot is emptied
-  pub fits_none : (zones : List (CountedZone H Part h)) (clock : Clock H Part) (old : Worker H Part h) (slot : ℕ) (slots : List (Option Held)) → Fits zones clock old → slots ≡ emptied old.slots slot → Fits zones clock (record old { slots = slots })
+  pub fits_none : (zones : List (CountedZone H Part h)) (clock : Clock H Part) (old : Worker H Part h) (slot : ℕ) (slots : List (Option Held)) → FitsZones zones clock old → slots ≡ emptied old.slots slot → FitsZones zones clock (record old { slots = slots })
   fits_none zones clock old slot slots fits is = record {
     seats = fits.seats;
     pass = fits.pass;

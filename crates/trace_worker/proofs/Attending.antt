@@ -3,18 +3,18 @@ use Rattle.std.proofs.Common.{◌≡◌, List, [], refl, sym, ap, ◌∙◌, le_
 use Rattle.smr_clock.specs.declared.clock.Clock.{Clock}
 use Rattle.smr_clock.specs.declared.host.Host.{Ghosts}
 use Rattle.smr_clock.specs.declared.view.View.{View}
-use Rattle.smr_clock.specs.Belongs.{IsOf}
+use Rattle.smr_clock.specs.Belongs.{IsPassOf}
 use Rattle.trace_worker.specs.declared.attendance.Attendance.{Attendance}
 use Rattle.trace_worker.specs.declared.attendance.Attendance.TheVariants.{There, Away}
 use Rattle.trace_worker.specs.declared.held.Held.{Held}
-use Rattle.trace_worker.specs.declared.running.Running.{Running}
+use Rattle.trace_worker.specs.declared.worker_run.WorkerRun.{WorkerRun}
 use Rattle.trace_worker.specs.declared.worker.Worker.{Worker}
 use Rattle.std.specs.Prelude.{Option}
 use Rattle.trace_worker.specs.Attendance.{is_out, with_slots_at, worker_at, worker_in}
 use Rattle.trace_worker.specs.Giving.{with_slots}
 use Rattle.trace_worker.specs.Items.{CountedZone}
 use Rattle.trace_worker.specs.Performs.{KeepsAll, KeepsHolds, KeepsSection}
-use Rattle.trace_worker.specs.Worker.{Fits}
+use Rattle.trace_worker.specs.Worker.{FitsZones}
 use Rattle.trace_worker.proofs.AtPlace.{fits_kept}
 
 module _ {H Part : Type 0} {h : Ghosts H Part} where
@@ -29,7 +29,7 @@ module _ {H Part : Type 0} {h : Ghosts H Part} where
     late = keeps.late;
   }
 
-  pub keeps_fits : (zones : List (CountedZone H Part h)) (clock : Clock H Part) (old new : Worker H Part h) → Fits zones clock old → IsOf clock new.pass → KeepsAll old new → Fits zones clock new
+  pub keeps_fits : (zones : List (CountedZone H Part h)) (clock : Clock H Part) (old new : Worker H Part h) → FitsZones zones clock old → IsPassOf clock new.pass → KeepsAll old new → FitsZones zones clock new
   keeps_fits zones clock old new fits pass keeps = fits_kept zones clock old new fits pass (keeps_holds old new keeps)
 
   -- ---- other slots
@@ -52,8 +52,8 @@ module _ {H Part : Type 0} {h : Ghosts H Part} where
 module _ {N H C S Part : Type 0} {h : Ghosts H Part} where
   -- ---- workers that are alike but for their slots
 
-  pub same_bare : (a b : Running N H C S Part h) → with_slots a [] ≡ with_slots b [] → record (worker_in a) { slots = [] } ≡ record (worker_in b) { slots = [] }
+  pub same_bare : (a b : WorkerRun N H C S Part h) → with_slots a [] ≡ with_slots b [] → record (worker_in a) { slots = [] } ≡ record (worker_in b) { slots = [] }
   same_bare a b same = sym (worker_with a.attendance []) ∙ (ap worker_in same ∙ worker_with b.attendance [])
 
-  pub same_out : (a b : Running N H C S Part h) → with_slots a [] ≡ with_slots b [] → is_out a.attendance ≡ is_out b.attendance
-  same_out a b same = sym (out_with a.attendance []) ∙ (ap (λ (r : Running N H C S Part h). is_out r.attendance) same ∙ out_with b.attendance [])
+  pub same_out : (a b : WorkerRun N H C S Part h) → with_slots a [] ≡ with_slots b [] → is_out a.attendance ≡ is_out b.attendance
+  same_out a b same = sym (out_with a.attendance []) ∙ (ap (λ (r : WorkerRun N H C S Part h). is_out r.attendance) same ∙ out_with b.attendance [])

@@ -10,7 +10,7 @@ use Rattle.trace_text.specs.declared.op.Op.TheVariants.{Alloc, Free, Enter, Exit
 use Rattle.uma_seat.specs.Seat.{ledger_of}
 use Rattle.uma_zone.specs.declared.alloc_ask.AllocAsk.{AllocAsk}
 use Rattle.uma_zone.specs.declared.alloc_ask.AllocRefused.TheVariants.{Refused}
-use Rattle.uma_zone.specs.Alloc.{Refuses}
+use Rattle.uma_zone.specs.Alloc.{AllocIsRefused}
 use Rattle.zone_stats.specs.declared.ledger.SeatLedger.{SeatLedger}
 use Rattle.zone_stats.specs.declared.refusal.Refusal.{Refusal}
 use Rattle.zone_stats.specs.declared.refusal.Refusal.TheVariants.{AtLimit, Reserved, Full, Init, Ctor}
@@ -56,7 +56,7 @@ unit b = cond b 1 0
 
 module _ {H Part : Type 0} {h : Ghosts H Part} where
   -- a refused request counts no alloc and no free
-  refused_counts : (zone : CountedZone H Part h) (ask : AllocAsk) (before after : CountedSeat H Part h) (why : Refusal) → Refuses zone ask before after (Refused why)
+  refused_counts : (zone : CountedZone H Part h) (ask : AllocAsk) (before after : CountedSeat H Part h) (why : Refusal) → AllocIsRefused zone ask before after (Refused why)
       → ((ledger_of after).allocs ≡ (ledger_of before).allocs) × ((ledger_of after).frees ≡ (ledger_of before).frees)
   refused_counts zone ask before after (Ctor code) refuses = (refuses.counted.allocs, refuses.counted.frees)
   refused_counts zone ask before after (AtLimit out limit) refuses = (refuses.counted.allocs, refuses.counted.frees)

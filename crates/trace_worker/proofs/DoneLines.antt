@@ -2,7 +2,7 @@
 use Rattle.std.proofs.Common.{◌≡◌, ◌≢◌, ℕ, ◌≤◌, inl, inr, List, ◌∷◌, false, refl, sym, ap, ◌∙◌, subst}
 use Rattle.smr_clock.specs.declared.clock.Clock.{Clock}
 use Rattle.smr_clock.specs.declared.host.Host.{Ghosts}
-use Rattle.smr_clock.specs.Belongs.{IsOf}
+use Rattle.smr_clock.specs.Belongs.{IsPassOf}
 use Rattle.trace_text.specs.declared.op.Op.{Op}
 use Rattle.trace_text.specs.declared.op.Op.TheVariants.{Alloc, Free, Enter, Exit, Prealloc, Bind, Unbind, Look, Trim, Drain, DrainSeat, Away, Back}
 use Rattle.trace_text.specs.Lines.{Line, Does}
@@ -10,8 +10,8 @@ use Rattle.trace_text.specs.Valid.{comes_back}
 use Rattle.trace_worker.specs.declared.attendance.Attendance.{Attendance}
 use Rattle.trace_worker.specs.declared.attendance.Attendance.TheVariants.{There}
 use Rattle.trace_worker.specs.declared.name_calls.NameCalls.{Ghosts as NameGhosts}
-use Rattle.trace_worker.specs.declared.naming.Naming.{Naming}
-use Rattle.trace_worker.specs.declared.running.Running.{Running}
+use Rattle.trace_worker.specs.declared.name_work.NameWork.{NameWork}
+use Rattle.trace_worker.specs.declared.worker_run.WorkerRun.{WorkerRun}
 use Rattle.trace_worker.specs.declared.worker.Worker.{Worker}
 use Rattle.trace_worker.specs.Attendance.{is_out, worker_at}
 use Rattle.trace_worker.specs.Items.{CountedZone}
@@ -26,7 +26,7 @@ use Rattle.trace_worker.proofs.SeenSteps.{seen_step}
 use Rattle.trace_worker.proofs.StandSteps.{stand_step, stands_find, stands_late, stands_look, stands_quiet}
 
 module _ {N H C S Part : Type 0} {h : Ghosts H Part} (names : NameGhosts N H C S Part) (cache : C) (zones : List (CountedZone H Part h)) where
-  looks_stand : (clock : Clock H Part) (n key : ℕ) (lines : List Line) (old new : Doing N H C S Part h) → IsOf clock old.worker.pass → LooksLine names cache old key new
+  looks_stand : (clock : Clock H Part) (n key : ℕ) (lines : List Line) (old new : Doing N H C S Part h) → IsPassOf clock old.worker.pass → LooksLine names cache old key new
       → Stands zones clock n lines old.worker → Stands zones clock n (Does n (Look key) ∷ lines) new.worker
   looks_stand clock n key lines old new of (inl step) stands = stands_find zones clock n key lines old.worker new.worker step.inside step.holds step.section stands
   looks_stand clock n key lines old new of (inr (inl step)) stands = stands_look zones clock n key lines old.worker new.worker step.outside step.phase step.holds step.seen step.entered step.late stands
@@ -49,7 +49,7 @@ module _ {N H C S Part : Type 0} {h : Ghosts H Part} (names : NameGhosts N H C S
     pub balances : (z : ℕ) → Balances z old.worker new.worker
     pub seen : seen_of old.worker ≤ seen_of new.worker
 
-  performed : (clock : Clock H Part) (n : ℕ) (op : Op) (lines : List Line) (old new : Doing N H C S Part h) → IsOf clock old.worker.pass → CanPerform zones old.worker op → Performs zones old.worker op new.worker
+  performed : (clock : Clock H Part) (n : ℕ) (op : Op) (lines : List Line) (old new : Doing N H C S Part h) → IsPassOf clock old.worker.pass → CanPerform zones old.worker op → Performs zones old.worker op new.worker
       → Stands zones clock n lines old.worker → Leaves clock n op lines old new
   performed clock n op lines old new of can step stands = record {
     stands = stand_step zones clock n op lines old.worker new.worker of can step stands;
@@ -65,7 +65,7 @@ module _ {N H C S Part : Type 0} {h : Ghosts H Part} (names : NameGhosts N H C S
     seen = (keeps_section old.worker new.worker step.keeps).seen;
   }
 
-  pub line_step : (clock : Clock H Part) (n : ℕ) (op : Op) (lines : List Line) (old new : Doing N H C S Part h) → IsOf clock old.worker.pass → CanDo names zones old.worker op → Changes names cache zones old op new
+  pub line_step : (clock : Clock H Part) (n : ℕ) (op : Op) (lines : List Line) (old new : Doing N H C S Part h) → IsPassOf clock old.worker.pass → CanDo names zones old.worker op → Changes names cache zones old op new
       → Stands zones clock n lines old.worker → Leaves clock n op lines old new
   line_step clock n (Bind key value) lines old new of can step stands = record {
     stands = stands_quiet zones clock n (Bind key value) lines old.worker new.worker (λ z. refl) (λ z. refl) (λ slot o. refl) refl (λ b. refl) step.holds step.section stands;
@@ -101,7 +101,7 @@ module _ {N H C S Part : Type 0} {h : Ghosts H Part} (names : NameGhosts N H C S
 
   -- ---- a worker that is there and stays
 
-  there_line : (op : Op) (old new : Worker H Part h) (naming naming' : Naming N H C S Part) → op ≢ Away → op ≢ Back → false ≡ comes_back op
+  there_line : (op : Op) (old new : Worker H Part h) (naming naming' : NameWork N H C S Part) → op ≢ Away → op ≢ Back → false ≡ comes_back op
       → Acts names cache zones (doing_there old naming) op (doing_there new naming') → DoesLine names cache zones (doing_there old naming) op (doing_there new naming')
   there_line (Alloc zone slot arg reserve) old new naming naming' here stays was acts = record { changes = acts; was = was; is = refl }
   there_line (Free slot) old new naming naming' here stays was acts = record { changes = acts; was = was; is = refl }
@@ -117,7 +117,7 @@ module _ {N H C S Part : Type 0} {h : Ghosts H Part} (names : NameGhosts N H C S
   there_line Away old new naming naming' here stays was acts = absurd (here refl)
   there_line Back old new naming naming' here stays was acts = absurd (stays refl)
 
-  pub acts_there : (r : Running N H C S Part h) (op : Op) (old new : Worker H Part h) (naming : Naming N H C S Part) → op ≢ Away → op ≢ Back → r.attendance ≡ There old → is_out r.attendance ≡ comes_back op
+  pub acts_there : (r : WorkerRun N H C S Part h) (op : Op) (old new : Worker H Part h) (naming : NameWork N H C S Part) → op ≢ Away → op ≢ Back → r.attendance ≡ There old → is_out r.attendance ≡ comes_back op
       → Acts names cache zones (doing_there old r.naming) op (doing_there new naming) → DoesLine names cache zones (doing r) op (doing_there new naming)
   acts_there r op old new naming here stays is was acts =
       let of : Attendance H Part h → Doing N H C S Part h = λ a. record { worker = worker_at a; naming = r.naming; out = is_out a } in

@@ -11,7 +11,7 @@ use Rattle.trace_text.specs.Lines.{Line, Moves}
 use Rattle.trace_text.specs.Reading.{held}
 use Rattle.uma_seat.specs.Seat.{ledger_of}
 use Rattle.trace_worker.specs.declared.held.Held.{Held}
-use Rattle.trace_worker.specs.declared.running.Running.{Running}
+use Rattle.trace_worker.specs.declared.worker_run.WorkerRun.{WorkerRun}
 use Rattle.trace_worker.specs.declared.worker.Worker.{Worker}
 use Rattle.trace_worker.specs.Attendance.{worker_in}
 use Rattle.trace_worker.specs.Giving.{Gives, MovesOn, PutsInto, TakesFrom, with_slots}
@@ -19,7 +19,7 @@ use Rattle.trace_worker.specs.Items.{CountedZone}
 use Rattle.trace_worker.specs.Slots.{slot_at, filled, with_held, emptied}
 use Rattle.trace_worker.specs.Stands.{NamesZone, Stands}
 use Rattle.trace_worker.specs.Together.{AllStand, crew}
-use Rattle.trace_worker.specs.Worker.{Fits, IsHeld, phase_of}
+use Rattle.trace_worker.specs.Worker.{FitsZones, IsHeld, phase_of}
 use Rattle.trace_worker.proofs.Attending.{slots_with, worker_with}
 use Rattle.trace_worker.proofs.Belongs.{AreHeld, AreHeld-with}
 use Rattle.trace_worker.proofs.GiveSums.{adds_up_on, crew_at, live_gives, rest_gives, worker_of}
@@ -30,8 +30,8 @@ use Rattle.trace_worker.proofs.SlotLemmas.{slot_at-with_same, slot_at-with_other
 
 module _ {N H C S Part : Type 0} {h : Ghosts H Part} where
   -- all workers fit and stand for these lines, by their place
-  abbrev AllAt : List (CountedZone H Part h) → Clock H Part → List Line → List (Running N H C S Part h) → Type 0
-  AllAt zones clock lines workers = (n : ℕ) (d : Running N H C S Part h) → n < length workers → Fits zones clock (worker_in (get_or workers n d)) × Stands zones clock n lines (worker_in (get_or workers n d))
+  abbrev AllAt : List (CountedZone H Part h) → Clock H Part → List Line → List (WorkerRun N H C S Part h) → Type 0
+  AllAt zones clock lines workers = (n : ℕ) (d : WorkerRun N H C S Part h) → n < length workers → FitsZones zones clock (worker_in (get_or workers n d)) × Stands zones clock n lines (worker_in (get_or workers n d))
 
 -- what is known of the slots of each worker, as a function
 abbrev Reads : List Line → ℕ → List (Option Held) → Type 0
@@ -40,8 +40,8 @@ Reads lines n slots = (slot : ℕ) (it : Held) → slot_at slots slot ≡ Some i
 module _ {H Part : Type 0} {h : Ghosts H Part} where
   -- other slots in a worker that fits and stands
   moved : (zones : List (CountedZone H Part h)) (clock : Clock H Part) (n : ℕ) (lines : List Line) (giver from taker to : ℕ) (w : Worker H Part h) (slots : List (Option Held))
-      → Fits zones clock w × Stands zones clock n lines w → AreHeld zones slots → length slots ≤ 65536 → Reads (Moves (Give giver from taker to) ∷ lines) n slots
-      → Fits zones clock (record w { slots = slots }) × Stands zones clock n (Moves (Give giver from taker to) ∷ lines) (record w { slots = slots })
+      → FitsZones zones clock w × Stands zones clock n lines w → AreHeld zones slots → length slots ≤ 65536 → Reads (Moves (Give giver from taker to) ∷ lines) n slots
+      → FitsZones zones clock (record w { slots = slots }) × Stands zones clock n (Moves (Give giver from taker to) ∷ lines) (record w { slots = slots })
   moved zones clock n lines giver from taker to w slots was are few reads =
       let line : Line = Moves (Give giver from taker to) in (
         record { seats = was.0.seats; pass = was.0.pass; slots = are },
@@ -87,15 +87,15 @@ module _ {N H C S Part : Type 0} {h : Ghosts H Part} where
   -- ---- the taking
 
   -- the workers without what was taken stand for the lines as before
-  taken : (zones : List (CountedZone H Part h)) (clock : Clock H Part) (lines : List Line) (n slot : ℕ) (old between : List (Running N H C S Part h)) (got : Option Held) → TakesFrom n slot old got between
+  taken : (zones : List (CountedZone H Part h)) (clock : Clock H Part) (lines : List Line) (n slot : ℕ) (old between : List (WorkerRun N H C S Part h)) (got : Option Held) → TakesFrom n slot old got between
       → AllAt zones clock lines old → AllAt zones clock lines between
   taken zones clock lines n slot old between got takes all m d below =
       let before = takes.sets.before in
-      let after : Running N H C S Part h = with_slots before (emptied (worker_in before).slots slot) in
+      let after : WorkerRun N H C S Part h = with_slots before (emptied (worker_in before).slots slot) in
       let size : length between ≡ length old = ap length takes.sets.set ∙ length-set old n after in
       let within : m < length old = below_as below (sym size) in
-      let F : Running N H C S Part h → Type 0 = λ r. Fits zones clock (worker_in r) × Stands zones clock m lines (worker_in r) in
-      let G : List (Running N H C S Part h) → Type 0 = λ list. F (get_or list m d) in
+      let F : WorkerRun N H C S Part h → Type 0 = λ r. FitsZones zones clock (worker_in r) × Stands zones clock m lines (worker_in r) in
+      let G : List (WorkerRun N H C S Part h) → Type 0 = λ list. F (get_or list m d) in
       subst G (sym takes.sets.set) (elim (cases_eq m n) [
         | inl same ↦
             let was : F before = subst F (takes.sets.at d) (let I : ℕ → Type 0 = λ i. F (get_or old i d) in subst I same (all m d within)) in
@@ -106,7 +106,7 @@ module _ {N H C S Part : Type 0} {h : Ghosts H Part} where
                   absurd (none-some it (sym (slot_at-emptied_same (worker_in before).slots slot) ∙ subst P here found))
               | inr apart ↦ sym (slot_at-emptied_other (worker_in before).slots slot at apart) ∙ found
             ]) in
-            let G' : Worker H Part h → Type 0 = λ w. Fits zones clock w × Stands zones clock m lines w in
+            let G' : Worker H Part h → Type 0 = λ w. FitsZones zones clock w × Stands zones clock m lines w in
             let now : F after = subst G' (sym (worker_with before.attendance (emptied (worker_in before).slots slot))) (
               record { seats = was.0.seats; pass = was.0.pass; slots = λ at it found. was.0.slots at it (less at it found) },
               record {
@@ -159,36 +159,36 @@ module _ {H Part : Type 0} {h : Ghosts H Part} where
   put_held zones lines giver from to slots None was are = are
 
 module _ {N H C S Part : Type 0} {h : Ghosts H Part} where
-  put : (zones : List (CountedZone H Part h)) (clock : Clock H Part) (lines : List Line) (giver from taker to : ℕ) (between new : List (Running N H C S Part h)) (got : Option Held) → PutsInto taker to got between new
+  put : (zones : List (CountedZone H Part h)) (clock : Clock H Part) (lines : List Line) (giver from taker to : ℕ) (between new : List (WorkerRun N H C S Part h)) (got : Option Held) → PutsInto taker to got between new
       → WasHeld zones lines giver from got → taker < length between → to ≤ 65535
-      → ((d : Running N H C S Part h) → slot_at (worker_in (get_or between giver d)).slots from ≡ None) → ((d : Running N H C S Part h) → slot_at (worker_in (get_or between taker d)).slots to ≡ None)
+      → ((d : WorkerRun N H C S Part h) → slot_at (worker_in (get_or between giver d)).slots from ≡ None) → ((d : WorkerRun N H C S Part h) → slot_at (worker_in (get_or between taker d)).slots to ≡ None)
       → AllAt zones clock lines between → AllAt zones clock (Moves (Give giver from taker to) ∷ lines) new
   put zones clock lines giver from taker to between new got puts was within least gone empty all m d below =
       let before = puts.sets.before in
       let slots = (worker_in before).slots in
-      let after : Running N H C S Part h = with_slots before (filled slots to got) in
+      let after : WorkerRun N H C S Part h = with_slots before (filled slots to got) in
       let size : length new ≡ length between = ap length puts.sets.set ∙ length-set between taker after in
       let inside : m < length between = below_as below (sym size) in
-      let F : Running N H C S Part h → Type 0 = λ r. Fits zones clock (worker_in r) × Stands zones clock m lines (worker_in r) in
-      let F' : Running N H C S Part h → Type 0 = λ r. Fits zones clock (worker_in r) × Stands zones clock m (Moves (Give giver from taker to) ∷ lines) (worker_in r) in
-      let G : List (Running N H C S Part h) → Type 0 = λ list. F' (get_or list m d) in
+      let F : WorkerRun N H C S Part h → Type 0 = λ r. FitsZones zones clock (worker_in r) × Stands zones clock m lines (worker_in r) in
+      let F' : WorkerRun N H C S Part h → Type 0 = λ r. FitsZones zones clock (worker_in r) × Stands zones clock m (Moves (Give giver from taker to) ∷ lines) (worker_in r) in
+      let G : List (WorkerRun N H C S Part h) → Type 0 = λ list. F' (get_or list m d) in
       subst G (sym puts.sets.set) (elim (cases_eq m taker) [
         | inl same ↦
             let at_before : F before = subst F (puts.sets.at d) (let I : ℕ → Type 0 = λ i. F (get_or between i d) in subst I same (all m d inside)) in
-            let E : Running N H C S Part h → Type 0 = λ r. slot_at (worker_in r).slots to ≡ None in
-            let Z : Running N H C S Part h → Type 0 = λ r. slot_at (worker_in r).slots from ≡ None in
+            let E : WorkerRun N H C S Part h → Type 0 = λ r. slot_at (worker_in r).slots to ≡ None in
+            let Z : WorkerRun N H C S Part h → Type 0 = λ r. slot_at (worker_in r).slots from ≡ None in
             let none_before : E before = subst E (puts.sets.at d) (empty d) in
-            let mine : Fits zones clock (worker_in before) × Stands zones clock taker lines (worker_in before) =
-            let T : ℕ → Type 0 = λ i. Fits zones clock (worker_in before) × Stands zones clock i lines (worker_in before) in subst T same at_before in
+            let mine : FitsZones zones clock (worker_in before) × Stands zones clock taker lines (worker_in before) =
+            let T : ℕ → Type 0 = λ i. FitsZones zones clock (worker_in before) × Stands zones clock i lines (worker_in before) in subst T same at_before in
             let gone_before : taker ≡ giver → Z before =
             (λ e. let I : ℕ → Type 0 = λ i. Z (get_or between i d) in subst Z (puts.sets.at d) (subst I (sym e) (gone d))) in
-            let G' : Worker H Part h → Type 0 = λ w. Fits zones clock w × Stands zones clock taker (Moves (Give giver from taker to) ∷ lines) w in
-            let now : Fits zones clock (worker_in after) × Stands zones clock taker (Moves (Give giver from taker to) ∷ lines) (worker_in after) =
+            let G' : Worker H Part h → Type 0 = λ w. FitsZones zones clock w × Stands zones clock taker (Moves (Give giver from taker to) ∷ lines) w in
+            let now : FitsZones zones clock (worker_in after) × Stands zones clock taker (Moves (Give giver from taker to) ∷ lines) (worker_in after) =
             subst G' (sym (worker_with before.attendance (filled slots to got))) (moved zones clock taker lines giver from taker to (worker_in before) (filled slots to got) mine (put_held zones lines giver from to slots got was mine.0.slots)
             (length-filled slots to 65536 got mine.1.few (below_next least))
             (put_reads zones lines giver from taker to slots got was none_before mine.1.filled gone_before)) in
-            let K : ℕ → Type 0 = λ i. Fits zones clock (worker_in (get_or (slice_set between taker after) i d)) × Stands zones clock i (Moves (Give giver from taker to) ∷ lines) (worker_in (get_or (slice_set between taker after) i d)) in
-            let M : Running N H C S Part h → Type 0 = λ r. Fits zones clock (worker_in r) × Stands zones clock taker (Moves (Give giver from taker to) ∷ lines) (worker_in r) in
+            let K : ℕ → Type 0 = λ i. FitsZones zones clock (worker_in (get_or (slice_set between taker after) i d)) × Stands zones clock i (Moves (Give giver from taker to) ∷ lines) (worker_in (get_or (slice_set between taker after) i d)) in
+            let M : WorkerRun N H C S Part h → Type 0 = λ r. FitsZones zones clock (worker_in r) × Stands zones clock taker (Moves (Give giver from taker to) ∷ lines) (worker_in r) in
             subst K (sym same) (subst M (sym (get_or-set_same between taker after d within)) now)
         | inr apart ↦
             let other = get_or between m d in
@@ -208,41 +208,41 @@ none_from None never = refl
 none_from (Some it) never = absurd (never it refl)
 
 module _ {N H C S Part : Type 0} {h : Ghosts H Part} where
-  all_at : (zones : List (CountedZone H Part h)) (clock : Clock H Part) (lines : List Line) (workers : List (Running N H C S Part h)) → AllStand zones clock lines (crew workers) → AllAt zones clock lines workers
+  all_at : (zones : List (CountedZone H Part h)) (clock : Clock H Part) (lines : List Line) (workers : List (WorkerRun N H C S Part h)) → AllStand zones clock lines (crew workers) → AllAt zones clock lines workers
   all_at zones clock lines workers all n d below =
       let at = crew_at workers n d below in (all.fits n (worker_in (get_or workers n d)) at, all.stands n (worker_in (get_or workers n d)) at)
 
-  all_stand : (zones : List (CountedZone H Part h)) (clock : Clock H Part) (lines : List Line) (workers : List (Running N H C S Part h)) → AllAt zones clock lines workers → AllStand zones clock lines (crew workers)
+  all_stand : (zones : List (CountedZone H Part h)) (clock : Clock H Part) (lines : List Line) (workers : List (WorkerRun N H C S Part h)) → AllAt zones clock lines workers → AllStand zones clock lines (crew workers)
   all_stand zones clock lines workers all = record {
-    fits = worker_of (λ n w. Fits zones clock w) workers (λ n d below. (all n d below).0);
+    fits = worker_of (λ n w. FitsZones zones clock w) workers (λ n d below. (all n d below).0);
     stands = worker_of (λ n w. Stands zones clock n lines w) workers (λ n d below. (all n d below).1);
   }
 
-  length_between : (giver slot taker slot2 : ℕ) (old new : List (Running N H C S Part h)) (gives : Gives giver slot taker slot2 old new) → length gives.between ≡ length old
+  length_between : (giver slot taker slot2 : ℕ) (old new : List (WorkerRun N H C S Part h)) (gives : Gives giver slot taker slot2 old new) → length gives.between ≡ length old
   length_between giver slot taker slot2 old new gives =
       let before = gives.takes.sets.before in
-      let after : Running N H C S Part h = with_slots before (emptied (worker_in before).slots slot) in
+      let after : WorkerRun N H C S Part h = with_slots before (emptied (worker_in before).slots slot) in
       ap length gives.takes.sets.set ∙ length-set old giver after
 
   -- the taker's slot, as the reading of the lines has it
-  taker_empty : (zones : List (CountedZone H Part h)) (clock : Clock H Part) (lines : List Line) (taker slot2 : ℕ) (workers : List (Running N H C S Part h)) → taker < length workers → held lines taker slot2 ≡ None
-      → AllAt zones clock lines workers → (d : Running N H C S Part h) → slot_at (worker_in (get_or workers taker d)).slots slot2 ≡ None
+  taker_empty : (zones : List (CountedZone H Part h)) (clock : Clock H Part) (lines : List Line) (taker slot2 : ℕ) (workers : List (WorkerRun N H C S Part h)) → taker < length workers → held lines taker slot2 ≡ None
+      → AllAt zones clock lines workers → (d : WorkerRun N H C S Part h) → slot_at (worker_in (get_or workers taker d)).slots slot2 ≡ None
   taker_empty zones clock lines taker slot2 workers within empty all d =
       none_from (slot_at (worker_in (get_or workers taker d)).slots slot2)
       (λ it found. absurd (none-some it.zone (sym empty ∙ (all taker d within).1.filled slot2 it found)))
 
-  moves_at : (zones : List (CountedZone H Part h)) (clock : Clock H Part) (lines : List Line) (giver slot taker slot2 : ℕ) (old new : List (Running N H C S Part h)) → giver < length old → taker < length old
+  moves_at : (zones : List (CountedZone H Part h)) (clock : Clock H Part) (lines : List Line) (giver slot taker slot2 : ℕ) (old new : List (WorkerRun N H C S Part h)) → giver < length old → taker < length old
       → (gives : Gives giver slot taker slot2 old new) → slot2 ≤ 65535 → held lines taker slot2 ≡ None → AllAt zones clock lines old → AllAt zones clock (Moves (Give giver slot taker slot2) ∷ lines) new
   moves_at zones clock lines giver slot taker slot2 old new is_giver is_taker gives least no_item all =
       let before = gives.takes.sets.before in
-      let after : Running N H C S Part h = with_slots before (emptied (worker_in before).slots slot) in
+      let after : WorkerRun N H C S Part h = with_slots before (emptied (worker_in before).slots slot) in
       let middle = gives.between in
       let within : taker < length middle = below_as is_taker (length_between giver slot taker slot2 old new gives) in
       let stand = taken zones clock lines giver slot old middle gives.held gives.takes all in
       let E' : List (Option Held) → Type 0 = λ slots. slot_at slots slot ≡ None in
-      let gone : (d : Running N H C S Part h) → slot_at (worker_in (get_or middle giver d)).slots slot ≡ None =
-      (λ d. let P : List (Running N H C S Part h) → Type 0 = λ list. slot_at (worker_in (get_or list giver d)).slots slot ≡ None in
-      let Q : Running N H C S Part h → Type 0 = λ r. slot_at (worker_in r).slots slot ≡ None in
+      let gone : (d : WorkerRun N H C S Part h) → slot_at (worker_in (get_or middle giver d)).slots slot ≡ None =
+      (λ d. let P : List (WorkerRun N H C S Part h) → Type 0 = λ list. slot_at (worker_in (get_or list giver d)).slots slot ≡ None in
+      let Q : WorkerRun N H C S Part h → Type 0 = λ r. slot_at (worker_in r).slots slot ≡ None in
       subst P (sym gives.takes.sets.set) (subst Q (sym (get_or-set_same old giver after d is_giver))
       (subst E' (sym (slots_with before.attendance (emptied (worker_in before).slots slot))) (slot_at-emptied_same (worker_in before).slots slot)))) in
       let was : WasHeld zones lines giver slot gives.held = record {
@@ -251,14 +251,14 @@ module _ {N H C S Part : Type 0} {h : Ghosts H Part} where
       } in
       put zones clock lines giver slot taker slot2 middle new gives.held gives.puts was within least gone (taker_empty zones clock lines taker slot2 middle within no_item stand) stand
 
-  pub moves_on : (giver slot taker slot2 : ℕ) (old new : List (Running N H C S Part h)) → giver < length old → taker < length old → slot2 ≤ 65535 → Gives giver slot taker slot2 old new → MovesOn giver slot taker slot2 old new
+  pub moves_on : (giver slot taker slot2 : ℕ) (old new : List (WorkerRun N H C S Part h)) → giver < length old → taker < length old → slot2 ≤ 65535 → Gives giver slot taker slot2 old new → MovesOn giver slot taker slot2 old new
   moves_on giver slot taker slot2 old new is_giver is_taker least gives zones clock lines no_item stands =
       let all = all_at zones clock lines old stands in
       let middle = gives.between in
       let within : taker < length middle = below_as is_taker (length_between giver slot taker slot2 old new gives) in
       let between = taken zones clock lines giver slot old middle gives.held gives.takes all in
       let put = gives.puts.sets in
-      let E : Running N H C S Part h → Type 0 = λ r. slot_at (worker_in r).slots slot2 ≡ None in
+      let E : WorkerRun N H C S Part h → Type 0 = λ r. slot_at (worker_in r).slots slot2 ≡ None in
       let empty : E put.before = subst E (put.at put.before) (taker_empty zones clock lines taker slot2 middle within no_item between put.before) in
       record {
         stand = all_stand zones clock (Moves (Give giver slot taker slot2) ∷ lines) new (moves_at zones clock lines giver slot taker slot2 old new is_giver is_taker gives least no_item all);

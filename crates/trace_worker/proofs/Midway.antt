@@ -17,8 +17,8 @@ use Rattle.trace_text.specs.Valid.{IsValid, LinesFit, OpFits, RoundFits, SlotFit
 use Rattle.trace_worker.specs.declared.attendance.Attendance.{Attendance}
 use Rattle.trace_worker.specs.declared.held.Held.{Held}
 use Rattle.trace_worker.specs.declared.name_calls.NameCalls.{Ghosts as NameGhosts}
-use Rattle.trace_worker.specs.declared.naming.Naming.{Naming}
-use Rattle.trace_worker.specs.declared.running.Running.{Running}
+use Rattle.trace_worker.specs.declared.name_work.NameWork.{NameWork}
+use Rattle.trace_worker.specs.declared.worker_run.WorkerRun.{WorkerRun}
 use Rattle.trace_worker.specs.declared.worker.Worker.{Worker}
 use Rattle.trace_worker.specs.Asking.{CanWait, KeepsWork}
 use Rattle.trace_worker.specs.Attendance.{is_out, worker_at, worker_in}
@@ -30,7 +30,7 @@ use Rattle.trace_worker.specs.Slots.{slot_at}
 use Rattle.trace_worker.specs.Stands.{Stands}
 use Rattle.trace_worker.specs.Together.{IsAbsent}
 use Rattle.trace_worker.specs.Turn.{Balances, IsReady, most_asks}
-use Rattle.trace_worker.specs.Worker.{Fits, HasRooms, seen_of}
+use Rattle.trace_worker.specs.Worker.{FitsZones, HasRooms, seen_of}
 use Rattle.trace_worker.proofs.Alike.{own_fit}
 use Rattle.trace_worker.proofs.Balance.{Balances-self, Balances-chain}
 use Rattle.trace_worker.proofs.Belongs.{some_within}
@@ -43,9 +43,9 @@ use Rattle.trace_worker.proofs.SlotReading.{is_away-own}
 use Rattle.trace_worker.proofs.Worked.{worked-none, worked-more, length-worked, next_fits}
 
 module _ {N H C S Part : Type 0} {h : Ghosts H Part} (names : NameGhosts N H C S Part) (cache : C) where
-  pub record Midway (zones : List (CountedZone H Part h)) (clock : Clock H Part) (n : ℕ) (before : List Line) (ops : List Op) (i : ℕ) (old now : Running N H C S Part h) : Type 0 where
+  pub record Midway (zones : List (CountedZone H Part h)) (clock : Clock H Part) (n : ℕ) (before : List Line) (ops : List Op) (i : ℕ) (old now : WorkerRun N H C S Part h) : Type 0 where
     pub within : i ≤ length ops
-    pub fits : Fits zones clock (worker_in now)
+    pub fits : FitsZones zones clock (worker_in now)
     pub stands : Stands zones clock n (worked n (take i ops) before) (worker_in now)
     pub named : NamesStand names cache n (worked n (take i ops) before) (worker_in now).late now.naming
     pub absent : IsAbsent n (worked n (take i ops) before) now
@@ -119,7 +119,7 @@ module _ {N H C S Part : Type 0} {h : Ghosts H Part} (names : NameGhosts N H C S
 
 module _ {H Part : Type 0} {h : Ghosts H Part} where
   -- each ledger can count one more, and so can the counts of sections
-  rooms_of : (zones : List (CountedZone H Part h)) (clock : Clock H Part) (n : ℕ) (lines : List Line) (w : Worker H Part h) → length lines < 2 ^ 32 → Fits zones clock w → Stands zones clock n lines w → HasRooms w
+  rooms_of : (zones : List (CountedZone H Part h)) (clock : Clock H Part) (n : ℕ) (lines : List Line) (w : Worker H Part h) → length lines < 2 ^ 32 → FitsZones zones clock w → Stands zones clock n lines w → HasRooms w
   rooms_of zones clock n lines w few fits stands = record {
     ledgers = λ z d below.
         let zone = some_within zones z (below_as below (sym fits.seats.count)) in
@@ -132,7 +132,7 @@ module _ {H Part : Type 0} {h : Ghosts H Part} where
 module _ {N H C S Part : Type 0} {h : Ghosts H Part} (names : NameGhosts N H C S Part) (cache : C) where
   -- ---- the turn
 
-  pub Midway-new : (t : Trace) (zones : List (CountedZone H Part h)) (clock : Clock H Part) (k n : ℕ) (ops : List Op) (r : Running N H C S Part h) → IsReady names cache t zones clock k n r
+  pub Midway-new : (t : Trace) (zones : List (CountedZone H Part h)) (clock : Clock H Part) (k n : ℕ) (ops : List Op) (r : WorkerRun N H C S Part h) → IsReady names cache t zones clock k n r
       → Midway names cache zones clock n (lines_before t.rounds k) ops 0 r r
   Midway-new t zones clock k n ops r ready =
       let P : List Line → Type 0 = λ lines. Stands zones clock n lines (worker_in r) in
@@ -151,7 +151,7 @@ module _ {N H C S Part : Type 0} {h : Ghosts H Part} (names : NameGhosts N H C S
       }
 
   -- the next line fits the lines so far
-  fits_so_far : (t : Trace) (zones : List (CountedZone H Part h)) (clock : Clock H Part) (k n i : ℕ) (ops : List Op) (d : Op) (old : Running N H C S Part h) → IsReady names cache t zones clock k n old
+  fits_so_far : (t : Trace) (zones : List (CountedZone H Part h)) (clock : Clock H Part) (k n i : ℕ) (ops : List Op) (d : Op) (old : WorkerRun N H C S Part h) → IsReady names cache t zones clock k n old
       → ops ≡ own_ops t.rounds k n → i < length ops
       → OpFits t.head (get_or ops i d) × SlotFits (worked n (take i ops) (lines_before t.rounds k)) n (get_or ops i d) × (is_away (worked n (take i ops) (lines_before t.rounds k)) n ≡ comes_back (get_or ops i d))
   fits_so_far t zones clock k n i ops d old ready is below =
@@ -166,20 +166,20 @@ module _ {N H C S Part : Type 0} {h : Ghosts H Part} (names : NameGhosts N H C S
       let line = next_fits n i ops d before below lines_fit in
       (op_fits i d below, line.0, line.1)
 
-  pub Midway-can : (t : Trace) (zones : List (CountedZone H Part h)) (clock : Clock H Part) (k n i : ℕ) (ops : List Op) (d : Op) (old now : Running N H C S Part h) → IsReady names cache t zones clock k n old
+  pub Midway-can : (t : Trace) (zones : List (CountedZone H Part h)) (clock : Clock H Part) (k n i : ℕ) (ops : List Op) (d : Op) (old now : WorkerRun N H C S Part h) → IsReady names cache t zones clock k n old
       → ops ≡ own_ops t.rounds k n → i < length ops → Midway names cache zones clock n (lines_before t.rounds k) ops i old now → CanDo names zones (worker_in now) (get_or ops i d)
   Midway-can t zones clock k n i ops d old now ready is below midway =
       let fit = fits_so_far t zones clock k n i ops d old ready is below in
       can_of names zones clock t.head n (worked n (take i ops) (lines_before t.rounds k)) (get_or ops i d) (worker_in now) ready.served fit.0 fit.1 ready.zone_count midway.stands
 
   -- only a worker that is away comes back
-  pub Midway-there : (t : Trace) (zones : List (CountedZone H Part h)) (clock : Clock H Part) (k n i : ℕ) (ops : List Op) (d : Op) (old now waited : Running N H C S Part h) → IsReady names cache t zones clock k n old
+  pub Midway-there : (t : Trace) (zones : List (CountedZone H Part h)) (clock : Clock H Part) (k n i : ℕ) (ops : List Op) (d : Op) (old now waited : WorkerRun N H C S Part h) → IsReady names cache t zones clock k n old
       → ops ≡ own_ops t.rounds k n → i < length ops → Midway names cache zones clock n (lines_before t.rounds k) ops i old now → waited.attendance ≡ now.attendance → is_out waited.attendance ≡ comes_back (get_or ops i d)
   Midway-there t zones clock k n i ops d old now waited ready is below midway same =
       ap is_out same ∙ (midway.absent ∙ (fits_so_far t zones clock k n i ops d old ready is below).2)
 
   -- the lines so far are few
-  few_lines : (t : Trace) (zones : List (CountedZone H Part h)) (clock : Clock H Part) (k n i : ℕ) (ops : List Op) (old : Running N H C S Part h) → IsReady names cache t zones clock k n old
+  few_lines : (t : Trace) (zones : List (CountedZone H Part h)) (clock : Clock H Part) (k n i : ℕ) (ops : List Op) (old : WorkerRun N H C S Part h) → IsReady names cache t zones clock k n old
       → ops ≡ own_ops t.rounds k n → i < length ops → length (worked n (take i ops) (lines_before t.rounds k)) < 2 ^ 32
   few_lines t zones clock k n i ops old ready is below =
       let size = length-worked n (take i ops) (lines_before t.rounds k) in
@@ -187,7 +187,7 @@ module _ {N H C S Part : Type 0} {h : Ghosts H Part} (names : NameGhosts N H C S
       let all : length ops ≡ length (own_ops t.rounds k n) = ap length is in
       few_so_far (length (lines_before t.rounds k)) below all taken size ready.few
 
-  pub Midway-rooms : (t : Trace) (zones : List (CountedZone H Part h)) (clock : Clock H Part) (k n i : ℕ) (ops : List Op) (old now : Running N H C S Part h) → IsReady names cache t zones clock k n old
+  pub Midway-rooms : (t : Trace) (zones : List (CountedZone H Part h)) (clock : Clock H Part) (k n i : ℕ) (ops : List Op) (old now : WorkerRun N H C S Part h) → IsReady names cache t zones clock k n old
       → ops ≡ own_ops t.rounds k n → i < length ops → Midway names cache zones clock n (lines_before t.rounds k) ops i old now → HasRooms (worker_in now) × HasNameRooms names now.naming
   Midway-rooms t zones clock k n i ops old now ready is below midway =
       let lines = worked n (take i ops) (lines_before t.rounds k) in
@@ -195,12 +195,12 @@ module _ {N H C S Part : Type 0} {h : Ghosts H Part} (names : NameGhosts N H C S
       (rooms_of zones clock n lines (worker_in now) few midway.fits midway.stands, name_rooms names cache n lines (worker_in now).late now.naming few midway.named)
 
   -- what a worker has for its next line, once the gate was asked, which leaves it as it is
-  pub Midway-waits : (t : Trace) (zones : List (CountedZone H Part h)) (clock : Clock H Part) (k n i : ℕ) (ops : List Op) (old now waited : Running N H C S Part h) → IsReady names cache t zones clock k n old
+  pub Midway-waits : (t : Trace) (zones : List (CountedZone H Part h)) (clock : Clock H Part) (k n i : ℕ) (ops : List Op) (old now waited : WorkerRun N H C S Part h) → IsReady names cache t zones clock k n old
       → ops ≡ own_ops t.rounds k n → i < length ops → Midway names cache zones clock n (lines_before t.rounds k) ops i old now → KeepsWork now waited → CanGoOn names cache zones clock (worker_in waited) waited.naming
   Midway-waits t zones clock k n i ops old now waited ready is below midway keeps =
       let rooms = Midway-rooms t zones clock k n i ops old now ready is below midway in
-      let F : Worker H Part h → Type 0 = λ w. Fits zones clock w in
-      let I : Naming N H C S Part → Type 0 = λ x. names.IsSeat cache x.seat in
+      let F : Worker H Part h → Type 0 = λ w. FitsZones zones clock w in
+      let I : NameWork N H C S Part → Type 0 = λ x. names.IsSeat cache x.seat in
       record {
         clock = ready.of_clock;
         of_clock = ready.names_of_clock;
@@ -210,7 +210,7 @@ module _ {N H C S Part : Type 0} {h : Ghosts H Part} (names : NameGhosts N H C S
         name_rooms = subst (HasNameRooms names) (sym keeps.naming) rooms.1;
       }
 
-  pub Midway-turn : (t : Trace) (zones : List (CountedZone H Part h)) (clock : Clock H Part) (k n i : ℕ) (ops : List Op) (d : Op) (old now waited : Running N H C S Part h) → IsReady names cache t zones clock k n old
+  pub Midway-turn : (t : Trace) (zones : List (CountedZone H Part h)) (clock : Clock H Part) (k n i : ℕ) (ops : List Op) (d : Op) (old now waited : WorkerRun N H C S Part h) → IsReady names cache t zones clock k n old
       → ops ≡ own_ops t.rounds k n → i < length ops → Midway names cache zones clock n (lines_before t.rounds k) ops i old now → waited.attendance ≡ now.attendance → CanTurn names zones waited (get_or ops i d)
   Midway-turn t zones clock k n i ops d old now waited ready is below midway same =
       let P : Worker H Part h → Type 0 = λ w. CanDo names zones w (get_or ops i d) in
@@ -219,16 +219,16 @@ module _ {N H C S Part : Type 0} {h : Ghosts H Part} (names : NameGhosts N H C S
         there = Midway-there t zones clock k n i ops d old now waited ready is below midway same;
       }
 
-  same_doing : (a b : Running N H C S Part h) → a.attendance ≡ b.attendance → a.naming ≡ b.naming → doing a ≡ doing b
+  same_doing : (a b : WorkerRun N H C S Part h) → a.attendance ≡ b.attendance → a.naming ≡ b.naming → doing a ≡ doing b
   same_doing a b attendance naming =
       let with_attendance : Attendance H Part h → Doing N H C S Part h = λ x. record { worker = worker_at x; naming = a.naming; out = is_out x } in
-      let with_naming : Naming N H C S Part → Doing N H C S Part h = λ x. record { worker = worker_in b; naming = x; out = is_out b.attendance } in
+      let with_naming : NameWork N H C S Part → Doing N H C S Part h = λ x. record { worker = worker_in b; naming = x; out = is_out b.attendance } in
       ap with_attendance attendance ∙ ap with_naming naming
 
   -- The gate was asked, and the next operation is done.
-  pub Midway-more : (zones : List (CountedZone H Part h)) (clock : Clock H Part) (n i : ℕ) (before : List Line) (ops : List Op) (d : Op) (old now waited next : Running N H C S Part h) → i < length ops
+  pub Midway-more : (zones : List (CountedZone H Part h)) (clock : Clock H Part) (n i : ℕ) (before : List Line) (ops : List Op) (d : Op) (old now waited next : WorkerRun N H C S Part h) → i < length ops
       → Midway names cache zones clock n before ops i old now → waited.attendance ≡ now.attendance → waited.naming ≡ now.naming → CanDo names zones (worker_in now) (get_or ops i d)
-      → DoesLine names cache zones (doing waited) (get_or ops i d) (doing next) → Fits zones clock (worker_in next) → names.IsSeat cache next.naming.seat
+      → DoesLine names cache zones (doing waited) (get_or ops i d) (doing next) → FitsZones zones clock (worker_in next) → names.IsSeat cache next.naming.seat
       → now.asked + 1 ≤ next.asked → next.asked ≤ now.asked + most_asks → next.gave_up ≤ now.gave_up + 1
       → Midway names cache zones clock n before ops (i + 1) old next
   Midway-more zones clock n i before ops d old now waited next below midway same same_naming can does fits seat some few gave_up =
@@ -254,15 +254,15 @@ module _ {N H C S Part : Type 0} {h : Ghosts H Part} (names : NameGhosts N H C S
         gave_up_few = one_more old.gave_up i midway.gave_up_few gave_up;
       }
 
-  pub Midway-step : (t : Trace) (zones : List (CountedZone H Part h)) (clock : Clock H Part) (k n i : ℕ) (ops : List Op) (d : Op) (old now waited next : Running N H C S Part h) → IsReady names cache t zones clock k n old
+  pub Midway-step : (t : Trace) (zones : List (CountedZone H Part h)) (clock : Clock H Part) (k n i : ℕ) (ops : List Op) (d : Op) (old now waited next : WorkerRun N H C S Part h) → IsReady names cache t zones clock k n old
       → ops ≡ own_ops t.rounds k n → i < length ops → Midway names cache zones clock n (lines_before t.rounds k) ops i old now → waited.attendance ≡ now.attendance → waited.naming ≡ now.naming
-      → DoesLine names cache zones (doing waited) (get_or ops i d) (doing next) → Fits zones clock (worker_in next) → names.IsSeat cache next.naming.seat
+      → DoesLine names cache zones (doing waited) (get_or ops i d) (doing next) → FitsZones zones clock (worker_in next) → names.IsSeat cache next.naming.seat
       → now.asked + 1 ≤ next.asked → next.asked ≤ now.asked + most_asks → next.gave_up ≤ now.gave_up + 1 → Midway names cache zones clock n (lines_before t.rounds k) ops (i + 1) old next
   Midway-step t zones clock k n i ops d old now waited next ready is below midway same same_naming does fits seat some few gave_up =
       Midway-more zones clock n i (lines_before t.rounds k) ops d old now waited next below midway same same_naming (Midway-can t zones clock k n i ops d old now ready is below midway) does fits seat some few gave_up
 
   -- the counts of the gate have room for the next operation
-  pub Midway-asks : (t : Trace) (zones : List (CountedZone H Part h)) (clock : Clock H Part) (k n i : ℕ) (ops : List Op) (old now : Running N H C S Part h) → IsReady names cache t zones clock k n old
+  pub Midway-asks : (t : Trace) (zones : List (CountedZone H Part h)) (clock : Clock H Part) (k n i : ℕ) (ops : List Op) (old now : WorkerRun N H C S Part h) → IsReady names cache t zones clock k n old
       → ops ≡ own_ops t.rounds k n → i < length ops → Midway names cache zones clock n (lines_before t.rounds k) ops i old now → CanWait now
   Midway-asks t zones clock k n i ops old now ready is below midway =
       let within : i < length (own_ops t.rounds k n) = below_as below (sym (ap length is)) in

@@ -10,8 +10,8 @@ use Rattle.zone_stats.specs.declared.ledger.SeatLedger.{SeatLedger}
 use Rattle.zone_stats.specs.declared.refusal.Refusal.{Refusal}
 use Rattle.zone_stats.specs.LedgerSteps.{CountsAlloc, CountsFree, CountsTurned}
 use Rattle.trace_worker.specs.declared.name_calls.NameCalls.{Ghosts as NameGhosts}
-use Rattle.trace_worker.specs.declared.naming.NameCounts.{NameCounts}
-use Rattle.trace_worker.specs.declared.naming.Naming.{Naming}
+use Rattle.trace_worker.specs.declared.name_work.NameCounts.{NameCounts}
+use Rattle.trace_worker.specs.declared.name_work.NameWork.{NameWork}
 use Rattle.trace_worker.specs.declared.worker.Worker.{Worker}
 use Rattle.trace_worker.specs.Counting.{is_bind, is_look, is_unbind, binds, looks, unbinds}
 use Rattle.trace_worker.specs.Items.{CountedZone}
@@ -19,7 +19,7 @@ use Rattle.trace_worker.specs.NameCalls.{OnBoth}
 use Rattle.trace_worker.specs.NameLedger.{BindCounts, MayCountFree, NamesRefuse, UnbindCounts}
 use Rattle.trace_worker.specs.NameLines.{BindsLine, Changes, Doing, HasNameRooms, LooksLine, UnbindsLine}
 use Rattle.trace_worker.specs.NamesStand.{NameCountsStand, NameLedgerStands, NamesStand}
-use Rattle.trace_worker.specs.Naming.{CountsAnswer, CountsBind, CountsLate, CountsUnbind}
+use Rattle.trace_worker.specs.NameWork.{CountsAnswer, CountsBind, CountsLate, CountsUnbind}
 use Rattle.trace_worker.specs.Performs.{Performs}
 use Rattle.trace_worker.proofs.LineCounts.{binds-few, binds-more, is_bind-own, is_look-own, is_unbind-own, looks-few, looks-more, unbinds-few, unbinds-more}
 
@@ -350,11 +350,11 @@ module _ {N H C S Part : Type 0} (names : NameGhosts N H C S Part) (cache : C) w
   slabs = (names.sizes_of cache).slabs
 
   -- a line that isn't of names
-  named_quiet : (n : ℕ) (op : Op) (lines : List Line) (late late' : ℕ) (old new : Naming N H C S Part) → is_look n (Does n op) ≡ false → is_bind n (Does n op) ≡ false → is_unbind n (Does n op) ≡ false
+  named_quiet : (n : ℕ) (op : Op) (lines : List Line) (late late' : ℕ) (old new : NameWork N H C S Part) → is_look n (Does n op) ≡ false → is_bind n (Does n op) ≡ false → is_unbind n (Does n op) ≡ false
       → late ≤ late' → new ≡ old → NamesStand names cache n lines late old → NamesStand names cache n (Does n op ∷ lines) late' new
   named_quiet n op lines late late' old new no_look no_bind no_unbind later same stands =
       let line : Line = Does n op in
-      let P : Naming N H C S Part → Type 0 = NamesStand names cache n (line ∷ lines) late' in
+      let P : NameWork N H C S Part → Type 0 = NamesStand names cache n (line ∷ lines) late' in
       subst P (sym same) (record {
         seat = stands.seat;
         counts = counts_quiet n line lines late late' old.counts old.counts no_look no_bind no_unbind later refl stands.counts;
@@ -362,7 +362,7 @@ module _ {N H C S Part : Type 0} (names : NameGhosts N H C S Part) (cache : C) w
       })
 
   -- the ledger after a look
-  looked_ledger : (n key : ℕ) (lines : List Line) (old new : Naming N H C S Part) → new.seat ≡ old.seat → new.counts.refused ≡ old.counts.refused
+  looked_ledger : (n key : ℕ) (lines : List Line) (old new : NameWork N H C S Part) → new.seat ≡ old.seat → new.counts.refused ≡ old.counts.refused
       → IfSome (names.counted old.seat) (NameLedgerStands slabs n lines old.counts.refused) → IfSome (names.counted new.seat) (NameLedgerStands slabs n (Does n (Look key) ∷ lines) new.counts.refused)
   looked_ledger n key lines old new same same_refused ledger =
       let line : Line = Does n (Look key) in
@@ -370,7 +370,7 @@ module _ {N H C S Part : Type 0} (names : NameGhosts N H C S Part) (cache : C) w
       subst P (sym same) (if_some (names.counted old.seat) (λ it was. ledger_quiet slabs n line lines old.counts.refused new.counts.refused it refl refl (same_of same_refused) was) ledger)
 
   -- each count can be one more
-  pub name_rooms : (n : ℕ) (lines : List Line) (late : ℕ) (naming : Naming N H C S Part) → length lines < 2 ^ 32 → NamesStand names cache n lines late naming → HasNameRooms names naming
+  pub name_rooms : (n : ℕ) (lines : List Line) (late : ℕ) (naming : NameWork N H C S Part) → length lines < 2 ^ 32 → NamesStand names cache n lines late naming → HasNameRooms names naming
   name_rooms n lines late naming few stands =
       let looked = three_few few stands.counts.looks_add_up (looks-few n lines) in
       let tried = two_few few stands.counts.binds_add_up (binds-few n lines) in

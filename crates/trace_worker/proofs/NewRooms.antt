@@ -8,7 +8,7 @@ use Rattle.smr_clock.specs.declared.host.Host.{Ghosts}
 use Rattle.uma_seat.specs.Seat.{ledger_of}
 use Rattle.uma_zone.specs.declared.alloc_ask.AllocAsk.{AllocAsk}
 use Rattle.uma_zone.specs.declared.alloc_ask.AllocRefused.TheVariants.{Refused}
-use Rattle.uma_zone.specs.Alloc.{Refuses}
+use Rattle.uma_zone.specs.Alloc.{AllocIsRefused}
 use Rattle.zone_stats.specs.declared.ledger.SeatLedger.{SeatLedger}
 use Rattle.zone_stats.specs.declared.refusal.Refusal.{Refusal}
 use Rattle.zone_stats.specs.declared.refusal.Refusal.TheVariants.{AtLimit, Reserved, Full, Init, Ctor}
@@ -26,7 +26,7 @@ room_one : (old new : SeatLedger) → IsNew old → new.requests ≡ old.request
 room_one old new fresh requests frees = record { requests = one_room requests fresh.requests; frees = none_room (frees ∙ fresh.frees) }
 
 module _ {H Part : Type 0} {h : Ghosts H Part} where
-  room_refused : (zone : CountedZone H Part h) (ask : AllocAsk) (before after : CountedSeat H Part h) (why : Refusal) → IsNew (ledger_of before) → Refuses zone ask before after (Refused why) → HasRoom (ledger_of after)
+  room_refused : (zone : CountedZone H Part h) (ask : AllocAsk) (before after : CountedSeat H Part h) (why : Refusal) → IsNew (ledger_of before) → AllocIsRefused zone ask before after (Refused why) → HasRoom (ledger_of after)
   room_refused zone ask before after (Ctor code) fresh refuses = room_one (ledger_of before) (ledger_of after) fresh refuses.counted.requests refuses.counted.frees
   room_refused zone ask before after (AtLimit out limit) fresh refuses = room_one (ledger_of before) (ledger_of after) fresh refuses.counted.requests refuses.counted.frees
   room_refused zone ask before after (Reserved free kept) fresh refuses = room_one (ledger_of before) (ledger_of after) fresh refuses.counted.requests refuses.counted.frees

@@ -6,7 +6,7 @@ use Rattle.std.specs.Prelude.{slice_get}
 use Rattle.smr_clock.specs.declared.clock.Clock.{Clock}
 use Rattle.smr_clock.specs.declared.pass.Pass.{Pass}
 use Rattle.smr_clock.specs.declared.host.Host.{Ghosts}
-use Rattle.smr_clock.specs.Belongs.{IsOf}
+use Rattle.smr_clock.specs.Belongs.{IsPassOf}
 use Rattle.uma_seat.specs.Seat.{ledger_of}
 use Rattle.zone_stats.specs.declared.ledger.SeatLedger.{SeatLedger}
 use Rattle.zone_stats.specs.LedgerSteps.{HasRoom, IsNew}
@@ -17,7 +17,7 @@ use Rattle.trace_worker.specs.declared.worker.Worker.{Worker}
 use Rattle.trace_worker.specs.Items.{CountedSeat, CountedZone}
 use Rattle.trace_worker.specs.Making.{AreSeats, IsNewSeat, IsNewWorker}
 use Rattle.trace_worker.specs.Slots.{slot_at}
-use Rattle.trace_worker.specs.Worker.{Fits, HasRooms}
+use Rattle.trace_worker.specs.Worker.{FitsZones, HasRooms}
 
 -- what a list with one more at its end has at a place
 pushed : {X : Type 0} (xs : List X) (x : X) (z : ℕ) (y : X) → slice_get (xs ++ x ∷ []) z ≡ Some y → ((z ≡ length xs) × (x ≡ y)) ⊎ (slice_get xs z ≡ Some y)
@@ -45,7 +45,7 @@ module _ {H Part : Type 0} {h : Ghosts H Part} where
     | inr before ↦ are z zone seat is_zone before
   ]
 
-  pub fits_new : (zones : List (CountedZone H Part h)) (clock : Clock H Part) (domain : ℕ) (w : Worker H Part h) → AreSeats zones domain w.seats.items → IsOf clock w.pass → w.slots ≡ [] → Fits zones clock w
+  pub fits_new : (zones : List (CountedZone H Part h)) (clock : Clock H Part) (domain : ℕ) (w : Worker H Part h) → AreSeats zones domain w.seats.items → IsPassOf clock w.pass → w.slots ≡ [] → FitsZones zones clock w
   fits_new zones clock domain w seats pass slots = record {
     seats = record { count = seats.count; each = λ z zone seat is_zone at. (seats.each z zone seat is_zone at).seat_of };
     pass = pass;

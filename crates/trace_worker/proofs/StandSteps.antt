@@ -15,7 +15,7 @@ use Rattle.trace_text.specs.Lines.{Line, Does}
 use Rattle.trace_text.specs.Reading.{held, held_after, in_section, open_after}
 use Rattle.uma_seat.specs.Seat.{ledger_of}
 use Rattle.uma_zone.specs.declared.alloc_ask.AllocRefused.TheVariants.{Refused}
-use Rattle.uma_zone.specs.Alloc.{Refuses}
+use Rattle.uma_zone.specs.Alloc.{AllocIsRefused}
 use Rattle.zone_stats.specs.declared.ledger.SeatLedger.{SeatLedger}
 use Rattle.zone_stats.specs.LedgerSteps.{CountsCtor}
 use Rattle.zone_stats.specs.declared.refusal.Refusal.{Refusal}
@@ -32,7 +32,7 @@ use Rattle.trace_worker.specs.Performs.{Allocs, Frees, FreesSlot, EntersInTime, 
 use Rattle.trace_worker.specs.Requests.{Ends}
 use Rattle.trace_worker.specs.Slots.{slot_at, filled, with_held, emptied}
 use Rattle.trace_worker.specs.Stands.{NamesZone, Stands}
-use Rattle.smr_clock.specs.Belongs.{IsOf, setup_of, view}
+use Rattle.smr_clock.specs.Belongs.{IsPassOf, setup_of, view}
 use Rattle.smr_clock.specs.declared.refused.Overtaken.{Overtaken}
 use Rattle.smr_clock.specs.declared.setup.Setup.{Setup}
 use Rattle.smr_clock.specs.Sections.{Misses}
@@ -117,7 +117,7 @@ refused_some arg code refuses = elim (cases_eq arg 0) [
 module _ {H Part : Type 0} {h : Ghosts H Part} where
   -- the ledger of a refused request
   ledger_refused : (zone : CountedZone H Part h) (n z slot arg : ℕ) (reserve : Bool) (lines : List Line) (before after : CountedSeat H Part h) (why : Refusal)
-      → Refuses zone (ask_of arg reserve) before after (Refused why)
+      → AllocIsRefused zone (ask_of arg reserve) before after (Refused why)
       → LedgerStands (NamesZone zone) n z lines (ledger_of before)
       → LedgerStands (NamesZone zone) n z (Does n (Alloc z slot arg reserve) ∷ lines) (ledger_of after)
   ledger_refused zone n z slot arg reserve lines before after (Ctor code) refuses stands =
@@ -268,7 +268,7 @@ module _ {H Part : Type 0} {h : Ghosts H Part} where
   stands_section : (zones : List (CountedZone H Part h)) (clock : Clock H Part) (n : ℕ) (op : Op) (lines : List Line) (old new : Worker H Part h) → ((z : ℕ) → is_ask n z (Does n op) ≡ false) → ((z : ℕ) → is_ask_with_arg n z (Does n op) ≡ false)
       → ((slot : ℕ) (o : Option ℕ) → held_after op slot o ≡ o) → KeepsHolds old new
       → (in_section (Does n op ∷ lines) n ≡ false → phase_of new ≡ Outside) → IsBetween new → EntriesStand n (Does n op ∷ lines) new.entered new.late (phase_of new)
-      → seen_of old ≤ seen_of new → (0 < new.late → (setup_of clock).about.start + (setup_of clock).about.window ≤ seen_of new)
+      → seen_of old ≤ seen_of new → (0 < new.late → (setup_of clock).config.start + (setup_of clock).config.window ≤ seen_of new)
       → Stands zones clock n lines old → Stands zones clock n (Does n op ∷ lines) new
   stands_section zones clock n op lines old new no_ask no_arg quiet holds outside between entries seen overtaken stands = record {
     ledgers = λ i zone seat is_zone at.
@@ -285,14 +285,14 @@ module _ {H Part : Type 0} {h : Ghosts H Part} where
 
 module _ {H Part : Type 0} {h : Ghosts H Part} where
   -- a pass whose enter was late has seen the write hand the window or more above where it began
-  late_far : (clock : Clock H Part) (old new : Worker H Part h) (overtaken : Overtaken) → IsOf clock old.pass → Misses (view old.pass) overtaken (view new.pass) → (setup_of clock).about.start ≤ seen_of old
-      → (setup_of clock).about.start + (setup_of clock).about.window ≤ seen_of new
+  late_far : (clock : Clock H Part) (old new : Worker H Part h) (overtaken : Overtaken) → IsPassOf clock old.pass → Misses (view old.pass) overtaken (view new.pass) → (setup_of clock).config.start ≤ seen_of old
+      → (setup_of clock).config.start + (setup_of clock).config.window ≤ seen_of new
   late_far clock old new overtaken of misses begun =
       let setup_is : (view old.pass).setup ≡ setup_of clock = ap (λ i. i.1) of in
-      let P : Setup → Type 0 = λ s. s.about.window ≤ overtaken.found - overtaken.loaded in
+      let P : Setup → Type 0 = λ s. s.config.window ≤ overtaken.found - overtaken.loaded in
       far_above begun misses.first.not_lower (misses.third.found.in_enter refl) (subst P setup_is misses.third.late) misses.third.seen
 
-  pub stands_enter : (zones : List (CountedZone H Part h)) (clock : Clock H Part) (n : ℕ) (lines : List Line) (old new : Worker H Part h) → IsOf clock old.pass → EntersInTime old new ⊎ EntersLate old new
+  pub stands_enter : (zones : List (CountedZone H Part h)) (clock : Clock H Part) (n : ℕ) (lines : List Line) (old new : Worker H Part h) → IsPassOf clock old.pass → EntersInTime old new ⊎ EntersLate old new
       → Stands zones clock n lines old → Stands zones clock n (Does n Enter ∷ lines) new
   stands_enter zones clock n lines old new of (inl step) stands =
       stands_section zones clock n Enter lines old new (λ z. refl) (λ z. refl) (λ slot o. refl) step.holds
@@ -353,7 +353,7 @@ module _ {H Part : Type 0} {h : Ghosts H Part} where
       seen (λ some. le_trans (stands.overtaken (still_some late some)) seen) stands
 
   -- a look whose section was late
-  pub stands_late : (zones : List (CountedZone H Part h)) (clock : Clock H Part) (n key : ℕ) (lines : List Line) (old new : Worker H Part h) (overtaken : Overtaken) → IsOf clock old.pass → Misses (view old.pass) overtaken (view new.pass)
+  pub stands_late : (zones : List (CountedZone H Part h)) (clock : Clock H Part) (n key : ℕ) (lines : List Line) (old new : Worker H Part h) (overtaken : Overtaken) → IsPassOf clock old.pass → Misses (view old.pass) overtaken (view new.pass)
       → phase_of new ≡ Outside → KeepsHolds old new → seen_of old ≤ seen_of new → new.entered ≡ old.entered → new.late ≡ old.late + 1
       → Stands zones clock n lines old → Stands zones clock n (Does n (Look key) ∷ lines) new
   stands_late zones clock n key lines old new overtaken of misses phase holds seen entered late stands =
@@ -399,7 +399,7 @@ module _ {H Part : Type 0} {h : Ghosts H Part} where
       stands_reclaim zones clock n (DrainSeat z) z lines old new (λ i. refl) (λ i. refl) (λ slot o. refl) (in_section-own lines n (DrainSeat z)) refl step stands
 
   -- a line of any kind
-  pub stand_step : (zones : List (CountedZone H Part h)) (clock : Clock H Part) (n : ℕ) (op : Op) (lines : List Line) (old new : Worker H Part h) → IsOf clock old.pass → CanPerform zones old op → Performs zones old op new
+  pub stand_step : (zones : List (CountedZone H Part h)) (clock : Clock H Part) (n : ℕ) (op : Op) (lines : List Line) (old new : Worker H Part h) → IsPassOf clock old.pass → CanPerform zones old op → Performs zones old op new
       → Stands zones clock n lines old → Stands zones clock n (Does n op ∷ lines) new
   stand_step zones clock n (Alloc zone slot arg reserve) lines old new of can step stands = stands_alloc zones clock n zone slot arg reserve lines old new can.1 can.2 can.3 step stands
   stand_step zones clock n (Free slot) lines old new of can step stands = stands_free zones clock n slot lines old new step stands

@@ -6,7 +6,7 @@ use Rattle.trace_worker.specs.declared.gate.Call.TheVariants.{Asked, Done}
 use Rattle.trace_worker.specs.declared.gate.Gate.{Ghosts as GateGhosts}
 use Rattle.trace_worker.specs.declared.gate.Go.{Go}
 use Rattle.trace_worker.specs.declared.gate.Go.TheVariants as answers
-use Rattle.trace_worker.specs.declared.running.Running.{Running}
+use Rattle.trace_worker.specs.declared.worker_run.WorkerRun.{WorkerRun}
 use Rattle.trace_worker.specs.Turn.{most_asks}
 
 -- so many answers Hold in a row to operation `i` of worker `n`, behind these calls
@@ -55,28 +55,28 @@ HearsEach n was zero is = is ≡ was
 HearsEach n was (suc i) is = (mid : Heard) × HearsEach n was i mid × HearsOne n (suc i) mid is
 
 module _ {N H C S P : Type 0} {h : Ghosts H P} where
-  abbrev pub heard_by : List Call → Running N H C S P h → Heard
+  abbrev pub heard_by : List Call → WorkerRun N H C S P h → Heard
   heard_by calls r = record { calls = calls; asked = r.asked; gave_up = r.gave_up }
 
   -- its counts of its gate have room for one more wait
-  pub record CanWait (r : Running N H C S P h) : Type 0 where
+  pub record CanWait (r : WorkerRun N H C S P h) : Type 0 where
     pub asks : r.asked + most_asks < 2 ^ 64
     pub giving_up : r.gave_up + 1 < 2 ^ 64
 
   -- a wait changes nothing of it but what it counted of its gate
-  pub record KeepsWork (old new : Running N H C S P h) : Type 0 where
+  pub record KeepsWork (old new : WorkerRun N H C S P h) : Type 0 where
     pub attendance : new.attendance ≡ old.attendance
     pub naming : new.naming ≡ old.naming
 
   -- it was asked once at least and at most so often, and gave up once at most
-  pub record CountsWait (old new : Running N H C S P h) : Type 0 where
+  pub record CountsWait (old new : WorkerRun N H C S P h) : Type 0 where
     pub asked_some : old.asked + 1 ≤ new.asked
     pub asked_few : new.asked ≤ old.asked + most_asks
     pub gave_up : new.gave_up ≤ old.gave_up + 1
 
   module _ {G V : Type 0} (gates : GateGhosts G V) where
     -- In a visit of its gate the turn of worker `n` asked for so many operations, and told each as done. What the worker counted of its gate is what that visit heard.
-    pub record AsksGate (gate : G) (n count : ℕ) (old new : Running N H C S P h) : Type 0 where
+    pub record AsksGate (gate : G) (n count : ℕ) (old new : WorkerRun N H C S P h) : Type 0 where
       pub visit : V
       pub of_gate : gates.is_of gate visit
       pub hears : HearsEach n (heard_by [] old) count (heard_by (gates.heard visit) new)

@@ -12,7 +12,7 @@ use Rattle.smr_core.specs.declared.phase.Phase.TheVariants.{Outside, Vacant}
 use Rattle.trace_worker.specs.declared.attendance.Attendance.{Attendance}
 use Rattle.trace_worker.specs.declared.attendance.Attendance.TheVariants.{There, Away}
 use Rattle.trace_worker.specs.declared.held.Held.{Held}
-use Rattle.trace_worker.specs.declared.running.Running.{Running}
+use Rattle.trace_worker.specs.declared.worker_run.WorkerRun.{WorkerRun}
 use Rattle.trace_worker.specs.declared.worker.Worker.{Worker}
 use Rattle.trace_worker.specs.Performs.{IsOutside, StaysWhole}
 
@@ -67,5 +67,5 @@ module _ {H P : Type 0} {h : Ghosts H P} where
 
 module _ {N H C S P : Type 0} {h : Ghosts H P} where
   -- the worker of these turns, or as which it comes back
-  abbrev pub worker_in : Running N H C S P h → Worker H P h
+  abbrev pub worker_in : WorkerRun N H C S P h → Worker H P h
   worker_in r = worker_at r.attendance

@@ -6,7 +6,7 @@ use Rattle.smr_clock.specs.declared.pass.Pass.{Pass}
 use Rattle.smr_clock.specs.declared.note.Note.{Note}
 use Rattle.smr_clock.specs.declared.host.Host.{Ghosts}
 use Rattle.smr_clock.specs.declared.setup.Setup.{Setup}
-use Rattle.smr_clock.specs.Belongs.{IsOf, setup_of, holder}
+use Rattle.smr_clock.specs.Belongs.{IsPassOf, setup_of, holder}
 use Rattle.smr_clock.specs.Making.{setup}
 use Rattle.smr_clock.specs.Notes.{IsNoteOf, note_holder}
 use Rattle.smr_core.specs.declared.phase.Phase.TheVariants.{Outside}
@@ -32,10 +32,10 @@ IsClockOf head clock = setup_of clock ≡ setup_for (setup_of clock).plan head
 module _ {H P : Type 0} {h : Ghosts H P} where
   -- a pass of this clock that is outside, and knows that both hands are where they began or above
   pub record IsNewPass (clock : Clock H P) (pass : Pass H P h) : Type 0 where
-    pub here : IsOf clock pass
+    pub here : IsPassOf clock pass
     pub outside : (holder pass).phase ≡ Outside
-    pub begun : (setup_of clock).about.start ≤ (holder pass).seen
-    pub low : (setup_of clock).about.start ≤ (holder pass).floor
+    pub begun : (setup_of clock).config.start ≤ (holder pass).seen
+    pub low : (setup_of clock).config.start ≤ (holder pass).floor
 
   -- so many new passes
   pub record ArePasses (count : ℕ) (clock : Clock H P) (passes : List (Pass H P h)) : Type 0 where
@@ -45,4 +45,4 @@ module _ {H P : Type 0} {h : Ghosts H P} where
   -- a note of this clock that knows the same
   pub record KnowsBeginning (clock : Clock H P) (note : Note H P h) : Type 0 where
     pub here : IsNoteOf clock note
-    pub low : (setup_of clock).about.start ≤ (note_holder note).floor
+    pub low : (setup_of clock).config.start ≤ (note_holder note).floor

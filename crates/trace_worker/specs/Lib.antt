@@ -18,7 +18,7 @@ pub mod NameLines
 pub mod NameSizes
 pub mod NameSums
 pub mod NamesStand
-pub mod Naming
+pub mod NameWork
 pub mod OwnLines
 pub mod Performs
 pub mod Reclaims

@@ -5,10 +5,10 @@ use Rattle.smr_clock.specs.declared.host.Host.{Ghosts}
 use Rattle.uma_zone.specs.Seat.{IsFresh}
 use Rattle.uma_zone.specs.Zone.{zone_bucket, IsSeatOf}
 use Rattle.trace_worker.specs.declared.attendance.Attendance.TheVariants.{There}
-use Rattle.trace_worker.specs.declared.running.Running.{Running}
+use Rattle.trace_worker.specs.declared.worker_run.WorkerRun.{WorkerRun}
 use Rattle.trace_worker.specs.declared.worker.Worker.{Worker}
 use Rattle.trace_worker.specs.Items.{CountedSeat, CountedZone}
-use Rattle.trace_worker.specs.Naming.{no_counts}
+use Rattle.trace_worker.specs.NameWork.{no_counts}
 
 module _ {H P : Type 0} {h : Ghosts H P} where
   -- a new seat of a zone, in this domain
@@ -31,7 +31,7 @@ module _ {H P : Type 0} {h : Ghosts H P} where
 
 module _ {N H C S P : Type 0} {h : Ghosts H P} where
   -- It is there, has this seat of the names, and its gate was asked nothing yet.
-  pub record IsIdle (w : Worker H P h) (s : S) (r : Running N H C S P h) : Type 0 where
+  pub record IsIdle (w : Worker H P h) (s : S) (r : WorkerRun N H C S P h) : Type 0 where
     pub worker : r.attendance ≡ There w
     pub seat : r.naming.seat ≡ s
     pub counts : r.naming.counts ≡ no_counts

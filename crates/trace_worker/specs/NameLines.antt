@@ -3,7 +3,7 @@ use Rattle.std.specs.Prelude.{◌≡◌, ◌⊎◌, ◌≤◌, ◌+◌, ℕ, Boo
 use Rattle.smr_clock.specs.declared.clock.Clock.{Clock}
 use Rattle.smr_clock.specs.declared.host.Host.{Ghosts}
 use Rattle.smr_clock.specs.declared.refused.Overtaken.{Overtaken}
-use Rattle.smr_clock.specs.Belongs.{IsOf, clock_id, view}
+use Rattle.smr_clock.specs.Belongs.{IsPassOf, clock_id, view}
 use Rattle.smr_clock.specs.Sections.{Misses}
 use Rattle.smr_core.specs.declared.phase.Phase.TheVariants.{Outside, Inside}
 use Rattle.trace_text.specs.declared.op.Op.{Op}
@@ -11,8 +11,8 @@ use Rattle.trace_text.specs.declared.op.Op.TheVariants.{Bind, Unbind, Look, Away
 use Rattle.trace_text.specs.Reading.{away_after}
 use Rattle.trace_text.specs.Valid.{comes_back}
 use Rattle.trace_worker.specs.declared.name_calls.NameCalls.{Ghosts as NameGhosts}
-use Rattle.trace_worker.specs.declared.naming.Naming.{Naming}
-use Rattle.trace_worker.specs.declared.running.Running.{Running}
+use Rattle.trace_worker.specs.declared.name_work.NameWork.{NameWork}
+use Rattle.trace_worker.specs.declared.worker_run.WorkerRun.{WorkerRun}
 use Rattle.trace_worker.specs.declared.worker.Worker.{Worker}
 use Rattle.trace_worker.specs.Attendance.{is_out, worker_in}
 use Rattle.trace_worker.specs.Items.{CountedZone}
@@ -20,22 +20,22 @@ use Rattle.trace_worker.specs.Knowing.{StillKnows, Finds, Loads}
 use Rattle.trace_worker.specs.NameCalls.{Bound, Unbound, CountedBind, CountedUnbind, MovesEntries}
 use Rattle.trace_worker.specs.NameLedger.{HasRoomToBind}
 use Rattle.trace_worker.specs.NamesStand.{NamesOfClock}
-use Rattle.trace_worker.specs.Naming.{CountsFew, CountsBind, CountsUnbind, CountsAnswer, CountsLate}
+use Rattle.trace_worker.specs.NameWork.{CountsFew, CountsBind, CountsUnbind, CountsAnswer, CountsLate}
 use Rattle.trace_worker.specs.Performs.{CanPerform, IsBetween, KeepsAll, KeepsHolds, KeepsSection, Performs}
-use Rattle.trace_worker.specs.Worker.{AreOfClock, Fits, HasRooms, phase_of, seen_of}
+use Rattle.trace_worker.specs.Worker.{AreOfClock, FitsZones, HasRooms, phase_of, seen_of}
 
 -- what a worker's lines change: itself, what it has of the names, and whether it is away; then the worker is that as which it comes back
 pub record Doing (N H C S P : Type 0) (h : Ghosts H P) : Type 0 where
   pub worker : Worker H P h
-  pub naming : Naming N H C S P
+  pub naming : NameWork N H C S P
   pub out : Bool
 
 module _ {N H C S P : Type 0} {h : Ghosts H P} where
-  abbrev pub doing : Running N H C S P h → Doing N H C S P h
+  abbrev pub doing : WorkerRun N H C S P h → Doing N H C S P h
   doing r = record { worker = worker_in r; naming = r.naming; out = is_out r.attendance }
 
   -- the same of a worker that is there
-  abbrev pub doing_there : Worker H P h → Naming N H C S P → Doing N H C S P h
+  abbrev pub doing_there : Worker H P h → NameWork N H C S P → Doing N H C S P h
   doing_there w naming = record { worker = w; naming = naming; out = false }
 
   -- An `away` or a `back` line: the pass leaves, or comes, and nothing is counted.
@@ -44,54 +44,54 @@ module _ {N H C S P : Type 0} {h : Ghosts H P} where
     pub naming : new.naming ≡ old.naming
 
   -- what it counted of its gate, and how its last turn ended, stay
-  pub record KeepsGate (old new : Running N H C S P h) : Type 0 where
+  pub record KeepsGate (old new : WorkerRun N H C S P h) : Type 0 where
     pub asked : new.asked ≡ old.asked
     pub gave_up : new.gave_up ≡ old.gave_up
 
 module _ {N H C S P : Type 0} (names : NameGhosts N H C S P) where
   -- each of its counts of names can be one more, and so can its ledger of them, also by a free
-  pub record HasNameRooms (naming : Naming N H C S P) : Type 0 where
+  pub record HasNameRooms (naming : NameWork N H C S P) : Type 0 where
     pub counts : CountsFew naming.counts
     pub ledger : IfSome (names.counted naming.seat) HasRoomToBind
 
 module _ {N H C S P : Type 0} {h : Ghosts H P} (names : NameGhosts N H C S P) (cache : C) where
   -- what a line of names needs: they are served, clock, pass and seat go with the cache, and each of the counts can be one more
-  pub record CanName (by : Clock H P) (w : Worker H P h) (naming : Naming N H C S P) : Type 0 where
+  pub record CanName (by : Clock H P) (w : Worker H P h) (naming : NameWork N H C S P) : Type 0 where
     pub serves : IsTrue names.serves
     pub clock : clock_id by ≡ names.clock_of cache
-    pub pass : IsOf by w.pass
+    pub pass : IsPassOf by w.pass
     pub seat : names.IsSeat cache naming.seat
     pub rooms : HasNameRooms names naming
 
   -- what a `look` line needs: there is no section, or an open one, and each count of sections can be one more
-  pub record CanLook (by : Clock H P) (w : Worker H P h) (naming : Naming N H C S P) : Type 0 where
+  pub record CanLook (by : Clock H P) (w : Worker H P h) (naming : NameWork N H C S P) : Type 0 where
     pub can : CanName by w naming
     pub between : IsBetween w
     pub rooms : HasRooms w
 
   -- the same outside a section
-  pub record CanLookOutside (by : Clock H P) (w : Worker H P h) (naming : Naming N H C S P) : Type 0 where
+  pub record CanLookOutside (by : Clock H P) (w : Worker H P h) (naming : NameWork N H C S P) : Type 0 where
     pub can : CanName by w naming
     pub outside : phase_of w ≡ Outside
     pub rooms : HasRooms w
 
   -- what it leaves: the pass is the clock's, and the seat the cache's
-  pub record StaysNamed (by : Clock H P) (w : Worker H P h) (naming : Naming N H C S P) : Type 0 where
-    pub pass : IsOf by w.pass
+  pub record StaysNamed (by : Clock H P) (w : Worker H P h) (naming : NameWork N H C S P) : Type 0 where
+    pub pass : IsPassOf by w.pass
     pub seat : names.IsSeat cache naming.seat
 
   -- what each line needs: the zones and the cache go by this clock, the worker fits the zones and its seat of the names the cache, and each of its counts can be one more
-  pub record CanGoOn (zones : List (CountedZone H P h)) (by : Clock H P) (w : Worker H P h) (naming : Naming N H C S P) : Type 0 where
+  pub record CanGoOn (zones : List (CountedZone H P h)) (by : Clock H P) (w : Worker H P h) (naming : NameWork N H C S P) : Type 0 where
     pub clock : AreOfClock by zones
     pub of_clock : NamesOfClock names cache by
-    pub fits : Fits zones by w
+    pub fits : FitsZones zones by w
     pub seat : names.IsSeat cache naming.seat
     pub rooms : HasRooms w
     pub name_rooms : HasNameRooms names naming
 
   -- what it leaves: the worker fits the zones, and its seat of the names the cache
-  pub record StaysFit (zones : List (CountedZone H P h)) (by : Clock H P) (w : Worker H P h) (naming : Naming N H C S P) : Type 0 where
-    pub fits : Fits zones by w
+  pub record StaysFit (zones : List (CountedZone H P h)) (by : Clock H P) (w : Worker H P h) (naming : NameWork N H C S P) : Type 0 where
+    pub fits : FitsZones zones by w
     pub seat : names.IsSeat cache naming.seat
 
   -- a `bind` line: one call, which bound the key or didn't; the seat stays in its memory domain, and what leaves it was usable there or came by this call
@@ -205,6 +205,6 @@ module _ {N H C S P : Type 0} {h : Ghosts H P} (names : NameGhosts N H C S P) wh
   CanDo zones w op = CanAct zones w op
 
   -- the line has what it needs, and its worker is away only where the line brings it back
-  pub record CanTurn (zones : List (CountedZone H P h)) (r : Running N H C S P h) (op : Op) : Type 0 where
+  pub record CanTurn (zones : List (CountedZone H P h)) (r : WorkerRun N H C S P h) (op : Op) : Type 0 where
     pub can : CanDo zones (worker_in r) op
     pub there : is_out r.attendance ≡ comes_back op

@@ -6,8 +6,8 @@ use Rattle.trace_text.specs.Lines.{Line}
 use Rattle.zone_stats.specs.declared.ledger.SeatLedger.{SeatLedger}
 use Rattle.zone_stats.specs.declared.refusal.Refusal.{Refusal}
 use Rattle.trace_worker.specs.declared.name_calls.NameCalls.{Ghosts as NameGhosts}
-use Rattle.trace_worker.specs.declared.naming.NameCounts.{NameCounts}
-use Rattle.trace_worker.specs.declared.naming.Naming.{Naming}
+use Rattle.trace_worker.specs.declared.name_work.NameCounts.{NameCounts}
+use Rattle.trace_worker.specs.declared.name_work.NameWork.{NameWork}
 use Rattle.trace_worker.specs.Counting.{looks, binds, unbinds}
 use Rattle.trace_worker.specs.NameLedger.{NamesRefuse}
 
@@ -35,7 +35,7 @@ module _ {N H C S P : Type 0} (names : NameGhosts N H C S P) (cache : C) where
   NamesOfClock clock = IsTrue names.serves → clock_id clock ≡ names.clock_of cache
 
   -- What worker `n` has of the names: the seat is the cache's, and what it counted stands for the lines. So many of its sections were late.
-  pub record NamesStand (n : ℕ) (lines : List Line) (late : ℕ) (naming : Naming N H C S P) : Type 0 where
+  pub record NamesStand (n : ℕ) (lines : List Line) (late : ℕ) (naming : NameWork N H C S P) : Type 0 where
     pub seat : names.IsSeat cache naming.seat
     pub counts : NameCountsStand n lines late naming.counts
     pub ledger : IfSome (names.counted naming.seat) (NameLedgerStands (names.sizes_of cache).slabs n lines naming.counts.refused)

@@ -5,7 +5,7 @@ use Rattle.smr_clock.specs.declared.host.Host.{Ghosts}
 use Rattle.smr_core.specs.declared.phase.Phase.TheVariants.{Outside, Inside}
 use Rattle.smr_clock.specs.declared.refused.Overtaken.{Overtaken}
 use Rattle.smr_clock.specs.declared.view.View.{View}
-use Rattle.smr_clock.specs.Belongs.{IsOf, view}
+use Rattle.smr_clock.specs.Belongs.{IsPassOf, view}
 use Rattle.smr_clock.specs.Sections.{Enters, Misses}
 use Rattle.smr_clock.specs.Steps.{clearing}
 use Rattle.trace_text.specs.declared.op.Op.{Op}
@@ -40,12 +40,12 @@ module _ {H P : Type 0} {h : Ghosts H P} where
 
   -- the same, and its pass is of this clock
   pub record StaysWhole (by : Clock H P) (old new : Worker H P h) : Type 0 where
-    pub pass : IsOf by new.pass
+    pub pass : IsPassOf by new.pass
     pub keeps : KeepsAll old new
 
   -- the pass is of this clock, and outside a section
   pub record IsOutside (by : Clock H P) (w : Worker H P h) : Type 0 where
-    pub pass : IsOf by w.pass
+    pub pass : IsPassOf by w.pass
     pub outside : phase_of w ≡ Outside
 
   -- an `alloc` line: one request by the worker's seat of its zone, whose item, if there is one, its slot holds

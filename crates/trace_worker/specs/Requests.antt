@@ -10,7 +10,7 @@ use Rattle.uma_seat.specs.Seat.{seat_domain, usable_of, spares_of, shelf_of, pla
 use Rattle.uma_seat.specs.Stack.{stack_at, with_item, is_filled_by_one}
 use Rattle.uma_zone.specs.declared.alloc_ask.AllocAsk.{AllocAsk}
 use Rattle.uma_zone.specs.declared.alloc_ask.AllocRefused.TheVariants.{Refused}
-use Rattle.uma_zone.specs.Alloc.{Serves, Refuses}
+use Rattle.uma_zone.specs.Alloc.{Serves, AllocIsRefused}
 use Rattle.uma_zone.specs.Flushed.{HasLastOf}
 use Rattle.uma_zone.specs.Free.{Frees}
 use Rattle.uma_zone.specs.OwnDomain.{Flushes, IsFlushed, IsSettled}
@@ -26,7 +26,7 @@ module _ {H P : Type 0} {h : Ghosts H P} where
   -- the request got an item of the zone, with its own right to the reserve where it was fetched, built by the zone's `ctor` with its argument; or it was refused so
   abbrev pub Ends : CountedZone H P h → AllocAsk → CountedSeat H P h → Option LiveItem → CountedSeat H P h → Type 0
   Ends zone ask old (Some item) new = Serves zone ask old item new × IsHome (zone_home zone) (live_ticket item)
-  Ends zone ask old None new = (refusal : Refusal) × Refuses zone ask old new (Refused refusal)
+  Ends zone ask old None new = (refusal : Refusal) × AllocIsRefused zone ask old new (Refused refusal)
 
   -- A request. What the seat has freed, and where its spare buckets stand, stays but for what the zone's flush did.
   pub record Requests (zone : CountedZone H P h) (ask : AllocAsk) (old : CountedSeat H P h) (got : Option LiveItem) (new : CountedSeat H P h) : Type 0 where

@@ -34,5 +34,5 @@ module _ {H P : Type 0} {h : Ghosts H P} where
     pub between : IsBetween w
     pub entries : EntriesStand n lines w.entered w.late (phase_of w)
     -- its pass knows where the clock's hands began; and once an enter was late, that the write hand is the window or more above that
-    pub begun : (setup_of clock).about.start ≤ seen_of w
-    pub overtaken : 0 < w.late → (setup_of clock).about.start + (setup_of clock).about.window ≤ seen_of w
+    pub begun : (setup_of clock).config.start ≤ seen_of w
+    pub overtaken : 0 < w.late → (setup_of clock).config.start + (setup_of clock).config.window ≤ seen_of w

@@ -9,32 +9,32 @@ use Rattle.trace_text.specs.Reading.{is_away}
 use Rattle.uma_seat.specs.Seat.{ledger_of}
 use Rattle.zone_stats.specs.declared.ledger.SeatLedger.{SeatLedger}
 use Rattle.trace_worker.specs.declared.name_calls.NameCalls.{Ghosts as NameGhosts}
-use Rattle.trace_worker.specs.declared.running.Running.{Running}
+use Rattle.trace_worker.specs.declared.worker_run.WorkerRun.{WorkerRun}
 use Rattle.trace_worker.specs.declared.worker.Worker.{Worker}
 use Rattle.trace_worker.specs.Attendance.{is_out, worker_in}
 use Rattle.trace_worker.specs.Items.{CountedZone}
 use Rattle.trace_worker.specs.Live.{live_count}
 use Rattle.trace_worker.specs.NamesStand.{NamesStand}
 use Rattle.trace_worker.specs.Stands.{Stands}
-use Rattle.trace_worker.specs.Worker.{Fits}
+use Rattle.trace_worker.specs.Worker.{FitsZones}
 
 module _ {N H C S P : Type 0} {h : Ghosts H P} where
   -- the workers of these turns; those that are away, as which they come back
-  abbrev pub crew : List (Running N H C S P h) → List (Worker H P h)
+  abbrev pub crew : List (WorkerRun N H C S P h) → List (Worker H P h)
   crew runnings = map worker_in runnings
 
   -- it is away where the reading of the lines says so
-  abbrev pub IsAbsent : ℕ → List Line → Running N H C S P h → Type 0
+  abbrev pub IsAbsent : ℕ → List Line → WorkerRun N H C S P h → Type 0
   IsAbsent n lines r = is_out r.attendance ≡ is_away lines n
 
   -- each of them is
-  abbrev pub AllAbsent : List Line → List (Running N H C S P h) → Type 0
-  AllAbsent lines workers = (n : ℕ) (r : Running N H C S P h) → slice_get workers n ≡ Some r → IsAbsent n lines r
+  abbrev pub AllAbsent : List Line → List (WorkerRun N H C S P h) → Type 0
+  AllAbsent lines workers = (n : ℕ) (r : WorkerRun N H C S P h) → slice_get workers n ≡ Some r → IsAbsent n lines r
 
 module _ {H P : Type 0} {h : Ghosts H P} where
   -- Each worker's seats, pass and items belong to the zones and the clock, and it stands for these lines.
   pub record AllStand (zones : List (CountedZone H P h)) (clock : Clock H P) (lines : List Line) (workers : List (Worker H P h)) : Type 0 where
-    pub fits : (n : ℕ) (w : Worker H P h) → slice_get workers n ≡ Some w → Fits zones clock w
+    pub fits : (n : ℕ) (w : Worker H P h) → slice_get workers n ≡ Some w → FitsZones zones clock w
     pub stands : (n : ℕ) (w : Worker H P h) → slice_get workers n ≡ Some w → Stands zones clock n lines w
 
   -- what the worker's seat of the zone at place `z` counted
@@ -59,5 +59,5 @@ module _ {H P : Type 0} {h : Ghosts H P} where
 
 module _ {N H C S P : Type 0} {h : Ghosts H P} (names : NameGhosts N H C S P) (cache : C) where
   -- what each of them has of the names stands for these lines
-  abbrev pub AllNamed : List Line → List (Running N H C S P h) → Type 0
-  AllNamed lines workers = (n : ℕ) (r : Running N H C S P h) → slice_get workers n ≡ Some r → NamesStand names cache n lines (worker_in r).late r.naming
+  abbrev pub AllNamed : List Line → List (WorkerRun N H C S P h) → Type 0
+  AllNamed lines workers = (n : ℕ) (r : WorkerRun N H C S P h) → slice_get workers n ≡ Some r → NamesStand names cache n lines (worker_in r).late r.naming

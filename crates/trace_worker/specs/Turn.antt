@@ -4,7 +4,7 @@ use Rattle.trace_text.specs.declared.trace.Trace.{Trace}
 use Rattle.trace_text.specs.Valid.{IsValid}
 use Rattle.uma_seat.specs.Seat.{ledger_of}
 use Rattle.trace_worker.specs.declared.name_calls.NameCalls.{Ghosts as NameGhosts}
-use Rattle.trace_worker.specs.declared.running.Running.{Running}
+use Rattle.trace_worker.specs.declared.worker_run.WorkerRun.{WorkerRun}
 use Rattle.trace_worker.specs.declared.worker.Worker.{Worker}
 use Rattle.trace_worker.specs.Attendance.{worker_in}
 use Rattle.trace_worker.specs.Items.{CountedSeat, CountedZone}
@@ -14,7 +14,7 @@ use Rattle.trace_worker.specs.NameLines.{DoesAll, doing}
 use Rattle.trace_worker.specs.NamesStand.{NamesOfClock, NamesStand}
 use Rattle.trace_worker.specs.Stands.{Stands}
 use Rattle.trace_worker.specs.Together.{IsAbsent}
-use Rattle.trace_worker.specs.Worker.{AreOfClock, Fits, seen_of}
+use Rattle.trace_worker.specs.Worker.{AreOfClock, FitsZones, seen_of}
 use Rattle.std.specs.Prelude.{Some, slice_get}
 use Rattle.smr_clock.specs.declared.clock.Clock.{Clock}
 use Rattle.smr_clock.specs.declared.host.Host.{Ghosts}
@@ -31,7 +31,7 @@ most_asks = 100000000
 
 module _ {N H C S P : Type 0} {h : Ghosts H P} (names : NameGhosts N H C S P) (cache : C) where
   -- Worker `n` is ready for round `k`: of a valid trace whose names, if it has any, are served, with its zones, its clock and its cache of names, after the lines of the rounds before.
-  pub record IsReady (t : Trace) (zones : List (CountedZone H P h)) (clock : Clock H P) (k n : ℕ) (r : Running N H C S P h) : Type 0 where
+  pub record IsReady (t : Trace) (zones : List (CountedZone H P h)) (clock : Clock H P) (k n : ℕ) (r : WorkerRun N H C S P h) : Type 0 where
     pub valid : IsValid t
     pub served : names.serves ≡ is_some t.head.names
     pub round : k < length t.rounds
@@ -42,14 +42,14 @@ module _ {N H C S P : Type 0} {h : Ghosts H P} (names : NameGhosts N H C S P) (c
     pub few : length (lines_before t.rounds k) + length (own_ops t.rounds k n) < 2 ^ 32
     pub asks : r.asked + most_asks * length (own_ops t.rounds k n) < 2 ^ 64
     pub gave_up : r.gave_up + length (own_ops t.rounds k n) < 2 ^ 64
-    pub fits : Fits zones clock (worker_in r)
+    pub fits : FitsZones zones clock (worker_in r)
     pub stands : Stands zones clock n (lines_before t.rounds k) (worker_in r)
     pub named : NamesStand names cache n (lines_before t.rounds k) (worker_in r).late r.naming
     pub absent : IsAbsent n (lines_before t.rounds k) r
 
   -- What its turn leaves: its own list on top of the lines before, and items and ledgers that go together. Line after line it did what each says.
-  pub record HasWorked (t : Trace) (zones : List (CountedZone H P h)) (clock : Clock H P) (k n : ℕ) (old new : Running N H C S P h) : Type 0 where
-    pub fits : Fits zones clock (worker_in new)
+  pub record HasWorked (t : Trace) (zones : List (CountedZone H P h)) (clock : Clock H P) (k n : ℕ) (old new : WorkerRun N H C S P h) : Type 0 where
+    pub fits : FitsZones zones clock (worker_in new)
     pub stands : Stands zones clock n (worked n (own_ops t.rounds k n) (lines_before t.rounds k)) (worker_in new)
     pub named : NamesStand names cache n (worked n (own_ops t.rounds k n) (lines_before t.rounds k)) (worker_in new).late new.naming
     pub absent : IsAbsent n (worked n (own_ops t.rounds k n) (lines_before t.rounds k)) new

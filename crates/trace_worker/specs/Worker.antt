@@ -3,7 +3,7 @@ use Rattle.std.specs.Prelude.{◌≡◌, ◌<◌, ◌≤◌, ◌^◌, ℕ, List,
 use Rattle.smr_clock.specs.declared.clock.Clock.{Clock}
 use Rattle.smr_clock.specs.declared.host.Host.{Ghosts}
 use Rattle.smr_core.specs.declared.phase.Phase.{Phase}
-use Rattle.smr_clock.specs.Belongs.{IsOf, clock_id, holder}
+use Rattle.smr_clock.specs.Belongs.{IsPassOf, clock_id, holder}
 use Rattle.uma_bucket.specs.Home.{IsHome}
 use Rattle.uma_life.specs.Live.{live_ticket}
 use Rattle.uma_seat.specs.Seat.{ledger_of}
@@ -31,9 +31,9 @@ module _ {H P : Type 0} {h : Ghosts H P} where
     pub each : (z : ℕ) (zone : CountedZone H P h) (seat : CountedSeat H P h) → slice_get zones z ≡ Some zone → slice_get seats z ≡ Some seat → IsSeatOf zone seat
 
   -- The worker has a seat of each zone, in order, and a pass of the clock, and each item in its slots is at home in its zone.
-  pub record Fits (zones : List (CountedZone H P h)) (clock : Clock H P) (w : Worker H P h) : Type 0 where
+  pub record FitsZones (zones : List (CountedZone H P h)) (clock : Clock H P) (w : Worker H P h) : Type 0 where
     pub seats : HasSeats zones w.seats.items
-    pub pass : IsOf clock w.pass
+    pub pass : IsPassOf clock w.pass
     pub slots : (slot : ℕ) (it : Held) → slot_at w.slots slot ≡ Some it → IsHeld zones it
 
   -- where its pass stands with its section
@@ -53,7 +53,7 @@ module _ {H P : Type 0} {h : Ghosts H P} where
   -- The zones go by this clock, the worker fits them, and each of its counts can be one more.
   pub record CanWork (zones : List (CountedZone H P h)) (by : Clock H P) (w : Worker H P h) : Type 0 where
     pub clock : AreOfClock by zones
-    pub fits : Fits zones by w
+    pub fits : FitsZones zones by w
     pub rooms : HasRooms w
 
   -- The same, with a zone at this place, and an empty slot.
@@ -72,4 +72,4 @@ module _ {H P : Type 0} {h : Ghosts H P} where
   pub record CanReclaim (zones : List (CountedZone H P h)) (by : Clock H P) (w : Worker H P h) (place : ℕ) : Type 0 where
     pub zone : place < length zones
     pub clock : AreOfClock by zones
-    pub fits : Fits zones by w
+    pub fits : FitsZones zones by w

@@ -1,4 +1,4 @@
-ghost use Rattle.smr_clock.specs.Belongs.{IsOf};
+ghost use Rattle.smr_clock.specs.Belongs.{IsPassOf};
 ghost use Rattle.trace_worker.specs.declared.attendance.Attendance.TheVariants.{Away as gone};
 ghost use Rattle.trace_worker.specs.Attendance.{worker_at};
 ghost use Rattle.trace_worker.specs.Performs.{IsOutside, StaysWhole};
@@ -47,7 +47,7 @@ impl<H: Host> Worker<H> {
 impl<H: Host> Absentee<H> {
     /// A `back` line: the vacancy comes as the worker's pass. Nothing is counted.
     pub fn come(self, clock: &Clock<H>) -> Worker<H>
-        requires pass { IsOf clock.now (worker_at (gone self)).pass }
+        requires pass { IsPassOf clock.now (worker_at (gone self)).pass }
         ensures { StaysWhole clock.now (worker_at (gone self)) result }
     {
         let Absentee {

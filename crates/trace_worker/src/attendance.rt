@@ -1,5 +1,5 @@
 ghost use Rattle.std.specs.Prelude.{◌≡◌, true, false, OnOk};
-ghost use Rattle.smr_clock.specs.Belongs.{IsOf};
+ghost use Rattle.smr_clock.specs.Belongs.{IsPassOf};
 ghost use Rattle.trace_worker.specs.Attendance.{Attends, MayLeave, with_slots_at, worker_at};
 ghost use Rattle.trace_worker.specs.Performs.{StaysWhole};
 ghost use Rattle.trace_worker.specs.Slots.{emptied, filled, slot_at};
@@ -24,7 +24,7 @@ pub enum Attendance<H: Host> {
 impl<H: Host> Attendance<H> {
     /// The worker, which comes back first where it is away.
     pub fn into_worker(self, clock: &Clock<H>) -> Worker<H>
-        requires pass { IsOf clock.now (worker_at self).pass }
+        requires pass { IsPassOf clock.now (worker_at self).pass }
         ensures { StaysWhole clock.now (worker_at self) result }
     {
         match self {
@@ -43,7 +43,7 @@ impl<H: Host> Attendance<H> {
 
     /// The worker comes back, and is there.
     pub(crate) fn come(&mut self, clock: &Clock<H>)
-        requires { IsOf clock.now (worker_at self.old).pass }
+        requires { IsPassOf clock.now (worker_at self.old).pass }
         ensures { Attends clock.now false self.old self.new }
     {
         replace_with(self, clock, back)
@@ -84,7 +84,7 @@ fn left<H: Host>(attendance: Attendance<H>, clock: &Clock<H>) -> (Attendance<H>,
 
 /// The worker, back.
 fn back<H: Host>(attendance: Attendance<H>, clock: &Clock<H>) -> (Attendance<H>, ())
-    requires { IsOf clock.now (worker_at attendance).pass }
+    requires { IsPassOf clock.now (worker_at attendance).pass }
     ensures { Attends clock.now false attendance result.0 }
 {
     (Attendance::There(attendance.into_worker(clock)), ())

@@ -4,7 +4,7 @@ ghost use Rattle.uma_zone.specs.Calling.{CanCall};
 ghost use Rattle.trace_worker.specs.Calling.{CanGiveBack, CanRelease, StaysOf};
 ghost use Rattle.trace_worker.specs.Performs.{FreesSlot};
 ghost use Rattle.trace_worker.specs.Requests.{IsGivenBack, MakesReady, ReadiesSeat, Releases, ReleasesBy};
-ghost use Rattle.trace_worker.specs.Worker.{CanWork, Fits};
+ghost use Rattle.trace_worker.specs.Worker.{CanWork, FitsZones};
 
 use crate::Memory;
 use crate::counted::Counted;
@@ -30,7 +30,7 @@ impl<H: Host> Worker<H> {
         slot: u32,
     ) -> Result<(), Memory>
         requires { CanWork zones.now clock.now self.old }
-        ensures fits { OnOk result (Fits zones.now clock.now self.new) }
+        ensures fits { OnOk result (FitsZones zones.now clock.now self.new) }
         ensures frees { OnOk result (FreesSlot zones.now self.old slot self.new) }
     {
         let Some(held) = self.slots.take(slot) else {

@@ -5,14 +5,14 @@ ghost use Rattle.trace_worker.specs.Giving.{TakesFrom, PutsInto, Gives, KeepsRes
 use crate::Memory;
 use crate::held::Held;
 use crate::name_calls::NameCalls;
-use crate::running::Running;
+use crate::worker_run::WorkerRun;
 use std::alloc::Global;
 
 /// A `give` line: moves what a slot of the giver holds to a slot of the taker, or its emptiness. The taker's slot is empty
 /// before. Giver and taker may be away. After `Memory`, which comes where the taker's slots have to grow, the item is lost, and the replay is over.
 pub fn move_slot<N: NameCalls>(
     alloc: Global,
-    workers: &mut [Running<N>],
+    workers: &mut [WorkerRun<N>],
     giver: usize,
     slot: u32,
     taker: usize,
@@ -30,7 +30,7 @@ pub fn move_slot<N: NameCalls>(
 }
 
 /// What a worker's slot holds, which is empty then.
-fn take_from<N: NameCalls>(workers: &mut [Running<N>], number: usize, slot: u32) -> Option<Held>
+fn take_from<N: NameCalls>(workers: &mut [WorkerRun<N>], number: usize, slot: u32) -> Option<Held>
     requires { number < length workers.old }
     ensures { TakesFrom number slot workers.old result workers.new }
 {
@@ -40,7 +40,7 @@ fn take_from<N: NameCalls>(workers: &mut [Running<N>], number: usize, slot: u32)
 /// Puts what is held, if there is something, into a worker's slot.
 fn put_into<N: NameCalls>(
     alloc: Global,
-    workers: &mut [Running<N>],
+    workers: &mut [WorkerRun<N>],
     number: usize,
     slot: u32,
     held: Option<Held>,

@@ -1,7 +1,7 @@
 //! The worker of a replay over zones: what each line of a trace does to it, and its turn in a round.
 //!
 //! A [`Worker`] owns a pass of the clock, a seat of each zone and what its slots hold, and shares the zones and the clock
-//! with the other workers by reference. Its pass may leave and come back ([`Attendance`]). [`Running::turn`] does a worker's
+//! with the other workers by reference. Its pass may leave and come back ([`Attendance`]). [`WorkerRun::turn`] does a worker's
 //! own list of lines in one round, for a thread of its own; [`move_slot`] moves what a slot holds to another worker, between
 //! two rounds. The lines of reclaim and of names are done through [`ReclaimCalls`] and [`NameCalls`], which the replay brings
 //! along: so it calls neither uma_reclaim nor name_cache, and has from uma_reclaim only the words of its contracts.
@@ -40,15 +40,15 @@ mod items;
 mod making;
 mod name_calls;
 mod name_lines;
-mod naming;
+mod name_work;
 mod performing;
 mod reclaim_calls;
 mod reclaiming;
 mod requesting;
-mod running;
 mod sections;
 mod slots;
 mod worker;
+mod worker_run;
 
 pub use absentee::Absentee;
 pub use attendance::Attendance;
@@ -59,9 +59,9 @@ pub use giving::move_slot;
 pub use held::Held;
 pub use items::{CountedSeat, CountedZone};
 pub use name_calls::NameCalls;
-pub use naming::{NameCounts, Naming};
+pub use name_work::{NameCounts, NameWork};
 pub use reclaim_calls::ReclaimCalls;
-pub use running::Running;
 pub use slots::Slots;
 pub use worker::Worker;
+pub use worker_run::WorkerRun;
 pub use zone_stats::Memory;

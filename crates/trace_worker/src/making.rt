@@ -1,7 +1,7 @@
 ghost use Rattle.std.specs.Prelude.{◌≡◌, ◌<◌, All, IfOk};
-ghost use Rattle.smr_clock.specs.Belongs.{IsOf};
+ghost use Rattle.smr_clock.specs.Belongs.{IsPassOf};
 ghost use Rattle.uma_zone.specs.Zone.{zone_domains};
-ghost use Rattle.trace_worker.specs.Worker.{Fits};
+ghost use Rattle.trace_worker.specs.Worker.{FitsZones};
 ghost use Rattle.trace_worker.specs.Making.{IsNewWorker, AreSeats};
 
 use crate::Memory;
@@ -25,8 +25,8 @@ impl<H: Host> Worker<H> {
         slots: usize,
     ) -> Result<Worker<H>, Memory>
         requires domain { All (λ zone. domain < zone_domains zone) zones.now }
-        requires pass { IsOf clock.now pass }
-        ensures fits { IfOk result (Fits zones.now clock.now) }
+        requires pass { IsPassOf clock.now pass }
+        ensures fits { IfOk result (FitsZones zones.now clock.now) }
         ensures new { IfOk result (IsNewWorker zones.now pass domain) }
     {
         let seats = new_seats(rt, alloc, zones, domain)?;

@@ -1,13 +1,13 @@
 ghost use Rattle.std.specs.Prelude.{◌≡◌, ◌⊎◌, OnOk};
 ghost use Rattle.smr_core.specs.declared.phase.Phase.{Phase};
 ghost use Rattle.trace_worker.specs.NameLines.{Acts, BindsLine, CanAct, CanGoOn, CanLook, CanLookOutside, CanName, FindsLine, LookEnds, LooksLine, StaysFit, StaysNamed, UnbindsLine, doing_there};
-ghost use Rattle.trace_worker.specs.Naming.{CountsAnswer, CountsBind, CountsFew, CountsUnbind};
+ghost use Rattle.trace_worker.specs.NameWork.{CountsAnswer, CountsBind, CountsFew, CountsUnbind};
 ghost use Rattle.trace_worker.specs.Worker.{phase_of};
 
 use crate::Memory;
 use crate::items::CountedZone;
 use crate::name_calls::NameCalls;
-use crate::naming::{NameCounts, Naming};
+use crate::name_work::{NameCounts, NameWork};
 use crate::reclaim_calls::ReclaimCalls;
 use crate::worker::Worker;
 use smr_clock::Clock;
@@ -16,7 +16,7 @@ use std::alloc::Global;
 use std::sync::Wait;
 use trace_text::Op;
 
-impl<N: NameCalls> Naming<N> {
+impl<N: NameCalls> NameWork<N> {
     /// Does a line of a worker that is there and stays, by its kind. Waits where the zones' calls do, and those of the names.
     ///
     /// After the Err, which is want of memory, the replay is over.

@@ -1,7 +1,7 @@
 ghost use Rattle.std.specs.Prelude.{◌≤◌, OnOk};
 ghost use Rattle.trace_worker.specs.Performs.{BringsIn, CanPerform, Performs};
 ghost use Rattle.trace_worker.specs.Requests.{BringsItems};
-ghost use Rattle.trace_worker.specs.Worker.{CanPrealloc, CanWork, Fits};
+ghost use Rattle.trace_worker.specs.Worker.{CanPrealloc, CanWork, FitsZones};
 ghost use Rattle.uma_seat.specs.Seat.{seat_domain};
 ghost use Rattle.uma_zone.specs.Zone.{IsSeatOf};
 
@@ -31,7 +31,7 @@ impl<H: Host> Worker<H> {
     ) -> Result<(), Memory>
         requires can { CanPerform zones.now self.old op }
         requires able { CanWork zones.now clock.now self.old }
-        ensures fits { OnOk result (Fits zones.now clock.now self.new) }
+        ensures fits { OnOk result (FitsZones zones.now clock.now self.new) }
         ensures performs { OnOk result (Performs zones.now self.old op self.new) }
     {
         match op {

@@ -1,7 +1,7 @@
 ghost use Rattle.std.specs.Prelude.{OnOk};
 ghost use Rattle.trace_worker.specs.Performs.{Reclaims};
 ghost use Rattle.trace_worker.specs.Reclaims.{HasDrained, HasDrainedSeat, HasTrimmed};
-ghost use Rattle.trace_worker.specs.Worker.{CanReclaim, Fits};
+ghost use Rattle.trace_worker.specs.Worker.{CanReclaim, FitsZones};
 
 use crate::Memory;
 use crate::items::CountedZone;
@@ -25,7 +25,7 @@ impl<H: Host> Worker<H> {
         zone: u32,
     ) -> Result<(), Memory>
         requires { CanReclaim zones.now clock.now self.old zone }
-        ensures fits { OnOk result (Fits zones.now clock.now self.new) }
+        ensures fits { OnOk result (FitsZones zones.now clock.now self.new) }
         ensures reclaims { OnOk result (Reclaims zones.now HasTrimmed self.old zone self.new) }
     {
         let place = zone as usize;
@@ -46,7 +46,7 @@ impl<H: Host> Worker<H> {
         zone: u32,
     ) -> Result<(), Memory>
         requires { CanReclaim zones.now clock.now self.old zone }
-        ensures fits { OnOk result (Fits zones.now clock.now self.new) }
+        ensures fits { OnOk result (FitsZones zones.now clock.now self.new) }
         ensures reclaims { OnOk result (Reclaims zones.now HasDrained self.old zone self.new) }
     {
         let place = zone as usize;
@@ -68,7 +68,7 @@ impl<H: Host> Worker<H> {
         zone: u32,
     ) -> Result<(), Memory>
         requires { CanReclaim zones.now clock.now self.old zone }
-        ensures fits { OnOk result (Fits zones.now clock.now self.new) }
+        ensures fits { OnOk result (FitsZones zones.now clock.now self.new) }
         ensures reclaims { OnOk result (Reclaims zones.now HasDrainedSeat self.old zone self.new) }
     {
         let place = zone as usize;

@@ -8,7 +8,7 @@ ghost use Rattle.trace_worker.specs.Performs.{Allocs};
 ghost use Rattle.trace_worker.specs.Requests.{Reaches, Requests};
 ghost use Rattle.trace_worker.specs.Live.{holding};
 ghost use Rattle.trace_worker.specs.Slots.{filled};
-ghost use Rattle.trace_worker.specs.Worker.{CanAlloc, Fits};
+ghost use Rattle.trace_worker.specs.Worker.{CanAlloc, FitsZones};
 
 use crate::Memory;
 use crate::counted::Counted;
@@ -38,7 +38,7 @@ impl<H: Host> Worker<H> {
         ask: AllocAsk,
     ) -> Result<(), Memory>
         requires { CanAlloc zones.now clock.now self.old zone slot }
-        ensures fits { OnOk result (Fits zones.now clock.now self.new) }
+        ensures fits { OnOk result (FitsZones zones.now clock.now self.new) }
         ensures allocs { OnOk result (Allocs zones.now self.old zone slot ask self.new) }
     {
         let place = zone as usize;

@@ -1,7 +1,7 @@
 ghost use Rattle.std.specs.Prelude.{◌⊎◌, ◌<◌, ◌^◌};
 ghost use Rattle.trace_worker.specs.Items.{CountedZone};
 ghost use Rattle.trace_worker.specs.Performs.{EntersInTime, EntersLate, IsBetween, IsOutside, Leaves};
-ghost use Rattle.smr_clock.specs.Belongs.{IsOf};
+ghost use Rattle.smr_clock.specs.Belongs.{IsPassOf};
 
 use crate::worker::Worker;
 use smr_clock::{Clock, Host};
@@ -13,7 +13,7 @@ impl<H: Host> Worker<H> {
         requires outside { IsOutside clock.now self.old }
         requires entered { self.old.entered < 2 ^ 62 }
         requires late { self.old.late < 2 ^ 62 }
-        ensures pass { IsOf clock.now self.new.pass }
+        ensures pass { IsPassOf clock.now self.new.pass }
         ensures enters { EntersInTime self.old self.new ⊎ EntersLate self.old self.new }
     {
         match clock.enter(&mut self.pass) {
@@ -25,8 +25,8 @@ impl<H: Host> Worker<H> {
     /// An `exit` line: leaves the section. After an enter that was late there is none, and nothing is done.
     pub fn exit(&mut self, clock: &Clock<H>)
         requires between { IsBetween self.old }
-        requires pass { IsOf clock.now self.old.pass }
-        ensures pass { IsOf clock.now self.new.pass }
+        requires pass { IsPassOf clock.now self.old.pass }
+        ensures pass { IsPassOf clock.now self.new.pass }
         ensures leaves { Leaves self.old self.new }
     {
         if self.pass.phase() == Phase::Inside {

@@ -5,7 +5,7 @@ use Rattle.zone_stats.specs.LedgerSteps.{HasRoom, CountsFree, IsNew}
 use Rattle.uma_seat.specs.Seat.{ledger_of, spares_of, usable_of, shelf_of, freed_of, HasNoCross}
 use Rattle.uma_seat.specs.Stack.{stack_at, with_item, is_filled_by_one}
 use Rattle.uma_zone.specs.declared.alloc_ask.AllocRefused.TheVariants as zone
-use Rattle.uma_zone.specs.Alloc.{Serves, Refuses}
+use Rattle.uma_zone.specs.Alloc.{Serves, AllocIsRefused}
 use Rattle.uma_zone.specs.Free.{Frees as FreesOfZone}
 use Rattle.uma_life.specs.declared.live.Live.{Live}
 use Rattle.uma_life.specs.Live.{live_domain}
@@ -46,9 +46,9 @@ module _ {T K : Type 0} {g k : _} where
   -- 2. The counts are full.
   -- 3. Memory is wanting. Then nothing is counted.
   abbrev pub RefusesAlloc : ℕ → Bool → Local T K g k → Local T K g k → Refused → Type 0
-  RefusesAlloc arg reserve old new (Turned refusal) = Refuses (pool_of old).zone (record { arg = arg; reserve = reserve }) old.seat new.seat (zone.Refused refusal)
+  RefusesAlloc arg reserve old new (Turned refusal) = AllocIsRefused (pool_of old).zone (record { arg = arg; reserve = reserve }) old.seat new.seat (zone.Refused refusal)
   RefusesAlloc arg reserve old new Counts = KeepsLocal old new × KeepsUsable old new × (HasRoom (ledger_in old) → ⊥)
-  RefusesAlloc arg reserve old new Memory = Refuses (pool_of old).zone (record { arg = arg; reserve = reserve }) old.seat new.seat zone.Memory
+  RefusesAlloc arg reserve old new Memory = AllocIsRefused (pool_of old).zone (record { arg = arg; reserve = reserve }) old.seat new.seat zone.Memory
   RefusesAlloc arg reserve old new _ = ⊥
 
   -- In a pool without readers: the item passed `dtor` and lies here, on top of the bucket of its domain, as the pool's zone tells.

@@ -1,7 +1,7 @@
 ghost use Rattle.std.specs.Prelude.{◌≡◌, ◌<◌, ◌↔◌, IfOk, IfErr, IsTrue};
 ghost use Rattle.std.specs.Option.{option_map};
 ghost use Rattle.smr_core.specs.declared.phase.Phase.{Phase};
-ghost use Rattle.smr_clock.specs.Belongs.{IsOf, holder};
+ghost use Rattle.smr_clock.specs.Belongs.{IsPassOf, holder};
 ghost use Rattle.name_cache.specs.Bind.{HasRoomToBind};
 ghost use Rattle.name_cache.specs.Cache.{IsCacheSeat};
 
@@ -23,7 +23,7 @@ pub struct DirectoryLocal<'a> {
     pub(crate) directory: &'a Directory,
     pub(crate) pass: Pass<Names>,
     pub(crate) seat: SeatCache<RaisedEntry, Names>,
-    pub ghost here: { IsOf directory.now.clock pass },
+    pub ghost here: { IsPassOf directory.now.clock pass },
     pub ghost outside: { (holder pass).phase ≡ Phase.Outside },
     pub ghost seated: { IsCacheSeat directory.now.cache seat },
 }

@@ -1,6 +1,6 @@
 ghost use Rattle.std.specs.Prelude.{◌≡◌, IfOk, IfErr, true, false};
 ghost use Rattle.smr_core.specs.declared.phase.Phase.{Phase};
-ghost use Rattle.smr_clock.specs.Belongs.{IsOf, holder};
+ghost use Rattle.smr_clock.specs.Belongs.{IsPassOf, holder};
 ghost use Rattle.uma_zone.specs.Zone.{IsSeatOf};
 
 use crate::not_freed::NotFreed;
@@ -22,7 +22,7 @@ pub struct Local<'a, T: Body, K: Hooks<T>> {
     pub(crate) pool: &'a Pool<T, K>,
     pub(crate) pass: Pass<Bare>,
     pub(crate) seat: SeatCache<T, Bare>,
-    pub ghost here: { IsOf pool.now.clock pass },
+    pub ghost here: { IsPassOf pool.now.clock pass },
     pub ghost outside: { (holder pass).phase ≡ Phase.Outside },
     pub ghost seated: { IsSeatOf pool.now.zone seat },
 }

@@ -1,6 +1,6 @@
 ghost use Rattle.std.specs.Prelude.{◌≡◌, true, IfOk, IfErr};
 ghost use Rattle.smr_core.specs.declared.phase.Phase.{Phase};
-ghost use Rattle.smr_clock.specs.Belongs.{IsOf, holder};
+ghost use Rattle.smr_clock.specs.Belongs.{IsPassOf, holder};
 ghost use Rattle.uma.specs.Phases.{is_settled};
 
 use crate::refused::Refused;
@@ -13,7 +13,7 @@ use smr_core::Phase;
 pub struct Reader<'a> {
     pub(crate) clock: &'a Clock<Bare>,
     pub(crate) pass: Pass<Bare>,
-    pub ghost here: { IsOf clock.now pass },
+    pub ghost here: { IsPassOf clock.now pass },
     // A section whose guard was forgotten is left before the next.
     pub ghost settled: { is_settled (holder pass).phase ≡ true },
 }

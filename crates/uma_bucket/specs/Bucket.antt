@@ -33,9 +33,9 @@ abbrev pub IsOutOfRange : ℕ → Type 0
 IsOutOfRange size = (size < 4) ⊎ (64 < size)
 
 -- why a bucket of this size is refused: for the size, which is named, or else for memory
-abbrev pub Refuses : ℕ → BucketRefused → Type 0
-Refuses size (Size named) = (named ≡ size) × IsOutOfRange size
-Refuses size Memory = (4 ≤ size) × (size ≤ 64)
+abbrev pub BucketIsRefused : ℕ → BucketRefused → Type 0
+BucketIsRefused size (Size named) = (named ≡ size) × IsOutOfRange size
+BucketIsRefused size Memory = (4 ≤ size) × (size ≤ 64)
 
 -- ---- what calls answer
 
@@ -57,7 +57,7 @@ module _ {T : Type 0} {g : _} where
     pub size : IfOk answer (λ bucket. size_of bucket ≡ room)
     pub empty : IfOk answer (λ bucket. items_of bucket ≡ [])
     pub out_of_range : IsOutOfRange room → answer ≡ Err (Size room)
-    pub err : IfErr answer (Refuses room)
+    pub err : IfErr answer (BucketIsRefused room)
 
   -- The item is on top, and the room is the same. All items are at home where those before and it are.
   pub record Pushes (was : Bucket T g) (item : Cached T g) (is : Bucket T g) : Type 0 where

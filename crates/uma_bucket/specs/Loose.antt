@@ -9,7 +9,7 @@ use Rattle.uma_bucket.specs.declared.freed.Freed.{Freed}
 use Rattle.uma_bucket.specs.declared.loose.Loose.{Loose}
 use Rattle.uma_bucket.specs.declared.refused.BucketRefused.{BucketRefused}
 use Rattle.uma_bucket.specs.declared.refused.BucketRefused.TheVariants.{Size}
-use Rattle.uma_bucket.specs.Bucket.{size_of, place_of, IsOutOfRange, Refuses}
+use Rattle.uma_bucket.specs.Bucket.{size_of, place_of, IsOutOfRange, BucketIsRefused}
 use Rattle.uma_bucket.specs.Freed.{freed_ticket}
 use Rattle.uma_bucket.specs.Room.{freed_in}
 use Rattle.uma_bucket.specs.Home.{Home, IsHome, AreHome}
@@ -38,7 +38,7 @@ module _ {T : Type 0} {g : _} where
     pub size : IfOk answer (λ loose. loose_size loose ≡ room)
     pub empty : IfOk answer (λ loose. loose_items loose ≡ [])
     pub out_of_range : IsOutOfRange room → answer ≡ Err (Size room)
-    pub err : IfErr answer (Refuses room)
+    pub err : IfErr answer (BucketIsRefused room)
 
   -- an empty bucket in the room of another
   pub record Reuses (bucket : Bucket T g) (loose : Loose T g) : Type 0 where

@@ -7,8 +7,8 @@ use Rattle.smr_clock.specs.declared.goal.Goal.{Goal}
 use Rattle.smr_clock.specs.declared.note.Note.{Note}
 use Rattle.smr_clock.specs.declared.pass.Pass.{Pass}
 use Rattle.smr_clock.specs.declared.refused.AdvanceRefused.{AdvanceRefused}
-use Rattle.smr_clock.specs.Advances.{Advances, Refuses as RefusesAdvance}
-use Rattle.smr_clock.specs.Belongs.{TableId, IsOf, clock_id, view, holder}
+use Rattle.smr_clock.specs.Advances.{Advances, AdvanceIsRefused as RefusesAdvance}
+use Rattle.smr_clock.specs.Belongs.{TableId, IsPassOf, clock_id, view, holder}
 use Rattle.smr_clock.specs.Goals.{number_of, tag_of}
 use Rattle.smr_clock.specs.Notes.{note_knows, note_holder, note_clock, Notes}
 use Rattle.smr_clock.specs.Polls.{Polls, SaysNo}
@@ -70,7 +70,7 @@ module _ {T H P : Type 0} {g h : _} where
 
   -- The bucket is sealed, or the advance is refused and the bucket is back. The pass is where it was, of the same clock, and has seen what it had seen.
   pub record SealsOrNot (clock : Clock H P) (copied : P → P) (old : Pass H P h) (loose : Loose T g) (answer : Result (Sealed T H P g h) (Loose T g × AdvanceRefused)) (new : Pass H P h) : Type 0 where
-    pub here : IsOf clock new
+    pub here : IsPassOf clock new
     pub phase : (holder new).phase ≡ (holder old).phase
     pub seen : (holder old).seen ≤ (holder new).seen
     pub host : (view new).host ≡ (view old).host

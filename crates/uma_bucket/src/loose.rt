@@ -1,5 +1,5 @@
 ghost use Rattle.std.specs.Prelude.{◌≡◌, ◌<◌, ◌^◌, [], length};
-ghost use Rattle.smr_clock.specs.Belongs.{IsOf};
+ghost use Rattle.smr_clock.specs.Belongs.{IsPassOf};
 ghost use Rattle.uma_bucket.specs.Room.{is_freed};
 ghost use Rattle.uma_bucket.specs.Kept.{IsKept};
 
@@ -96,7 +96,7 @@ impl<T: Body> Loose<T> {
         clock: &Clock<H>,
         pass: &mut Pass<H>,
     ) -> Result<Sealed<T, H>, (Loose<T>, AdvanceRefused)>
-        requires here { IsOf clock.now pass.old }
+        requires here { IsPassOf clock.now pass.old }
         ensures { SealsOrNot clock.now H.copied pass.old self result pass.new }
     {
         match clock.advance(pass) {

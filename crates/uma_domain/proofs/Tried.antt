@@ -4,7 +4,7 @@ use Rattle.std.proofs.lemmas.List.{drop_more, drop_all, append-nil, length_push}
 use Rattle.smr_clock.specs.declared.setup.Setup.{Setup}
 use Rattle.smr_clock.specs.declared.refused.AdvanceRefused.{AdvanceRefused}
 use Rattle.smr_clock.specs.declared.view.View.{View}
-use Rattle.smr_clock.specs.Advances.{Refuses}
+use Rattle.smr_clock.specs.Advances.{AdvanceIsRefused}
 use Rattle.smr_clock.specs.Belongs.{TableId}
 use Rattle.uma_bucket.specs.declared.loose.Loose.{Loose}
 use Rattle.uma_bucket.specs.declared.sealed.Sealed.{Sealed}
@@ -67,7 +67,7 @@ module _ {T H P : Type 0} {g h : _} where
 
   pub try_refused : (copied : P → P) (clock : TableId × Setup) (v : View P) (loose : List (Loose T g)) (sealed : List (Sealed T H P g h)) (at count : ℕ) (loose_now : List (Loose T g)) (sealed_now : List (Sealed T H P g h)) (now : View P)
       (b : Loose T g) (rest : List (Loose T g)) (refused : AdvanceRefused) (next : View P) (loose_then : List (Loose T g)) (sealed_then : List (Sealed T H P g h)) (count_then : ℕ)
-      → at < length loose → loose_now ≡ b ∷ rest → Refuses now refused next → loose_then ≡ rest ++ b ∷ [] → sealed_then ≡ sealed_now → count_then ≡ count
+      → at < length loose → loose_now ≡ b ∷ rest → AdvanceIsRefused now refused next → loose_then ≡ rest ++ b ∷ [] → sealed_then ≡ sealed_now → count_then ≡ count
       → Trying copied clock v loose sealed at count loose_now sealed_now now → Trying copied clock v loose sealed (at + 1) count_then loose_then sealed_then next
   try_refused copied clock v loose sealed at count loose_now sealed_now now b rest refused next loose_then sealed_then count_then within popped refuses pushed same_sealed same_count so =
       let n = next_loose loose at loose_now so.stay rest b within so.turned popped in

@@ -2,7 +2,7 @@
 use Rattle.std.specs.Prelude.{◌≡◌, ◌≤◌}
 use Rattle.smr_clock.specs.declared.clock.Clock.{Clock}
 use Rattle.smr_clock.specs.declared.pass.Pass.{Pass}
-use Rattle.smr_clock.specs.Belongs.{IsOf, view, holder}
+use Rattle.smr_clock.specs.Belongs.{IsPassOf, view, holder}
 use Rattle.uma_domain.specs.declared.lists.Lists.{Lists}
 use Rattle.uma_domain.specs.Lists.{lists_identity, plain_in, loose_in, sealed_in, working_in, missed_in}
 
@@ -72,7 +72,7 @@ module _ {T H P : Type 0} {g h : _} where
 module _ {H P : Type 0} {h : _} where
   -- the pass is of this clock, in the phase that it was in, and has seen what it had; what its host put into it is as it was
   pub record KeepsPass (clock : Clock H P) (old new : Pass H P h) : Type 0 where
-    pub own : IsOf clock new
+    pub own : IsPassOf clock new
     pub phase : (holder new).phase ≡ (holder old).phase
     pub seen : (holder old).seen ≤ (holder new).seen
     pub host : (view new).host ≡ (view old).host

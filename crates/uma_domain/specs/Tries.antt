@@ -7,8 +7,8 @@ use Rattle.smr_clock.specs.declared.pass.Pass.{Pass}
 use Rattle.smr_clock.specs.declared.setup.Setup.{Setup}
 use Rattle.smr_clock.specs.declared.refused.AdvanceRefused.{AdvanceRefused}
 use Rattle.smr_clock.specs.declared.view.View.{View}
-use Rattle.smr_clock.specs.Advances.{Refuses}
-use Rattle.smr_clock.specs.Belongs.{TableId, IsOf, clock_id}
+use Rattle.smr_clock.specs.Advances.{AdvanceIsRefused}
+use Rattle.smr_clock.specs.Belongs.{TableId, IsPassOf, clock_id}
 use Rattle.uma_bucket.specs.declared.loose.Loose.{Loose}
 use Rattle.uma_bucket.specs.declared.sealed.Sealed.{Sealed}
 use Rattle.uma_bucket.specs.Sealed.{Seals, IsSealedAt}
@@ -21,7 +21,7 @@ module _ {T H P : Type 0} {g h : _} where
   Tries copied clock v [] stay sealed v' = (stay ≡ []) × (sealed ≡ []) × (v' ≡ v)
   Tries copied clock v (b ∷ bs) stay sealed v' =
       (next : View P) × (((s : Sealed T H P g h) × (rest : List (Sealed T H P g h)) × (sealed ≡ s ∷ rest) × Seals copied v b s next × IsSealedAt clock s × Tries copied clock next bs stay rest v')
-      ⊎ ((refused : AdvanceRefused) × (rest : List (Loose T g)) × (stay ≡ b ∷ rest) × Refuses v refused next × Tries copied clock next bs rest sealed v'))
+      ⊎ ((refused : AdvanceRefused) × (rest : List (Loose T g)) × (stay ≡ b ∷ rest) × AdvanceIsRefused v refused next × Tries copied clock next bs rest sealed v'))
 
   -- The tries of all loose buckets. So many were sealed, and are the newest sealed ones, in their order.
   pub record SealsEach (copied : P → P) (clock : TableId × Setup) (v : View P) (loose : List (Loose T g)) (sealed : List (Sealed T H P g h)) (count : ℕ) (loose_left : List (Loose T g)) (sealed_now : List (Sealed T H P g h)) (v' : View P) : Type 0 where
@@ -34,12 +34,12 @@ module _ {H P : Type 0} {h : _} where
   -- the clock is that of the domain's notes, and the pass is its
   pub record CanSeal (identity : Identity) (clock : Clock H P) (by : Pass H P h) : Type 0 where
     pub here : clock_id clock ≡ identity.clock
-    pub pass : IsOf clock by
+    pub pass : IsPassOf clock by
 
 module _ {T H P Y Z : Type 0} {g h : _} where
   -- the pass is of the clock, and there is room to seal each loose bucket
   pub record CanTryEach (clock : Clock H P) (pass : Pass H P h) (loose : VecDeque (Loose T g) Y) (sealed : VecDeque (Sealed T H P g h) Z) : Type 0 where
-    pub here : IsOf clock pass
+    pub here : IsPassOf clock pass
     pub few : deque_len loose < 2 ^ 32
     pub room : deque_len loose + deque_len sealed ≤ deque_capacity sealed
 

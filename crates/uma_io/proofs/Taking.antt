@@ -3,28 +3,28 @@ use Rattle.std.proofs.Common.{ℕ, Option, None, Some, ◌≡◌, ◌+◌, ◌-�
 use Rattle.std.proofs.lemmas.List.{take_rest}
 use Rattle.std.proofs.Math.Seq.{take-add}
 use Rattle.std.specs.Option.{option_map}
-use Rattle.uma_io.specs.Source.{Takes}
+use Rattle.uma_io.specs.Source.{TakesBytes}
 use Rattle.uma_io.specs.Sink.{Adds}
 use Rattle.uma_io.specs.Reading.{Loses}
 use Rattle.uma_io.specs.declared.reading.ReadRefused.{ReadRefused}
 use Rattle.uma_io.specs.declared.reading.ReadRefused.TheVariants.{Fault, TooLong, Memory}
 
 -- two pieces, one after the other
-pub Takes-trans : (before : Option (List ℕ)) (first : List ℕ) (middle : Option (List ℕ)) (second : List ℕ) (after : Option (List ℕ))
-    → Takes before first middle → Takes middle second after → Takes before (first ++ second) after
-Takes-trans before first middle second None p q = p ∙ ap (option_map (λ rest. first ++ rest)) q
-Takes-trans before first middle second (Some rest) p q =
+pub TakesBytes-trans : (before : Option (List ℕ)) (first : List ℕ) (middle : Option (List ℕ)) (second : List ℕ) (after : Option (List ℕ))
+    → TakesBytes before first middle → TakesBytes middle second after → TakesBytes before (first ++ second) after
+TakesBytes-trans before first middle second None p q = p ∙ ap (option_map (λ rest. first ++ rest)) q
+TakesBytes-trans before first middle second (Some rest) p q =
     p ∙ ap (option_map (λ xs. first ++ xs)) q ∙ ap Some (sym (append_assoc first second rest))
 
 -- bytes that were read before a refused read are gone too
 pub Loses-more : (most : ℕ) (before : Option (List ℕ)) (bytes : List ℕ) (size : ℕ) (middle : Option (List ℕ)) (refused : ReadRefused) (after : Option (List ℕ))
-    → size ≡ length bytes → size ≤ most → Takes before bytes middle → Loses (most - size) middle refused after → Loses most before refused after
+    → size ≡ length bytes → size ≤ most → TakesBytes before bytes middle → Loses (most - size) middle refused after → Loses most before refused after
 Loses-more most before bytes size middle Fault after is within p (piece, few, q) =
-    (bytes ++ piece, omega (arith, length-append bytes piece), Takes-trans _ _ _ _ _ p q)
+    (bytes ++ piece, omega (arith, length-append bytes piece), TakesBytes-trans _ _ _ _ _ p q)
 Loses-more most before bytes size middle (TooLong _) after is within p (piece, few, q) =
-    (bytes ++ piece, omega (arith, length-append bytes piece), Takes-trans _ _ _ _ _ p q)
+    (bytes ++ piece, omega (arith, length-append bytes piece), TakesBytes-trans _ _ _ _ _ p q)
 Loses-more most before bytes size middle Memory after is within p (piece, few, q) =
-    (bytes ++ piece, omega (arith, length-append bytes piece), Takes-trans _ _ _ _ _ p q)
+    (bytes ++ piece, omega (arith, length-append bytes piece), TakesBytes-trans _ _ _ _ _ p q)
 
 -- two pieces, one after the other
 pub Adds-trans : (before : Option (List ℕ)) (first : List ℕ) (middle : Option (List ℕ)) (second : List ℕ) (after : Option (List ℕ))

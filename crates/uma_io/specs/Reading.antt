@@ -2,21 +2,21 @@
 use Rattle.std.specs.Prelude.{ℕ, Option, ◌≡◌, ◌+◌, ◌≤◌, List, ◌++◌, Result, Vec, length, vec_len, IsErrOf}
 use Rattle.std.specs.declared.alloc.Global.{Global}
 use Rattle.uma_io.specs.Faults.{Rose}
-use Rattle.uma_io.specs.Source.{Takes, IsAtEnd}
+use Rattle.uma_io.specs.Source.{TakesBytes, IsAtEnd}
 use Rattle.uma_io.specs.declared.reading.ReadRefused.{ReadRefused}
 use Rattle.uma_io.specs.declared.reading.ReadRefused.TheVariants.{Fault, TooLong, Memory}
 
 -- the list grew by what was taken from the source
 abbrev pub AppendsTaken : Option (List ℕ) → List ℕ → Option (List ℕ) → List ℕ → Type 0
-AppendsTaken before old after new = (piece : List ℕ) × (new ≡ old ++ piece) × Takes before piece after
+AppendsTaken before old after new = (piece : List ℕ) × (new ≡ old ++ piece) × TakesBytes before piece after
 
 -- some front of the bytes left was taken, of at most so many bytes
 abbrev pub TakesAtMost : ℕ → Option (List ℕ) → Option (List ℕ) → Type 0
-TakesAtMost most before after = (piece : List ℕ) × (length piece ≤ most) × Takes before piece after
+TakesAtMost most before after = (piece : List ℕ) × (length piece ≤ most) × TakesBytes before piece after
 
 -- a front of so many bytes was taken
 abbrev pub TakesCount : ℕ → Option (List ℕ) → Option (List ℕ) → Type 0
-TakesCount count before after = (piece : List ℕ) × (length piece ≡ count) × Takes before piece after
+TakesCount count before after = (piece : List ℕ) × (length piece ≡ count) × TakesBytes before piece after
 
 -- the bytes that are gone after a refusal: one more than allowed where they were too many, and no more than allowed otherwise
 abbrev pub Loses : ℕ → Option (List ℕ) → ReadRefused → Option (List ℕ) → Type 0

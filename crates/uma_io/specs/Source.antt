@@ -6,8 +6,8 @@ use Rattle.uma_io.specs.declared.failed.Failed.{Failed}
 use Rattle.uma_io.specs.Faults.{Rose}
 
 -- the bytes left before are the piece, and then the bytes left after
-abbrev pub Takes : Option (List ℕ) → List ℕ → Option (List ℕ) → Type 0
-Takes before piece after = before ≡ option_map (λ rest. piece ++ rest) after
+abbrev pub TakesBytes : Option (List ℕ) → List ℕ → Option (List ℕ) → Type 0
+TakesBytes before piece after = before ≡ option_map (λ rest. piece ++ rest) after
 
 -- no byte is left
 abbrev pub IsAtEnd : Option (List ℕ) → Type 0
@@ -24,7 +24,7 @@ Exhausts before after = after ≡ option_map (λ _. []) before
 -- One read: the front of the room has the next bytes, as many as are answered, and none only at the end. Where it failed none is gone, and the count of faults rose.
 pub record Reads (left : Option (List ℕ)) (faults : ℕ) (answer : Result ℕ Failed) (room : List ℕ) (rest : Option (List ℕ)) (count : ℕ) : Type 0 where
   pub within : IfOk answer (λ n. n ≤ length room)
-  pub takes : IfOk answer (λ n. Takes left (take n room) rest)
+  pub takes : IfOk answer (λ n. TakesBytes left (take n room) rest)
   pub ends : IfOk answer (λ n. n ≡ 0 → 0 < length room → IsAtEnd rest)
   pub unchanged : OnErr answer (rest ≡ left)
   pub rose : OnErr answer (Rose faults count)

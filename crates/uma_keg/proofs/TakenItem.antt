@@ -13,7 +13,7 @@ use Rattle.uma_life.specs.Hook.{ZoneInit, after}
 use Rattle.uma_keg.specs.declared.keg.Keg.{Keg}
 use Rattle.uma_keg.specs.Keg.{places_in, zones_in, table_in, stored_in}
 use Rattle.uma_places.specs.Places.{KegPlaces, domain_at, IsFree, Gives, CountsOneOut}
-use Rattle.uma_places.specs.Taking.{Takes}
+use Rattle.uma_places.specs.Taking.{TakesPlaces}
 use Rattle.uma_keg.specs.TakeItem.{TakesItem, SamePlaces}
 use Rattle.uma_keg.specs.HomeItems.{item_at, has_slab, slab_room, places_each}
 use Rattle.uma_keg.specs.Outs.{out_of}
@@ -37,7 +37,7 @@ there (Some x) is = refl
 pub free_item : {T : Type 0} {g : _} {places : KegPlaces} {zones : List (Option ℕ)} {home_items : HomeItems T g} → PlacesLaw places zones home_items → (n : ℕ) → IsFree places n → IsSome (item_at home_items n)
 free_item {home_items = home_items} law n free = there (item_at home_items n) (law.home n ∙ ap is_free_place free)
 
-pub PlacesLaw-taken : {T : Type 0} {g : _} (places now : KegPlaces) (zones away : List (Option ℕ)) (home_items left : HomeItems T g) (n zone : ℕ) → PlacesLaw places zones home_items → Takes places n now → n < places.cap * places.per_slab → away ≡ set zones n (Some zone)
+pub PlacesLaw-taken : {T : Type 0} {g : _} (places now : KegPlaces) (zones away : List (Option ℕ)) (home_items left : HomeItems T g) (n zone : ℕ) → PlacesLaw places zones home_items → TakesPlaces places n now → n < places.cap * places.per_slab → away ≡ set zones n (Some zone)
     → item_at left n ≡ None → ((m : ℕ) → m ≢ n → item_at left m ≡ item_at home_items m) → ((index : ℕ) → has_slab left index ≡ has_slab home_items index) → slab_room left ≡ slab_room home_items → places_each left ≡ places_each home_items → PlacesLaw now away left
 PlacesLaw-taken places now zones away home_items left n zone law takes below is gone kept same count each =
     let within : n < length zones = omega (arith, law.numbers) in
@@ -83,7 +83,7 @@ set_back {X} (y ∷ xs) zero x d within is = ap (λ (z : X). z ∷ xs) (sym is)
 set_back {X} (y ∷ xs) (suc n) x d within is = ap (λ (rest : List X). y ∷ rest) (set_back xs n x d (omega arith) is)
 
 -- a number that was taken and given back: each place is as before
-pub same_again : (places mid now : KegPlaces) (n : ℕ) → Takes places n mid → CountsOneOut places mid → Gives mid n now → CountsOneOut now mid → SamePlaces places now
+pub same_again : (places mid now : KegPlaces) (n : ℕ) → TakesPlaces places n mid → CountsOneOut places mid → Gives mid n now → CountsOneOut now mid → SamePlaces places now
 same_again places mid now n takes out gives home = record {
   slabs = record {
     per_slab = gives.slabs.per_slab ∙ takes.slabs.per_slab;
@@ -128,11 +128,11 @@ pub record IsLent {T K : Type 0} {g : _} {h : _} (old : Keg T K g h) (hooks : K)
   pub left : deed_zone ≢ 0 → h.leaves_init hooks (stored_body stored) deed_zone (cached_body item)
   pub accepted : deed_zone ≢ 0 → h.refuses_init hooks (stored_body stored) deed_zone ≡ None
 
-pub takes_item : {T K : Type 0} {g : _} {h : _} (old new : Keg T K g h) (hooks : K) (zone n deed_zone : ℕ) (item : Cached T g) (stored : Stored T g) → cached_no item ≡ n → Takes (places_in old) n (places_in new) → CountsOneOut (places_in old) (places_in new)
+pub takes_item : {T K : Type 0} {g : _} {h : _} (old new : Keg T K g h) (hooks : K) (zone n deed_zone : ℕ) (item : Cached T g) (stored : Stored T g) → cached_no item ≡ n → TakesPlaces (places_in old) n (places_in new) → CountsOneOut (places_in old) (places_in new)
     → cached_zone item ≡ zone → cached_table item ≡ table_in old → domain_at (places_in old) (n / (places_in old).per_slab) ≡ Some (cached_domain item) → stored_in old n ≡ Some stored → deed_zone ≡ zone → IsLent old hooks deed_zone item stored
     → zones_in new ≡ set (zones_in old) n (Some zone) → IsHome (zones_in old) n → stored_in new n ≡ None → ((m : ℕ) → m ≢ n → stored_in new m ≡ stored_in old m) → TakesItem old hooks zone item new
 takes_item {T} {K} {g} {h} old new hooks zone n deed_zone item stored e takes counts of_zone of_book domain was same lent zones home gone others =
-    let Places : ℕ → Type 0 = λ m. Takes (places_in old) m (places_in new) in
+    let Places : ℕ → Type 0 = λ m. TakesPlaces (places_in old) m (places_in new) in
     let Lent : ℕ → Type 0 = λ z. IsLent old hooks z item stored in
     let own : IsLent old hooks zone item stored = subst Lent same lent in
     record {

@@ -7,13 +7,13 @@ use Rattle.uma_life.specs.declared.cached.Cached.{Cached}
 use Rattle.uma_life.specs.Cached.{cached_no}
 use Rattle.uma_keg.specs.declared.keg.Keg.{Keg}
 use Rattle.uma_places.specs.Places.{KegPlaces, domain_at, KeepsSlabs}
-use Rattle.uma_places.specs.Taking.{Takes}
+use Rattle.uma_places.specs.Taking.{TakesPlaces}
 use Rattle.uma_keg.specs.Keg.{places_in, zones_in, stored_in, IsSameKeg}
 use Rattle.uma_keg.specs.TakeItem.{IsTaken, TakesItem, KeepsItems}
 use Rattle.uma_keg.specs.TakeItems.{TakesAll, zones_with, IsAmong, numbers_of, TakesItems, TakesInto}
 
-taken_more : (old mid new : KegPlaces) (ns : List ℕ) (n : ℕ) → TakesAll old ns mid → Takes mid n new → TakesAll old (ns ++ n ∷ []) new
-taken_more old mid new [] n is takes = let At : KegPlaces → Type 0 = λ k. Takes k n new in (new, subst At is takes, refl)
+taken_more : (old mid new : KegPlaces) (ns : List ℕ) (n : ℕ) → TakesAll old ns mid → TakesPlaces mid n new → TakesAll old (ns ++ n ∷ []) new
+taken_more old mid new [] n is takes = let At : KegPlaces → Type 0 = λ k. TakesPlaces k n new in (new, subst At is takes, refl)
 taken_more old mid new (m ∷ ns) n is takes = (is.0, is.1, taken_more is.0 mid new ns n is.2 takes)
 
 zones_more : (zones : List (Option ℕ)) (zone : ℕ) (ns : List ℕ) (n : ℕ) → zones_with zones zone (ns ++ n ∷ []) ≡ set (zones_with zones zone ns) n (Some zone)

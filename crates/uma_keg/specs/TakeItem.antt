@@ -7,7 +7,7 @@ use Rattle.uma_life.specs.Cached.{cached_body, cached_no, cached_zone, cached_do
 use Rattle.uma_life.specs.Hook.{ZoneInit, after, IsCode}
 use Rattle.uma_keg.specs.declared.keg.Keg.{Keg}
 use Rattle.uma_places.specs.Places.{KegPlaces, place_at, domain_at, slab_count, free_count, out_count, IsFree, KeepsSlabs, CountsOneOut}
-use Rattle.uma_places.specs.Taking.{Takes, IsPartlyUsed}
+use Rattle.uma_places.specs.Taking.{TakesPlaces, IsPartlyUsed}
 use Rattle.uma_keg.specs.Keg.{places_in, zones_in, out_in, table_in, stored_in, HasZone}
 
 -- An item is out in a zone: its deed is of the keg's book, its domain is its slab's, and it is the one that was at home. Its body, if the zone isn't 0, passed zone_init, and is as these hooks left it.
@@ -24,7 +24,7 @@ pub record IsTaken {T K : Type 0} {g : _} {h : _} (old : Keg T K g h) (hooks : K
 
 -- One item is out. Its number is the one of the taking rule, and all else stays.
 pub record TakesItem {T K : Type 0} {g : _} {h : _} (old : Keg T K g h) (hooks : K) (zone : ℕ) (item : Cached T g) (new : Keg T K g h) : Type 0 where
-  pub places : Takes (places_in old) (cached_no item) (places_in new)
+  pub places : TakesPlaces (places_in old) (cached_no item) (places_in new)
   pub counts : CountsOneOut (places_in old) (places_in new)
   pub taken : IsTaken old hooks zone item
   pub zones : zones_in new ≡ slice_set (zones_in old) (cached_no item) (Some zone)

@@ -6,14 +6,14 @@ use Rattle.uma_bucket.specs.declared.bucket.Bucket.{Bucket}
 use Rattle.uma_bucket.specs.Bucket.{items_of, size_of}
 use Rattle.uma_keg.specs.declared.keg.Keg.{Keg}
 use Rattle.uma_places.specs.Places.{KegPlaces, slab_count, free_count, out_count, KeepsSlabs}
-use Rattle.uma_places.specs.Taking.{Takes}
+use Rattle.uma_places.specs.Taking.{TakesPlaces}
 use Rattle.uma_keg.specs.Keg.{places_in, zones_in, out_in, stored_in, HasZone}
 use Rattle.uma_keg.specs.TakeItem.{IsTaken, RefusesItem, KeepsItems}
 
 -- each of these numbers is the one of the taking rule, from what those before it left
 abbrev pub TakesAll : KegPlaces → List ℕ → KegPlaces → Type 0
 TakesAll old [] new = new ≡ old
-TakesAll old (n ∷ rest) new = (left : KegPlaces) × Takes old n left × TakesAll left rest new
+TakesAll old (n ∷ rest) new = (left : KegPlaces) × TakesPlaces old n left × TakesAll left rest new
 
 -- the zones of the numbers outside, once these are outside in a zone too
 abbrev pub zones_with : List (Option ℕ) → ℕ → List ℕ → List (Option ℕ)

@@ -11,7 +11,7 @@ use Rattle.uma_places.specs.Places.{KegPlaces, Slab, slab_at, place_at, places_b
 use Rattle.uma_places.specs.Kept.{keg_of, places_of, IsKept}
 use Rattle.uma_places.specs.Room.{RoomState, room_at, slab_in, can_take, is_partly_used, NonePassFrom}
 use Rattle.uma_places.specs.Standing.{IsChosen}
-use Rattle.uma_places.specs.Taking.{IsPartlyUsed, Takes}
+use Rattle.uma_places.specs.Taking.{IsPartlyUsed, TakesPlaces}
 use Rattle.uma_places.proofs.Changes.{outs_taken, IsSound-taken}
 use Rattle.uma_places.proofs.Marks.{some_free, some_used, free_and_used, free_counts, used_counts}
 use Rattle.uma_places.proofs.Puts.{put, IsPlace, place_at-put, KeepsOthers-put, KeepsSlabs-put, CountsOneOut-take}
@@ -82,7 +82,7 @@ none_partly_used a kept d none i partly =
 
 -- what a take makes of a keg
 pub record TakesOut (old : KegPlaces) (n : ℕ) (new : KegPlaces) : Type 0 where
-  pub takes : Takes old n new
+  pub takes : TakesPlaces old n new
   pub counts : CountsOneOut old new
   pub outs : (other : ℕ) → IsOut new other ↔ (IsOut old other ⊎ (other ≡ n))
   pub within : n < new.cap * new.per_slab

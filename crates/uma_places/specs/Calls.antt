@@ -7,7 +7,7 @@ use Rattle.uma_places.specs.declared.refused.KegRefused.{KegRefused}
 use Rattle.uma_places.specs.Dropping.{Drops, IsUsedUp, HasNoneWhollyFree}
 use Rattle.uma_places.specs.Places.{KegPlaces, slab_count, free_count, IsFree, IsOut, IsSound, IsNew, Brings, Gives, CountsOneOut, CountsOneSlab}
 use Rattle.uma_places.specs.Refused.{IsItemSize, IsSlabCount, IsRefusedFor}
-use Rattle.uma_places.specs.Taking.{Takes}
+use Rattle.uma_places.specs.Taking.{TakesPlaces}
 use Rattle.uma_places.specs.UsedPlaces.{AreEven}
 
 -- how many places a slab has for items of this size: 1 to 256
@@ -40,7 +40,7 @@ pub record BringsOrNot (old : KegPlaces) (domain : ℕ) (answer : Result ℕ Ref
 
 -- A number was taken, or no place is free.
 pub record TakesOrNot (old : KegPlaces) (answer : Option ℕ) (new : KegPlaces) : Type 0 where
-  pub takes : IfSome answer (λ n. Takes old n new)
+  pub takes : IfSome answer (λ n. TakesPlaces old n new)
   pub counts : OnSome answer (CountsOneOut old new)
   pub outs : IfSome answer (λ n. (other : ℕ) → IsOut new other ↔ (IsOut old other ⊎ (other ≡ n)))
   pub within : IfSome answer (λ n. n < new.cap * new.per_slab)

@@ -10,17 +10,17 @@ use Rattle.uma_zone.specs.Zone.{zone_domain}
 use Rattle.uma_domain.specs.UnderLock.{TakesUnused, TakesEach, KeepsLists}
 use Rattle.uma_reclaim.specs.declared.extent.Extent.{Extent}
 use Rattle.uma_reclaim.specs.declared.extent.Extent.TheVariants.{Unused, All as All'}
-use Rattle.uma_reclaim.specs.Reclaimed.{Takes, IsTakenAt, TakesInTurn, KeepsListsAt, StopsTaking}
+use Rattle.uma_reclaim.specs.Reclaimed.{TakesExtent, IsTakenAt, TakesInTurn, KeepsListsAt, StopsTaking}
 use Rattle.uma_reclaim.specs.Told.{notes_in}
 
 module _ {T K H P : Type 0} {g k h : _} (zone : Zone T K H P g k h) (extent : Extent) where
   -- one take from the domain of a number
   pub unused_at : {E : Type 0} (number : ℕ) (domain : Domain T H P g h) (result : Result (Taken T H P g h) E) → extent ≡ Unused → zone_domain zone number ≡ Some domain → IfOk result (TakesUnused domain) → IfOk result (λ taken. IsTakenAt zone extent number (taken_in taken))
-  unused_at number domain (Ok taken) is named took = record { domain = domain; named = named; take = taken; all = refl; took = subst (λ (e : Extent). Takes e domain taken) (sym is) took }
+  unused_at number domain (Ok taken) is named took = record { domain = domain; named = named; take = taken; all = refl; took = subst (λ (e : Extent). TakesExtent e domain taken) (sym is) took }
   unused_at number domain (Err e) is named took = tt
 
   pub all_at : {E : Type 0} (number : ℕ) (domain : Domain T H P g h) (result : Result (Taken T H P g h) E) → extent ≡ All' → zone_domain zone number ≡ Some domain → IfOk result (TakesEach domain) → IfOk result (λ taken. IsTakenAt zone extent number (taken_in taken))
-  all_at number domain (Ok taken) is named took = record { domain = domain; named = named; take = taken; all = refl; took = subst (λ (e : Extent). Takes e domain taken) (sym is) took }
+  all_at number domain (Ok taken) is named took = record { domain = domain; named = named; take = taken; all = refl; took = subst (λ (e : Extent). TakesExtent e domain taken) (sym is) took }
   all_at number domain (Err e) is named took = tt
 
   -- one more take, from the next domain

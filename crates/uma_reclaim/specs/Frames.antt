@@ -3,7 +3,7 @@ use Rattle.std.specs.Prelude.{◌≡◌, ◌<◌, ℕ}
 use Rattle.smr_clock.specs.declared.clock.Clock.{Clock}
 use Rattle.smr_clock.specs.declared.pass.Pass.{Pass}
 use Rattle.smr_clock.specs.declared.view.View.{View}
-use Rattle.smr_clock.specs.Belongs.{IsOf, clock_id, view}
+use Rattle.smr_clock.specs.Belongs.{IsPassOf, clock_id, view}
 use Rattle.uma_seat.specs.declared.seat.SeatCache.{SeatCache}
 use Rattle.uma_seat.specs.Seat.{spares_of, shelf_of, IsSameSeat, KeepsFreed, KeepsCounts, KeepsMisses}
 use Rattle.uma_zone.specs.declared.zone.Zone.{Zone}
@@ -24,13 +24,13 @@ module _ {T K H P : Type 0} {g k h : _} where
   -- the clock is that of the zone's readers, and the pass is the clock's
   pub record IsPassFor (zone : Zone T K H P g k h) (by : Clock H P) (p : Pass H P h) : Type 0 where
     pub clock : clock_id by ≡ zone_clock zone
-    pub pass : IsOf by p
+    pub pass : IsPassOf by p
 
   -- and the seat is of the zone
   pub record MayReclaim (zone : Zone T K H P g k h) (by : Clock H P) (p : Pass H P h) (s : SeatCache T H P g h) : Type 0 where
     pub seat : IsSeatOf zone s
     pub clock : clock_id by ≡ zone_clock zone
-    pub pass : IsOf by p
+    pub pass : IsPassOf by p
 
   -- the clock is that of the zone's readers, and the zone has a domain of this number
   pub record MayTake (zone : Zone T K H P g k h) (by : Clock H P) (number : ℕ) : Type 0 where

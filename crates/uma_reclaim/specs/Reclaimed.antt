@@ -34,9 +34,9 @@ module _ {T H P : Type 0} {g h : _} where
   takes_of done = map taken_by done.takes
 
   -- what a take of this extent does to a domain's lists, as those stood under its lock
-  abbrev pub Takes : Extent → Domain T H P g h → Taken T H P g h → Type 0
-  Takes Unused domain taken = TakesUnused domain taken
-  Takes All' domain taken = TakesEach domain taken
+  abbrev pub TakesExtent : Extent → Domain T H P g h → Taken T H P g h → Type 0
+  TakesExtent Unused domain taken = TakesUnused domain taken
+  TakesExtent All' domain taken = TakesEach domain taken
 
 module _ {T K H P : Type 0} {g k h : _} where
   -- Each domain of the zone was settled, one after another, in the order of their numbers: its inbox into its lists, and in an SMR zone each loose bucket that they had then was tried once to be sealed.
@@ -56,7 +56,7 @@ module _ {T K H P : Type 0} {g k h : _} where
     pub named : zone_domain zone number ≡ Some domain
     pub take : Taken T H P g h
     pub all : buckets ≡ taken_in take
-    pub took : Takes extent domain take
+    pub took : TakesExtent extent domain take
 
   -- each of these takes is from a domain of its own: the first from that of this number, and each further one from the next
   abbrev pub TakesInTurn : Zone T K H P g k h → Extent → ℕ → List (List (TakenBucket T H P g h)) → Type 0

@@ -5,7 +5,7 @@ use Rattle.std.specs.Prelude.{slice_get}
 use Rattle.smr_clock.specs.declared.host.Host.{Ghosts}
 use Rattle.trace_text.specs.declared.round.Round.{Round}
 use Rattle.trace_worker.specs.declared.gate.Gate.{Ghosts as GateGhosts}
-use Rattle.trace_worker.specs.declared.running.Running.{Running}
+use Rattle.trace_worker.specs.declared.worker_run.WorkerRun.{WorkerRun}
 use Rattle.trace_play.specs.Asks.{AllAsk, AsksRounds, GateCounts, gate_counts, not_asked}
 use Rattle.trace_play.proofs.RoundLists.{at_other}
 use Rattle.uma_replay.specs.Asked.{AreGivenUp}
@@ -13,19 +13,19 @@ use Rattle.uma_replay.specs.Playing.{gave_ups_of}
 
 module _ {N H C S Part : Type 0} {h : Ghosts H Part} {G V : Type 0} (gates : GateGhosts G V) (gate : G) where
   -- the worker of a count
-  record Of (runnings : List (Running N H C S Part h)) (n count : ℕ) : Type 0 where
-    r : Running N H C S Part h
+  record Of (runnings : List (WorkerRun N H C S Part h)) (n count : ℕ) : Type 0 where
+    r : WorkerRun N H C S Part h
     at : slice_get runnings n ≡ Some r
     is : r.gave_up ≡ count
 
-  of_count : (runnings : List (Running N H C S Part h)) (n count : ℕ) → slice_get (gave_ups_of runnings) n ≡ Some count → Of runnings n count
+  of_count : (runnings : List (WorkerRun N H C S Part h)) (n count : ℕ) → slice_get (gave_ups_of runnings) n ≡ Some count → Of runnings n count
   of_count [] n count at = absurd (none-some count at)
   of_count (r ∷ rest) zero count at = record { r = r; at = refl; is = same_Some r.gave_up count at }
   of_count (r ∷ rest) (suc n) count at =
       let o = of_count rest n count at in
       record { r = o.r; at = o.at; is = o.is }
 
-  pub given_up : (rounds : List Round) (first all : List (Running N H C S Part h)) (gave_ups : List ℕ) → length all ≡ length first → ((n : ℕ) (r : Running N H C S Part h) → slice_get first n ≡ Some r → (r.asked ≡ 0) × (r.gave_up ≡ 0))
+  pub given_up : (rounds : List Round) (first all : List (WorkerRun N H C S Part h)) (gave_ups : List ℕ) → length all ≡ length first → ((n : ℕ) (r : WorkerRun N H C S Part h) → slice_get first n ≡ Some r → (r.asked ≡ 0) × (r.gave_up ≡ 0))
       → AllAsk gates gate rounds first all → gave_ups ≡ gave_ups_of all → AreGivenUp gates gate rounds gave_ups
   given_up rounds first all gave_ups size new asks same n count at =
       let o = of_count all n count (sym (ap (λ (l : List ℕ). slice_get l n) same) ∙ at) in

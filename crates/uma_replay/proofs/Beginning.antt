@@ -13,8 +13,8 @@ use Rattle.trace_text.specs.declared.trace.Trace.{Trace}
 use Rattle.trace_text.specs.Lines.{lines_of}
 use Rattle.trace_text.specs.Valid.{IsValid}
 use Rattle.trace_worker.specs.declared.name_calls.NameCalls.{Ghosts as NameGhosts}
-use Rattle.trace_worker.specs.declared.naming.Naming.{Naming}
-use Rattle.trace_worker.specs.declared.running.Running.{Running}
+use Rattle.trace_worker.specs.declared.name_work.NameWork.{NameWork}
+use Rattle.trace_worker.specs.declared.worker_run.WorkerRun.{WorkerRun}
 use Rattle.trace_worker.specs.declared.worker.Worker.{Worker}
 use Rattle.trace_worker.specs.Attendance.{worker_in}
 use Rattle.trace_worker.specs.NameSizes.{NameSizes, sizes_for}
@@ -25,12 +25,12 @@ use Rattle.trace_play.specs.Setting.{IsSetUp}
 use Rattle.trace_play.specs.DoneBy.{done_by, is_by}
 use Rattle.trace_play.specs.Betweens.{DoRounds}
 use Rattle.trace_play.specs.Plays.{AllPlay}
-use Rattle.trace_play.specs.Rounds.{GaveUpAsBefore, IsBegun, Suits}
+use Rattle.trace_play.specs.Rounds.{GaveUpAsBefore, IsBegun, FitsTrace}
 use Rattle.uma_replay.specs.Hall.{AreDone, NamesDone}
 use Rattle.uma_replay.specs.Playing.{AllBack, AreFirst, HaveEnded, gave_ups_of, namings_of}
 use Rattle.uma_replay.proofs.ComingBack.{back_stay}
 use Rattle.uma_replay.proofs.Playing.{played_of, played_stay, together_of}
-use Rattle.uma_replay.proofs.Runnings.{named_first, of_both}
+use Rattle.uma_replay.proofs.WorkerRuns.{named_first, of_both}
 use Rattle.uma_replay.proofs.Staying.{found_before}
 
 few_enough : (n : ℕ) → n ≤ 16777216 → n < 2 ^ 31
@@ -38,8 +38,8 @@ few_enough n few = omega arith
 
 module _ {N H C S Part : Type 0} {h : Ghosts H Part} (names : NameGhosts N H C S Part) (cache : C) where
   -- the workers before the first round suit the trace
-  pub suits_of : (t : Trace) (s : Setting H Part h) (begun : List (Running N H C S Part h)) → IsValid t → names.serves ≡ is_some t.head.names → length (lines_of t.rounds) ≤ 16777216 → IsSetUp t s
-      → (IsTrue names.serves → names.clock_of cache ≡ clock_id s.clock) → AreFirst names cache t.head.domains s.workers.items begun → Suits names cache t s.zones.items s.clock begun
+  pub suits_of : (t : Trace) (s : Setting H Part h) (begun : List (WorkerRun N H C S Part h)) → IsValid t → names.serves ≡ is_some t.head.names → length (lines_of t.rounds) ≤ 16777216 → IsSetUp t s
+      → (IsTrue names.serves → names.clock_of cache ≡ clock_id s.clock) → AreFirst names cache t.head.domains s.workers.items begun → FitsTrace names cache t s.zones.items s.clock begun
   suits_of t s begun valid served few is of_clock first = record {
     valid = valid;
     served = served;
@@ -51,7 +51,7 @@ module _ {N H C S Part : Type 0} {h : Ghosts H Part} (names : NameGhosts N H C S
   }
 
   -- and did no line yet
-  pub begun_of : (t : Trace) (s : Setting H Part h) (begun : List (Running N H C S Part h)) → IsSetUp t s → AreFirst names cache t.head.domains s.workers.items begun → IsBegun names cache s.zones.items s.clock begun
+  pub begun_of : (t : Trace) (s : Setting H Part h) (begun : List (WorkerRun N H C S Part h)) → IsSetUp t s → AreFirst names cache t.head.domains s.workers.items begun → IsBegun names cache s.zones.items s.clock begun
   begun_of t s begun is first =
       let P : List (Worker H Part h) → Type 0 = λ workers. AllStand s.zones.items s.clock [] workers in
       let Q : List (Worker H Part h) → Type 0 = λ workers. (z : ℕ) → AddsUp z workers in
@@ -63,11 +63,11 @@ module _ {N H C S Part : Type 0} {h : Ghosts H Part} (names : NameGhosts N H C S
         unasked = λ n r at. let one = first.each n r at in (one.asked, one.gave_up);
       }
 
-  worker_count : (t : Trace) (s : Setting H Part h) (begun ended : List (Running N H C S Part h)) → IsSetUp t s → AreFirst names cache t.head.domains s.workers.items begun → length ended ≡ length begun → length ended ≡ t.head.workers
+  worker_count : (t : Trace) (s : Setting H Part h) (begun ended : List (WorkerRun N H C S Part h)) → IsSetUp t s → AreFirst names cache t.head.domains s.workers.items begun → length ended ≡ length begun → length ended ≡ t.head.workers
   worker_count t s begun ended is first count = count ∙ (sym (length-map begun worker_in) ∙ (ap length first.are ∙ is.begin.one_each))
 
   -- the workers when all rounds are done
-  pub done_of : (t : Trace) (s : Setting H Part h) (begun ended : List (Running N H C S Part h)) → IsSetUp t s → AreFirst names cache t.head.domains s.workers.items begun → length ended ≡ length begun
+  pub done_of : (t : Trace) (s : Setting H Part h) (begun ended : List (WorkerRun N H C S Part h)) → IsSetUp t s → AreFirst names cache t.head.domains s.workers.items begun → length ended ≡ length begun
       → AllStand s.zones.items s.clock (reverse (lines_of t.rounds)) (crew ended) → ((z : ℕ) → AddsUp z (crew ended)) → AreDone t s.zones.items s.clock (crew ended)
   done_of t s begun ended is first count stand adds_up = record {
     clock_made = is.clock;
@@ -78,12 +78,12 @@ module _ {N H C S Part : Type 0} {h : Ghosts H Part} (names : NameGhosts N H C S
   }
 
   -- and what each has of the names
-  pub named_of : (t : Trace) (s : Setting H Part h) (begun ended : List (Running N H C S Part h)) (back : List (Worker H Part h)) (namings : List (Naming N H C S Part)) → IsSetUp t s → AreFirst names cache t.head.domains s.workers.items begun
+  pub named_of : (t : Trace) (s : Setting H Part h) (begun ended : List (WorkerRun N H C S Part h)) (back : List (Worker H Part h)) (namings : List (NameWork N H C S Part)) → IsSetUp t s → AreFirst names cache t.head.domains s.workers.items begun
       → length ended ≡ length begun → names.serves ≡ is_some t.head.names → (IsTrue names.serves → names.clock_of cache ≡ clock_id s.clock) → IfSome t.head.names (λ line. names.sizes_of cache ≡ sizes_for t.head line)
       → AllStand s.zones.items s.clock (reverse (lines_of t.rounds)) (crew ended) → AllNamed names cache (reverse (lines_of t.rounds)) ended → AllPlay names cache s.zones.items t.rounds begun ended
       → DoRounds names cache s.zones.items t.rounds begun ended → AllBack s.clock (crew ended) back → namings ≡ namings_of ended → NamesDone names t cache s.zones.items s.clock back namings
   named_of t s begun ended back namings is first count served of_clock sizes stand named plays did comes same_namings =
-      let Q : List (Naming N H C S Part) → Type 0 = λ gs. NamesDone names t cache s.zones.items s.clock back gs in
+      let Q : List (NameWork N H C S Part) → Type 0 = λ gs. NamesDone names t cache s.zones.items s.clock back gs in
       let stay = back_stay s.clock (crew ended) back comes in
       subst Q (sym same_namings) (record {
         served = served;
@@ -94,7 +94,7 @@ module _ {N H C S Part : Type 0} {h : Ghosts H Part} (names : NameGhosts N H C S
             let was = found_before (crew ended) back n w comes.count at in
             let both = of_both ended n was.0 naming was.1 at_naming in
             let A : ℕ → Type 0 = λ late. NamesStand names cache n (reverse (lines_of t.rounds)) late naming in
-            let B : Naming N H C S Part → Type 0 = λ g. NamesStand names cache n (reverse (lines_of t.rounds)) (worker_in both.running).late g in
+            let B : NameWork N H C S Part → Type 0 = λ g. NamesStand names cache n (reverse (lines_of t.rounds)) (worker_in both.running).late g in
             subst A (sym (comes.each n was.0 w was.1 at).keeps.late) (subst A (ap (λ (x : Worker H Part h). x.late) both.is_worker) (subst B both.is_naming (named n both.running both.at)));
         played = played_stay names cache t s.zones.items s.clock (crew ended) back (namings_of ended) stay
             (played_of names cache t s begun ended is first count (λ n w at. (stand.fits n w at).pass) plays);
@@ -135,7 +135,7 @@ most_same : (a b c : ℕ) → a ≤ b → b ≡ c → a ≤ c
 most_same a b c most same = omega arith
 
 module _ {N H C S Part : Type 0} {h : Ghosts H Part} where
-  sum_most : (f : Running N H C S Part h → ℕ) (most : ℕ) (rs : List (Running N H C S Part h)) → ((n : ℕ) (r : Running N H C S Part h) → slice_get rs n ≡ Some r → f r ≤ most) → sum_by f rs ≤ length rs * most
+  sum_most : (f : WorkerRun N H C S Part h → ℕ) (most : ℕ) (rs : List (WorkerRun N H C S Part h)) → ((n : ℕ) (r : WorkerRun N H C S Part h) → slice_get rs n ≡ Some r → f r ≤ most) → sum_by f rs ≤ length rs * most
   sum_most f most [] each = omega arith
   sum_most f most (r ∷ rs) each = one_more _ _ _ _ _ (sum_by-cons f r rs) (each 0 r refl) (sum_most f most rs (λ n. each (suc n)))
 
@@ -143,24 +143,24 @@ few_sum : (all sum count workers : ℕ) → all ≡ sum → sum ≤ count * 1677
 few_sum all sum count workers same_sum most same few = omega arith
 
 module _ {N H C S Part : Type 0} {h : Ghosts H Part} where
-  pub gave_ups_few : (t : Trace) (clock : Clock H Part) (workers : List (Worker H Part h)) (namings : List (Naming N H C S Part)) (gave_ups : List ℕ) → IsValid t → length (lines_of t.rounds) ≤ 16777216
+  pub gave_ups_few : (t : Trace) (clock : Clock H Part) (workers : List (Worker H Part h)) (namings : List (NameWork N H C S Part)) (gave_ups : List ℕ) → IsValid t → length (lines_of t.rounds) ≤ 16777216
       → length workers ≡ t.head.workers → HaveEnded t clock workers namings gave_ups → sum gave_ups < 2 ^ 64
   unfolding done_by
   gave_ups_few t clock workers namings gave_ups valid few count e =
       let lines = reverse (lines_of t.rounds) in
-      let own : Running N H C S Part h → ℕ = λ r. r.gave_up in
+      let own : WorkerRun N H C S Part h → ℕ = λ r. r.gave_up in
       few_sum (sum gave_ups) (sum_by own e.ended) (length e.ended) t.head.workers (ap sum e.gave_ups_are ∙ sum-map own e.ended)
       (sum_most own 16777216 e.ended (λ n r at.
       below_all r.gave_up (done_by n lines) (length (lines_of t.rounds)) (e.asked n r at).gave_up_few (most_same _ _ _ (count_by-le-length (is_by n) lines) (length-reverse (lines_of t.rounds))) few))
       (sym (length-map e.ended worker_in) ∙ (sym e.stay.count ∙ count)) valid.head.workers.1
 
-  none_all : (rs : List (Running N H C S Part h)) → ((n : ℕ) (r : Running N H C S Part h) → slice_get rs n ≡ Some r → r.gave_up ≡ 0) → sum_by (λ (r : Running N H C S Part h). r.gave_up) rs ≡ 0
+  none_all : (rs : List (WorkerRun N H C S Part h)) → ((n : ℕ) (r : WorkerRun N H C S Part h) → slice_get rs n ≡ Some r → r.gave_up ≡ 0) → sum_by (λ (r : WorkerRun N H C S Part h). r.gave_up) rs ≡ 0
   none_all [] each = refl
-  none_all (r ∷ rs) each = both_none _ _ _ (sum_by-cons (λ (r : Running N H C S Part h). r.gave_up) r rs) (each 0 r refl) (none_all rs (λ n. each (suc n)))
+  none_all (r ∷ rs) each = both_none _ _ _ (sum_by-cons (λ (r : WorkerRun N H C S Part h). r.gave_up) r rs) (each 0 r refl) (none_all rs (λ n. each (suc n)))
 
   -- a free gate's workers never did
-  pub none_gave_up : (begun ended : List (Running N H C S Part h)) → ((n : ℕ) (r : Running N H C S Part h) → slice_get begun n ≡ Some r → r.gave_up ≡ 0) → GaveUpAsBefore begun ended → sum (gave_ups_of ended) ≡ 0
-  none_gave_up begun ended none same = ap sum same ∙ (sum-map (λ (r : Running N H C S Part h). r.gave_up) begun ∙ none_all begun none)
+  pub none_gave_up : (begun ended : List (WorkerRun N H C S Part h)) → ((n : ℕ) (r : WorkerRun N H C S Part h) → slice_get begun n ≡ Some r → r.gave_up ≡ 0) → GaveUpAsBefore begun ended → sum (gave_ups_of ended) ≡ 0
+  none_gave_up begun ended none same = ap sum same ∙ (sum-map (λ (r : WorkerRun N H C S Part h). r.gave_up) begun ∙ none_all begun none)
 
 -- ---- a vector whose items were written through a slice of all of them
 

@@ -5,8 +5,8 @@ use Rattle.std.proofs.lemmas.Option.{none-some, slice_get_within}
 use Rattle.smr_clock.specs.declared.clock.Clock.{Clock}
 use Rattle.smr_clock.specs.declared.host.Host.{Ghosts}
 use Rattle.smr_clock.specs.declared.view.View.{View}
-use Rattle.smr_clock.specs.Belongs.{IsOf}
-use Rattle.trace_worker.specs.declared.running.Running.{Running}
+use Rattle.smr_clock.specs.Belongs.{IsPassOf}
+use Rattle.trace_worker.specs.declared.worker_run.WorkerRun.{WorkerRun}
 use Rattle.trace_worker.specs.declared.worker.Worker.{Worker}
 use Rattle.trace_worker.specs.Attendance.{worker_in}
 use Rattle.trace_worker.specs.Performs.{KeepsAll}
@@ -63,8 +63,8 @@ pushed_map f xs x ys all is pushed = pushed ∙ (ap (λ list. list ++ f x ∷ []
 
 module _ {N H C S Part : Type 0} {h : Ghosts H Part} where
   -- one more
-  pub back_more : (clock : Clock H Part) (runnings : List (Running N H C S Part h)) (workers all : List (Worker H Part h)) (r : Running N H C S Part h) (w : Worker H Part h) → AllBack clock (crew runnings) workers
-      → IsOf clock w.pass → KeepsAll (worker_in r) w → all ≡ workers ++ w ∷ [] → AllBack clock (crew (runnings ++ r ∷ [])) all
+  pub back_more : (clock : Clock H Part) (runnings : List (WorkerRun N H C S Part h)) (workers all : List (Worker H Part h)) (r : WorkerRun N H C S Part h) (w : Worker H Part h) → AllBack clock (crew runnings) workers
+      → IsPassOf clock w.pass → KeepsAll (worker_in r) w → all ≡ workers ++ w ∷ [] → AllBack clock (crew (runnings ++ r ∷ [])) all
   back_more clock runnings workers all r w back here keeps pushed =
       let P : List (Worker H Part h) → Type 0 = λ list. AllBack clock list (workers ++ w ∷ []) in
       let Q : List (Worker H Part h) → Type 0 = λ list. AllBack clock (crew (runnings ++ r ∷ [])) list in

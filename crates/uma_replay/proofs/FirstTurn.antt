@@ -6,7 +6,7 @@ use Rattle.smr_clock.specs.declared.host.Host.{Ghosts}
 use Rattle.trace_text.specs.declared.trace.Trace.{Trace}
 use Rattle.trace_text.specs.Valid.{IsValid}
 use Rattle.trace_worker.specs.declared.name_calls.NameCalls.{Ghosts as NameGhosts}
-use Rattle.trace_worker.specs.declared.running.Running.{Running}
+use Rattle.trace_worker.specs.declared.worker_run.WorkerRun.{WorkerRun}
 use Rattle.trace_worker.specs.Attendance.{worker_in}
 use Rattle.trace_worker.specs.Items.{CountedZone}
 use Rattle.trace_worker.specs.NamesStand.{NamesOfClock}
@@ -15,7 +15,7 @@ use Rattle.trace_worker.specs.Turn.{IsReady}
 use Rattle.trace_worker.specs.Worker.{AreOfClock}
 use Rattle.trace_play.specs.Beginners.{IsBeginner}
 use Rattle.uma_replay.specs.Playing.{IsFirst}
-use Rattle.uma_replay.proofs.Runnings.{named_first}
+use Rattle.uma_replay.proofs.WorkerRuns.{named_first}
 
 few_lines : (own : ℕ) → own ≤ 1000 → 0 + own < 2 ^ 32
 few_lines own few = omega arith
@@ -27,7 +27,7 @@ few_given_up : (gave_up own : ℕ) → gave_up ≡ 0 → own ≤ 1000 → gave_u
 few_given_up gave_up own none few = omega arith
 
 module _ {N H C S Part : Type 0} {h : Ghosts H Part} (names : NameGhosts N H C S Part) (cache : C) where
-  pub ready_first : (t : Trace) (zones : List (CountedZone H Part h)) (clock : Clock H Part) (domain n : ℕ) (r : Running N H C S Part h) → IsValid t → names.serves ≡ is_some t.head.names → NamesOfClock names cache clock
+  pub ready_first : (t : Trace) (zones : List (CountedZone H Part h)) (clock : Clock H Part) (domain n : ℕ) (r : WorkerRun N H C S Part h) → IsValid t → names.serves ≡ is_some t.head.names → NamesOfClock names cache clock
       → length zones ≡ length t.head.zones → AreOfClock clock zones → 0 < length t.rounds → n < t.head.workers → length (own_ops t.rounds 0 n) ≤ 1000 → IsBeginner zones clock domain (worker_in r) → IsFirst names cache domain r
       → IsReady names cache t zones clock 0 n r
   unfolding stacked

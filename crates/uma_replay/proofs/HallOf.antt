@@ -8,7 +8,7 @@ use Rattle.std.specs.Prelude.{◌==◌, slice_get, sum_by}
 use Rattle.std.specs.Option.{option_map_or}
 use Rattle.smr_clock.specs.declared.clock.Clock.{Clock}
 use Rattle.smr_clock.specs.declared.host.Host.{Ghosts}
-use Rattle.smr_clock.specs.Belongs.{IsOf, setup_of}
+use Rattle.smr_clock.specs.Belongs.{IsPassOf, setup_of}
 use Rattle.trace_text.specs.declared.head.Head.{Head}
 use Rattle.trace_text.specs.declared.head.NamesHead.{NamesHead}
 use Rattle.trace_text.specs.declared.head.ZoneHead.{ZoneHead}
@@ -17,7 +17,7 @@ use Rattle.trace_text.specs.Lines.{Line, lines_of}
 use Rattle.trace_text.specs.Valid.{HeadFits, IsValid, sharer_count}
 use Rattle.zone_stats.specs.declared.report.Report.{Report}
 use Rattle.trace_worker.specs.declared.name_calls.NameCalls.{Ghosts as NameGhosts}
-use Rattle.trace_worker.specs.declared.naming.Naming.{Naming}
+use Rattle.trace_worker.specs.declared.name_work.NameWork.{NameWork}
 use Rattle.trace_worker.specs.declared.worker.Worker.{Worker}
 use Rattle.trace_worker.specs.NamesStand.{NamesStand}
 use Rattle.trace_worker.specs.Items.{CountedZone}
@@ -98,11 +98,11 @@ module _ {H Part : Type 0} {h : Ghosts H Part} where
   pub some_workers : (t : Trace) (zones : List (CountedZone H Part h)) (clock : Clock H Part) (workers : List (Worker H Part h)) → IsValid t → AreDone t zones clock workers → 0 < length workers
   some_workers t zones clock workers valid d = at_least_one (length workers) t.head.workers d.worker_count valid.head.workers.0
 
-  pub passes_here : (t : Trace) (zones : List (CountedZone H Part h)) (clock : Clock H Part) (workers : List (Worker H Part h)) → AreDone t zones clock workers → (n : ℕ) (w : Worker H Part h) → slice_get workers n ≡ Some w → IsOf clock w.pass
+  pub passes_here : (t : Trace) (zones : List (CountedZone H Part h)) (clock : Clock H Part) (workers : List (Worker H Part h)) → AreDone t zones clock workers → (n : ℕ) (w : Worker H Part h) → slice_get workers n ≡ Some w → IsPassOf clock w.pass
   passes_here t zones clock workers d n w at = (d.stand.fits n w at).pass
 
-  pub window_is : (t : Trace) (zones : List (CountedZone H Part h)) (clock : Clock H Part) (workers : List (Worker H Part h)) → AreDone t zones clock workers → window_of t.head.clock ≡ (setup_of clock).about.window
-  window_is t zones clock workers d = sym (ap (λ s. s.about.window) d.clock_made)
+  pub window_is : (t : Trace) (zones : List (CountedZone H Part h)) (clock : Clock H Part) (workers : List (Worker H Part h)) → AreDone t zones clock workers → window_of t.head.clock ≡ (setup_of clock).config.window
+  window_is t zones clock workers d = sym (ap (λ s. s.config.window) d.clock_made)
 
   pub all_fit : (t : Trace) (zones : List (CountedZone H Part h)) (clock : Clock H Part) (workers : List (Worker H Part h)) → AreDone t zones clock workers → AllFit zones clock workers
   all_fit t zones clock workers d = d.stand.fits
@@ -166,7 +166,7 @@ have_kegs h fits z head at =
 -- ---- what is of the names
 
 module _ {N H C S Part : Type 0} {h : Ghosts H Part} (names : NameGhosts N H C S Part) where
-  pub names_stay : (t : Trace) (cache : C) (zones : List (CountedZone H Part h)) (clock : Clock H Part) (old new : List (Worker H Part h)) (namings : List (Naming N H C S Part)) → AllStay clock old new
+  pub names_stay : (t : Trace) (cache : C) (zones : List (CountedZone H Part h)) (clock : Clock H Part) (old new : List (Worker H Part h)) (namings : List (NameWork N H C S Part)) → AllStay clock old new
       → NamesDone names t cache zones clock old namings → NamesDone names t cache zones clock new namings
   names_stay t cache zones clock old new namings s d = record {
     served = d.served;
@@ -181,28 +181,28 @@ module _ {N H C S Part : Type 0} {h : Ghosts H Part} (names : NameGhosts N H C S
     together = together_stay names cache t zones clock old new namings s d.together;
   }
 
-  worker_at : (t : Trace) (workers : List (Worker H Part h)) (namings : List (Naming N H C S Part)) (n : ℕ) (naming : Naming N H C S Part) → length workers ≡ t.head.workers → length namings ≡ t.head.workers
+  worker_at : (t : Trace) (workers : List (Worker H Part h)) (namings : List (NameWork N H C S Part)) (n : ℕ) (naming : NameWork N H C S Part) → length workers ≡ t.head.workers → length namings ≡ t.head.workers
       → slice_get namings n ≡ Some naming → (w : Worker H Part h) × (slice_get workers n ≡ Some w)
   worker_at t workers namings n naming count own at = some_at workers n (below_both n (length namings) (length workers) t.head.workers (slice_get_within namings n naming at) own count)
 
-  pub are_seats : (t : Trace) (cache : C) (zones : List (CountedZone H Part h)) (clock : Clock H Part) (workers : List (Worker H Part h)) (namings : List (Naming N H C S Part)) → AreDone t zones clock workers
+  pub are_seats : (t : Trace) (cache : C) (zones : List (CountedZone H Part h)) (clock : Clock H Part) (workers : List (Worker H Part h)) (namings : List (NameWork N H C S Part)) → AreDone t zones clock workers
       → NamesDone names t cache zones clock workers namings → AreSeats names cache namings
   are_seats t cache zones clock workers namings done d =
-      All_there (λ (naming : Naming N H C S Part). names.IsSeat cache naming.seat) namings (λ n naming at.
+      All_there (λ (naming : NameWork N H C S Part). names.IsSeat cache naming.seat) namings (λ n naming at.
       let found = worker_at t workers namings n naming done.worker_count d.naming_count at in
       (d.stand n found.0 naming found.1 at).seat)
 
-  pub few_namings : (t : Trace) (cache : C) (zones : List (CountedZone H Part h)) (clock : Clock H Part) (workers : List (Worker H Part h)) (namings : List (Naming N H C S Part)) → IsValid t
+  pub few_namings : (t : Trace) (cache : C) (zones : List (CountedZone H Part h)) (clock : Clock H Part) (workers : List (Worker H Part h)) (namings : List (NameWork N H C S Part)) → IsValid t
       → NamesDone names t cache zones clock workers namings → length namings ≤ 16
   few_namings t cache zones clock workers namings valid d = same_most (length namings) t.head.workers 16 d.naming_count valid.head.workers.1
 
-  pub fit_counts : (t : Trace) (cache : C) (zones : List (CountedZone H Part h)) (clock : Clock H Part) (workers : List (Worker H Part h)) (namings : List (Naming N H C S Part)) → IsValid t → length (lines_of t.rounds) ≤ 16777216
+  pub fit_counts : (t : Trace) (cache : C) (zones : List (CountedZone H Part h)) (clock : Clock H Part) (workers : List (Worker H Part h)) (namings : List (NameWork N H C S Part)) → IsValid t → length (lines_of t.rounds) ≤ 16777216
       → AreDone t zones clock workers → NamesDone names t cache zones clock workers namings → CountsFit namings
   fit_counts t cache zones clock workers namings valid few done d = counts_fit names t cache zones clock workers namings done.worker_count d valid few
 
 module _ {N H C S Part : Type 0} (names : NameGhosts N H C S Part) where
   -- the whole report tells of as many waits as that of the zone lines
-  pub whole_waits : (cache : C) (namings : List (Naming N H C S Part)) (first report : Report) (o : Option NamesHead) → IsWhole names cache o namings first report → report.gave_up ≡ first.gave_up
+  pub whole_waits : (cache : C) (namings : List (NameWork N H C S Part)) (first report : Report) (o : Option NamesHead) → IsWhole names cache o namings first report → report.gave_up ≡ first.gave_up
   whole_waits cache namings first report None whole = ap (λ (r : Report). r.gave_up) whole
   whole_waits cache namings first report (Some line) whole = ap (λ (r : Report). r.gave_up) whole.whole
 
@@ -217,8 +217,8 @@ module _ {N H C S Part : Type 0} {h : Ghosts H Part} (names : NameGhosts N H C S
         stand = stands.done.stand;
         adds_up = stands.done.adds_up;
         are = stands.done.zones_made;
-        start = λ c is. ap (λ s. s.about.start) stands.done.clock_made ∙ ap start_of is;
-        window = λ c is. ap (λ s. s.about.window) stands.done.clock_made ∙ ap window_of is;
+        start = λ c is. ap (λ s. s.config.start) stands.done.clock_made ∙ ap start_of is;
+        window = λ c is. ap (λ s. s.config.window) stands.done.clock_made ∙ ap window_of is;
         closes = stands.closes;
         hands = stands.hands;
         is = stands.made_of;

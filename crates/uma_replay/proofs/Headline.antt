@@ -18,7 +18,7 @@ use Rattle.uma_seat.specs.Seat.{usable_of, ledger_of, KeepsCounts}
 use Rattle.uma_seat.specs.Counts.{ledger_in}
 use Rattle.uma_zone.specs.declared.alloc_ask.AllocAsk.{AllocAsk}
 use Rattle.uma_zone.specs.declared.alloc_ask.AllocRefused.TheVariants.{Refused}
-use Rattle.uma_zone.specs.Alloc.{Refuses}
+use Rattle.uma_zone.specs.Alloc.{AllocIsRefused}
 use Rattle.uma_zone.specs.SafeReuse.{usable_tickets}
 use Rattle.uma_zone.specs.Zone.{zone_smr}
 use Rattle.zone_stats.specs.declared.ledger.SeatLedger.{SeatLedger}
@@ -28,8 +28,8 @@ use Rattle.zone_stats.specs.declared.report.Report.{Report}
 use Rattle.zone_stats.specs.declared.report.ZoneLine.{ZoneLine}
 use Rattle.zone_stats.specs.LedgerSteps.{IsNew}
 use Rattle.trace_worker.specs.declared.name_calls.NameCalls.{Ghosts as NameGhosts}
-use Rattle.trace_worker.specs.declared.naming.NameCounts.{NameCounts}
-use Rattle.trace_worker.specs.declared.naming.Naming.{Naming}
+use Rattle.trace_worker.specs.declared.name_work.NameCounts.{NameCounts}
+use Rattle.trace_worker.specs.declared.name_work.NameWork.{NameWork}
 use Rattle.trace_worker.specs.declared.worker.Worker.{Worker}
 use Rattle.trace_worker.specs.Attendance.{worker_in}
 use Rattle.trace_worker.specs.Items.{CachedItem, CountedSeat, CountedZone, LiveItem}
@@ -162,7 +162,7 @@ module _ {H Part : Type 0} {h : Ghosts H Part} where
   counts_fails : (old new : CountedSeat H Part h) → KeepsCounts old new → fails_of new ≡ fails_of old
   counts_fails old new same = ap (λ c. (ledger_in c).fails) same
 
-  refusal_fails : (zone : CountedZone H Part h) (ask : AllocAsk) (old new : CountedSeat H Part h) (refusal : Refusal) → Refuses zone ask old new (Refused refusal) → fails_of new ≡ fails_of old + 1
+  refusal_fails : (zone : CountedZone H Part h) (ask : AllocAsk) (old new : CountedSeat H Part h) (refusal : Refusal) → AllocIsRefused zone ask old new (Refused refusal) → fails_of new ≡ fails_of old + 1
   refusal_fails zone ask old new (AtLimit out limit) why = why.counted.fails
   refusal_fails zone ask old new (Reserved free reserve) why = why.counted.fails
   refusal_fails zone ask old new (Full slabs made) why = why.counted.fails
@@ -215,7 +215,7 @@ none_failed (Some ledger) new = new.fails
 module _ {N H C S Part : Type 0} {h : Ghosts H Part} (names : NameGhosts N H C S Part) (t : Trace) (report : Report) (hall : Hall N H C S Part h) (stands : StandsFor t report) (has : HallStands names t report hall) where
   -- ---- the lines of a worker's seats
 
-  naming_of : (n : ℕ) (w : Worker H Part h) → slice_get hall.workers n ≡ Some w → (naming : Naming N H C S Part) × (slice_get hall.namings n ≡ Some naming)
+  naming_of : (n : ℕ) (w : Worker H Part h) → slice_get hall.workers n ≡ Some w → (naming : NameWork N H C S Part) × (slice_get hall.namings n ≡ Some naming)
   naming_of n w at = some_at hall.namings n (below_by n (length hall.workers) (length hall.namings) t.head.workers (slice_get_within hall.workers n w at) has.done.worker_count has.named.naming_count)
 
   seat_lines : (n : ℕ) (w : Worker H Part h) → slice_get hall.workers n ≡ Some w → (befores : List (Worker H Part h)) × AreKept names t hall n w befores
@@ -293,7 +293,7 @@ module _ {N H C S Part : Type 0} {h : Ghosts H Part} (names : NameGhosts N H C S
 
   -- ---- names
 
-  names_at : (n : ℕ) (naming : Naming N H C S Part) → slice_get hall.namings n ≡ Some naming → (lines : List (NameLine Part)) × AreNameLines names hall.names (worker_ops t n) lines naming
+  names_at : (n : ℕ) (naming : NameWork N H C S Part) → slice_get hall.namings n ≡ Some naming → (lines : List (NameLine Part)) × AreNameLines names hall.names (worker_ops t n) lines naming
   names_at n naming at =
       let w = some_at hall.workers n (below_by n (length hall.namings) (length hall.workers) t.head.workers (slice_get_within hall.namings n naming at) has.named.naming_count has.done.worker_count) in
       let p = has.named.played n w.0 naming w.1 at in
@@ -302,19 +302,19 @@ module _ {N H C S Part : Type 0} {h : Ghosts H Part} (names : NameGhosts N H C S
       let fails = from_none _ _ _ (none_failed (names.counted p.begin.naming.seat) p.is_first.fresh) s.fails in
       let Fine : NameLine Part → Type 0 = name_story.IsFine names hall.names in
       let from_first = subst (λ (from : List Ticket). Follow before after from s.lines (names.usable p.end.naming.seat)) p.is_first.unused s.follow in
-      let follow = subst (λ (to : List Ticket). Follow before after [] s.lines to) (ap (λ (g : Naming N H C S Part). names.usable g.seat) (sym p.naming_stays)) from_first in (
+      let follow = subst (λ (to : List Ticket). Follow before after [] s.lines to) (ap (λ (g : NameWork N H C S Part). names.usable g.seat) (sym p.naming_stays)) from_first in (
         s.lines,
         record {
           all = s.all;
           looked = All-weaker Fine (λ (line : NameLine Part). IfSome line.found (FindsBound names hall.names line)) (λ line fine. fine.looked) s.lines s.fine;
-          hits = ap (λ (g : Naming N H C S Part). g.counts.hits) p.naming_stays ∙ hits;
+          hits = ap (λ (g : NameWork N H C S Part). g.counts.hits) p.naming_stays ∙ hits;
           bound = All-weaker Fine (λ (line : NameLine Part). IfSome line.refused (RefusesEntry names hall.names line)) (λ line fine. fine.bound) s.lines s.fine;
           waits = All-weaker Fine (WaitsForReaders names hall.names) (λ line fine. fine.waits) s.lines s.fine;
           follow = follow;
           among =
               (let Even : NameLine Part → Type 0 = λ line. line.after ++ line.handed ≡ line.before ++ line.brought in
               among before after (λ items. items) handed came s.lines [] (names.usable naming.seat) (All-weaker Fine Even (λ line fine. fine.waits.balance) s.lines s.fine) follow refl);
-          fails = if_fails (names.counted naming.seat) (count_by name_story.has_refused s.lines) (ap (λ (g : Naming N H C S Part). option_map_or (λ (l : SeatLedger). l.fails) (names.counted g.seat) 0) p.naming_stays ∙ fails);
+          fails = if_fails (names.counted naming.seat) (count_by name_story.has_refused s.lines) (ap (λ (g : NameWork N H C S Part). option_map_or (λ (l : SeatLedger). l.fails) (names.counted g.seat) 0) p.naming_stays ∙ fails);
         },
       )
 

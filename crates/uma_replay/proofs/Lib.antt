@@ -20,7 +20,7 @@ pub mod Playing
 pub mod Primaries
 pub mod Pushed
 pub mod ReportStands
-pub mod Runnings
+pub mod WorkerRuns
 mod SeatLines
 pub mod Staying
 pub mod Upto

@@ -18,14 +18,14 @@ use Rattle.uma_life.specs.declared.ticket.Ticket.{Ticket}
 use Rattle.zone_stats.specs.declared.ledger.SeatLedger.{SeatLedger}
 use Rattle.zone_stats.specs.declared.refusal.Refusal.{Refusal}
 use Rattle.trace_worker.specs.declared.name_calls.NameCalls.{Ghosts as NameGhosts}
-use Rattle.trace_worker.specs.declared.naming.NameCounts.{NameCounts}
-use Rattle.trace_worker.specs.declared.naming.Naming.{Naming}
+use Rattle.trace_worker.specs.declared.name_work.NameCounts.{NameCounts}
+use Rattle.trace_worker.specs.declared.name_work.NameWork.{NameWork}
 use Rattle.trace_worker.specs.Items.{CountedZone}
 use Rattle.trace_worker.specs.Knowing.{Loads, Told, bound_to}
 use Rattle.trace_worker.specs.NameCalls.{OnBoth}
 use Rattle.trace_worker.specs.NameLedger.{BindCounts, UnbindCounts, MayCountFree}
 use Rattle.trace_worker.specs.NameLines.{Changes, Doing, DoesAll}
-use Rattle.trace_worker.specs.Naming.{CountsAnswer, CountsBind, CountsUnbind}
+use Rattle.trace_worker.specs.NameWork.{CountsAnswer, CountsBind, CountsUnbind}
 use Rattle.trace_play.specs.Plays.{PlaysRounds, ops_in}
 use Rattle.uma_replay.specs.Headline.{NameLine, FindsBound, Follow, RefusesEntry, WaitsForReaders}
 
@@ -160,7 +160,7 @@ module _ {N H C S Part : Type 0} (names : NameGhosts N H C S Part) (cache : C) w
     pub bound : IfSome line.refused (RefusesEntry names cache line)
     pub waits : WaitsForReaders names cache line
 
-  record IsNext (op : Op) (old new : Naming N H C S Part) : Type 0 where
+  record IsNext (op : Op) (old new : NameWork N H C S Part) : Type 0 where
     line : NameLine Part
     is_op : line.op ≡ op
     fine : IsFine line
@@ -171,7 +171,7 @@ module _ {N H C S Part : Type 0} (names : NameGhosts N H C S Part) (cache : C) w
 
   -- ---- one line after another
 
-  pub record Story (ops : List Op) (old new : Naming N H C S Part) : Type 0 where
+  pub record Story (ops : List Op) (old new : NameWork N H C S Part) : Type 0 where
     pub lines : List (NameLine Part)
     pub all : map (λ (line : NameLine Part). line.op) lines ≡ ops
     pub fine : All IsFine lines
@@ -179,17 +179,17 @@ module _ {N H C S Part : Type 0} (names : NameGhosts N H C S Part) (cache : C) w
     pub fails : fails_in (names.counted new.seat) ≡ fails_in (names.counted old.seat) + count_by has_refused lines
     pub follow : Follow before after (names.usable old.seat) lines (names.usable new.seat)
 
-  story-none : (old new : Naming N H C S Part) → new ≡ old → Story [] old new
+  story-none : (old new : NameWork N H C S Part) → new ≡ old → Story [] old new
   story-none old new same = record {
     lines = [];
     all = refl;
     fine = All-nil IsFine;
-    hits = as_before _ _ (ap (λ (n : Naming N H C S Part). n.counts.hits) same);
-    fails = as_before _ _ (ap (λ (n : Naming N H C S Part). fails_in (names.counted n.seat)) same);
-    follow = ap (λ (n : Naming N H C S Part). names.usable n.seat) same;
+    hits = as_before _ _ (ap (λ (n : NameWork N H C S Part). n.counts.hits) same);
+    fails = as_before _ _ (ap (λ (n : NameWork N H C S Part). fails_in (names.counted n.seat)) same);
+    follow = ap (λ (n : NameWork N H C S Part). names.usable n.seat) same;
   }
 
-  story-cons : (op : Op) (ops : List Op) (old mid new : Naming N H C S Part) → IsNext op old mid → Story ops mid new → Story (op ∷ ops) old new
+  story-cons : (op : Op) (ops : List Op) (old mid new : NameWork N H C S Part) → IsNext op old mid → Story ops mid new → Story (op ∷ ops) old new
   story-cons op ops old mid new n s = record {
     lines = n.line ∷ s.lines;
     all = λ i. n.is_op i ∷ s.all i;
@@ -203,7 +203,7 @@ module _ {N H C S Part : Type 0} (names : NameGhosts N H C S Part) (cache : C) w
   joined [] more from mid to same rest = subst (λ (at : List Ticket). Follow before after at more to) same rest
   joined (line ∷ lines) more from mid to first rest = (first.0, joined lines more line.after mid to first.1 rest)
 
-  story-append : (ops others : List Op) (old mid new : Naming N H C S Part) → Story ops old mid → Story others mid new → Story (ops ++ others) old new
+  story-append : (ops others : List Op) (old mid new : NameWork N H C S Part) → Story ops old mid → Story others mid new → Story (ops ++ others) old new
   story-append ops others old mid new s t = record {
     lines = s.lines ++ t.lines;
     all = map-append (λ (line : NameLine Part). line.op) s.lines t.lines ∙ (λ i. s.all i ++ t.all i);
@@ -226,9 +226,9 @@ module _ {N H C S Part : Type 0} {h : Ghosts H Part} (names : NameGhosts N H C S
   passes op old new same = record {
     line = quiet names cache op (view old.worker.pass) (view new.worker.pass) None (usable_by old) (usable_by new);
     is_op = refl;
-    fine = record { looked = tt; bound = tt; waits = quiet_waits op old new None (ap (λ (n : Naming N H C S Part). names.usable n.seat) same) };
-    hits = as_before _ _ (ap (λ (n : Naming N H C S Part). n.counts.hits) same);
-    fails = as_before _ _ (ap (λ (n : Naming N H C S Part). fails_in (names.counted n.seat)) same);
+    fine = record { looked = tt; bound = tt; waits = quiet_waits op old new None (ap (λ (n : NameWork N H C S Part). names.usable n.seat) same) };
+    hits = as_before _ _ (ap (λ (n : NameWork N H C S Part). n.counts.hits) same);
+    fails = as_before _ _ (ap (λ (n : NameWork N H C S Part). fails_in (names.counted n.seat)) same);
     from = refl;
     to = refl;
   }
@@ -318,6 +318,6 @@ module _ {N H C S Part : Type 0} {h : Ghosts H Part} (names : NameGhosts N H C S
   story_of_rounds zones [] k old new same = story-none names cache old.naming new.naming (ap (λ (d : Doing N H C S Part h). d.naming) same)
   story_of_rounds zones (r ∷ rounds) k old new played =
       let mid = played.1.worked in
-      let P : Naming N H C S Part → Type 0 = λ n. Story names cache (ops_in r k) old.naming n in
+      let P : NameWork N H C S Part → Type 0 = λ n. Story names cache (ops_in r k) old.naming n in
       let s = subst P (sym played.1.given.naming) (story_of zones (ops_in r k) old mid played.1.does) in
       story-append names cache (ops_in r k) (flat_map (λ (r : Round). ops_in r k) rounds) old.naming played.0.naming new.naming s (story_of_rounds zones rounds k played.0 new played.2)

@@ -13,7 +13,7 @@ use Rattle.uma_life.specs.declared.tally_sum.TallySum.{TallySum}
 use Rattle.uma_life.specs.Hook.{Hook, Ctor, Dtor}
 use Rattle.uma_life.specs.Sum.{AreBelow, sum_of}
 use Rattle.trace_worker.specs.declared.name_calls.NameCalls.{Ghosts as NameGhosts}
-use Rattle.trace_worker.specs.declared.naming.Naming.{Naming}
+use Rattle.trace_worker.specs.declared.name_work.NameWork.{NameWork}
 use Rattle.trace_worker.specs.NameSums.{HasLinked}
 use Rattle.trace_play.proofs.Modulo.{shows_as}
 use Rattle.uma_replay.specs.Names.{AreNameSums, AreSeatSums, AreSeats, NamesClose, seats_passed, seats_waiting}
@@ -49,7 +49,7 @@ both_le a b c all most is = omega arith
 
 -- ---- one seat after another
 
-module _ {N H C S Part : Type 0} (names : NameGhosts N H C S Part) (namings : List (Naming N H C S Part)) where
+module _ {N H C S Part : Type 0} (names : NameGhosts N H C S Part) (namings : List (NameWork N H C S Part)) where
   pub no_seat : (sums : Sums) → ((count : ℕ) → AreOfAtMost count sums) → ((zone : ℕ) → Balance zone sums) → sums ≡ nothing_held → AreSeatSums names 0 namings sums
   no_seat sums few balance none = record {
     few = few (704 * 0);
@@ -61,7 +61,7 @@ module _ {N H C S Part : Type 0} (names : NameGhosts N H C S Part) (namings : Li
   pub seat_room_left : (i : ℕ) (sums : Sums) → i < length namings → length namings ≤ 16 → AreSeatSums names i namings sums → AreOfAtMost (2 ^ 62) sums
   seat_room_left i sums below few so = fewer sums (704 * i) (2 ^ 62) (seat_room i (length namings) below few) so.few
 
-  pub one_seat_more : (i : ℕ) (naming : Naming N H C S Part) (sums others next : Sums) → i < length namings → naming ≡ get_or namings i naming → AreSeatSums names i namings sums
+  pub one_seat_more : (i : ℕ) (naming : NameWork N H C S Part) (sums others next : Sums) → i < length namings → naming ≡ get_or namings i naming → AreSeatSums names i namings sums
       → Adds (names.passed naming.seat) (names.deferred naming.seat) nothing_held others → AreOfAtMost 704 others → ((cache : C) → names.IsSeat cache naming.seat → Balance 0 others)
       → Adds (sum_of others.tally) others.deferred sums next
       → ((count more : ℕ) → AreOfAtMost count sums → AreOfAtMost more others → AreOfAtMost (count + more) next)
@@ -70,15 +70,15 @@ module _ {N H C S Part : Type 0} (names : NameGhosts N H C S Part) (namings : Li
   one_seat_more i naming sums others next below is so own few_own balance_own adds few balance = record {
     few = (let P : ℕ → Type 0 = λ n. AreOfAtMost n next in subst P (one_more i) (few (704 * i) 704 so.few few_own));
     passed = λ hook.
-        let f = λ (g : Naming N H C S Part). names.passed g.seat hook in
+        let f = λ (g : NameWork N H C S Part). names.passed g.seat hook in
         let here : sum_of others.tally hook ≡ f (get_or namings i naming) = own.tally hook ∙ (zero_more (sum_of nothing_held.tally hook) (f naming) (none_passed hook) ∙ ap f is) in
         next_sum (seats_passed names hook (take i namings)) (sum_of sums.tally hook) (sum_of next.tally hook) (sum_of others.tally hook) (f (get_or namings i naming)) _ (so.passed hook) (adds.tally hook) here (sum_by_more f namings i naming below);
     waiting =
-        let f = λ (g : Naming N H C S Part). names.deferred g.seat in
+        let f = λ (g : NameWork N H C S Part). names.deferred g.seat in
         let here : others.deferred ≡ f (get_or namings i naming) = own.deferred_too ∙ (zero_more 0 (f naming) refl ∙ ap f is) in
         next_sum (seats_waiting names (take i namings)) sums.deferred next.deferred others.deferred (f (get_or namings i naming)) _ so.waiting adds.deferred_too here (sum_by_more f namings i naming below);
     balance = λ cache are.
-        let P : Naming N H C S Part → Type 0 = λ g. names.IsSeat cache g.seat in
+        let P : NameWork N H C S Part → Type 0 = λ g. names.IsSeat cache g.seat in
         balance 0 (so.balance cache are) (balance_own cache (subst P (sym is) (All-get_or P namings i naming below are)));
   }
 
@@ -119,7 +119,7 @@ twice pairs deferred linked dtors sum is = omega arith
 zero_below : 0 < 8
 zero_below = omega arith
 
-module _ {N H C S Part : Type 0} (names : NameGhosts N H C S Part) (cache : C) (namings : List (Naming N H C S Part)) where
+module _ {N H C S Part : Type 0} (names : NameGhosts N H C S Part) (cache : C) (namings : List (NameWork N H C S Part)) where
   pub name_sums_of : (rest seats sums : Sums) → length namings ≤ 16 → AreSeats names cache namings → AreSeatSums names (length namings) namings seats → AreOfAtMost (2 ^ 35) rest → HasLinked (names.sizes_of cache).rows rest
       → Adds (sum_of seats.tally) seats.deferred rest sums → ((count more : ℕ) → AreOfAtMost count rest → AreOfAtMost more seats → AreOfAtMost (count + more) sums) → AreNameSums names cache namings sums
   name_sums_of rest seats sums few are so few_rest has adds few_sums = record {

@@ -4,13 +4,13 @@ use Rattle.std.proofs.lemmas.Option.{same_Some}
 use Rattle.std.specs.Prelude.{reverse, slice_get}
 use Rattle.smr_clock.specs.declared.clock.Clock.{Clock}
 use Rattle.smr_clock.specs.declared.host.Host.{Ghosts}
-use Rattle.smr_clock.specs.Belongs.{IsOf}
+use Rattle.smr_clock.specs.Belongs.{IsPassOf}
 use Rattle.trace_text.specs.declared.round.Round.{Round}
 use Rattle.trace_text.specs.declared.trace.Trace.{Trace}
 use Rattle.trace_text.specs.Lines.{lines_of}
 use Rattle.trace_worker.specs.declared.name_calls.NameCalls.{Ghosts as NameGhosts}
-use Rattle.trace_worker.specs.declared.naming.Naming.{Naming}
-use Rattle.trace_worker.specs.declared.running.Running.{Running}
+use Rattle.trace_worker.specs.declared.name_work.NameWork.{NameWork}
+use Rattle.trace_worker.specs.declared.worker_run.WorkerRun.{WorkerRun}
 use Rattle.trace_worker.specs.declared.worker.Worker.{Worker}
 use Rattle.trace_worker.specs.Attendance.{worker_in}
 use Rattle.trace_worker.specs.Items.{CountedZone}
@@ -27,14 +27,14 @@ use Rattle.trace_play.proofs.AfterRound.{in_crew}
 use Rattle.trace_play.proofs.RoundLists.{at_other}
 use Rattle.uma_replay.specs.Playing.{AllBack, AllPlayed, AllStay, AreFirst, HaveEnded, HavePlayed, Stays, gave_ups_of, namings_of}
 use Rattle.uma_replay.proofs.ComingBack.{back_stay}
-use Rattle.uma_replay.proofs.Runnings.{of_both}
+use Rattle.uma_replay.proofs.WorkerRuns.{of_both}
 use Rattle.uma_replay.proofs.Staying.{all_chain, found_before, stays_chain}
 
 module _ {H Part : Type 0} {h : Ghosts H Part} where
-  stays_self : (clock : Clock H Part) (w : Worker H Part h) → IsOf clock w.pass → Stays clock w w
+  stays_self : (clock : Clock H Part) (w : Worker H Part h) → IsPassOf clock w.pass → Stays clock w w
   stays_self clock w here = record { seats = refl; slots = refl; entered = refl; late = refl; here = here; phase = refl; seen = le_refl (seen_of w); floor = le_refl (floor_of w) }
 
-  all_stay_self : (clock : Clock H Part) (workers : List (Worker H Part h)) → ((n : ℕ) (w : Worker H Part h) → slice_get workers n ≡ Some w → IsOf clock w.pass) → AllStay clock workers workers
+  all_stay_self : (clock : Clock H Part) (workers : List (Worker H Part h)) → ((n : ℕ) (w : Worker H Part h) → slice_get workers n ≡ Some w → IsPassOf clock w.pass) → AllStay clock workers workers
   all_stay_self clock workers here = record {
     count = refl;
     each = λ n v w at at'.
@@ -43,26 +43,26 @@ module _ {H Part : Type 0} {h : Ghosts H Part} where
   }
 
   -- who came back has a pass of the clock
-  backs_here : (clock : Clock H Part) (old back : List (Worker H Part h)) → AllBack clock old back → (n : ℕ) (w : Worker H Part h) → slice_get back n ≡ Some w → IsOf clock w.pass
+  backs_here : (clock : Clock H Part) (old back : List (Worker H Part h)) → AllBack clock old back → (n : ℕ) (w : Worker H Part h) → slice_get back n ≡ Some w → IsPassOf clock w.pass
   backs_here clock old back comes n w at = let was = found_before old back n w comes.count at in (comes.each n was.0 w was.1 at).here
 
 module _ {N H C S Part : Type 0} {h : Ghosts H Part} (names : NameGhosts N H C S Part) (cache : C) where
   -- of other zones and workers that are the same
-  pub play_as : (rounds : List Round) (zones zones' : List (CountedZone H Part h)) (old old' new : List (Running N H C S Part h)) → zones' ≡ zones → old' ≡ old → AllPlay names cache zones' rounds old' new → AllPlay names cache zones rounds old new
+  pub play_as : (rounds : List Round) (zones zones' : List (CountedZone H Part h)) (old old' new : List (WorkerRun N H C S Part h)) → zones' ≡ zones → old' ≡ old → AllPlay names cache zones' rounds old' new → AllPlay names cache zones rounds old new
   play_as rounds zones zones' old old' new same_zones same_old plays =
       let P : List (CountedZone H Part h) → Type 0 = λ list. AllPlay names cache list rounds old new in
-      let Q : List (Running N H C S Part h) → Type 0 = λ list. AllPlay names cache zones' rounds list new in
+      let Q : List (WorkerRun N H C S Part h) → Type 0 = λ list. AllPlay names cache zones' rounds list new in
       subst P same_zones (subst Q same_old plays)
 
   -- the same of all together
-  pub rounds_as : (rounds : List Round) (zones : List (CountedZone H Part h)) (old old' new : List (Running N H C S Part h)) → old' ≡ old → DoRounds names cache zones rounds old' new → DoRounds names cache zones rounds old new
+  pub rounds_as : (rounds : List Round) (zones : List (CountedZone H Part h)) (old old' new : List (WorkerRun N H C S Part h)) → old' ≡ old → DoRounds names cache zones rounds old' new → DoRounds names cache zones rounds old new
   rounds_as rounds zones old old' new same did =
-      let P : List (Running N H C S Part h) → Type 0 = λ list. DoRounds names cache zones rounds list new in
+      let P : List (WorkerRun N H C S Part h) → Type 0 = λ list. DoRounds names cache zones rounds list new in
       subst P same did
 
   -- when all rounds are done
-  pub played_of : (t : Trace) (s : Setting H Part h) (begun ended : List (Running N H C S Part h)) → IsSetUp t s → AreFirst names cache t.head.domains s.workers.items begun → length ended ≡ length begun
-      → ((n : ℕ) (w : Worker H Part h) → slice_get (crew ended) n ≡ Some w → IsOf s.clock w.pass) → AllPlay names cache s.zones.items t.rounds begun ended
+  pub played_of : (t : Trace) (s : Setting H Part h) (begun ended : List (WorkerRun N H C S Part h)) → IsSetUp t s → AreFirst names cache t.head.domains s.workers.items begun → length ended ≡ length begun
+      → ((n : ℕ) (w : Worker H Part h) → slice_get (crew ended) n ≡ Some w → IsPassOf s.clock w.pass) → AllPlay names cache s.zones.items t.rounds begun ended
       → AllPlayed names cache t s.zones.items s.clock (crew ended) (namings_of ended)
   played_of t s begun ended is first count here plays n w naming at at_naming =
       let both = of_both ended n w naming at at_naming in
@@ -80,7 +80,7 @@ module _ {N H C S Part : Type 0} {h : Ghosts H Part} (names : NameGhosts N H C S
       }
 
   -- all together when all rounds are done, and each is back
-  pub together_of : (t : Trace) (s : Setting H Part h) (begun ended : List (Running N H C S Part h)) (back : List (Worker H Part h)) → IsSetUp t s → AreFirst names cache t.head.domains s.workers.items begun
+  pub together_of : (t : Trace) (s : Setting H Part h) (begun ended : List (WorkerRun N H C S Part h)) (back : List (Worker H Part h)) → IsSetUp t s → AreFirst names cache t.head.domains s.workers.items begun
       → AllBack s.clock (crew ended) back → DoRounds names cache s.zones.items t.rounds begun ended → HavePlayed names cache t s.zones.items s.clock back (namings_of ended)
   together_of t s begun ended back is first comes did = record {
     begun = begun;
@@ -94,7 +94,7 @@ module _ {N H C S Part : Type 0} {h : Ghosts H Part} (names : NameGhosts N H C S
   }
 
   -- and since then
-  pub together_stay : (t : Trace) (zones : List (CountedZone H Part h)) (clock : Clock H Part) (old new : List (Worker H Part h)) (namings : List (Naming N H C S Part)) → AllStay clock old new → HavePlayed names cache t zones clock old namings
+  pub together_stay : (t : Trace) (zones : List (CountedZone H Part h)) (clock : Clock H Part) (old new : List (Worker H Part h)) (namings : List (NameWork N H C S Part)) → AllStay clock old new → HavePlayed names cache t zones clock old namings
       → HavePlayed names cache t zones clock new namings
   together_stay t zones clock old new namings stay played = record {
     begun = played.begun;
@@ -108,7 +108,7 @@ module _ {N H C S Part : Type 0} {h : Ghosts H Part} (names : NameGhosts N H C S
   }
 
   -- and since then
-  pub played_stay : (t : Trace) (zones : List (CountedZone H Part h)) (clock : Clock H Part) (old new : List (Worker H Part h)) (namings : List (Naming N H C S Part)) → AllStay clock old new → AllPlayed names cache t zones clock old namings
+  pub played_stay : (t : Trace) (zones : List (CountedZone H Part h)) (clock : Clock H Part) (old new : List (Worker H Part h)) (namings : List (NameWork N H C S Part)) → AllStay clock old new → AllPlayed names cache t zones clock old namings
       → AllPlayed names cache t zones clock new namings
   played_stay t zones clock old new namings stay played n w naming at at_naming =
       let was = found_before old new n w stay.count at in
@@ -127,7 +127,7 @@ module _ {N H C S Part : Type 0} {h : Ghosts H Part} (names : NameGhosts N H C S
 
 module _ {N H C S Part : Type 0} {h : Ghosts H Part} where
   -- when all rounds are done, and each is back
-  pub ended_of : (t : Trace) (clock : Clock H Part) (ended : List (Running N H C S Part h)) (back : List (Worker H Part h)) (namings : List (Naming N H C S Part)) (gave_ups : List ℕ)
+  pub ended_of : (t : Trace) (clock : Clock H Part) (ended : List (WorkerRun N H C S Part h)) (back : List (Worker H Part h)) (namings : List (NameWork N H C S Part)) (gave_ups : List ℕ)
       → AllAsked (reverse (lines_of t.rounds)) ended → AllBack clock (crew ended) back → namings ≡ namings_of ended → gave_ups ≡ gave_ups_of ended → HaveEnded t clock back namings gave_ups
   ended_of t clock ended back namings gave_ups asked comes same_namings same_gave_ups = record {
     ended = ended;
@@ -138,7 +138,7 @@ module _ {N H C S Part : Type 0} {h : Ghosts H Part} where
   }
 
   -- and since then
-  pub ended_stay : (t : Trace) (clock : Clock H Part) (old new workers : List (Worker H Part h)) (before namings : List (Naming N H C S Part)) (counts gave_ups : List ℕ) → AllStay clock old new → workers ≡ new
+  pub ended_stay : (t : Trace) (clock : Clock H Part) (old new workers : List (Worker H Part h)) (before namings : List (NameWork N H C S Part)) (counts gave_ups : List ℕ) → AllStay clock old new → workers ≡ new
       → namings ≡ before → gave_ups ≡ counts → HaveEnded t clock old before counts → HaveEnded t clock workers namings gave_ups
   ended_stay t clock old new workers before namings counts gave_ups stay same same_namings same_gave_ups e =
       let All : List (Worker H Part h) → Type 0 = λ ws. AllStay clock (crew e.ended) ws in

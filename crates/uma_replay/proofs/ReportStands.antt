@@ -119,8 +119,8 @@ module _ {H Part : Type 0} {h : Ghosts H Part} where
     pub stand : AllStand zones clock (all_lines t) workers
     pub adds_up : (z : ℕ) → AddsUp z workers
     pub are : AreZones t.head clock zones
-    pub start : (c : ClockHead) → t.head.clock ≡ Some c → (setup_of clock).about.start ≡ c.start
-    pub window : (c : ClockHead) → t.head.clock ≡ Some c → (setup_of clock).about.window ≡ c.window
+    pub start : (c : ClockHead) → t.head.clock ≡ Some c → (setup_of clock).config.start ≡ c.start
+    pub window : (c : ClockHead) → t.head.clock ≡ Some c → (setup_of clock).config.window ≡ c.window
     pub closes : AllClose t.head zones workers censuses tallies deferred
     pub hands : ReadsHands clock workers read write
     pub is : IsReportOf t workers censuses tallies deferred read write gave_up report

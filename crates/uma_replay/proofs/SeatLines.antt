@@ -19,7 +19,7 @@ use Rattle.uma_seat.specs.Seat.{usable_of, KeepsTop, KeepsPlain}
 use Rattle.uma_seat.specs.Stack.{stack_at}
 use Rattle.uma_zone.specs.declared.alloc_ask.AllocAsk.{AllocAsk}
 use Rattle.uma_zone.specs.declared.alloc_ask.AllocRefused.TheVariants.{Refused}
-use Rattle.uma_zone.specs.Alloc.{Takes, Refuses}
+use Rattle.uma_zone.specs.Alloc.{TakesUsable, AllocIsRefused}
 use Rattle.uma_zone.specs.SafeReuse.{usable_tickets}
 use Rattle.uma_zone.specs.Zone.{zone_smr}
 use Rattle.zone_stats.specs.declared.refusal.Refusal.{Refusal}
@@ -74,7 +74,7 @@ module _ {H Part : Type 0} {h : Ghosts H Part} where
   }
 
   -- where the items come from of which a request takes the last
-  taken : (zone : CountedZone H Part h) (reserve : Bool) (call : SeatCall) (old new : CountedSeat H Part h) (item : CachedItem) (left : List CachedItem) → Takes zone reserve old item left new
+  taken : (zone : CountedZone H Part h) (reserve : Bool) (call : SeatCall) (old new : CountedSeat H Part h) (item : CachedItem) (left : List CachedItem) → TakesUsable zone reserve old item left new
       → usable_tickets new ++ gone_by call old ≡ map cached_ticket (left ++ item ∷ []) → Source zone call old new
   taken zone reserve call old new item left takes is =
       let all = left ++ item ∷ [] in
@@ -95,7 +95,7 @@ module _ {H Part : Type 0} {h : Ghosts H Part} where
   still_nothing : (zone : CountedZone H Part h) (call : SeatCall) (old new : CountedSeat H Part h) → gone_by call old ≡ [] → usable_of old ≡ [] → usable_of new ≡ [] → Source zone call old new
   still_nothing zone call old new none was is = same_usable zone call old new none (λ smr. is ∙ sym was)
 
-  refused : (zone : CountedZone H Part h) (ask : AllocAsk) (old new : CountedSeat H Part h) (refusal : Refusal) → Refuses zone ask old new (Refused refusal) → Source zone (Request ask None) old new
+  refused : (zone : CountedZone H Part h) (ask : AllocAsk) (old new : CountedSeat H Part h) (refusal : Refusal) → AllocIsRefused zone ask old new (Refused refusal) → Source zone (Request ask None) old new
   refused zone ask old new (AtLimit out limit) why = still_nothing zone (Request ask None) old new refl why.empty why.still
   refused zone ask old new (Reserved free reserve) why = still_nothing zone (Request ask None) old new refl why.empty why.still
   refused zone ask old new (Full slabs made) why = still_nothing zone (Request ask None) old new refl why.empty why.still

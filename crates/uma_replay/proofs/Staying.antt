@@ -7,7 +7,7 @@ use Rattle.std.specs.Prelude.{◌==◌, vec_items, slice_get, count_by, sum_by}
 use Rattle.std.specs.Option.{option_map_or}
 use Rattle.smr_clock.specs.declared.clock.Clock.{Clock}
 use Rattle.smr_clock.specs.declared.host.Host.{Ghosts}
-use Rattle.smr_clock.specs.Belongs.{IsOf}
+use Rattle.smr_clock.specs.Belongs.{IsPassOf}
 use Rattle.smr_core.specs.declared.phase.Phase.{Phase}
 use Rattle.smr_core.specs.declared.phase.Phase.TheVariants.{Inside, Outside}
 use Rattle.trace_text.specs.Lines.{Line}
@@ -24,7 +24,7 @@ use Rattle.trace_worker.specs.Live.{is_of, live_count}
 use Rattle.trace_worker.specs.Slots.{slot_at}
 use Rattle.trace_worker.specs.Stands.{Stands}
 use Rattle.trace_worker.specs.Together.{AllStand, AddsUp, ledger_at, all_live, all_allocs, all_frees}
-use Rattle.trace_worker.specs.Worker.{Fits, HasSeats, IsHeld, phase_of, seen_of}
+use Rattle.trace_worker.specs.Worker.{FitsZones, HasSeats, IsHeld, phase_of, seen_of}
 use Rattle.trace_play.specs.Lending.{seen_slot, KeepsWorker, KeepsWorkers}
 use Rattle.trace_play.specs.Clock.{AllLearn, Learns, ReadsHands, floor_of}
 use Rattle.uma_replay.specs.Playing.{AllStay, Stays}
@@ -47,13 +47,13 @@ same_most : (a b : ℕ) → b ≡ a → a ≤ b
 same_most a b is = omega arith
 
 module _ {H Part : Type 0} {h : Ghosts H Part} where
-  pub stays_kept : (clock : Clock H Part) (old new : Worker H Part h) → IsOf clock old.pass → KeepsWorker old new → Stays clock old new
+  pub stays_kept : (clock : Clock H Part) (old new : Worker H Part h) → IsPassOf clock old.pass → KeepsWorker old new → Stays clock old new
   stays_kept clock old new here k = record {
     seats = k.seats;
     slots = k.slots;
     entered = k.entered;
     late = k.late;
-    here = let P : _ → Type 0 = λ pass. IsOf clock pass in subst P (sym k.pass) here;
+    here = let P : _ → Type 0 = λ pass. IsPassOf clock pass in subst P (sym k.pass) here;
     phase = ap (λ pass. phase_of (record old { pass = pass })) k.pass;
     seen = same_most _ _ (ap (λ pass. seen_of (record old { pass = pass })) k.pass);
     floor = same_most _ _ (ap (λ pass. floor_of (record old { pass = pass })) k.pass);
@@ -95,7 +95,7 @@ module _ {H Part : Type 0} {h : Ghosts H Part} where
 
   -- ---- one worker
 
-  pub fits_stay : (zones : List (CountedZone H Part h)) (clock : Clock H Part) (old new : Worker H Part h) → Stays clock old new → Fits zones clock old → Fits zones clock new
+  pub fits_stay : (zones : List (CountedZone H Part h)) (clock : Clock H Part) (old new : Worker H Part h) → Stays clock old new → FitsZones zones clock old → FitsZones zones clock new
   fits_stay zones clock old new s f =
       let P : _ → Type 0 = λ seats. HasSeats zones (vec_items seats) in
       record {

@@ -7,12 +7,12 @@ use Rattle.trace_text.specs.Lines.{lines_of}
 use Rattle.trace_text.specs.Valid.{IsValid}
 use Rattle.trace_worker.specs.declared.gate.Gate.{Ghosts as GateGhosts}
 use Rattle.trace_worker.specs.declared.name_calls.NameCalls.{Ghosts as NameGhosts}
-use Rattle.trace_worker.specs.declared.naming.Naming.{Naming}
+use Rattle.trace_worker.specs.declared.name_work.NameWork.{NameWork}
 use Rattle.trace_worker.specs.declared.worker.Worker.{Worker}
 use Rattle.trace_worker.specs.Items.{CountedZone}
 use Rattle.trace_play.specs.Clock.{ReadsHands}
 use Rattle.trace_play.specs.Closes.{AllClose}
-use Rattle.uma_replay.specs.declared.ending.Ended.{Ended}
+use Rattle.uma_replay.specs.declared.ending.Stock.{Stock}
 use Rattle.uma_replay.specs.declared.hall.Played.{Played}
 use Rattle.uma_replay.specs.Asked.{AreGivenUp}
 use Rattle.uma_replay.specs.Hall.{AreDone, HallStands, NamesDone}
@@ -27,7 +27,7 @@ module _ {H P : Type 0} {h : Ghosts H P} where
     pub hands : ReadsHands clock new read write
 
   -- the hands were read and the kegs counted, by which the workers stay done
-  pub record TakesStock (t : Trace) (zones : List (CountedZone H P h)) (clock : Clock H P) (old new : List (Worker H P h)) (end : Ended) : Type 0 where
+  pub record TakesStock (t : Trace) (zones : List (CountedZone H P h)) (clock : Clock H P) (old new : List (Worker H P h)) (end : Stock) : Type 0 where
     pub done : AreDone t zones clock new
     pub stay : AllStay clock old new
     pub hands : ReadsHands clock new end.read end.write
@@ -43,7 +43,7 @@ module _ {N H C S P : Type 0} {h : Ghosts H P} (names : NameGhosts N H C S P) wh
     pub asks : AreGivenUp gates gate t.rounds played.hall.gave_ups
 
   -- All lines of a valid trace of few lines are done, by these zones and workers, with this of the names. So often each worker gave up waiting.
-  pub record CanEnd (t : Trace) (cache : C) (zones : List (CountedZone H P h)) (clock : Clock H P) (workers : List (Worker H P h)) (namings : List (Naming N H C S P)) (gave_ups : List ℕ) : Type 0 where
+  pub record CanEnd (t : Trace) (cache : C) (zones : List (CountedZone H P h)) (clock : Clock H P) (workers : List (Worker H P h)) (namings : List (NameWork N H C S P)) (gave_ups : List ℕ) : Type 0 where
     pub valid : IsValid t
     pub few : length (lines_of t.rounds) ≤ 16777216
     pub done : AreDone t zones clock workers

@@ -7,7 +7,7 @@ use Rattle.trace_text.specs.Lines.{lines_of}
 use Rattle.uma_life.specs.declared.tally_sum.TallySum.{TallySum}
 use Rattle.zone_stats.specs.declared.report.Report.{Report}
 use Rattle.trace_worker.specs.declared.name_calls.NameCalls.{Ghosts as NameGhosts}
-use Rattle.trace_worker.specs.declared.naming.Naming.{Naming}
+use Rattle.trace_worker.specs.declared.name_work.NameWork.{NameWork}
 use Rattle.trace_worker.specs.declared.worker.Worker.{Worker}
 use Rattle.trace_worker.specs.Clocks.{IsClockOf}
 use Rattle.trace_worker.specs.Items.{CountedZone}
@@ -36,14 +36,14 @@ module _ {H P : Type 0} {h : Ghosts H P} where
 
 module _ {N H C S P : Type 0} {h : Ghosts H P} (names : NameGhosts N H C S P) where
   -- All that is of the names when all lines are done.
-  pub record NamesDone (t : Trace) (cache : C) (zones : List (CountedZone H P h)) (clock : Clock H P) (workers : List (Worker H P h)) (namings : List (Naming N H C S P)) : Type 0 where
+  pub record NamesDone (t : Trace) (cache : C) (zones : List (CountedZone H P h)) (clock : Clock H P) (workers : List (Worker H P h)) (namings : List (NameWork N H C S P)) : Type 0 where
     -- they are served where the trace has a names line, by this clock and with that line's sizes
     pub served : names.serves ≡ is_some t.head.names
     pub of_clock : NamesOfClock names cache clock
     pub sizes : IfSome t.head.names (λ line. names.sizes_of cache ≡ sizes_for t.head line)
     -- each worker has a seat of them, and its counts stand for all lines
     pub naming_count : length namings ≡ t.head.workers
-    pub stand : (n : ℕ) (w : Worker H P h) (naming : Naming N H C S P) → slice_get workers n ≡ Some w → slice_get namings n ≡ Some naming → NamesStand names cache n (reverse (lines_of t.rounds)) w.late naming
+    pub stand : (n : ℕ) (w : Worker H P h) (naming : NameWork N H C S P) → slice_get workers n ≡ Some w → slice_get namings n ≡ Some naming → NamesStand names cache n (reverse (lines_of t.rounds)) w.late naming
     -- it began new and did its own lists, line after line, with the `give` lines between them
     pub played : AllPlayed names cache t zones clock workers namings
     -- all together did the rounds, and between two of them the `give` lines moved what slots held, and each `setmax` line set the limit of its zone

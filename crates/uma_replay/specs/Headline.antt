@@ -4,7 +4,7 @@
 --
 -- `Headline`, at the end, has its clauses. They speak of what each worker's lines did to its seat of each zone, whatever the other workers' threads did meanwhile.
 --
--- Of other crates it stands on `Requests`, `GivesBack`, `IsFlushed` and `IsDrained`, what a line does to a seat (trace_worker); `AreReused`, `IsOneFetch` and `Refuses` (uma_zone); `after` and `IsAt`, the hooks of an item (uma_life); and `IsNew`, a ledger that counted nothing (zone_stats). What it says of names, `told`, `knows`, `usable`, `Came` and `IsFound`, are the words of who keeps them (`NameCalls`): in the program `CacheNames`.
+-- Of other crates it stands on `Requests`, `GivesBack`, `IsFlushed` and `IsDrained`, what a line does to a seat (trace_worker); `AreReused`, `IsOneFetch` and `AllocIsRefused` (uma_zone); `after` and `IsAt`, the hooks of an item (uma_life); and `IsNew`, a ledger that counted nothing (zone_stats). What it says of names, `told`, `knows`, `usable`, `Came` and `IsFound`, are the words of who keeps them (`NameCalls`): in the program `CacheNames`.
 use Rattle.std.specs.Prelude.{◌≡◌, ◌≢◌, ◌⊎◌, ◌<◌, ◌≤◌, ◌%◌, ℕ, All, Bool, true, false, List, [], ◌∷◌, ◌++◌, Option, Some, None, IfSome, count_by, is_some, length, map, slice_get, take}
 use Rattle.std.specs.List.{flat_map}
 use Rattle.smr_clock.specs.declared.host.Host.{Ghosts}
@@ -21,7 +21,7 @@ use Rattle.uma_life.specs.Trail.{IsAt}
 use Rattle.uma_seat.specs.Seat.{usable_of, ledger_of}
 use Rattle.uma_zone.specs.declared.alloc_ask.AllocAsk.{AllocAsk}
 use Rattle.uma_zone.specs.declared.alloc_ask.AllocRefused.TheVariants.{Refused}
-use Rattle.uma_zone.specs.Alloc.{AreReused, IsOneFetch, Refuses}
+use Rattle.uma_zone.specs.Alloc.{AreReused, IsOneFetch, AllocIsRefused}
 use Rattle.uma_zone.specs.SafeReuse.{usable_tickets}
 use Rattle.uma_zone.specs.Zone.{zone_index, zone_smr}
 use Rattle.zone_stats.specs.declared.ledger.SeatLedger.{SeatLedger}
@@ -32,7 +32,7 @@ use Rattle.zone_stats.specs.LedgerSteps.{IsNew}
 use Rattle.zone_stats.specs.Line.{total_allocs, total_cross, total_fails, used_items}
 use Rattle.trace_worker.specs.declared.held.Held.{Held}
 use Rattle.trace_worker.specs.declared.name_calls.NameCalls.{Ghosts as NameGhosts}
-use Rattle.trace_worker.specs.declared.naming.Naming.{Naming}
+use Rattle.trace_worker.specs.declared.name_work.NameWork.{NameWork}
 use Rattle.trace_worker.specs.declared.worker.Worker.{Worker}
 use Rattle.trace_worker.specs.Items.{CachedItem, CountedSeat, CountedZone, LiveItem, counted_life}
 use Rattle.trace_worker.specs.Performs.{ask_of}
@@ -183,7 +183,7 @@ module _ {H P : Type 0} {h : Ghosts H P} where
 
   -- A request that got no item was refused by `ctor`, with its code for this argument, or by its one fetch, at the limit, the reserve, the capacity or the code that this fetch found.
   abbrev pub HasCause : CountedZone H P h → SeatLine H P h → Type 0
-  HasCause zone line = (ask : AllocAsk) → line.call ≡ Request ask None → (refusal : Refusal) × Refuses zone ask line.old line.new (Refused refusal)
+  HasCause zone line = (ask : AllocAsk) → line.call ≡ Request ask None → (refusal : Refusal) × AllocIsRefused zone ask line.old line.new (Refused refusal)
 
   -- and the ledger's fails are just these
   pub record AreForCause (zone : CountedZone H P h) (lines : List (SeatLine H P h)) (seat : CountedSeat H P h) : Type 0 where
@@ -242,7 +242,7 @@ module _ {N H C S P : Type 0} (names : NameGhosts N H C S P) (cache : C) where
     pub come : (line.brought ≡ []) ⊎ names.Came cache line.brought
 
   -- These are all lines of the worker. Its hits are the looks that found a value, and the fails of its seat of the names the binds that got no entry. Its seat began empty, and what it handed out is among what was brought to it, each entry as often at most.
-  pub record AreNameLines (ops : List Op) (lines : List (NameLine P)) (naming : Naming N H C S P) : Type 0 where
+  pub record AreNameLines (ops : List Op) (lines : List (NameLine P)) (naming : NameWork N H C S P) : Type 0 where
     pub all : map (λ (line : NameLine P). line.op) lines ≡ ops
     pub looked : All (λ (line : NameLine P). IfSome line.found (FindsBound line)) lines
     pub hits : naming.counts.hits ≡ count_by (λ (line : NameLine P). is_some line.found) lines
@@ -269,4 +269,4 @@ module _ {N H C S P : Type 0} {h : Ghosts H P} (names : NameGhosts N H C S P) wh
     pub totals : (z : ℕ) (line : ZoneLine) → z < length t.head.zones → slice_get report.lines z ≡ Some line → IsSumOf hall.workers z line
     pub name_totals : (line : ZoneLine) → is_some t.head.names ≡ true → slice_get report.lines (length t.head.zones) ≡ Some line → (ledgers : List SeatLedger) × AreNameLedgers names hall.namings ledgers × AreTotals ledgers line
     -- of names: a look that found a value loaded a record in that line that binds it to its key, a bind is refused an entry only for cause, and entries wait for readers as items do
-    pub lookups : (n : ℕ) (naming : Naming N H C S P) → slice_get hall.namings n ≡ Some naming → (lines : List (NameLine P)) × AreNameLines names hall.names (worker_ops t n) lines naming
+    pub lookups : (n : ℕ) (naming : NameWork N H C S P) → slice_get hall.namings n ≡ Some naming → (lines : List (NameLine P)) × AreNameLines names hall.names (worker_ops t n) lines naming

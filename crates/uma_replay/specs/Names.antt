@@ -16,8 +16,8 @@ use Rattle.zone_stats.specs.declared.ledger.SeatLedger.{SeatLedger}
 use Rattle.zone_stats.specs.declared.report.NamesLine.{NamesLine}
 use Rattle.zone_stats.specs.declared.report.Report.{Report}
 use Rattle.trace_worker.specs.declared.name_calls.NameCalls.{Ghosts as NameGhosts}
-use Rattle.trace_worker.specs.declared.naming.NameCounts.{NameCounts}
-use Rattle.trace_worker.specs.declared.naming.Naming.{Naming}
+use Rattle.trace_worker.specs.declared.name_work.NameCounts.{NameCounts}
+use Rattle.trace_worker.specs.declared.name_work.NameWork.{NameWork}
 use Rattle.trace_worker.specs.declared.worker.Worker.{Worker}
 use Rattle.trace_worker.specs.NameSums.{HasLinked}
 use Rattle.uma_replay.specs.declared.name_sums.NameCount.{NameCount}
@@ -38,11 +38,11 @@ count_of Refused counts = counts.refused
 
 module _ {N H C S P : Type 0} where
   -- and all of them together
-  abbrev pub total_of : NameCount → List (Naming N H C S P) → ℕ
-  total_of count namings = sum_by (λ (naming : Naming N H C S P). count_of count naming.counts) namings
+  abbrev pub total_of : NameCount → List (NameWork N H C S P) → ℕ
+  total_of count namings = sum_by (λ (naming : NameWork N H C S P). count_of count naming.counts) namings
 
   -- the names line: each look is a hit, a miss or late
-  abbrev pub names_line : List (Naming N H C S P) → NamesLine
+  abbrev pub names_line : List (NameWork N H C S P) → NamesLine
   names_line namings = record {
     looks = total_of Hits namings + total_of Misses namings + total_of Late namings;
     hits = total_of Hits namings;
@@ -55,7 +55,7 @@ module _ {N H C S P : Type 0} where
 
 module _ {N H C S P : Type 0} where
   -- these counts are those of a report
-  pub record CountsFit (namings : List (Naming N H C S P)) : Type 0 where
+  pub record CountsFit (namings : List (NameWork N H C S P)) : Type 0 where
     pub looks : total_of Hits namings + total_of Misses namings + total_of Late namings < 2 ^ 64
     pub binds : total_of Binds namings + total_of Refused namings < 2 ^ 64
     pub unbound : total_of Unbound namings < 2 ^ 64
@@ -72,48 +72,48 @@ with_names first part = record first {
 
 module _ {N H C S P : Type 0} (names : NameGhosts N H C S P) where
   -- each has a seat of the zone of the names
-  abbrev pub AreSeats : C → List (Naming N H C S P) → Type 0
-  AreSeats cache namings = All (λ (naming : Naming N H C S P). names.IsSeat cache naming.seat) namings
+  abbrev pub AreSeats : C → List (NameWork N H C S P) → Type 0
+  AreSeats cache namings = All (λ (naming : NameWork N H C S P). names.IsSeat cache naming.seat) namings
 
   -- there are at most 16 of them, and each has
-  pub record SeatsFit (cache : C) (namings : List (Naming N H C S P)) : Type 0 where
+  pub record SeatsFit (cache : C) (namings : List (NameWork N H C S P)) : Type 0 where
     pub few : length namings ≤ 16
     pub seats : AreSeats cache namings
 
   -- the ledgers of the seats of the names, from worker 0 on
-  abbrev pub AreNameLedgers : List (Naming N H C S P) → List SeatLedger → Type 0
-  AreNameLedgers namings ledgers = map (λ (naming : Naming N H C S P). names.counted naming.seat) namings ≡ map Some ledgers
+  abbrev pub AreNameLedgers : List (NameWork N H C S P) → List SeatLedger → Type 0
+  AreNameLedgers namings ledgers = map (λ (naming : NameWork N H C S P). names.counted naming.seat) namings ≡ map Some ledgers
 
   -- The ledgers of so many zones, and behind them those of the names, where they count.
-  abbrev pub AreAllLedgers : {h : Ghosts H P} → Bool → ℕ → List (Worker H P h) → List (Naming N H C S P) → List (List SeatLedger) → Type 0
+  abbrev pub AreAllLedgers : {h : Ghosts H P} → Bool → ℕ → List (Worker H P h) → List (NameWork N H C S P) → List (List SeatLedger) → Type 0
   AreAllLedgers false zones workers namings ledgers = AreLedgers zones workers ledgers
   AreAllLedgers true zones workers namings ledgers =
       (first : List (List SeatLedger)) × (own : List SeatLedger) × AreLedgers zones workers first × AreNameLedgers namings own × (ledgers ≡ first ++ own ∷ [])
 
   -- how often the entries that all these seats hold passed a hook
-  abbrev pub seats_passed : Hook → List (Naming N H C S P) → ℕ
-  seats_passed hook namings = sum_by (λ (naming : Naming N H C S P). names.passed naming.seat hook) namings
+  abbrev pub seats_passed : Hook → List (NameWork N H C S P) → ℕ
+  seats_passed hook namings = sum_by (λ (naming : NameWork N H C S P). names.passed naming.seat hook) namings
 
   -- how many of them are deferred
-  abbrev pub seats_waiting : List (Naming N H C S P) → ℕ
-  seats_waiting namings = sum_by (λ (naming : Naming N H C S P). names.deferred naming.seat) namings
+  abbrev pub seats_waiting : List (NameWork N H C S P) → ℕ
+  seats_waiting namings = sum_by (λ (naming : NameWork N H C S P). names.deferred naming.seat) namings
 
   -- the sums of the first so many of these seats
-  pub record AreSeatSums (count : ℕ) (namings : List (Naming N H C S P)) (sums : Sums) : Type 0 where
+  pub record AreSeatSums (count : ℕ) (namings : List (NameWork N H C S P)) (sums : Sums) : Type 0 where
     pub few : AreOfAtMost (704 * count) sums
     pub passed : (hook : Hook) → sum_of sums.tally hook ≡ seats_passed hook (take count namings)
     pub waiting : sums.deferred ≡ seats_waiting (take count namings)
     pub balance : (cache : C) → AreSeats cache namings → Balance 0 sums
 
   -- the sums of all these seats, and of what the domains list and the rows link
-  pub record AreNameSums (cache : C) (namings : List (Naming N H C S P)) (sums : Sums) : Type 0 where
+  pub record AreNameSums (cache : C) (namings : List (NameWork N H C S P)) (sums : Sums) : Type 0 where
     pub few : AreOfAtMost (2 ^ 36) sums
     pub passed : (hook : Hook) → seats_passed hook namings ≤ sum_of sums.tally hook
     pub waiting : seats_waiting namings ≤ sums.deferred
     pub links : HasLinked (names.sizes_of cache).rows sums
 
   -- The zone of the names when all lines are done: a census of its own keg, how often its entries passed each hook wherever they are, and how many of them are deferred. So many more are linked in rows.
-  pub record NamesClose (cache : C) (namings : List (Naming N H C S P)) (census : Census) (tally : TallySum) (deferred : ℕ) : Type 0 where
+  pub record NamesClose (cache : C) (namings : List (NameWork N H C S P)) (census : Census) (tally : TallySum) (deferred : ℕ) : Type 0 where
     pub own : names.IsCensus cache census
     pub cap : (census_counts census).cap ≡ (names.sizes_of cache).slabs
     pub reserve : (census_counts census).reserve ≡ 0
@@ -126,7 +126,7 @@ module _ {N H C S P : Type 0} (names : NameGhosts N H C S P) where
     pub pairs : ShowsSame (sum_of tally (Ctor 0)) (sum_of tally (Dtor 0) + deferred + linked)
 
   -- what a report has of the zone of the names, by the workers' seats and counts, by a census and the hooks' sums, and by so many deferred entries
-  pub record IsNamesPart (line : NamesHead) (namings : List (Naming N H C S P)) (census : Census) (tally : TallySum) (deferred : ℕ) (part : NamesPart) : Type 0 where
+  pub record IsNamesPart (line : NamesHead) (namings : List (NameWork N H C S P)) (census : Census) (tally : TallySum) (deferred : ℕ) (part : NamesPart) : Type 0 where
     pub of_seats : AreNameLedgers namings part.ledgers
     -- it has no limit, and its ledgers keep no refusal by another
     pub limits : KeepSomeOf (0 ∷ []) part.ledgers
@@ -136,11 +136,11 @@ module _ {N H C S P : Type 0} (names : NameGhosts N H C S P) where
     pub of_counts : part.counts ≡ names_line namings
 
   -- whether the first of these seats counts, as each does where names are served
-  abbrev pub first_counts : List (Naming N H C S P) → Bool
-  first_counts namings = option_map_or (λ (naming : Naming N H C S P). is_some (names.counted naming.seat)) (slice_get namings 0) false
+  abbrev pub first_counts : List (NameWork N H C S P) → Bool
+  first_counts namings = option_map_or (λ (naming : NameWork N H C S P). is_some (names.counted naming.seat)) (slice_get namings 0) false
 
   -- The report is that of the zones of the zone lines, with the zone of the names behind them.
-  pub record HasNames (cache : C) (line : NamesHead) (namings : List (Naming N H C S P)) (first report : Report) : Type 0 where
+  pub record HasNames (cache : C) (line : NamesHead) (namings : List (NameWork N H C S P)) (first report : Report) : Type 0 where
     pub census : Census
     pub tally : TallySum
     pub deferred : ℕ
@@ -150,6 +150,6 @@ module _ {N H C S P : Type 0} (names : NameGhosts N H C S P) where
     pub whole : report ≡ with_names first part
 
   -- the whole report of a trace with this names line, or without one
-  abbrev pub IsWhole : C → Option NamesHead → List (Naming N H C S P) → Report → Report → Type 0
+  abbrev pub IsWhole : C → Option NamesHead → List (NameWork N H C S P) → Report → Report → Type 0
   IsWhole cache None namings first report = report ≡ first
   IsWhole cache (Some line) namings first report = HasNames cache line namings first report

@@ -2,18 +2,18 @@
 use Rattle.std.specs.Prelude.{◌≡◌, ◌≤◌, ◌%◌, ℕ, List, [], false, IfSome, IsTrue, length, map, reverse, Some, slice_get}
 use Rattle.smr_clock.specs.declared.clock.Clock.{Clock}
 use Rattle.smr_clock.specs.declared.host.Host.{Ghosts}
-use Rattle.smr_clock.specs.Belongs.{IsOf}
+use Rattle.smr_clock.specs.Belongs.{IsPassOf}
 use Rattle.trace_text.specs.declared.trace.Trace.{Trace}
 use Rattle.trace_text.specs.Lines.{lines_of}
 use Rattle.zone_stats.specs.LedgerSteps.{IsNew}
 use Rattle.trace_worker.specs.declared.name_calls.NameCalls.{Ghosts as NameGhosts}
-use Rattle.trace_worker.specs.declared.naming.Naming.{Naming}
-use Rattle.trace_worker.specs.declared.running.Running.{Running}
+use Rattle.trace_worker.specs.declared.name_work.NameWork.{NameWork}
+use Rattle.trace_worker.specs.declared.worker_run.WorkerRun.{WorkerRun}
 use Rattle.trace_worker.specs.declared.worker.Worker.{Worker}
 use Rattle.trace_worker.specs.Attendance.{is_out, worker_in}
 use Rattle.trace_worker.specs.Items.{CountedZone}
 use Rattle.trace_worker.specs.NameLines.{Doing, doing}
-use Rattle.trace_worker.specs.Naming.{no_counts}
+use Rattle.trace_worker.specs.NameWork.{no_counts}
 use Rattle.trace_worker.specs.Performs.{KeepsAll}
 use Rattle.trace_worker.specs.Together.{AddsUp, AllNamed, AllStand, crew}
 use Rattle.trace_worker.specs.Worker.{phase_of, seen_of}
@@ -26,16 +26,16 @@ use Rattle.trace_play.specs.Lending.{seen_slot}
 
 module _ {N H C S P : Type 0} {h : Ghosts H P} where
   -- what these workers have of the names
-  abbrev pub namings_of : List (Running N H C S P h) → List (Naming N H C S P)
-  namings_of runnings = map (λ (r : Running N H C S P h). r.naming) runnings
+  abbrev pub namings_of : List (WorkerRun N H C S P h) → List (NameWork N H C S P)
+  namings_of runnings = map (λ (r : WorkerRun N H C S P h). r.naming) runnings
 
   -- how often each of them gave up waiting for its gate
-  abbrev pub gave_ups_of : List (Running N H C S P h) → List ℕ
-  gave_ups_of runnings = map (λ (r : Running N H C S P h). r.gave_up) runnings
+  abbrev pub gave_ups_of : List (WorkerRun N H C S P h) → List ℕ
+  gave_ups_of runnings = map (λ (r : WorkerRun N H C S P h). r.gave_up) runnings
 
 module _ {N H C S P : Type 0} {h : Ghosts H P} (names : NameGhosts N H C S P) (cache : C) where
   -- It has a seat of the names in this memory domain, counted nothing there, and took no turn.
-  pub record IsFirst (domain : ℕ) (r : Running N H C S P h) : Type 0 where
+  pub record IsFirst (domain : ℕ) (r : WorkerRun N H C S P h) : Type 0 where
     pub seat : names.IsSeat cache r.naming.seat
     pub own : IsTrue names.serves → names.domain_of r.naming.seat ≡ domain
     pub fresh : IfSome (names.counted r.naming.seat) IsNew
@@ -46,13 +46,13 @@ module _ {N H C S P : Type 0} {h : Ghosts H P} (names : NameGhosts N H C S P) (c
     pub there : is_out r.attendance ≡ false
 
   -- These workers, each before its first turn. Worker n is in domain n mod `domains`.
-  pub record AreFirst (domains : ℕ) (workers : List (Worker H P h)) (runnings : List (Running N H C S P h)) : Type 0 where
+  pub record AreFirst (domains : ℕ) (workers : List (Worker H P h)) (runnings : List (WorkerRun N H C S P h)) : Type 0 where
     pub are : crew runnings ≡ workers
-    pub each : (n : ℕ) (r : Running N H C S P h) → slice_get runnings n ≡ Some r → IsFirst (n % domains) r
+    pub each : (n : ℕ) (r : WorkerRun N H C S P h) → slice_get runnings n ≡ Some r → IsFirst (n % domains) r
 
 module _ {N H C S P : Type 0} {h : Ghosts H P} (names : NameGhosts N H C S P) (cache : C) where
   -- The workers when all rounds of the trace are done, as they came to be from those before.
-  pub record AreEnded (t : Trace) (zones : List (CountedZone H P h)) (clock : Clock H P) (old new : List (Running N H C S P h)) : Type 0 where
+  pub record AreEnded (t : Trace) (zones : List (CountedZone H P h)) (clock : Clock H P) (old new : List (WorkerRun N H C S P h)) : Type 0 where
     pub count : length new ≡ length old
     pub stand : AllStand zones clock (reverse (lines_of t.rounds)) (crew new)
     pub adds_up : (z : ℕ) → AddsUp z (crew new)
@@ -68,7 +68,7 @@ module _ {H P : Type 0} {h : Ghosts H P} where
     pub slots : map seen_slot new.slots ≡ map seen_slot old.slots
     pub entered : new.entered ≡ old.entered
     pub late : new.late ≡ old.late
-    pub here : IsOf clock new.pass
+    pub here : IsPassOf clock new.pass
     pub phase : phase_of new ≡ phase_of old
     pub seen : seen_of old ≤ seen_of new
     pub floor : floor_of old ≤ floor_of new
@@ -81,7 +81,7 @@ module _ {H P : Type 0} {h : Ghosts H P} where
 module _ {H P : Type 0} {h : Ghosts H P} where
   -- A worker that was away came back, and one that was there stayed: its pass knows what it knew, and nothing was counted.
   pub record ComesBack (clock : Clock H P) (old new : Worker H P h) : Type 0 where
-    pub here : IsOf clock new.pass
+    pub here : IsPassOf clock new.pass
     pub keeps : KeepsAll old new
 
   -- each of the workers did
@@ -91,8 +91,8 @@ module _ {H P : Type 0} {h : Ghosts H P} where
 
 module _ {N H C S P : Type 0} {h : Ghosts H P} where
   -- The workers that ended, back where they were away, stay since then as these, with this of the names. So often each of them gave up waiting for its gate, by its own count: at most once before each of its operations.
-  pub record HaveEnded (t : Trace) (clock : Clock H P) (workers : List (Worker H P h)) (namings : List (Naming N H C S P)) (gave_ups : List ℕ) : Type 0 where
-    pub ended : List (Running N H C S P h)
+  pub record HaveEnded (t : Trace) (clock : Clock H P) (workers : List (Worker H P h)) (namings : List (NameWork N H C S P)) (gave_ups : List ℕ) : Type 0 where
+    pub ended : List (WorkerRun N H C S P h)
     pub asked : AllAsked (reverse (lines_of t.rounds)) ended
     pub stay : AllStay clock (crew ended) workers
     pub namings_are : namings ≡ namings_of ended
@@ -100,8 +100,8 @@ module _ {N H C S P : Type 0} {h : Ghosts H P} where
 
 module _ {N H C S P : Type 0} {h : Ghosts H P} (names : NameGhosts N H C S P) (cache : C) where
   -- Worker `n` and what it has of the names when all lines are done: it began new, with its seats in its domain, that of the names too, it did the rounds one after another, and since then it stays.
-  pub record HasPlayed (t : Trace) (zones : List (CountedZone H P h)) (clock : Clock H P) (n : ℕ) (w : Worker H P h) (naming : Naming N H C S P) : Type 0 where
-    pub begin : Running N H C S P h
+  pub record HasPlayed (t : Trace) (zones : List (CountedZone H P h)) (clock : Clock H P) (n : ℕ) (w : Worker H P h) (naming : NameWork N H C S P) : Type 0 where
+    pub begin : WorkerRun N H C S P h
     pub is_new : IsBeginner zones clock (n % t.head.domains) (worker_in begin)
     pub is_first : IsFirst names cache (n % t.head.domains) begin
     pub end : Doing N H C S P h
@@ -110,15 +110,15 @@ module _ {N H C S P : Type 0} {h : Ghosts H P} (names : NameGhosts N H C S P) (c
     pub naming_stays : naming ≡ end.naming
 
   -- each worker has
-  abbrev pub AllPlayed : Trace → List (CountedZone H P h) → Clock H P → List (Worker H P h) → List (Naming N H C S P) → Type 0
-  AllPlayed t zones clock workers namings = (n : ℕ) (w : Worker H P h) (naming : Naming N H C S P) → slice_get workers n ≡ Some w → slice_get namings n ≡ Some naming → HasPlayed t zones clock n w naming
+  abbrev pub AllPlayed : Trace → List (CountedZone H P h) → Clock H P → List (Worker H P h) → List (NameWork N H C S P) → Type 0
+  AllPlayed t zones clock workers namings = (n : ℕ) (w : Worker H P h) (naming : NameWork N H C S P) → slice_get workers n ≡ Some w → slice_get namings n ≡ Some naming → HasPlayed t zones clock n w naming
 
 module _ {N H C S P : Type 0} {h : Ghosts H P} (names : NameGhosts N H C S P) (cache : C) where
   -- All workers together: those that began new, each with its seats in its domain, did the rounds of the trace one after another, with the `give` and `setmax` lines between two rounds in their order, and stay since then as these.
-  pub record HavePlayed (t : Trace) (zones : List (CountedZone H P h)) (clock : Clock H P) (workers : List (Worker H P h)) (namings : List (Naming N H C S P)) : Type 0 where
-    pub begun : List (Running N H C S P h)
-    pub are_new : (n : ℕ) (r : Running N H C S P h) → slice_get begun n ≡ Some r → IsBeginner zones clock (n % t.head.domains) (worker_in r) × IsFirst names cache (n % t.head.domains) r
-    pub ended : List (Running N H C S P h)
+  pub record HavePlayed (t : Trace) (zones : List (CountedZone H P h)) (clock : Clock H P) (workers : List (Worker H P h)) (namings : List (NameWork N H C S P)) : Type 0 where
+    pub begun : List (WorkerRun N H C S P h)
+    pub are_new : (n : ℕ) (r : WorkerRun N H C S P h) → slice_get begun n ≡ Some r → IsBeginner zones clock (n % t.head.domains) (worker_in r) × IsFirst names cache (n % t.head.domains) r
+    pub ended : List (WorkerRun N H C S P h)
     pub rounds : DoRounds names cache zones t.rounds begun ended
     -- before the report each that was away came back
     pub back : List (Worker H P h)

@@ -5,7 +5,7 @@ ghost use Rattle.uma_replay.specs.Names.{AreAllLedgers, first_counts};
 ghost use Rattle.uma_replay.specs.Reporting.{AreLedgers, AreLedgersOf, zone_count};
 
 use crate::Memory;
-use crate::hall::{Namings, Workers};
+use crate::hall::{NameWorks, Workers};
 use crate::name_sums::{do_count, name_ledgers};
 use crate::names_part::with_last;
 use listed::Listed;
@@ -19,7 +19,7 @@ use zone_stats::{Ledgers, SeatLedger, ZoneLedgers};
 pub fn collect<N: NameCalls>(
     alloc: Global,
     workers: &Workers<N::H>,
-    namings: &Namings<N>,
+    namings: &NameWorks<N>,
 ) -> Result<Ledgers, Memory>
     requires { (n : ℕ) (w : Worker N.H N.H.Part N.H.Host) → slice_get workers.now n ≡ Some w → length w.seats.items ≡ zone_count workers.now }
     ensures { IfOk result (AreAllLedgers N.NameCalls (first_counts N.NameCalls namings.now) (zone_count workers.now) workers.now namings.now) }

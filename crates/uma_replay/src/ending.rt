@@ -1,9 +1,9 @@
 //! The end of a replay, when all lines are done.
 ghost use Rattle.std.specs.Prelude.{◌≡◌, ◌<◌, ◌^◌, ℕ, IfOk, Some, slice_get, sum};
-ghost use Rattle.smr_clock.specs.Belongs.{IsOf};
+ghost use Rattle.smr_clock.specs.Belongs.{IsPassOf};
 ghost use Rattle.trace_worker.specs.Clocks.{window_of as window_for, KnowsBeginning};
 ghost use Rattle.trace_text.specs.Valid.{IsValid};
-ghost use Rattle.trace_worker.specs.declared.running.Running.{Running};
+ghost use Rattle.trace_worker.specs.declared.worker_run.WorkerRun.{WorkerRun};
 ghost use Rattle.trace_worker.specs.Attendance.{worker_in};
 ghost use Rattle.trace_worker.specs.Together.{crew};
 ghost use Rattle.trace_play.specs.Clock.{ReadsHands};
@@ -13,7 +13,7 @@ ghost use Rattle.uma_replay.specs.Hall.{AreDone};
 ghost use Rattle.uma_replay.specs.Playing.{AllBack, gave_ups_of, namings_of};
 
 use crate::Memory;
-use crate::hall::{GaveUps, Hall, Namings, Played, Workers, ZoneList};
+use crate::hall::{GaveUps, Hall, NameWorks, Played, Workers, ZoneList};
 use crate::summing_up::report_of;
 use crate::whole::whole_report;
 use listed::Listed;
@@ -22,11 +22,11 @@ use std::alloc::Global;
 use std::sync::Wait;
 use trace_play::{Totals, read_hands, take_totals};
 use trace_text::{ClockHead, Trace};
-use trace_worker::{CountedZone, NameCalls, Naming, Running, Worker};
+use trace_worker::{CountedZone, NameCalls, NameWork, Worker, WorkerRun};
 
 /// What the clock, the zones and the workers come to.
 #[derive(Drop)]
-pub(crate) struct Ended {
+pub(crate) struct Stock {
     pub(crate) read: u64,
     pub(crate) write: u64,
     pub(crate) totals: Totals,
@@ -42,7 +42,7 @@ pub(crate) fn close<N: NameCalls, R: Wait>(
     clock: Clock<N::H>,
     zones: Vec<CountedZone<N::H>>,
     mut workers: Vec<Worker<N::H>>,
-    namings: Vec<Naming<N>>,
+    namings: Vec<NameWork<N>>,
     gave_ups: Vec<u64>,
     begun: Note<N::H>,
 ) -> Result<Played<N>, Memory>
@@ -77,15 +77,15 @@ fn take_stock<H: Host, R: Wait>(
     zones: &[CountedZone<H>],
     workers: &mut [Worker<H>],
     begun: Note<H>,
-) -> Result<Ended, Memory>
+) -> Result<Stock, Memory>
     requires valid { IsValid trace.now }
     requires done { AreDone trace.now zones.now clock.now workers.old }
     requires begun { KnowsBeginning clock.now begun }
     ensures { IfOk result (TakesStock trace.now zones.now clock.now workers.old workers.new) }
 {
-    let (read, write) = look(trace, clock, zones, workers, begun);
+    let (read, write) = closing_hands(trace, clock, zones, workers, begun);
     let totals = take_totals(rt, alloc, &trace.head, zones, clock, workers)?;
-    Ok(Ended {
+    Ok(Stock {
         read,
         write,
         totals,
@@ -93,7 +93,7 @@ fn take_stock<H: Host, R: Wait>(
 }
 
 /// Reads the clock's hands, the read hand first.
-fn look<H: Host>(
+fn closing_hands<H: Host>(
     trace: &Trace,
     clock: &Clock<H>,
     zones: &[CountedZone<H>],
@@ -119,16 +119,16 @@ fn reported<N: NameCalls, R: Wait>(
     clock: Clock<N::H>,
     zones: ZoneList<N::H>,
     workers: Workers<N::H>,
-    namings: Namings<N>,
+    namings: NameWorks<N>,
     gave_ups: GaveUps,
-    ended: Ended,
+    ended: Stock,
 ) -> Result<Played<N>, Memory>
     requires can { CanEnd N.NameCalls trace.now cache zones clock workers namings gave_ups }
     requires hands { ReadsHands clock workers ended.read ended.write }
     requires closes { AllClose trace.now.head zones workers ended.totals.censuses.items ended.totals.tallies.items ended.totals.deferred.items }
     ensures { IfOk result (IsEndOf N.NameCalls trace.now clock gave_ups) }
 {
-    let Ended {
+    let Stock {
         read,
         write,
         totals,
@@ -181,9 +181,9 @@ fn all_gave_up(gave_ups: &[u64]) -> u64
 pub(crate) fn dismiss<N: NameCalls>(
     alloc: Global,
     clock: &Clock<N::H>,
-    runnings: Vec<Running<N>>,
-) -> Result<(Vec<Worker<N::H>>, Vec<Naming<N>>, Vec<u64>), Memory>
-    requires here { (n : ℕ) (r : Running N N.H N.Cache N.Seat N.H.Part N.H.Host) → slice_get runnings.items n ≡ Some r → IsOf clock.now (worker_in r).pass }
+    runnings: Vec<WorkerRun<N>>,
+) -> Result<(Vec<Worker<N::H>>, Vec<NameWork<N>>, Vec<u64>), Memory>
+    requires here { (n : ℕ) (r : WorkerRun N N.H N.Cache N.Seat N.H.Part N.H.Host) → slice_get runnings.items n ≡ Some r → IsPassOf clock.now (worker_in r).pass }
     ensures workers { IfOk result (λ (workers, namings, gave_ups). AllBack clock.now (crew runnings.items) workers.items) }
     ensures namings { IfOk result (λ (workers, namings, gave_ups). namings.items ≡ namings_of runnings.items) }
     ensures gave_ups { IfOk result (λ (workers, namings, gave_ups). gave_ups.items ≡ gave_ups_of runnings.items) }
@@ -192,7 +192,7 @@ pub(crate) fn dismiss<N: NameCalls>(
     let mut namings = Vec::with_capacity(alloc, runnings.len())?;
     let mut gave_ups = Vec::with_capacity(alloc, runnings.len())?;
     for running in runnings {
-        let Running {
+        let WorkerRun {
             attendance,
             naming,
             gave_up,

@@ -1,6 +1,6 @@
 use listed::Listed;
 use smr_clock::Clock;
-use trace_worker::{CountedZone, NameCalls, Naming, Worker};
+use trace_worker::{CountedZone, NameCalls, NameWork, Worker};
 use uma_keg::Census;
 use zone_stats::Report;
 
@@ -11,7 +11,7 @@ pub type ZoneList<H> = Listed<CountedZone<H>>;
 pub type Workers<H> = Listed<Worker<H>>;
 
 /// What each worker has of the names, in order of number. Contracts see the list of them.
-pub type Namings<N> = Listed<Naming<N>>;
+pub type NameWorks<N> = Listed<NameWork<N>>;
 
 /// How often each worker gave up waiting for its gate, in order of number. Contracts see the list of them.
 pub type GaveUps = Listed<u64>;
@@ -28,7 +28,7 @@ pub struct Hall<N: NameCalls> {
     pub clock: Clock<N::H>,
     pub names: N::Cache,
     pub workers: Workers<N::H>,
-    pub namings: Namings<N>,
+    pub namings: NameWorks<N>,
     pub gave_ups: GaveUps,
     pub censuses: CensusList,
 }

@@ -32,7 +32,7 @@ mod summing_up;
 mod whole;
 
 pub use collecting::collect;
-pub use hall::{CensusList, GaveUps, Hall, Namings, Played, Workers, ZoneList};
+pub use hall::{CensusList, GaveUps, Hall, NameWorks, Played, Workers, ZoneList};
 pub use replaying::replay;
 pub use trace_worker::{
     Call, Calls, CountHooks, Counted, FreeGate, Gate, Go, NameCalls, ReclaimCalls,

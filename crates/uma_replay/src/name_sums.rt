@@ -5,7 +5,7 @@ ghost use Rattle.uma_replay.specs.Names.{AreNameLedgers, CountsFit, count_of, fi
 use crate::Memory;
 use listed::Listed;
 use std::alloc::Global;
-use trace_worker::{NameCalls, NameCounts, Naming};
+use trace_worker::{NameCalls, NameCounts, NameWork};
 use zone_stats::{NamesLine, SeatLedger, ZoneLedgers};
 
 /// One of a worker's counts of the names.
@@ -36,7 +36,7 @@ impl NameCount {
 }
 
 /// What all workers counted of it together.
-fn total<N: NameCalls>(count: NameCount, namings: &[Naming<N>]) -> u64
+fn total<N: NameCalls>(count: NameCount, namings: &[NameWork<N>]) -> u64
     requires { total_of count namings.now < 2 ^ 64 }
     ensures { result ≡ total_of count namings.now }
 {
@@ -48,7 +48,7 @@ fn total<N: NameCalls>(count: NameCount, namings: &[Naming<N>]) -> u64
 }
 
 /// The names line of a report.
-pub(crate) fn names_line<N: NameCalls>(namings: &[Naming<N>]) -> NamesLine
+pub(crate) fn names_line<N: NameCalls>(namings: &[NameWork<N>]) -> NamesLine
     requires { CountsFit namings.now }
     ensures { result ≡ line_of namings.now }
 {
@@ -69,7 +69,7 @@ pub(crate) fn names_line<N: NameCalls>(namings: &[Naming<N>]) -> NamesLine
 /// The ledgers of the workers' seats of the names, where names are served.
 pub(crate) fn name_ledgers<N: NameCalls>(
     alloc: Global,
-    namings: &[Naming<N>],
+    namings: &[NameWork<N>],
 ) -> Result<ZoneLedgers, Memory>
     requires { IsTrue N.serves }
     ensures { IfOk result (AreNameLedgers N.NameCalls namings.now) }
@@ -82,7 +82,7 @@ pub(crate) fn name_ledgers<N: NameCalls>(
 }
 
 /// The ledger of a worker's seat of the names.
-fn name_ledger<N: NameCalls>(naming: &Naming<N>) -> SeatLedger
+fn name_ledger<N: NameCalls>(naming: &NameWork<N>) -> SeatLedger
     requires { IsTrue N.serves }
     ensures { N.counted naming.now.seat ≡ Some result }
 {
@@ -93,7 +93,7 @@ fn name_ledger<N: NameCalls>(naming: &Naming<N>) -> SeatLedger
 }
 
 /// Whether the first seat counts, as each does where names are served.
-pub(crate) fn do_count<N: NameCalls>(namings: &[Naming<N>]) -> bool
+pub(crate) fn do_count<N: NameCalls>(namings: &[NameWork<N>]) -> bool
     ensures { result ≡ first_counts N.NameCalls namings.now }
 {
     match namings.first() {

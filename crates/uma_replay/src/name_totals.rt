@@ -9,7 +9,7 @@ ghost use Rattle.uma_replay.specs.Names.{AreNameSums, AreSeatSums, NamesClose, S
 use crate::Memory;
 use std::alloc::Global;
 use std::sync::Wait;
-use trace_worker::{NameCalls, Naming};
+use trace_worker::{NameCalls, NameWork};
 use uma_bucket::Sums;
 use uma_keg::Census;
 use uma_life::TallySum;
@@ -30,7 +30,7 @@ pub(crate) fn take_names<N: NameCalls, R: Wait>(
     alloc: Global,
     names: &N,
     cache: &N::Cache,
-    namings: &[Naming<N>],
+    namings: &[NameWork<N>],
 ) -> Result<NameTotals, Memory>
     requires serves { IsTrue N.serves }
     requires fit { SeatsFit N.NameCalls cache.now namings.now }
@@ -51,7 +51,7 @@ fn name_sums<N: NameCalls, R: Wait>(
     rt: &R,
     names: &N,
     cache: &N::Cache,
-    namings: &[Naming<N>],
+    namings: &[NameWork<N>],
 ) -> Result<Sums, Memory>
     requires serves { IsTrue N.serves }
     requires fit { SeatsFit N.NameCalls cache.now namings.now }
@@ -64,7 +64,7 @@ fn name_sums<N: NameCalls, R: Wait>(
 }
 
 /// The same of those that the workers' seats hold.
-fn seat_sums<N: NameCalls>(namings: &[Naming<N>]) -> Sums
+fn seat_sums<N: NameCalls>(namings: &[NameWork<N>]) -> Sums
     requires { length namings.now ≤ 16 }
     ensures { AreSeatSums N.NameCalls (length namings.now) namings.now result }
 {

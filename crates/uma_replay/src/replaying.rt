@@ -1,7 +1,7 @@
 ghost use Rattle.std.specs.Prelude.{◌≡◌, ◌≤◌, IfOk, IfSome, IsTrue, is_some, length};
 ghost use Rattle.smr_clock.specs.Belongs.{clock_id};
 ghost use Rattle.trace_play.specs.Asks.{AllAsk};
-ghost use Rattle.trace_play.specs.Rounds.{GaveUpAsBefore, IsBegun, Suits};
+ghost use Rattle.trace_play.specs.Rounds.{GaveUpAsBefore, IsBegun, FitsTrace};
 ghost use Rattle.trace_play.specs.Setting.{IsSetUp};
 ghost use Rattle.trace_text.specs.Lines.{lines_of};
 ghost use Rattle.trace_text.specs.Valid.{IsValid};
@@ -20,7 +20,7 @@ use std::sync::Wait;
 use std::thread::Threads;
 use trace_play::{Setting, play, set_up_with};
 use trace_text::Trace;
-use trace_worker::{CountedZone, Gate, NameCalls, ReclaimCalls, Running};
+use trace_worker::{CountedZone, Gate, NameCalls, ReclaimCalls, WorkerRun};
 
 /// Replays a trace, each worker on a thread of its own, and reports what its ledgers, its kegs, its clock and its names
 /// counted, and how often its workers gave up waiting.
@@ -104,9 +104,9 @@ fn play_all<N: NameCalls + Sync, R: Threads + Wait + Sync, G: Gate + Sync, C: Re
     cache: &N::Cache,
     gate: &G,
     reclaim: &C,
-    mut runnings: Vec<Running<N>>,
-) -> Result<Vec<Running<N>>, Memory>
-    requires suits { Suits N.NameCalls cache.now trace.now zones.now clock.now runnings.items }
+    mut runnings: Vec<WorkerRun<N>>,
+) -> Result<Vec<WorkerRun<N>>, Memory>
+    requires suits { FitsTrace N.NameCalls cache.now trace.now zones.now clock.now runnings.items }
     requires begun { IsBegun N.NameCalls cache.now zones.now clock.now runnings.items }
     ensures ended { IfOk result (λ all. AreEnded N.NameCalls cache.now trace.now zones.now clock.now runnings.items all.items) }
     ensures free { G.is_free gate.now → IfOk result (λ all. GaveUpAsBefore runnings.items all.items) }

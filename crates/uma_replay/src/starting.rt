@@ -6,7 +6,7 @@ ghost use Rattle.uma_replay.specs.Playing.{AreFirst};
 use crate::Memory;
 use std::alloc::Global;
 use std::sync::Wait;
-use trace_worker::{NameCalls, Running, Worker};
+use trace_worker::{NameCalls, Worker, WorkerRun};
 
 /// The workers before their first turns, each with a seat of the names in its domain. Waits as the seats do.
 pub(crate) fn begin<N: NameCalls, R: Wait>(
@@ -16,7 +16,7 @@ pub(crate) fn begin<N: NameCalls, R: Wait>(
     cache: &N::Cache,
     domains: u8,
     workers: Vec<Worker<N::H>>,
-) -> Result<Vec<Running<N>>, Memory>
+) -> Result<Vec<WorkerRun<N>>, Memory>
     requires domains { IsWithin 1 4 domains }
     requires few { length workers.items ≤ 16 }
     requires served { IsTrue N.serves → domains ≤ (N.sizes_of cache.now).domains }
@@ -26,7 +26,7 @@ pub(crate) fn begin<N: NameCalls, R: Wait>(
     for worker in workers {
         let domain = runnings.len() as u8 % domains;
         let seat = names.seat(cache, rt, alloc, domain)?;
-        runnings.push(Running::new(worker, seat))?;
+        runnings.push(WorkerRun::new(worker, seat))?;
     }
     Ok(runnings)
 }

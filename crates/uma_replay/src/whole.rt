@@ -12,7 +12,7 @@ use crate::names_part::{NamesPart, with_names};
 use std::alloc::Global;
 use std::sync::Wait;
 use trace_text::{NamesHead, ZoneHead, ZoneKind};
-use trace_worker::{NameCalls, Naming};
+use trace_worker::{NameCalls, NameWork};
 use zone_stats::Report;
 
 /// The whole report, by that of the zones of the zone lines. Waits where a trace with names has to.
@@ -22,7 +22,7 @@ pub(crate) fn whole_report<N: NameCalls, R: Wait>(
     line: &Option<NamesHead>,
     names: &N,
     cache: &N::Cache,
-    namings: &[Naming<N>],
+    namings: &[NameWork<N>],
     first: Report,
 ) -> Result<Report, Memory>
     requires serves { N.serves ≡ is_some line.now }
@@ -44,7 +44,7 @@ fn named_report<N: NameCalls, R: Wait>(
     line: &NamesHead,
     names: &N,
     cache: &N::Cache,
-    namings: &[Naming<N>],
+    namings: &[NameWork<N>],
     first: Report,
 ) -> Result<Report, Memory>
     requires serves { IsTrue N.serves }
@@ -61,7 +61,7 @@ fn named_report<N: NameCalls, R: Wait>(
 fn names_part<N: NameCalls>(
     alloc: Global,
     line: &NamesHead,
-    namings: &[Naming<N>],
+    namings: &[NameWork<N>],
     totals: &NameTotals,
 ) -> Result<NamesPart, Memory>
     requires serves { IsTrue N.serves }

@@ -2,7 +2,7 @@
 use Rattle.std.specs.Prelude.{◌≡◌, ◌≤◌}
 use Rattle.smr_clock.specs.declared.clock.Clock.{Clock}
 use Rattle.smr_clock.specs.declared.pass.Pass.{Pass}
-use Rattle.smr_clock.specs.Belongs.{IsOf, view, holder}
+use Rattle.smr_clock.specs.Belongs.{IsPassOf, view, holder}
 use Rattle.uma_seat.specs.declared.seat.SeatCache.{SeatCache}
 use Rattle.uma_seat.specs.Seat.{fetches_of, seat_fails, IsSameSeat, KeepsTop, KeepsPlain, KeepsFreed, KeepsRack, KeepsCounts, KeepsMisses, KeepsPorts, KeepsLists}
 
@@ -76,7 +76,7 @@ module _ {T H P : Type 0} {g h : _} where
 module _ {H P : Type 0} {h : _} where
   -- the pass is of this clock, in the phase that it was in, and has seen what it had; what its host put into it is as it was
   pub record KeepsPass (clock : Clock H P) (old new : Pass H P h) : Type 0 where
-    pub here : IsOf clock new
+    pub here : IsPassOf clock new
     pub phase : (holder new).phase ≡ (holder old).phase
     pub seen : (holder old).seen ≤ (holder new).seen
     pub host : (view new).host ≡ (view old).host

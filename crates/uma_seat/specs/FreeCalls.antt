@@ -2,7 +2,7 @@
 use Rattle.std.specs.Prelude.{◌≡◌, ◌<◌, ℕ, Bool, true, false, not, ◌==◌, length, slice_set}
 use Rattle.smr_clock.specs.declared.clock.Clock.{Clock}
 use Rattle.smr_clock.specs.declared.pass.Pass.{Pass}
-use Rattle.smr_clock.specs.Belongs.{IsOf, clock_id, view}
+use Rattle.smr_clock.specs.Belongs.{IsPassOf, clock_id, view}
 use Rattle.zone_stats.specs.LedgerSteps.{HasRoom, CountsFree}
 use Rattle.uma_life.specs.declared.cached.Cached.{Cached}
 use Rattle.uma_life.specs.declared.live.Live.{Live}
@@ -66,7 +66,7 @@ module _ {T H P : Type 0} {g h : _} where
     pub room : HasRoom (ledger_of old)
     pub home : IsHome (seat_home old) (live_ticket item)
     pub clock : clock_id by ≡ seat_clock old
-    pub here : IsOf by pass
+    pub here : IsPassOf by pass
 
   -- The item is on top of the bucket of its domain. Where that is full then, it was tried once to be sealed and is the newest on the shelf, and a spare stands in its place.
   pub record FreesSmr (copied : P → P) (by : Clock H P) (before : Pass H P h) (old : SeatCache T H P g h) (item : Live T g) (after : Pass H P h) (new : SeatCache T H P g h) : Type 0 where
@@ -96,7 +96,7 @@ module _ {T H P : Type 0} {g h : _} where
     pub put : CanDefer true old domain item
     pub spare : 0 < length (spares_of old)
     pub clock : clock_id by ≡ seat_clock old
-    pub here : IsOf by pass
+    pub here : IsPassOf by pass
 
   -- The bucket goes to this domain, with the same items, after one try to seal it.
   pub record TriesToSeal (copied : P → P) (by : Clock H P) (before : Pass H P h) (to : ℕ) (loose : Loose T g) (result : Shelved T H P g h) (after : Pass H P h) : Type 0 where

@@ -1,7 +1,7 @@
 -- Own: what a free does to a seat.
 use Rattle.std.specs.Prelude.{◌≡◌, ℕ, [], ◌∷◌, ◌++◌, slice_set}
 use Rattle.smr_clock.specs.declared.view.View.{View}
-use Rattle.smr_clock.specs.Advances.{Refuses as RefusesAdvance}
+use Rattle.smr_clock.specs.Advances.{AdvanceIsRefused as RefusesAdvance}
 use Rattle.smr_clock.specs.declared.refused.AdvanceRefused.{AdvanceRefused}
 use Rattle.uma_life.specs.declared.cached.Cached.{Cached}
 use Rattle.uma_bucket.specs.declared.bucket.Bucket.{Bucket}

@@ -7,7 +7,7 @@ use Rattle.uma_bucket.specs.declared.inbox_key.InboxKey.{InboxKey}
 use Rattle.uma_bucket.specs.declared.refused.BucketRefused.{BucketRefused}
 use Rattle.uma_bucket.specs.declared.refused.BucketRefused.TheVariants.{Size}
 use Rattle.uma_bucket.specs.declared.shelved.Shelved.{Shelved}
-use Rattle.uma_bucket.specs.Bucket.{IsOutOfRange, Refuses}
+use Rattle.uma_bucket.specs.Bucket.{IsOutOfRange, BucketIsRefused}
 use Rattle.uma_seat.specs.declared.seat.SeatCache.{SeatCache}
 use Rattle.uma_seat.specs.declared.seating.Seating.{Seating}
 use Rattle.uma_seat.specs.Seat.{IsNewSeat, ports_of}
@@ -25,4 +25,4 @@ module _ {T H P : Type 0} {g h : _} where
     pub made : IfOk result (IsNewSeat size seating (share_table share) misses)
     pub ports : IfOk result (λ seat. ports_of seat ≡ given)
     pub out_of_range : IsOutOfRange size → result ≡ Err (Size size)
-    pub err : IfErr result (Refuses size)
+    pub err : IfErr result (BucketIsRefused size)

@@ -1,4 +1,4 @@
-ghost use Rattle.smr_clock.specs.Belongs.{IsOf};
+ghost use Rattle.smr_clock.specs.Belongs.{IsPassOf};
 ghost use Rattle.uma_seat.specs.FreeCalls.{TriesToSeal};
 
 use crate::seat::SeatCache;
@@ -64,7 +64,7 @@ pub fn try_to_seal<T: Body, H: Host>(
     domain: u8,
     loose: Loose<T>,
 ) -> Shelved<T, H>
-    requires here { IsOf clock.now pass.old }
+    requires here { IsPassOf clock.now pass.old }
     ensures { TriesToSeal H.copied clock.now pass.old domain loose result pass.new }
 {
     match loose.seal(clock, pass) {

@@ -1,6 +1,6 @@
 ghost use Rattle.std.specs.Prelude.{◌≡◌, ◌*◌, ◌<◌, length, false, IfOk, IfErr};
 ghost use Rattle.std.specs.List.{All};
-ghost use Rattle.uma_bucket.specs.Bucket.{Refuses};
+ghost use Rattle.uma_bucket.specs.Bucket.{BucketIsRefused};
 ghost use Rattle.uma_bucket.specs.Loose.{loose_items, loose_size};
 ghost use Rattle.uma_seat.specs.Stack.{stack_at, is_filled_by_one, IsSize, CanPutAt, CanFillAt};
 
@@ -23,7 +23,7 @@ impl<T: Body + Drop> FreedRow<T> {
     pub fn make(alloc: Global, size: u32, count: usize) -> Result<FreedRow<T>, BucketRefused>
         requires { IsSize size }
         ensures made { IfOk result (IsNewFreedRow size count) }
-        ensures err { IfErr result (Refuses size) }
+        ensures err { IfErr result (BucketIsRefused size) }
     {
         let mut buckets = Vec::with_capacity(alloc, count)?;
         for _ in 0..count {

@@ -1,6 +1,6 @@
 ghost use Rattle.std.specs.Prelude.{◌≡◌, ◌*◌, ◌<◌, length, false, IfOk, IfErr, IfSome, IfNone};
 ghost use Rattle.std.specs.List.{All};
-ghost use Rattle.uma_bucket.specs.Bucket.{items_of, size_of, Refuses};
+ghost use Rattle.uma_bucket.specs.Bucket.{items_of, size_of, BucketIsRefused};
 ghost use Rattle.uma_seat.specs.Stack.{stack_at, is_filled_by_one, IsSize, CanPutAt, CanFillAt, CanExchangeAt, HasItemAt};
 
 use std::alloc::Global;
@@ -22,7 +22,7 @@ impl<T: Body + Drop> PlainRow<T> {
     pub fn make(alloc: Global, size: u32, count: usize) -> Result<PlainRow<T>, BucketRefused>
         requires { IsSize size }
         ensures made { IfOk result (IsNewRow size count) }
-        ensures err { IfErr result (Refuses size) }
+        ensures err { IfErr result (BucketIsRefused size) }
     {
         let mut buckets = Vec::with_capacity(alloc, count)?;
         for _ in 0..count {

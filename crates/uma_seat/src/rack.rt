@@ -2,7 +2,7 @@ ghost use Rattle.std.specs.Prelude.{◌≡◌, ◌*◌, ◌^◌, ◌<◌, ◌≤
 ghost use Rattle.std.specs.List.{All};
 ghost use Rattle.std.specs.Vec.{vec_capacity};
 ghost use Rattle.std.specs.VecDeque.{deque_len, deque_capacity};
-ghost use Rattle.uma_bucket.specs.Bucket.{items_of, Refuses};
+ghost use Rattle.uma_bucket.specs.Bucket.{items_of, BucketIsRefused};
 ghost use Rattle.uma_bucket.specs.Sums.{AreOfAtMost};
 ghost use Rattle.uma_bucket.specs.Shelved.{count_of, IsShelvedAt};
 ghost use Rattle.uma_seat.specs.ShelfSums.{times_shelved, deferred_shelved};
@@ -47,7 +47,7 @@ impl<T: Body + Drop, H: Host> Rack<T, H> {
     pub fn with_spares(alloc: Global, size: u32) -> Result<Rack<T, H>, BucketRefused>
         requires { IsSize size }
         ensures made { IfOk result (IsRackOf (size ∷ size ∷ [])) }
-        ensures err { IfErr result (Refuses size) }
+        ensures err { IfErr result (BucketIsRefused size) }
     {
         let mut rack = Rack::make(alloc)?;
         rack.put_spare(Bucket::make(alloc, size)?);

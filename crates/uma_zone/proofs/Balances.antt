@@ -19,7 +19,7 @@ use Rattle.uma_seat.specs.Stack.{stack_at}
 use Rattle.uma_zone.specs.declared.alloc_ask.AllocRefused.TheVariants.{Refused, Memory}
 use Rattle.uma_zone.specs.declared.zone.Zone.{Zone}
 use Rattle.uma_zone.specs.Zone.{zone_smr}
-use Rattle.uma_zone.specs.Alloc.{Takes}
+use Rattle.uma_zone.specs.Alloc.{TakesUsable}
 use Rattle.uma_zone.specs.SafeReuse.{Brought, Nothing, FromRipe, FromKeg, Balances, usable_tickets, ServedBalances, RefusedBalances, KeptBalances}
 
 -- the items of a ripe bucket kept their tickets
@@ -52,7 +52,7 @@ module _ {T H P : Type 0} {g h : _} where
 
 module _ {T K H P : Type 0} {g k h : _} where
   -- where the items come from of which a request takes the last
-  taken : (zone : Zone T K H P g k h) (reserve : Bool) (old new : SeatCache T H P g h) (item : Cached T g) (left : List (Cached T g)) (all : List Ticket) → zone_smr zone ≡ true → Takes zone reserve old item left new → all ≡ map cached_ticket (left ++ item ∷ [])
+  taken : (zone : Zone T K H P g k h) (reserve : Bool) (old new : SeatCache T H P g h) (item : Cached T g) (left : List (Cached T g)) (all : List Ticket) → zone_smr zone ≡ true → TakesUsable zone reserve old item left new → all ≡ map cached_ticket (left ++ item ∷ [])
       → (brought : Brought T H P g h) × Balances (usable_tickets old) brought [] all
   taken zone reserve old new item left all smr takes is = elim takes [
     | inl own ↦ (Nothing, append-nil all ∙ is ∙ sym (ap (map cached_ticket) own.last) ∙ sym (append-nil (usable_tickets old)) ∙ sym (append-nil (usable_tickets old ++ [])))

@@ -13,7 +13,7 @@ use Rattle.uma_seat.specs.Seat.{seat_domain, seat_smr, free_bucket, top_of, usab
 use Rattle.uma_zone.specs.declared.zone.Zone.{Zone}
 use Rattle.uma_zone.specs.Zone.{zone_hooks, zone_index}
 use Rattle.uma_zone.specs.OwnDomain.{AreFoundIn, FindsNothing}
-use Rattle.uma_zone.specs.Alloc.{AreReused, IsOneFetch, IsFilled, Takes}
+use Rattle.uma_zone.specs.Alloc.{AreReused, IsOneFetch, IsFilled, TakesUsable}
 use Rattle.uma_zone.proofs.Fills.{only_top}
 
 -- two buckets aren't exchanged, where the first has an item
@@ -45,7 +45,7 @@ module _ {T K H P : Type 0} {g k h : _} where
   pub takes_of_filled : (zone : Zone T K H P g k h) (reserve : Bool) (old one mid new : SeatCache T H P g h) (item : Cached T g) → usable_of old ≡ [] → IsSameSeat old one → KeepsCounts old one → KeepsMisses old one
       → usable_of one ≡ [] → IsSameSeat one mid → KeepsPlain one mid → IsFilled zone reserve one mid
       → (top_of new).room ≡ (top_ready mid).room → usable_of mid ≡ usable_of new ++ item ∷ [] → IsSameSeat mid new → KeepsCounts mid new → KeepsMisses mid new
-      → Takes zone reserve old item (usable_of new) new
+      → TakesUsable zone reserve old item (usable_of new) new
   takes_of_filled zone reserve old one mid new item was seated counts misses none same plain filled room last same' counts' misses' =
       let near : seat_domain one ≡ seat_domain old = ap (λ (s : _). s.domain) seated.0 in
       let all : (top_of mid).items ≡ usable_of new ++ item ∷ [] = sym (only_top one mid same plain none) ∙ last in

@@ -13,14 +13,14 @@ use Rattle.uma_zone.specs.declared.alloc_ask.AllocAsk.{AllocAsk}
 use Rattle.uma_zone.specs.declared.alloc_ask.AllocRefused.{AllocRefused}
 use Rattle.uma_zone.specs.declared.alloc_ask.AllocRefused.TheVariants.{Refused}
 use Rattle.uma_zone.specs.declared.zone.Zone.{Zone}
-use Rattle.uma_zone.specs.Alloc.{Takes, PutsBack, Refuses}
+use Rattle.uma_zone.specs.Alloc.{TakesUsable, PutsBack, AllocIsRefused}
 use Rattle.uma_zone.specs.Allocating.{ServesAtHome, BuildsAtHome}
 use Rattle.uma_zone.proofs.OneFetch.{one_still}
 
 module _ {T K H P : Type 0} {g k h : _} where
   -- where an item came from stays so, while the seat fetches and looks no more
   takes_still : (zone : Zone T K H P g k h) (reserve : Bool) (old mid new : SeatCache T H P g h) (item : Cached T g) (left : List (Cached T g)) → fetches_of new ≡ fetches_of mid → KeepsMisses mid new → (top_of new).room ≡ (top_of mid).room → IsSameSeat mid new
-      → Takes zone reserve old item left mid → Takes zone reserve old item left new
+      → TakesUsable zone reserve old item left mid → TakesUsable zone reserve old item left new
   takes_still zone reserve old mid new item left fetches misses room same takes = elim takes [
     | inl own ↦ inl record { last = own.last; fetches = fetches ∙ own.fetches; misses = misses ∙ own.misses }
     | inr (inl listed) ↦ inr (inl record { empty = listed.empty; fetches = fetches ∙ listed.fetches; misses = misses ∙ listed.misses; own = listed.own; reused = listed.reused })
@@ -34,14 +34,14 @@ module _ {T K H P : Type 0} {g k h : _} where
   ]
 
   -- the item that was taken passed `ctor`
-  pub served_by : (zone : Zone T K H P g k h) (ask : AllocAsk) (old mid new : SeatCache T H P g h) (item : Cached T g) (result : Result (Live T g) AllocRefused) → Takes zone ask.reserve old item (usable_of mid) mid → ledger_of mid ≡ ledger_of old
+  pub served_by : (zone : Zone T K H P g k h) (ask : AllocAsk) (old mid new : SeatCache T H P g h) (item : Cached T g) (result : Result (Live T g) AllocRefused) → TakesUsable zone ask.reserve old item (usable_of mid) mid → ledger_of mid ≡ ledger_of old
       → fetches_of new ≡ fetches_of mid → KeepsMisses mid new → (top_of new).room ≡ (top_of mid).room → IsSameSeat mid new → IfOk result (BuildsAtHome zone ask.arg item mid new)
       → IfOk result (ServesAtHome zone ask old new)
   served_by zone ask old mid new item (Ok live) takes ledger fetches misses room same built = record {
     home = built.home;
     serves = record {
       item = item;
-      takes = subst (λ (l : List (Cached T g)). Takes zone ask.reserve old item l new) (sym built.usable) (takes_still zone ask.reserve old mid new item (usable_of mid) fetches misses room same takes);
+      takes = subst (λ (l : List (Cached T g)). TakesUsable zone ask.reserve old item l new) (sym built.usable) (takes_still zone ask.reserve old mid new item (usable_of mid) fetches misses room same takes);
       built = built.built;
       counted = subst (λ (l : SeatLedger). CountsAlloc l (ledger_of new)) ledger built.counted;
     };
@@ -49,9 +49,9 @@ module _ {T K H P : Type 0} {g k h : _} where
   served_by zone ask old mid new item (Err e) takes ledger fetches misses room same built = built
 
   -- `ctor` refused the item that was taken
-  ctor_refused : (zone : Zone T K H P g k h) (ask : AllocAsk) (old mid new : SeatCache T H P g h) (item : Cached T g) (why : AllocRefused) (code : ℕ) → Takes zone ask.reserve old item (usable_of mid) mid → ledger_of mid ≡ ledger_of old
-      → fetches_of new ≡ fetches_of mid → KeepsMisses mid new → (top_of new).room ≡ (top_of mid).room → IsSameSeat mid new → why ≡ Refused (Ctor code) → PutsBack zone ask.arg item code mid new → Refuses zone ask old new why
-  ctor_refused zone ask old mid new item why code takes ledger fetches misses room same is puts = subst (Refuses zone ask old new) (sym is) record {
+  ctor_refused : (zone : Zone T K H P g k h) (ask : AllocAsk) (old mid new : SeatCache T H P g h) (item : Cached T g) (why : AllocRefused) (code : ℕ) → TakesUsable zone ask.reserve old item (usable_of mid) mid → ledger_of mid ≡ ledger_of old
+      → fetches_of new ≡ fetches_of mid → KeepsMisses mid new → (top_of new).room ≡ (top_of mid).room → IsSameSeat mid new → why ≡ Refused (Ctor code) → PutsBack zone ask.arg item code mid new → AllocIsRefused zone ask old new why
+  ctor_refused zone ask old mid new item why code takes ledger fetches misses room same is puts = subst (AllocIsRefused zone ask old new) (sym is) record {
     item = item;
     left = usable_of mid;
     takes = takes_still zone ask.reserve old mid new item (usable_of mid) fetches misses room same takes;
@@ -61,8 +61,8 @@ module _ {T K H P : Type 0} {g k h : _} where
     counted = subst (λ (l : SeatLedger). CountsCtor l (ledger_of new) code) ledger puts.counted;
   }
 
-  pub refused_by : (zone : Zone T K H P g k h) (ask : AllocAsk) (old mid new : SeatCache T H P g h) (item : Cached T g) (result : Result (Live T g) AllocRefused) → Takes zone ask.reserve old item (usable_of mid) mid → ledger_of mid ≡ ledger_of old
+  pub refused_by : (zone : Zone T K H P g k h) (ask : AllocAsk) (old mid new : SeatCache T H P g h) (item : Cached T g) (result : Result (Live T g) AllocRefused) → TakesUsable zone ask.reserve old item (usable_of mid) mid → ledger_of mid ≡ ledger_of old
       → fetches_of new ≡ fetches_of mid → KeepsMisses mid new → (top_of new).room ≡ (top_of mid).room → IsSameSeat mid new → IfErr result (λ why. (code : ℕ) × (why ≡ Refused (Ctor code)) × PutsBack zone ask.arg item code mid new)
-      → IfErr result (Refuses zone ask old new)
+      → IfErr result (AllocIsRefused zone ask old new)
   refused_by zone ask old mid new item (Ok live) takes ledger fetches misses room same why = why
   refused_by zone ask old mid new item (Err e) takes ledger fetches misses room same why = ctor_refused zone ask old mid new item e why.0 takes ledger fetches misses room same why.1 why.2

@@ -88,8 +88,8 @@ module _ {T K H P : Type 0} {g k h : _} where
     pub reused : zone_smr zone ≡ true → AreReused zone items
 
   -- Where the item of a request comes from: the seat itself, or else its domain's lists, or else the keg, by the request's right to the reserve. These usable items are left behind it, and they are all that came with it.
-  abbrev pub Takes : Zone T K H P g k h → Bool → SeatCache T H P g h → Cached T g → List (Cached T g) → SeatCache T H P g h → Type 0
-  Takes zone reserve old item left new = TakesOwn old item left new ⊎ FindsListed zone old (left ++ item ∷ []) new ⊎ FetchesSome zone reserve old (left ++ item ∷ []) new
+  abbrev pub TakesUsable : Zone T K H P g k h → Bool → SeatCache T H P g h → Cached T g → List (Cached T g) → SeatCache T H P g h → Type 0
+  TakesUsable zone reserve old item left new = TakesOwn old item left new ⊎ FindsListed zone old (left ++ item ∷ []) new ⊎ FetchesSome zone reserve old (left ++ item ∷ []) new
 
   -- The seat, of which no item was usable, has items in its allocation bucket now: some that its domain listed, or some that one fetch gave.
   pub record IsFilled (zone : Zone T K H P g k h) (reserve : Bool) (old new : SeatCache T H P g h) : Type 0 where
@@ -107,7 +107,7 @@ module _ {T K H P : Type 0} {g k h : _} where
   -- An item was taken, and passed `ctor` in this request. One request and one alloc are counted.
   pub record Serves (zone : Zone T K H P g k h) (ask : AllocAsk) (old : SeatCache T H P g h) (live : Live T g) (new : SeatCache T H P g h) : Type 0 where
     pub item : Cached T g
-    pub takes : Takes zone ask.reserve old item (usable_of new) new
+    pub takes : TakesUsable zone ask.reserve old item (usable_of new) new
     pub built : IsBuilt zone ask.arg item live
     pub counted : CountsAlloc (ledger_of old) (ledger_of new)
 
@@ -122,7 +122,7 @@ module _ {T K H P : Type 0} {g k h : _} where
   pub record RefusesCtor (zone : Zone T K H P g k h) (ask : AllocAsk) (code : ℕ) (old new : SeatCache T H P g h) : Type 0 where
     pub item : Cached T g
     pub left : List (Cached T g)
-    pub takes : Takes zone ask.reserve old item left new
+    pub takes : TakesUsable zone ask.reserve old item left new
     pub back : usable_of new ≡ left ++ item ∷ []
     pub refused : k.refuses_ctor (zone_hooks zone) (cached_body item) (zone_index zone) ask.arg ≡ Some code
     pub is_code : IsCode code
@@ -159,7 +159,7 @@ module _ {T K H P : Type 0} {g k h : _} where
   RefusesToTake zone reserve old new Memory = WantsMemory old new
 
   -- Why a request got no item, and what it did to its seat: `ctor` refused one that was taken, or none was taken.
-  abbrev pub Refuses : Zone T K H P g k h → AllocAsk → SeatCache T H P g h → SeatCache T H P g h → AllocRefused → Type 0
-  Refuses zone ask old new (Refused (Ctor' code)) = RefusesCtor zone ask code old new
-  Refuses zone ask old new (Refused refusal) = TurnsAway zone ask.reserve refusal old new
-  Refuses zone ask old new Memory = WantsMemory old new
+  abbrev pub AllocIsRefused : Zone T K H P g k h → AllocAsk → SeatCache T H P g h → SeatCache T H P g h → AllocRefused → Type 0
+  AllocIsRefused zone ask old new (Refused (Ctor' code)) = RefusesCtor zone ask code old new
+  AllocIsRefused zone ask old new (Refused refusal) = TurnsAway zone ask.reserve refusal old new
+  AllocIsRefused zone ask old new Memory = WantsMemory old new

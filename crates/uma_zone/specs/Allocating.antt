@@ -17,7 +17,7 @@ use Rattle.uma_zone.specs.declared.alloc_ask.AllocAsk.{AllocAsk}
 use Rattle.uma_zone.specs.declared.alloc_ask.AllocRefused.{AllocRefused}
 use Rattle.uma_zone.specs.declared.alloc_ask.AllocRefused.TheVariants.{Memory}
 use Rattle.uma_zone.specs.declared.zone.Zone.{Zone}
-use Rattle.uma_zone.specs.Alloc.{Serves, Takes, IsBuilt}
+use Rattle.uma_zone.specs.Alloc.{Serves, TakesUsable, IsBuilt}
 use Rattle.uma_zone.specs.Flushed.{HasLastOf}
 use Rattle.uma_zone.specs.Frames.{GoesOn}
 use Rattle.uma_zone.specs.OwnDomain.{IsFlushed, IsSettled}
@@ -36,7 +36,7 @@ module _ {T K H P : Type 0} {g k h : _} where
   -- The item is at home in the zone, and was taken so. Nothing is counted yet, and the allocation bucket has room for it again.
   pub record TakesAtHome (zone : Zone T K H P g k h) (reserve : Bool) (old new : SeatCache T H P g h) (item : Cached T g) : Type 0 where
     pub home : IsHome (zone_home zone) (cached_ticket item)
-    pub takes : Takes zone reserve old item (usable_of new) new
+    pub takes : TakesUsable zone reserve old item (usable_of new) new
     pub ledger : ledger_of new ≡ ledger_of old
     pub top_room : length (top_of new).items < (top_of new).room
 

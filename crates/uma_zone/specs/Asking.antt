@@ -2,7 +2,7 @@
 use Rattle.std.specs.Prelude.{◌≡◌, ◌≤◌, ◌<◌, ℕ, true, false, [], length}
 use Rattle.smr_clock.specs.declared.clock.Clock.{Clock}
 use Rattle.smr_clock.specs.declared.pass.Pass.{Pass}
-use Rattle.smr_clock.specs.Belongs.{IsOf, clock_id}
+use Rattle.smr_clock.specs.Belongs.{IsPassOf, clock_id}
 use Rattle.zone_stats.specs.LedgerSteps.{HasRoom}
 use Rattle.uma_life.specs.declared.cached.Cached.{Cached}
 use Rattle.uma_life.specs.declared.live.Live.{Live}
@@ -21,7 +21,7 @@ module _ {T K H P : Type 0} {g k h : _} where
   pub record CanAlloc (zone : Zone T K H P g k h) (by : Clock H P) (p : Pass H P h) (s : SeatCache T H P g h) : Type 0 where
     pub seat : IsSeatOf zone s
     pub clock : clock_id by ≡ zone_clock zone
-    pub pass : IsOf by p
+    pub pass : IsPassOf by p
     pub room : HasRoom (ledger_of s)
 
   -- and no item is usable on the seat
@@ -60,7 +60,7 @@ module _ {T K H P : Type 0} {g k h : _} where
   pub record CanFreeSmr (zone : Zone T K H P g k h) (by : Clock H P) (p : Pass H P h) (live : Live T g) (s : SeatCache T H P g h) : Type 0 where
     pub smr : zone_smr zone ≡ true
     pub clock : clock_id by ≡ zone_clock zone
-    pub pass : IsOf by p
+    pub pass : IsPassOf by p
     pub put : CanPut zone live s
 
   -- ---- slabs ahead of requests

@@ -3,7 +3,7 @@ use Rattle.std.specs.Prelude.{◌≡◌, ◌<◌, ℕ, [], true, false}
 use Rattle.smr_clock.specs.declared.setup.Setup.{Setup}
 use Rattle.smr_clock.specs.declared.clock.Clock.{Clock}
 use Rattle.smr_clock.specs.declared.pass.Pass.{Pass}
-use Rattle.smr_clock.specs.Belongs.{TableId, IsOf, clock_id}
+use Rattle.smr_clock.specs.Belongs.{TableId, IsPassOf, clock_id}
 use Rattle.uma_seat.specs.declared.seat.SeatCache.{SeatCache}
 use Rattle.uma_seat.specs.Seat.{usable_of}
 use Rattle.uma_zone.specs.declared.domains.ZoneDomains.{ZoneDomains}
@@ -15,27 +15,27 @@ module _ {H P : Type 0} {g : _} where
   -- the clock is this one, and the pass is its
   pub record IsBy (id : TableId × Setup) (by : Clock H P) (p : Pass H P g) : Type 0 where
     pub clock : clock_id by ≡ id
-    pub pass : IsOf by p
+    pub pass : IsPassOf by p
 
 module _ {T K H P : Type 0} {g k h : _} where
   -- the seat is of this zone, whose readers go by the clock, and the pass is the clock's
   pub record CanCall (zone : Zone T K H P g k h) (by : Clock H P) (p : Pass H P h) (s : SeatCache T H P g h) : Type 0 where
     pub seat : IsSeatOfZone zone s
     pub clock : clock_id by ≡ zone_clock zone
-    pub pass : IsOf by p
+    pub pass : IsPassOf by p
 
 module _ {T H P : Type 0} {g h : _} where
   -- the same of the zone's domains
   pub record CanFlush (them : ZoneDomains T H P g h) (by : Clock H P) (p : Pass H P h) (s : SeatCache T H P g h) : Type 0 where
     pub clock : clock_id by ≡ domains_clock them
-    pub pass : IsOf by p
+    pub pass : IsPassOf by p
     pub seat : IsSeatOfDomains them s
 
   -- and no item of the seat is usable
   pub record CanLook (them : ZoneDomains T H P g h) (by : Clock H P) (p : Pass H P h) (s : SeatCache T H P g h) : Type 0 where
     pub none : usable_of s ≡ []
     pub clock : clock_id by ≡ domains_clock them
-    pub pass : IsOf by p
+    pub pass : IsPassOf by p
     pub seat : IsSeatOfDomains them s
 
   -- the seat is of a zone whose frees aren't deferred
@@ -52,5 +52,5 @@ module _ {T H P : Type 0} {g h : _} where
   -- there is a domain with this number, whose readers go by the clock, and the pass is the clock's
   pub record CanSettle (them : ZoneDomains T H P g h) (by : Clock H P) (p : Pass H P h) (number : ℕ) : Type 0 where
     pub clock : clock_id by ≡ domains_clock them
-    pub pass : IsOf by p
+    pub pass : IsPassOf by p
     pub domain : number < domain_count them

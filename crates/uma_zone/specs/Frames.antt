@@ -2,14 +2,14 @@
 use Rattle.std.specs.Prelude.{◌≡◌, ◌≤◌}
 use Rattle.smr_clock.specs.declared.clock.Clock.{Clock}
 use Rattle.smr_clock.specs.declared.pass.Pass.{Pass}
-use Rattle.smr_clock.specs.Belongs.{IsOf, view, holder}
+use Rattle.smr_clock.specs.Belongs.{IsPassOf, view, holder}
 use Rattle.uma_seat.specs.declared.seat.SeatCache.{SeatCache}
 use Rattle.uma_seat.specs.Seat.{shelf_of, IsSameSeat, KeepsTop, KeepsPlain, KeepsFreed, KeepsRack, KeepsCounts, KeepsMisses, KeepsPorts}
 
 module _ {H P : Type 0} {g : _} where
   -- the pass is of this clock, in the phase that it was in, and has seen what it had
   pub record GoesOn (clock : Clock H P) (old new : Pass H P g) : Type 0 where
-    pub own : IsOf clock new
+    pub own : IsPassOf clock new
     pub phase : (holder new).phase ≡ (holder old).phase
     pub seen : (holder old).seen ≤ (holder new).seen
 

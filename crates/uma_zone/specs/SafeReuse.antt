@@ -18,7 +18,7 @@ use Rattle.uma_zone.specs.declared.alloc_ask.AllocAsk.{AllocAsk}
 use Rattle.uma_zone.specs.declared.alloc_ask.AllocRefused.{AllocRefused}
 use Rattle.uma_zone.specs.declared.zone.Zone.{Zone}
 use Rattle.uma_zone.specs.Zone.{zone_smr}
-use Rattle.uma_zone.specs.Alloc.{Serves, Refuses}
+use Rattle.uma_zone.specs.Alloc.{Serves, AllocIsRefused}
 
 -- ---- one call
 
@@ -64,7 +64,7 @@ module _ {T K H P : Type 0} {g k h : _} where
 
   abbrev pub RefusedBalances : Zone T K H P g k h → Type 0
   RefusedBalances zone =
-      (ask : AllocAsk) (old new : SeatCache T H P g h) (why : AllocRefused) → zone_smr zone ≡ true → Refuses zone ask old new why
+      (ask : AllocAsk) (old new : SeatCache T H P g h) (why : AllocRefused) → zone_smr zone ≡ true → AllocIsRefused zone ask old new why
       → (brought : Brought T H P g h) × Balances (usable_tickets old) brought [] (usable_tickets new)
 
 -- A call that keeps the bucket to allocate from and the plain ones, as `free_smr`, `flush` and `make_room` do, brings and hands out nothing.

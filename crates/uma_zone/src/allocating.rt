@@ -12,7 +12,7 @@ use zone_stats::Refusal;
 
 impl<T: Body + Drop, K: Hooks<T>, H: Host> Zone<T, K, H> {
     ghost use Rattle.uma_zone.specs.Asking.{CanAlloc, CanFill};
-    ghost use Rattle.uma_zone.specs.Alloc.{Refuses, IsFilled, RefusesToTake};
+    ghost use Rattle.uma_zone.specs.Alloc.{AllocIsRefused, IsFilled, RefusesToTake};
     ghost use Rattle.uma_zone.specs.Allocating.{ServesAtHome, TakesAtHome, FlushesIfEmpty, FlushesToFill, KeepsInRequest, KeepsInFill};
 
     /// An item that passed `ctor` with the argument in this call.
@@ -39,7 +39,7 @@ impl<T: Body + Drop, K: Hooks<T>, H: Host> Zone<T, K, H> {
     ) -> Result<Live<T>, AllocRefused>
         requires { CanAlloc self.now clock.now pass.old seat.old }
         ensures served { IfOk result (ServesAtHome self.now ask seat.old seat.new) }
-        ensures refused { IfErr result (Refuses self.now ask seat.old seat.new) }
+        ensures refused { IfErr result (AllocIsRefused self.now ask seat.old seat.new) }
         ensures flushes { FlushesIfEmpty self.now H.copied (view pass.old) seat.old result seat.new (view pass.new) }
         ensures unheard { result ≡ Err AllocRefused.Memory → (view pass.new).host ≡ (view pass.old).host }
         ensures kept { KeepsInRequest self.now H.merged clock.now pass.old pass.new seat.old seat.new }

@@ -9,7 +9,7 @@ use Rattle.uma_life.specs.Live.{live_ticket}
 use Rattle.uma_seat.specs.Row.{stacks_of}
 use Rattle.uma_seat.specs.Seat.{usable_of, IsSameSeat, KeepsTop, KeepsPlain}
 use Rattle.uma_seat.specs.Stack.{stack_of, stack_at}
-use Rattle.uma_zone.specs.Alloc.{Takes}
+use Rattle.uma_zone.specs.Alloc.{TakesUsable}
 use Rattle.uma_zone.specs.SafeReuse.{usable_tickets}
 use Rattle.name_rows.specs.declared.part.Part.{Part}
 use Rattle.name_rows.specs.declared.records.Bound.{Bound}
@@ -52,7 +52,7 @@ module _ (kept : TraceCache) where
   behind : (old : EntrySeat) (l : List Ticket) → usable_of old ≡ [] → l ≡ usable_tickets old ++ l
   behind old l none = ap (λ (u : List CachedEntry). map cached_ticket u ++ l) (sym none)
 
-  taken : (old room new : EntrySeat) (item : CachedEntry) (left : List CachedEntry) → usable_of room ≡ usable_of old → Takes (cache_zone kept.cache) false room item left new → Brings old (map cached_ticket (left ++ item ∷ []))
+  taken : (old room new : EntrySeat) (item : CachedEntry) (left : List CachedEntry) → usable_of room ≡ usable_of old → TakesUsable (cache_zone kept.cache) false room item left new → Brings old (map cached_ticket (left ++ item ∷ []))
   taken old room new item left same takes =
       let all = left ++ item ∷ [] in
       elim takes [

@@ -20,7 +20,7 @@ use Rattle.umarun.specs.Answers.{AnswersReplay, AnswersSteps}
 use Rattle.umarun.specs.Causes.{parse_fault, schedule_fault}
 use Rattle.umarun.specs.declared.fault.Fault.{Fault}
 use Rattle.umarun.specs.declared.fault.Fault.TheVariants as faults
-use Rattle.umarun.specs.declared.ended.Ended.{Ended}
+use Rattle.umarun.specs.declared.any_hall.AnyHall.{AnyHall}
 use Rattle.umarun.specs.Replaying.{HasHeadline, KeepsHeadline, LeavesHall, Replays, AreInput, AreRefused, RefusesTrace, most_bytes}
 use Rattle.umarun.specs.Stepping.{Plays, ArePlayed, RefusesText, RefusesStep}
 use Rattle.zone_stats.specs.declared.report.Report.{Report}
@@ -34,12 +34,12 @@ OneVerdict = (test : Test) (bytes : List ℕ) (spoke : List TextLine) (line : �
 pub input_not_refused : OneVerdict → (refused : TraceRefused) (bytes : List ℕ) → RefusesTrace refused bytes → AreInput bytes → ⊥
 input_not_refused verdict refused bytes refuses input = verdict trace_test bytes input.1.1.spoke refused.line refused.kind input.1.1.right refuses.why
 
-pub replayed_not_refused : OneVerdict → (report : Report) (ended : Ended) (bytes : List ℕ) → Replays report ended bytes → AreRefused bytes → ⊥
+pub replayed_not_refused : OneVerdict → (report : Report) (ended : AnyHall) (bytes : List ℕ) → Replays report ended bytes → AreRefused bytes → ⊥
 replayed_not_refused verdict report ended bytes replays (inl long) = let within = replays.within in absurd (omega arith)
 replayed_not_refused verdict report ended bytes replays (inr refused) = input_not_refused verdict refused.0 bytes refused.1 (replays.within, (replays.trace, replays.text))
 
 -- the bytes that were left are those that were read
-pub replays : (left : Option (List ℕ)) (read given : List ℕ) (trace : Trace) (report : Report) (ended : Ended) → IfSome left (λ all. read ≡ all) → given ≡ read → length read ≤ most_bytes
+pub replays : (left : Option (List ℕ)) (read given : List ℕ) (trace : Trace) (report : Report) (ended : AnyHall) → IfSome left (λ all. read ≡ all) → given ≡ read → length read ≤ most_bytes
     → IsTraceText given trace → StandsFor trace report → LeavesHall trace report ended → IfSome left (Replays report ended)
 replays None read given trace report ended all same within text stands hall = tt
 replays (Some left) read given trace report ended all same within text stands hall =
@@ -47,7 +47,7 @@ replays (Some left) read given trace report ended all same within text stands ha
     let Q : List ℕ → Type 0 = λ bytes. IsTraceText bytes trace in
     subst P all (record { within = within; trace = trace; text = subst Q same text; stands = stands; hall = hall })
 
-pub headlines : (left : Option (List ℕ)) (read given : List ℕ) (trace : Trace) (report : Report) (ended : Ended) → IfSome left (λ all. read ≡ all) → given ≡ read
+pub headlines : (left : Option (List ℕ)) (read given : List ℕ) (trace : Trace) (report : Report) (ended : AnyHall) → IfSome left (λ all. read ≡ all) → given ≡ read
     → IsTraceText given trace → HasHeadline trace report ended → IfSome left (KeepsHeadline report ended)
 headlines None read given trace report ended all same text headline = tt
 headlines (Some left) read given trace report ended all same text headline =
@@ -87,11 +87,11 @@ one_refusal line kind refused other bytes refuses again =
     same_refusal refused other (line trace_test bytes refused.line other.line refused.kind other.kind refuses.why again.why) (kind trace_test bytes refused.line other.line refused.kind other.kind refuses.why again.why)
 
 -- bytes that were replayed are none that are refused
-pub none_refused : ((report : Report) (ended : Ended) (bytes : List ℕ) → Replays report ended bytes → AreRefused bytes → ⊥) → (report : Report) (ended : Ended) (left : Option (List ℕ)) → IfSome left (Replays report ended) → IsSomeAnd left AreRefused → ⊥
+pub none_refused : ((report : Report) (ended : AnyHall) (bytes : List ℕ) → Replays report ended bytes → AreRefused bytes → ⊥) → (report : Report) (ended : AnyHall) (left : Option (List ℕ)) → IfSome left (Replays report ended) → IsSomeAnd left AreRefused → ⊥
 none_refused law report ended None replays refused = refused
 none_refused law report ended (Some bytes) replays refused = law report ended bytes replays refused
 
-pub none_named : ((report : Report) (ended : Ended) (bytes : List ℕ) → Replays report ended bytes → AreRefused bytes → ⊥) → (report : Report) (ended : Ended) (left : Option (List ℕ)) (refused : TraceRefused)
+pub none_named : ((report : Report) (ended : AnyHall) (bytes : List ℕ) → Replays report ended bytes → AreRefused bytes → ⊥) → (report : Report) (ended : AnyHall) (left : Option (List ℕ)) (refused : TraceRefused)
     → IfSome left (Replays report ended) → IsSomeAnd left (RefusesTrace refused) → ⊥
 none_named law report ended None refused replays refuses = refuses
 none_named law report ended (Some bytes) refused replays refuses = law report ended bytes replays (inr (refused, refuses))

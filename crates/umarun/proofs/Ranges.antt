@@ -1,7 +1,7 @@
 -- The numbers of a trace with a names line are those with which a cache can be made, so that nothing but want of memory refuses it.
 use Rattle.std.proofs.Common.{◌≡◌, ◌⊎◌, ◌<◌, ◌≤◌, ◌*◌, ◌^◌, ℕ, refl, ap, arith, inl, inr}
 use Rattle.std.specs.Prelude.{◌%◌}
-use Rattle.smr_core.specs.declared.about.About.{About}
+use Rattle.smr_core.specs.declared.clock_config.ClockConfig.{ClockConfig}
 use Rattle.smr_core.specs.declared.core_refused.CoreRefused.{CoreRefused}
 use Rattle.smr_core.specs.declared.core_refused.CoreRefused.TheVariants as core
 use Rattle.smr_core.specs.ClockState.{IsInRange}
@@ -33,7 +33,7 @@ within : (low high n : ℕ) → IsWithin low high n → (n < low) ⊎ (high < n)
 within low high n is (inl below) = let from = is.0 in omega (arith, from, below)
 within low high n is (inr above) = let to = is.1 in omega (arith, to, above)
 
-clock_lacks : (a : About) (refused : CoreRefused) → IsInRange a → RefusesNumbers a refused → refused ≡ core.Memory
+clock_lacks : (a : ClockConfig) (refused : CoreRefused) → IsInRange a → RefusesNumbers a refused → refused ≡ core.Memory
 clock_lacks a (core.Seats n) fits why = absurd (within 1 64 a.seats (fits.some_seat, fits.few_seats) why.1)
 clock_lacks a (core.Even n) fits why = let odd = fits.odd_start in let even = why.2 in absurd (omega (arith, odd, even))
 clock_lacks a (core.High n) fits why = let low = fits.low_start in let high = why.3 in absurd (omega (arith, low, high))
@@ -45,7 +45,7 @@ clock_lacks a (core.Window n) fits why = absurd (window a.window fits.even_windo
     window w even least greatest (inr (inr high)) = omega (arith, greatest, high)
 clock_lacks a core.Memory fits why = refl
 
-pub names_lack : (a : About) (rows entries : ℕ) (refused : NamesRefused) → IsInRange a → IsPlan rows entries → RefusesNames a rows entries 0 refused → LacksMemory refused
+pub names_lack : (a : ClockConfig) (rows entries : ℕ) (refused : NamesRefused) → IsInRange a → IsPlan rows entries → RefusesNames a rows entries 0 refused → LacksMemory refused
 names_lack a rows entries (names.Clock refused) fits plan why = clock_lacks a refused fits why
 names_lack a rows entries (names.Rows n) fits plan why = within 1 4096 rows (plan.some_row, plan.few_rows) why.2
 names_lack a rows entries (names.Entries n) fits plan why = let few = plan.few_entries in let many = why.4 in omega (arith, few, many)
@@ -62,7 +62,7 @@ cache_lacks set zones.Memory slabs bucket domains why = refl
 
 -- ---- what a valid head says
 
-pub in_range : (workers : ℕ) (clock : ClockHead) (plan : ℕ × ℕ) → IsWithin 1 16 workers → ClockFits clock → IsInRange (setup workers clock.start clock.window plan).about
+pub in_range : (workers : ℕ) (clock : ClockHead) (plan : ℕ × ℕ) → IsWithin 1 16 workers → ClockFits clock → IsInRange (setup workers clock.start clock.window plan).config
 in_range workers clock plan few fits = record {
   some_seat = few.0;
   few_seats = let most = few.1 in omega (arith, most);

@@ -17,7 +17,7 @@ use Rattle.umarun.specs.Bulk.{ReplaysMade}
 use Rattle.umarun.specs.Replaying.{HasHeadline, KeepsHeadline, LeavesHall, Replays, RefusesTrace, most_bytes}
 use Rattle.umarun.specs.Stepping.{Plays, RefusesText, RefusesStep}
 use Rattle.umarun.specs.Summary.{summary_text}
-use Rattle.umarun.specs.declared.ended.Ended.{Ended}
+use Rattle.umarun.specs.declared.any_hall.AnyHall.{AnyHall}
 use Rattle.umarun.specs.declared.fault.Fault.{Fault}
 use Rattle.umarun.specs.declared.fault.Fault.TheVariants as faults
 use Rattle.umarun.specs.declared.replaying.Replayed.{Replayed}
@@ -25,7 +25,7 @@ use Rattle.zone_stats.specs.ReportText.{report_text}
 use Rattle.zone_stats.specs.declared.report.Report.{Report}
 
 -- The report stands for the trace, and for the hall that the trace's lines left. Under a free gate no operation gave up waiting.
-pub record StandsReplayed (trace : Trace) (is_free : Type 0) (report : Report) (ended : Ended) : Type 0 where
+pub record StandsReplayed (trace : Trace) (is_free : Type 0) (report : Report) (ended : AnyHall) : Type 0 where
   pub stands : StandsFor trace report
   pub hall : LeavesHall trace report ended
   pub headline : HasHeadline trace report ended
@@ -64,7 +64,7 @@ pub record AnswersSteps (result : Result (Vec ℕ Global) Fault) (left rest : Op
   pub unwritten : IsErrOf result faults.Write → ⊥
 
 -- A report with its hall and its summary, of the trace that the numbers give. Under a free gate no operation gave up waiting.
-pub record AnswersBulk (seed workers ops : ℕ) (is_free : Type 0) (report : Report) (ended : Ended) (summary : List ℕ) : Type 0 where
+pub record AnswersBulk (seed workers ops : ℕ) (is_free : Type 0) (report : Report) (ended : AnyHall) (summary : List ℕ) : Type 0 where
   pub replays : ReplaysMade seed workers ops report ended
   pub headline : HasHeadline (made_trace seed workers ops) report ended
   pub free : is_free → report.gave_up ≡ 0

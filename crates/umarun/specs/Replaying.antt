@@ -11,8 +11,8 @@ use Rattle.umarun.specs.contracts.cache_names.CacheNamesNameCalls.TheImpl.{ghost
 use Rattle.uma_replay.specs.Hall.{HallStands}
 use Rattle.uma_replay.specs.Headline.{Headline}
 use Rattle.uma_replay.specs.Report.{StandsFor}
-use Rattle.umarun.specs.declared.ended.Ended.{Ended}
-use Rattle.umarun.specs.declared.ended.Ended.TheVariants.{Plain, Named}
+use Rattle.umarun.specs.declared.any_hall.AnyHall.{AnyHall}
+use Rattle.umarun.specs.declared.any_hall.AnyHall.TheVariants.{Plain, Named}
 use Rattle.zone_stats.specs.declared.report.Report.{Report}
 
 -- the most bytes of an input
@@ -20,12 +20,12 @@ abbrev pub most_bytes : ℕ
 most_bytes = 16777216
 
 -- The hall is what the trace's lines left, and the report is made of it. No names were served where the trace has no names line, and a cache served them where it has one. The words of the clock's host are those of the cache's rows and entries, or none.
-abbrev pub LeavesHall : Trace → Report → Ended → Type 0
+abbrev pub LeavesHall : Trace → Report → AnyHall → Type 0
 LeavesHall trace report (Plain hall) = HallStands plain_names trace report hall × ((setup_of hall.clock).plan ≡ (0, 0))
 LeavesHall trace report (Named hall) = HallStands cache_names trace report hall × ((setup_of hall.clock).plan ≡ plan_for trace.head)
 
 -- The bytes are the text of a trace, at most so many. The report stands for the trace, and for the hall that the trace's lines left.
-pub record Replays (report : Report) (ended : Ended) (bytes : List ℕ) : Type 0 where
+pub record Replays (report : Report) (ended : AnyHall) (bytes : List ℕ) : Type 0 where
   pub within : length bytes ≤ most_bytes
   pub trace : Trace
   pub text : IsTraceText bytes trace
@@ -33,12 +33,12 @@ pub record Replays (report : Report) (ended : Ended) (bytes : List ℕ) : Type 0
   pub hall : LeavesHall trace report ended
 
 -- the headline holds of the report and of what the trace's lines left
-abbrev pub HasHeadline : Trace → Report → Ended → Type 0
+abbrev pub HasHeadline : Trace → Report → AnyHall → Type 0
 HasHeadline trace report (Plain hall) = Headline plain_names trace report hall
 HasHeadline trace report (Named hall) = Headline cache_names trace report hall
 
 -- the same, of the trace that the bytes are the text of
-pub record KeepsHeadline (report : Report) (ended : Ended) (bytes : List ℕ) : Type 0 where
+pub record KeepsHeadline (report : Report) (ended : AnyHall) (bytes : List ℕ) : Type 0 where
   pub trace : Trace
   pub text : IsTraceText bytes trace
   pub headline : HasHeadline trace report ended

@@ -1,6 +1,6 @@
 ghost use Rattle.std.specs.Prelude.{◌≡◌};
 
-use crate::ended::Ended;
+use crate::any_hall::AnyHall;
 use crate::fault::Fault;
 use crate::replaying::Replayed;
 use zone_stats::Report;
@@ -56,7 +56,7 @@ pub struct Finish {
     pub status: Status,
     pub fault: Option<Fault>,
     pub report: Option<Report>,
-    pub hall: Option<Ended>,
+    pub hall: Option<AnyHall>,
 }
 
 impl Finish {

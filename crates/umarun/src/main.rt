@@ -14,9 +14,9 @@ ghost use Rattle.std.specs.Prelude.{◌≡◌, ◌≢◌};
 ghost use Rattle.std.specs.Process.{exit_status};
 ghost use Rattle.umarun.specs.Ending.{exit_code};
 
+mod any_hall;
 mod bulk;
 mod cache_names;
-mod ended;
 mod fault;
 mod finish;
 mod making;

@@ -6,11 +6,11 @@ ghost use Rattle.trace_text.specs.Valid.{IsValid};
 ghost use Rattle.uma_io.specs.Faults.{Rose};
 ghost use Rattle.umarun.specs.Answers.{AnswersReplay, ReadsTrace, StandsReplayed};
 ghost use Rattle.umarun.specs.Replaying.{Replays, AreInput, AreRefused, RefusesTrace, most_bytes};
-ghost use Rattle.umarun.specs.declared.ended.Ended.{Ended as EndedValue};
+ghost use Rattle.umarun.specs.declared.any_hall.AnyHall.{AnyHall as AnyHallValue};
 ghost use Rattle.zone_stats.specs.declared.report.Report.{Report as ReportValue};
 
+use crate::any_hall::AnyHall;
 use crate::cache_names::CacheNames;
-use crate::ended::Ended;
 use crate::fault::Fault;
 use crate::reclaim::Reclaim;
 use crate::run::MOST_BYTES;
@@ -29,7 +29,7 @@ use zone_stats::{Report, table_text};
 pub struct Replayed {
     pub report: Report,
     /// What it leaves behind.
-    pub ended: Ended,
+    pub ended: AnyHall,
 }
 
 /// Reads a trace, replays it under a gate, and answers its report with what it leaves behind, and the report's text.
@@ -79,7 +79,7 @@ pub(crate) fn play<R: Threads + Wait + Sync, G: Gate + Sync>(
             )?;
             Ok(Replayed {
                 report,
-                ended: Ended::Plain { hall },
+                ended: AnyHall::Plain { hall },
             })
         }
         Some(_) => {
@@ -93,7 +93,7 @@ pub(crate) fn play<R: Threads + Wait + Sync, G: Gate + Sync>(
             )?;
             Ok(Replayed {
                 report,
-                ended: Ended::Named { hall },
+                ended: AnyHall::Named { hall },
             })
         }
     }
@@ -102,7 +102,7 @@ pub(crate) fn play<R: Threads + Wait + Sync, G: Gate + Sync>(
 /// Bytes that are replayed are refused for no reason, and other bytes for one reason at most. The call does nothing: its
 /// contract is the law.
 pub fn replayed_or_refused()
-    ensures report { (report : ReportValue) (ended : EndedValue) (bytes : List ℕ) → Replays report ended bytes → AreRefused bytes → ⊥ }
+    ensures report { (report : ReportValue) (ended : AnyHallValue) (bytes : List ℕ) → Replays report ended bytes → AreRefused bytes → ⊥ }
     ensures input { (refused : Refused) (bytes : List ℕ) → RefusesTrace refused bytes → AreInput bytes → ⊥ }
     ensures one { (refused other : Refused) (bytes : List ℕ)
         → RefusesTrace refused bytes → RefusesTrace other bytes → refused ≡ other }

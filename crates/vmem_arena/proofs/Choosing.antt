@@ -8,7 +8,7 @@ use Rattle.vmem_arena.specs.declared.fit.Fit.{Fit}
 use Rattle.vmem_arena.specs.declared.arena.Arena.TheInside.{Inside}
 use Rattle.vmem_arena.specs.Fits.{passing, Ascend}
 use Rattle.vmem_arena.specs.Kept.{IsKept, fit_of, free_passing}
-use Rattle.vmem_arena.specs.Take.{IsBestFit, Takes}
+use Rattle.vmem_arena.specs.Take.{IsBestFit, TakesRange}
 use Rattle.vmem_arena.specs.ByBase.{IsAt, NoneAt}
 use Rattle.vmem_arena.specs.Steps.{IsPartOf, StandsIn, TakesFront, Spaced}
 use Rattle.vmem_arena.specs.Tags.{Tags, range_end, greatest_free}
@@ -76,5 +76,5 @@ some_fit a n r h =
     let e : greatest_free a.by_base ≡ greatest_free (s.before ++ r ∷ s.after) = ap greatest_free s.is in
     omega arith
 
-pub takes : (old : Tags) (n : ℕ) (r : Range) (new : Tags) → IsBestFit old.ranges n r → TakesFront old r n new → Takes old n r.base new
+pub takes : (old : Tags) (n : ℕ) (r : Range) (new : Tags) → IsBestFit old.ranges n r → TakesFront old r n new → TakesRange old n r.base new
 takes old n r new best t = record { before = t.before; range = r; after = t.after; begins = refl; best = best; was = t.was; is = t.is }

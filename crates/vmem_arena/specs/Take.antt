@@ -25,7 +25,7 @@ abbrev pub rest_of : Range → ℕ → List Range
 rest_of r n = if r.size == n then [] else free_range (r.base + n) (r.size - n) r.span ∷ []
 
 -- the front of the best fit is taken, n long and from this base on, and no other range changes
-pub record Takes (old : Tags) (n base : ℕ) (new : Tags) : Type 0 where
+pub record TakesRange (old : Tags) (n base : ℕ) (new : Tags) : Type 0 where
   pub before : List Range
   pub range : Range
   pub after : List Range

@@ -3,7 +3,7 @@ ghost use Rattle.std.specs.Int.{next_multiple_of};
 ghost use Rattle.vmem_arena.specs.Tags.{free_total};
 ghost use Rattle.vmem_arena.specs.TagsLaw.{TagsLaw};
 ghost use Rattle.vmem_arena.specs.Add.{Adds, IsSpanShape, IsFirstMet, MeetsNone};
-ghost use Rattle.vmem_arena.specs.Take.{Takes, front_of};
+ghost use Rattle.vmem_arena.specs.Take.{TakesRange, front_of};
 ghost use Rattle.vmem_arena.specs.Steps.{StandsIn, IsPartOf, TakesFront, NoneReaches};
 ghost use Rattle.vmem_arena.specs.Give.{Gives};
 ghost use Rattle.vmem_arena.specs.TakenBases.{taken_bases, HasOneMore};
@@ -185,7 +185,7 @@ impl Arena {
     /// `Size` exactly where the size is 0 or above 2^62; else `NoFit` exactly where no free range is as large. After a refusal
     /// all is unchanged.
     pub fn take(&mut self, alloc: Global, size: u64) -> Result<u64, TakeRefused>
-        ensures ok { IfOk result (λ base. Takes self.old (next_multiple_of size self.old.quantum) base self.new) }
+        ensures ok { IfOk result (λ base. TakesRange self.old (next_multiple_of size self.old.quantum) base self.new) }
         ensures accepted { OnOk result (IsTakeSize size) }
         ensures bases { IfOk result (λ base. HasOneMore (taken_bases self.old.ranges) base (taken_bases self.new.ranges)) }
         ensures err { OnErr result (self.new ≡ self.old) }

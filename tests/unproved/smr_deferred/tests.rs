@@ -1,6 +1,6 @@
 ghost use Rattle.std.specs.Prelude.{◌≡◌, [], Ok};
 ghost use Rattle.smr_core.specs.declared.phase.Phase.{Phase};
-ghost use Rattle.smr_clock.specs.Belongs.{IsOf, clock_id, holder};
+ghost use Rattle.smr_clock.specs.Belongs.{IsPassOf, clock_id, holder};
 ghost use Rattle.smr_deferred.specs.RetireList.{IsUsedWith};
 
 use super::*;
@@ -51,9 +51,9 @@ impl Drop for Shelf {
 
 // Looks many times at the stamp of one box inside a section. How often it had changed.
 fn look(shelf: &Shelf, clock: &Clock<Bare>, pass: &mut Pass<Bare>) -> u64
-    requires here { IsOf clock.now pass.old }
+    requires here { IsPassOf clock.now pass.old }
     requires outside { (holder pass.old).phase ≡ Phase.Outside }
-    ensures here { IsOf clock.now pass.new }
+    ensures here { IsPassOf clock.now pass.new }
     ensures outside { (holder pass.new).phase ≡ Phase.Outside }
 {
     let Ok(()) = clock.enter(pass) else {
@@ -72,7 +72,7 @@ fn look(shelf: &Shelf, clock: &Clock<Bare>, pass: &mut Pass<Bare>) -> u64
 }
 
 fn looks(shelf: &Shelf, clock: &Clock<Bare>, mut pass: Pass<Bare>) -> u64
-    requires here { IsOf clock.now pass }
+    requires here { IsPassOf clock.now pass }
     requires outside { (holder pass).phase ≡ Phase.Outside }
 {
     let mut changed = 0;

@@ -1,5 +1,5 @@
 ghost use Rattle.std.specs.Prelude.{◌≡◌, All, IfOk};
-ghost use Rattle.smr_clock.specs.Belongs.{IsOf, clock_id};
+ghost use Rattle.smr_clock.specs.Belongs.{IsPassOf, clock_id};
 ghost use Rattle.uma_zone.specs.Zone.{zone_clock};
 ghost use Rattle.trace_worker.specs.Worker.{AreOfClock};
 
@@ -25,8 +25,8 @@ fn number_of<R: Wait>(
     zone: &CountedZone<Bare>,
 ) -> Result<u8, Fail>
     requires clock { clock_id clock.now ≡ zone_clock zone.now }
-    requires pass { IsOf clock.now pass.old }
-    ensures { IsOf clock.now pass.new }
+    requires pass { IsPassOf clock.now pass.old }
+    ensures { IsPassOf clock.now pass.new }
 {
     if zone.domains() == 0 {
         return Err(Fail::new("no domain"));
@@ -52,7 +52,7 @@ fn numbers_of<R: Wait>(
     zones: &[CountedZone<Bare>],
 ) -> Result<Vec<u8>, Fail>
     requires clock { AreOfClock clock.now zones.now }
-    requires pass { IsOf clock.now pass }
+    requires pass { IsPassOf clock.now pass }
 {
     let mut numbers = Vec::new(alloc);
     for zone in zones {

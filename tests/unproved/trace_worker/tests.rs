@@ -1,9 +1,9 @@
 ghost use Rattle.std.specs.Prelude.{◌≡◌, ◌<◌, All, IfOk, length};
-ghost use Rattle.smr_clock.specs.Belongs.{IsOf, clock_id};
+ghost use Rattle.smr_clock.specs.Belongs.{IsPassOf, clock_id};
 ghost use Rattle.uma_zone.specs.Zone.{zone_domains};
 ghost use Rattle.trace_worker.specs.Worker.{AreOfClock};
 
-use crate::{Attendance, CountHooks, CountedZone, NameCounts, Naming, Running, Slots, Worker, move_slot};
+use crate::{Attendance, CountHooks, CountedZone, NameCounts, NameWork, WorkerRun, Slots, Worker, move_slot};
 use no_keys::NoKeys;
 use smr_clock::{Bare, Clock, Pass};
 use std::alloc::Global;
@@ -19,7 +19,7 @@ mod watching;
 
 /// A clock of two seats, and its passes.
 fn two_passes(alloc: Global) -> Result<(Clock<Bare>, Vec<Pass<Bare>>), Fail>
-    ensures { IfOk result (λ made. All (IsOf made.0) made.1.items) }
+    ensures { IfOk result (λ made. All (IsPassOf made.0) made.1.items) }
 {
     let (clock, passes) = Clock::<Bare>::new(alloc, 2, 1, 1024)?;
     Ok((clock, passes))
@@ -27,9 +27,9 @@ fn two_passes(alloc: Global) -> Result<(Clock<Bare>, Vec<Pass<Bare>>), Fail>
 
 /// Takes one of the passes of a clock.
 fn take_pass(clock: &Clock<Bare>, passes: &mut Vec<Pass<Bare>>) -> Result<Pass<Bare>, Fail>
-    requires { All (IsOf clock.now) passes.old.items }
-    ensures here { IfOk result (IsOf clock.now) }
-    ensures left { All (IsOf clock.now) passes.new.items }
+    requires { All (IsPassOf clock.now) passes.old.items }
+    ensures here { IfOk result (IsPassOf clock.now) }
+    ensures left { All (IsPassOf clock.now) passes.new.items }
 {
     match passes.pop() {
         Some(pass) => Ok(pass),
@@ -65,19 +65,19 @@ fn after_alloc<R: Wait>(
     clock: &Clock<Bare>,
     pass: Pass<Bare>,
     ask: AllocAsk,
-) -> Result<Running<NoKeys>, Fail>
+) -> Result<WorkerRun<NoKeys>, Fail>
     requires some { 0 < length zones.now }
     requires clock { AreOfClock clock.now zones.now }
     requires domains { All (λ zone. 0 < zone_domains zone) zones.now }
-    requires pass { IsOf clock.now pass }
+    requires pass { IsPassOf clock.now pass }
 {
     let mut worker = Worker::new(rt, alloc, zones, clock, pass, 0, 8)?;
     worker.alloc(rt, alloc, zones, clock, 0, 3, ask)?;
-    Ok(Running::new(worker, SeatLedger::new()))
+    Ok(WorkerRun::new(worker, SeatLedger::new()))
 }
 
 /// The slots of a worker, which is there or away.
-fn slots_of(running: &mut Running<NoKeys>) -> &mut Slots {
+fn slots_of(running: &mut WorkerRun<NoKeys>) -> &mut Slots {
     match &mut running.attendance {
         Attendance::There(worker) => &mut worker.slots,
         Attendance::Away(absentee) => &mut absentee.slots,
@@ -128,7 +128,7 @@ fn freed_again<R: Wait>(
     requires some { 0 < length zones.now }
     requires clock { AreOfClock clock.now zones.now }
     requires domains { All (λ zone. 0 < zone_domains zone) zones.now }
-    requires pass { IsOf clock.now pass }
+    requires pass { IsPassOf clock.now pass }
 {
     let mut worker = Worker::new(rt, alloc, zones, clock, pass, 0, 8)?;
     let ask = AllocAsk {
@@ -162,7 +162,7 @@ fn counts_of_bind<R: Wait>(
     pass: Pass<Bare>,
 ) -> Result<NameCounts, Fail>
     requires clock { clock_id clock.now ≡ clock_id cache.now }
-    requires pass { IsOf clock.now pass }
+    requires pass { IsPassOf clock.now pass }
 {
     let mut worker = Worker {
         pass,
@@ -171,7 +171,7 @@ fn counts_of_bind<R: Wait>(
         entered: 0,
         late: 0,
     };
-    let mut naming: Naming<NoKeys> = Naming::new(SeatLedger::new());
+    let mut naming: NameWork<NoKeys> = NameWork::new(SeatLedger::new());
     naming.bind(&mut worker, rt, alloc, &NoKeys, cache, clock, 7, 1)?;
     Ok(naming.counts)
 }

@@ -13,7 +13,7 @@ use std::sync::atomic::{AtomicBool, Ordering};
 use std::test::Fail;
 use trace_play::{NoSeat, PlainNames, Setting, set_up};
 use trace_text::{Trace, parse};
-use trace_worker::{CountHooks, Counted, CountedZone, Running, Worker};
+use trace_worker::{CountHooks, Counted, CountedZone, WorkerRun, Worker};
 use uma_seat::SeatCache;
 use uma_zone::Zone;
 
@@ -148,7 +148,7 @@ fn first_turn<R: Wait, G: Gate>(
     if !has_turn(trace, number) {
         return Err(Fail::new("no such turn"));
     }
-    let mut running: Running<PlainNames> = Running::new(worker, NoSeat);
+    let mut running: WorkerRun<PlainNames> = WorkerRun::new(worker, NoSeat);
     running.turn(
         rt,
         alloc,

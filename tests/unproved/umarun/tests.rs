@@ -9,7 +9,7 @@ mod halls;
 mod refusals;
 mod texts;
 
-use crate::ended::Ended;
+use crate::any_hall::AnyHall;
 use crate::finish::Finish;
 use crate::run::run;
 use std::alloc::Global;
@@ -73,7 +73,7 @@ fn hall_of<R: AllocGlobal + Threads + Wait + Sync>(
 ) -> Result<Hall<PlainNames>, Fail> {
     let Finish { hall, .. } = replayed_under(rt, input, &FreeGate)?;
     match hall {
-        Some(Ended::Plain { hall }) => Ok(hall),
+        Some(AnyHall::Plain { hall }) => Ok(hall),
         _ => Err(Fail::new("no hall without names")),
     }
 }

@@ -1,6 +1,6 @@
 ghost use Rattle.std.specs.Prelude.{◌≡◌, ◌<◌, Some, None, IsSome, IfOk};
 ghost use Rattle.smr_core.specs.declared.phase.Phase.{Phase};
-ghost use Rattle.smr_clock.specs.Belongs.{IsOf, view, holder, table_of, setup_of};
+ghost use Rattle.smr_clock.specs.Belongs.{IsPassOf, view, holder, table_of, setup_of};
 ghost use Rattle.smr_clock.specs.CountingHost.{count_place};
 ghost use Rattle.smr_clock.specs.HostSteps.{IsHand};
 ghost use Rattle.smr_clock.specs.Notes.{IsSeatOf, IsNoteOf, seat_knows, note_knows};
@@ -84,7 +84,7 @@ fn counted(
     alloc: Global,
     count: u32,
 ) -> Result<(Clock<Counting>, Pass<Counting>, HostSeat<Counting>), ClockRefused>
-    ensures here { IfOk result (λ made. IsOf made.0 made.1 × IsSeatOf made.0 made.2) }
+    ensures here { IfOk result (λ made. IsPassOf made.0 made.1 × IsSeatOf made.0 made.2) }
     ensures worded { IfOk result (λ made. count_place (setup_of made.0) < (table_of made.0).words) }
     ensures outside { IfOk result (λ made. (holder made.1).phase ≡ Phase.Outside) }
     ensures keeps { IfOk result (λ made. (seat_knows made.2).host ≡ Some count) }
@@ -105,9 +105,9 @@ fn count_word(clock: &Clock<Counting>) -> u32
 
 // What stands in the word, as any pass may read it.
 fn read(clock: &Clock<Counting>, pass: &mut Pass<Counting>) -> u64
-    requires here { IsOf clock.now pass.old }
+    requires here { IsPassOf clock.now pass.old }
     requires worded { count_place (setup_of clock.now) < (table_of clock.now).words }
-    ensures here { IsOf clock.now pass.new }
+    ensures here { IsPassOf clock.now pass.new }
     ensures view { view pass.new ≡ view pass.old }
 {
     clock.host_step::<Reads>(pass, count_word(clock), HostAct::Load)

@@ -1,5 +1,5 @@
 ghost use Rattle.std.specs.Prelude.{◌≡◌};
-ghost use Rattle.smr_clock.specs.Belongs.{IsOf, clock_id};
+ghost use Rattle.smr_clock.specs.Belongs.{IsPassOf, clock_id};
 ghost use Rattle.smr_deferred.specs.RetireList.{IsUsedWith};
 
 use super::*;
@@ -14,9 +14,9 @@ fn retire_two(
     pass: &mut Pass<Bare>,
     list: &mut RetireList<u32, Bare>,
 ) -> Result<(), (u32, RetireRefused)>
-    requires here { IsOf clock.now pass.old }
+    requires here { IsPassOf clock.now pass.old }
     requires mine { IsUsedWith (clock_id clock.now) list.old }
-    ensures here { IsOf clock.now pass.new }
+    ensures here { IsPassOf clock.now pass.new }
     ensures mine { IsUsedWith (clock_id clock.now) list.new }
 {
     list.retire(alloc, clock, pass, 10)?;
@@ -30,9 +30,9 @@ fn gives(
     list: &mut RetireList<u32, Bare>,
     values: &[u32],
 ) -> bool
-    requires here { IsOf clock.now pass.old }
+    requires here { IsPassOf clock.now pass.old }
     requires mine { IsUsedWith (clock_id clock.now) list.old }
-    ensures here { IsOf clock.now pass.new }
+    ensures here { IsPassOf clock.now pass.new }
     ensures mine { IsUsedWith (clock_id clock.now) list.new }
 {
     let mut all = true;

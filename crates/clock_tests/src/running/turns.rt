@@ -1,15 +1,15 @@
 ghost use Rattle.std.specs.Prelude.{◌≡◌};
 ghost use Rattle.smr_core.specs.declared.phase.Phase.{Phase};
-ghost use Rattle.smr_clock.specs.Belongs.{IsOf, holder};
+ghost use Rattle.smr_clock.specs.Belongs.{IsPassOf, holder};
 
 use super::*;
 use std::thread::{Threads, join};
 
 // A turn enters and leaves a section, advances, and polls the goal by a note that is taken in again.
 fn turn(clock: &Clock<Bare>, pass: &mut Pass<Bare>)
-    requires here { IsOf clock.now pass.old }
+    requires here { IsPassOf clock.now pass.old }
     requires outside { (holder pass.old).phase ≡ Phase.Outside }
-    ensures here { IsOf clock.now pass.new }
+    ensures here { IsPassOf clock.now pass.new }
     ensures outside { (holder pass.new).phase ≡ Phase.Outside }
 {
     if clock.enter(pass).is_ok() {
@@ -23,9 +23,9 @@ fn turn(clock: &Clock<Bare>, pass: &mut Pass<Bare>)
 }
 
 fn turned(clock: &Clock<Bare>, mut pass: Pass<Bare>) -> Pass<Bare>
-    requires here { IsOf clock.now pass }
+    requires here { IsPassOf clock.now pass }
     requires outside { (holder pass).phase ≡ Phase.Outside }
-    ensures { IsOf clock.entry.now result }
+    ensures { IsPassOf clock.entry.now result }
 {
     for _ in 0..1000 {
         turn(clock, &mut pass);
@@ -39,18 +39,18 @@ fn hands_after_both<R: Threads + Sync>(
     first: Pass<Bare>,
     second: Pass<Bare>,
 ) -> (u64, u64)
-    requires here { IsOf clock.now first × IsOf clock.now second }
+    requires here { IsPassOf clock.now first × IsPassOf clock.now second }
     requires outside { ((holder first).phase ≡ Phase.Outside) × ((holder second).phase ≡ Phase.Outside) }
 {
     let (mut first, _second) = join(
         rt,
         move || -> Pass<Bare>
-            requires { IsOf clock.now first × ((holder first).phase ≡ Phase.Outside) }
-            ensures { IsOf clock.entry.now result }
+            requires { IsPassOf clock.now first × ((holder first).phase ≡ Phase.Outside) }
+            ensures { IsPassOf clock.entry.now result }
         { turned(clock, first) },
         move || -> Pass<Bare>
-            requires { IsOf clock.now second × ((holder second).phase ≡ Phase.Outside) }
-            ensures { IsOf clock.entry.now result }
+            requires { IsPassOf clock.now second × ((holder second).phase ≡ Phase.Outside) }
+            ensures { IsPassOf clock.entry.now result }
         { turned(clock, second) },
     );
     clock.hands(&mut first)

@@ -1,5 +1,5 @@
 ghost use Rattle.std.specs.Prelude.{◌≡◌, ◌<◌, ◌+◌, ◌%◌, ◌^◌, Some, IsSome, IfOk, IfSome};
-ghost use Rattle.smr_clock.specs.Belongs.{IsOf, setup_of};
+ghost use Rattle.smr_clock.specs.Belongs.{IsPassOf, setup_of};
 ghost use Rattle.name_rows.specs.Belongs.{IsNamesClock};
 ghost use Rattle.name_rows.specs.Entries.{IsEntryOf, entry_state};
 ghost use Rattle.name_rows.specs.Roots.{IsRootOf};
@@ -34,8 +34,8 @@ fn bind(clock: &Clock<Names>, row: &mut Row, entry: Entry, key: u64, value: u64)
 
 // The read hand goes on as far as the open sections let it.
 fn go_on(clock: &Clock<Names>, pass: &mut Pass<Names>) -> Result<bool, AdvanceRefused>
-    requires here { IsOf clock.now pass.old }
-    ensures here { IsOf clock.now pass.new }
+    requires here { IsPassOf clock.now pass.old }
+    ensures here { IsPassOf clock.now pass.new }
 {
     let goal = clock.advance(pass)?;
     let mut note = clock.note(pass);

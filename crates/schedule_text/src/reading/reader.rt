@@ -1,11 +1,11 @@
 ghost use Rattle.std.specs.Prelude.{◌≡◌, [], IsSome, OnOk, IfErr};
 ghost use Rattle.schedule_text.specs.ScheduleGrammar.{schedule_test};
-ghost use Rattle.schedule_text.specs.ScheduleShown.{Shows, Hears, IsOf};
+ghost use Rattle.schedule_text.specs.ScheduleShown.{Shows, Hears, IsScheduleOf};
 
-use crate::reading::said::Said;
+use crate::reading::parsed_line::ParsedLine;
 use crate::{Schedule, TraceKind, TurnLine, Version};
 use listed::Listed;
-use smr_core::About;
+use smr_core::ClockConfig;
 use std::alloc::Global;
 use text_lines::{Grammar, LineRefused};
 
@@ -16,7 +16,7 @@ pub struct ScheduleReader {
     pub begun: bool,
     /// What the first line said, and version 1 before it.
     pub version: Version,
-    pub clock: Option<About>,
+    pub clock: Option<ClockConfig>,
     pub turns: Vec<TurnLine>,
     pub ended: bool,
 }
@@ -38,7 +38,7 @@ impl ScheduleReader {
     /// The schedule, once the last line was `end`.
     pub fn schedule(self) -> Schedule
         requires { IsSome self.clock }
-        ensures { IsOf result self }
+        ensures { IsScheduleOf result self }
     {
         let Some(clock) = self.clock else {
             unreachable!();
@@ -53,14 +53,14 @@ impl ScheduleReader {
     }
 
     /// Takes in what a line behind the first one says.
-    fn hear(&mut self, number: u64, said: Said) -> Result<(), LineRefused>
+    fn apply(&mut self, number: u64, said: ParsedLine) -> Result<(), LineRefused>
         ensures heard { OnOk result (Hears number said self.old self.new) }
         ensures memory { IfErr result (λ refused. refused ≡ LineRefused.Memory) }
     {
         match said {
-            Said::Clock { about } => self.clock = Some(about),
-            Said::Does { turn } => self.turns.push(TurnLine { line: number, turn })?,
-            Said::End => self.ended = true,
+            ParsedLine::Clock { config } => self.clock = Some(config),
+            ParsedLine::Does { turn } => self.turns.push(TurnLine { line: number, turn })?,
+            ParsedLine::End => self.ended = true,
         }
         Ok(())
     }
@@ -85,8 +85,8 @@ impl Grammar for ScheduleReader {
         if self.ended {
             return Err(TraceKind::After.into());
         }
-        let said = Said::by_line(self.version, self.clock.is_some(), line)?;
-        self.hear(number, said)
+        let said = ParsedLine::by_line(self.version, self.clock.is_some(), line)?;
+        self.apply(number, said)
     }
 
     fn is_ended(&self) -> bool {

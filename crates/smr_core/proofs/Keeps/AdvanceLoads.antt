@@ -4,7 +4,7 @@ use borrow.Author.Tests.{ltb-false, leb-false}
 use mathlib.Core.Option.{some}
 use lib.ListN.{get_elem?}
 use Rattle.smr_seq.specs.Reading.{reading}
-use Rattle.smr_core.specs.declared.about.About.{About}
+use Rattle.smr_core.specs.declared.clock_config.ClockConfig.{ClockConfig}
 use Rattle.smr_core.specs.declared.holder.Holder.{Holder}
 use Rattle.smr_core.specs.declared.task.Task.TheVariants as task
 use Rattle.smr_core.specs.ClockState.{write_hand, read_hand, write_place, read_place}
@@ -35,7 +35,7 @@ advance_read-keeps a id h worker filled =
     })
 
 -- an operation of a worker or a note that a load of the write hand ends
-pub ended-loads : (a : About) (ws : List ℕ) (hs : List Holder) (id : ℕ) (h : Holder) → ClockLaw a ws hs → get_elem? hs id ≡ some h
+pub ended-loads : (a : ClockConfig) (ws : List ℕ) (hs : List Holder) (id : ℕ) (h : Holder) → ClockLaw a ws hs → get_elem? hs id ≡ some h
     → Loads a ws hs id h (step.advance_ended a h (write_hand ws))
 ended-loads a ws hs id h law at =
     let f : HolderFits a ws h = law.holders id h at in
@@ -53,7 +53,7 @@ ended-loads a ws hs id h law at =
       scans = same_scans a ws hs id h (step.advance_ended a h (write_hand ws)) law at refl (record { scanning = λ e. cc; covers = λ e s m c. absurd (cc) }) (record { inside = λ e. e; mark = λ _. refl });
     }
 
-module _ (a : About) (ws : List ℕ) (hs : List Holder) (id : ℕ) (h : Holder) where
+module _ (a : ClockConfig) (ws : List ℕ) (hs : List Holder) (id : ℕ) (h : Holder) where
   goes_on : Holder
   goes_on = record (step.write_loaded a h (write_hand ws)) { task = task.AdvLoaded; write = write_hand ws }
 

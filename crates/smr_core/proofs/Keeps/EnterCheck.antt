@@ -3,7 +3,7 @@ use Rattle.std.proofs.Common.{◌≡◌, ℕ, ◌-◌, ◌<◌, ◌≤◌, ◌�
 use borrow.Author.Tests.{leb-true, leb-false}
 use mathlib.Core.Option.{some}
 use lib.ListN.{get_elem?}
-use Rattle.smr_core.specs.declared.about.About.{About}
+use Rattle.smr_core.specs.declared.clock_config.ClockConfig.{ClockConfig}
 use Rattle.smr_core.specs.declared.holder.Holder.{Holder}
 use Rattle.smr_core.specs.declared.phase.Phase.TheVariants as phase
 use Rattle.smr_core.specs.declared.task.Task.TheVariants as task
@@ -15,7 +15,7 @@ use Rattle.smr_core.specs.ClockMoves.{EnterCheckKeeps}
 use Rattle.smr_core.proofs.KindLemmas.{in_phase, in_task, seat_in_phase, presence_in_phase, task_kept, Loads, keeps_load}
 use Rattle.smr_core.proofs.Keeps.Looks.{write_known}
 
-module _ (a : About) (ws : List ℕ) (hs : List Holder) (id : ℕ) (h : Holder) where
+module _ (a : ClockConfig) (ws : List ℕ) (hs : List Holder) (id : ℕ) (h : Holder) where
   -- the holder after the check, where the test gave b
   checked : Bool → Holder
   checked b = record (step.write_loaded a h (write_hand ws)) { phase = cond b phase.Late phase.Inside; mark = write_hand ws }

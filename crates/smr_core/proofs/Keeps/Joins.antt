@@ -2,7 +2,7 @@
 use Rattle.std.proofs.Common.{◌≡◌, ℕ, ◌≤◌, List, set, sym, refl, ◌∙◌, arith}
 use mathlib.Core.Option.{some}
 use lib.ListN.{get_elem?}
-use Rattle.smr_core.specs.declared.about.About.{About}
+use Rattle.smr_core.specs.declared.clock_config.ClockConfig.{ClockConfig}
 use Rattle.smr_core.specs.declared.holder.Holder.{Holder}
 use Rattle.smr_core.specs.declared.phase.Phase.TheVariants as phase
 use Rattle.smr_core.specs.ClockState.{write_hand, read_hand, spent}
@@ -13,7 +13,7 @@ use Rattle.smr_core.proofs.PlaceLemmas.{set_else}
 use Rattle.smr_core.specs.ClockMoves.{JoinKeeps}
 use Rattle.smr_core.proofs.KindLemmas.{in_phase, seat_in_phase, phase_kept, task_kept, same_scans, Loads, loads}
 
-module _ (a : About) (ws : List ℕ) (hs : List Holder) (id at : ℕ) (h other : Holder) where
+module _ (a : ClockConfig) (ws : List ℕ) (hs : List Holder) (id at : ℕ) (h other : Holder) where
   both_loads : ClockLaw a ws hs → get_elem? hs id ≡ some h → get_elem? hs at ≡ some other → Loads a ws hs id h (step.joined h other)
   both_loads law here there =
       let f : HolderFits a ws h = law.holders id h here in

@@ -5,7 +5,7 @@ use Rattle.std.proofs.lemmas.List.{map-append}
 use Rattle.std.proofs.lemmas.List.Elements.{Contains-append_left, Contains-append_right, Contains-append_cases}
 use Rattle.std.proofs.lemmas.List.Sums.{fold-append}
 use mathlib.Core.Option.{some-injective, some-ne-none}
-use Rattle.smr_core.specs.declared.about.About.{About}
+use Rattle.smr_core.specs.declared.clock_config.ClockConfig.{ClockConfig}
 use Rattle.smr_core.specs.declared.found_word.FoundWord.{FoundWord}
 use Rattle.smr_core.specs.declared.holder.Holder.{Holder}
 use Rattle.smr_core.specs.declared.phase.Phase.{Phase}
@@ -31,7 +31,7 @@ record Aside (h h' : Holder) (r : Remembered) : Type 0 where
   scan : h'.task ≡ task.Scanning → FoundFits h r → FoundFits h' r
   scanning : h'.task ≡ task.Scanning → h.task ≡ task.Scanning
 
-aside : (a : About) (id : ℕ) (v : View) (i : ℕ) (next : ℕ → Holder) → ((found : ℕ) → Aside v.0 (next found) v.1) → KeepsMemory a id v i (λ found. (next found, v.1))
+aside : (a : ClockConfig) (id : ℕ) (v : View) (i : ℕ) (next : ℕ → Holder) → ((found : ℕ) → Aside v.0 (next found) v.1) → KeepsMemory a id v i (λ found. (next found, v.1))
 aside a id v i next each ws vs law memory at =
     let f : RememberedFits a vs v = memory id v at in
     let m = each (slice_index ws i) in
@@ -214,7 +214,7 @@ poll_swap-remembers a id v scanning all ws vs law memory at =
 -- ---- notes, workers split off, and joins
 
 -- a view that remembers nothing, at rest
-fresh : (a : About) (vs : List View) (h : Holder) → StoredFits h.phase h nothing_remembered → (h.task ≡ task.Scanning → ⊥) → RememberedFits a vs (h, nothing_remembered)
+fresh : (a : ClockConfig) (vs : List View) (h : Holder) → StoredFits h.phase h nothing_remembered → (h.task ≡ task.Scanning → ⊥) → RememberedFits a vs (h, nothing_remembered)
 fresh a vs h k idle =
     record {
       stored = k;

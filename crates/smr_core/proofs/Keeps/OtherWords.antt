@@ -3,7 +3,7 @@ use Rattle.std.proofs.Common.{◌≡◌, ℕ, ◌-◌, ◌^◌, ◌<◌, ◌≤�
 use Rattle.std.specs.Int.{bit_at}
 use lib.ListN.{get_elem?}
 use mathlib.Core.Option.{some}
-use Rattle.smr_core.specs.declared.about.About.{About}
+use Rattle.smr_core.specs.declared.clock_config.ClockConfig.{ClockConfig}
 use Rattle.smr_core.specs.declared.holder.Holder.{Holder}
 use Rattle.smr_core.specs.declared.phase.Phase.TheVariants as phase
 use Rattle.smr_core.specs.ClockState.{IsOdd, IsSeatWord, place_after_seats, presence_place, presence_word, write_place, read_place, seat_place, write_hand, read_hand, seat_word, word_of}
@@ -16,7 +16,7 @@ use Rattle.smr_core.proofs.MoveLemmas.{fits_still}
 some_of : {o : Option ℕ} {s : ℕ} → o ≡ Some s → some o ≡ some (Some s)
 some_of e = ap (λ (x : Option ℕ). some x) e
 
-module _ (a : About) (i v : ℕ) (ws : List ℕ) (behind : presence_place a ≤ i) where
+module _ (a : ClockConfig) (i v : ℕ) (ws : List ℕ) (behind : presence_place a ≤ i) where
   pub write_still : write_hand (set ws i v) ≡ write_hand ws
   write_still = get_or-set_other ws i write_place v 0 (λ e. omega arith)
 
@@ -43,7 +43,7 @@ module _ (a : About) (i v : ℕ) (ws : List ℕ) (behind : presence_place a ≤ 
   own_still hs law j h (Some s) at e =
       seat_still s (law.seats.known j s (at_map (λ (x : Holder). x.seat) hs j h at ∙ some_of e))
 
-presence_still : (a : About) (i v : ℕ) (ws : List ℕ) → place_after_seats a ≤ i → presence_word a (set ws i v) ≡ presence_word a ws
+presence_still : (a : ClockConfig) (i v : ℕ) (ws : List ℕ) → place_after_seats a ≤ i → presence_word a (set ws i v) ≡ presence_word a ws
 presence_still a i v ws past = get_or-set_other ws i (presence_place a) v 0 (λ e. omega arith)
 
 pub other_word-keeps : OtherWordKeeps

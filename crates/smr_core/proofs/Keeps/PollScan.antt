@@ -5,7 +5,7 @@ use borrow.Author.Tests.{eqb-true, eqb-false}
 use mathlib.Core.Option.{some}
 use lib.ListN.{get_elem?}
 use Rattle.smr_seq.specs.Reading.{low, reading}
-use Rattle.smr_core.specs.declared.about.About.{About}
+use Rattle.smr_core.specs.declared.clock_config.ClockConfig.{ClockConfig}
 use Rattle.smr_core.specs.declared.holder.Holder.{Holder}
 use Rattle.smr_core.specs.declared.phase.Phase.TheVariants as phase
 use Rattle.smr_core.specs.declared.task.Task.{Task}
@@ -66,7 +66,7 @@ least-le-mark f l m e w p ew fw fm ml near =
 
 -- ---- the step
 
-module _ (a : About) (ws : List ℕ) (hs : List Holder) (id : ℕ) (h : Holder) where
+module _ (a : ClockConfig) (ws : List ℕ) (hs : List Holder) (id : ℕ) (h : Holder) where
   -- a section of the seat that is scanned is at or above the new least mark
   section_scanned : ClockLaw a ws hs → HolderFits a ws h → h.task ≡ task.Scanning → (j : ℕ) (q : Holder) → get_elem? hs j ≡ some q
       → q.phase ≡ phase.Inside → q.seat ≡ Some h.scanned → step.least_after h.read h.write h.least (seat_word ws h.scanned) ≤ q.mark

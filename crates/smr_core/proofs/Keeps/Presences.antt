@@ -3,7 +3,7 @@ use Rattle.std.proofs.Common.{◌≡◌, ◌≢◌, ℕ, ◌^◌, ◌<◌, ◌�
 use Rattle.std.specs.Int.{bit_at}
 use mathlib.Core.Option.{some}
 use lib.ListN.{get_elem?}
-use Rattle.smr_core.specs.declared.about.About.{About}
+use Rattle.smr_core.specs.declared.clock_config.ClockConfig.{ClockConfig}
 use Rattle.smr_core.specs.declared.holder.Holder.{Holder}
 use Rattle.smr_core.specs.declared.phase.Phase.TheVariants as phase
 use Rattle.smr_core.specs.declared.task.Task.{Task}
@@ -20,7 +20,7 @@ use Rattle.smr_core.proofs.KindLemmas.{in_phase, seat_in_phase, marks_above_read
 use Rattle.smr_core.proofs.Keeps.OtherWords.{write_still, read_still, seat_still, hands_still}
 
 -- what has to be shown of the holder, and of the presence word v, after such a step
-record Flips (a : About) (ws : List ℕ) (h h' : Holder) (s v : ℕ) : Type 0 where
+record Flips (a : ClockConfig) (ws : List ℕ) (h h' : Holder) (s v : ℕ) : Type 0 where
   own : h.seat ≡ Some s
   seat : h'.seat ≡ h.seat
   advances : h'.advances ≡ h.advances
@@ -41,7 +41,7 @@ not_scanning t i s = let both : task.Idle ≡ task.Scanning = sym i ∙ s in cc
 same_number : (s t : ℕ) (o : Option ℕ) → o ≡ Some s → o ≡ Some t → s ≡ t
 same_number s t o e f = let both : Some s ≡ Some t = sym e ∙ f in cc
 
-module _ (a : About) (ws : List ℕ) (hs : List Holder) (id : ℕ) (h h' : Holder) (s v : ℕ) where
+module _ (a : ClockConfig) (ws : List ℕ) (hs : List Holder) (id : ℕ) (h h' : Holder) (s v : ℕ) where
   known_seat : ClockLaw a ws hs → get_elem? hs id ≡ some h → h.seat ≡ Some s → s < a.seats
   known_seat law at own = law.seats.known id s (at_map (λ (x : Holder). x.seat) hs id h at ∙ ap (λ (o : Option ℕ). some o) own)
 

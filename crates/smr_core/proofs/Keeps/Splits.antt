@@ -2,7 +2,7 @@
 use Rattle.std.proofs.Common.{◌≡◌, ℕ, ◌+◌, ◌*◌, ◌<◌, List, [], ◌∷◌, ◌++◌, sym, refl, ap, ◌∙◌, subst, ⊎_elim, arith, Option, Some, None}
 use mathlib.Core.Option.{some}
 use lib.ListN.{get_elem?}
-use Rattle.smr_core.specs.declared.about.About.{About}
+use Rattle.smr_core.specs.declared.clock_config.ClockConfig.{ClockConfig}
 use Rattle.smr_core.specs.declared.holder.Holder.{Holder}
 use Rattle.smr_core.specs.declared.phase.Phase.TheVariants as phase
 use Rattle.smr_core.specs.declared.task.Task.TheVariants as task
@@ -16,14 +16,14 @@ use Rattle.std.proofs.lemmas.List.{map-append}
 use Rattle.std.proofs.lemmas.List.Sums.{sum_by-append}
 
 -- what has to be shown of a new holder
-pub record Joining (a : About) (ws : List ℕ) (hs : List Holder) (new : Holder) : Type 0 where
+pub record Joining (a : ClockConfig) (ws : List ℕ) (hs : List Holder) (new : Holder) : Type 0 where
   pub fits : HolderFits a ws new
   pub advances : new.advances ≡ 0
   pub outside : new.phase ≡ phase.Inside → ⊥
   pub idle : new.task ≡ task.Scanning → ⊥
   pub seat : (s : ℕ) → new.seat ≡ Some s → (s < a.seats) × HasNoHolder (seats_of hs) s
 
-module _ (a : About) (ws : List ℕ) (hs : List Holder) (new : Holder) where
+module _ (a : ClockConfig) (ws : List ℕ) (hs : List Holder) (new : Holder) where
   seats_pushed : seats_of (hs ++ new ∷ []) ≡ seats_of hs ++ new.seat ∷ []
   seats_pushed = map-append (λ (x : Holder). x.seat) hs (new ∷ [])
 

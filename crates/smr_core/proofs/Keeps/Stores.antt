@@ -7,7 +7,7 @@ use Rattle.std.specs.Int.{bit_at}
 use mathlib.Core.Option.{some}
 use lib.ListN.{get_elem?}
 use Rattle.smr_seq.specs.Reading.{low}
-use Rattle.smr_core.specs.declared.about.About.{About}
+use Rattle.smr_core.specs.declared.clock_config.ClockConfig.{ClockConfig}
 use Rattle.smr_core.specs.declared.holder.Holder.{Holder}
 use Rattle.smr_core.specs.declared.phase.Phase.TheVariants as phase
 use Rattle.smr_core.specs.declared.task.Task.{Task}
@@ -34,10 +34,10 @@ module _ (ws : List ℕ) (s v : ℕ) where
   pub own_after_store : seat_place s < length ws → seat_word (set ws (seat_place s) v) s ≡ v
   own_after_store l = get_or-set_same ws (seat_place s) v 0 l
 
-  pub presence_after_store : (a : About) → s < a.seats → presence_word a (set ws (seat_place s) v) ≡ presence_word a ws
+  pub presence_after_store : (a : ClockConfig) → s < a.seats → presence_word a (set ws (seat_place s) v) ≡ presence_word a ws
   presence_after_store a known = get_or-set_other ws (seat_place s) (presence_place a) v 0 (λ e. omega arith)
 
-  pub hands_after_store : (a : About) → HandsFit a ws → HandsFit a (set ws (seat_place s) v)
+  pub hands_after_store : (a : ClockConfig) → HandsFit a ws → HandsFit a (set ws (seat_place s) v)
   hands_after_store a f =
       let w : write_hand (set ws (seat_place s) v) ≡ write_hand ws = write_after_store in
       let r : read_hand (set ws (seat_place s) v) ≡ read_hand ws = read_after_store in
@@ -52,7 +52,7 @@ module _ (ws : List ℕ) (s v : ℕ) where
       }
 
 -- what has to be shown of the holder after the store
-pub record Stores (a : About) (ws : List ℕ) (h h' : Holder) (s v : ℕ) : Type 0 where
+pub record Stores (a : ClockConfig) (ws : List ℕ) (h h' : Holder) (s v : ℕ) : Type 0 where
   pub own : h.seat ≡ Some s
   pub word : IsSeatWord v
   pub seat : h'.seat ≡ h.seat
@@ -67,7 +67,7 @@ pub record Stores (a : About) (ws : List ℕ) (h h' : Holder) (s v : ℕ) : Type
   pub section : SameSection h h'
 
 -- a task stays as it is where both hands do
-task_moves : (a : About) (ws ws' : List ℕ) (q : Holder) (t : Task) → write_hand ws' ≡ write_hand ws → read_hand ws' ≡ read_hand ws → TaskFits a ws q t → TaskFits a ws' q t
+task_moves : (a : ClockConfig) (ws ws' : List ℕ) (q : Holder) (t : Task) → write_hand ws' ≡ write_hand ws → read_hand ws' ≡ read_hand ws → TaskFits a ws q t → TaskFits a ws' q t
 task_moves a ws ws' q task.Idle w r f = tt
 task_moves a ws ws' q task.AdvRead w r f = (f.0, omega arith)
 task_moves a ws ws' q task.AdvLoaded w r f = (f.0, omega arith, omega arith, f.3, f.4, f.5)
@@ -75,7 +75,7 @@ task_moves a ws ws' q task.PollRead w r f = (f.0, omega arith)
 task_moves a ws ws' q task.PollLoaded w r f = (f.0, omega arith, f.2, f.3, omega arith)
 task_moves a ws ws' q task.Scanning w r f = (f.0, omega arith, f.2, f.3, f.4, f.5, omega arith, f.7)
 
-module _ (a : About) (ws : List ℕ) (hs : List Holder) (id : ℕ) (h h' : Holder) (s v : ℕ) where
+module _ (a : ClockConfig) (ws : List ℕ) (hs : List Holder) (id : ℕ) (h h' : Holder) (s v : ℕ) where
   after_store : ClockLaw a ws hs → get_elem? hs id ≡ some h → Stores a ws h h' s v → Moves a ws hs (set ws (seat_place s) v) id h h'
   after_store law at m =
       let ws' : List ℕ = set ws (seat_place s) v in
@@ -115,7 +115,7 @@ module _ (a : About) (ws : List ℕ) (hs : List Holder) (id : ℕ) (h h' : Holde
         own = scans.own;
       }
 
-pub keeps_store : (a : About) (id : ℕ) (h h' : Holder) (s v : ℕ)
+pub keeps_store : (a : ClockConfig) (id : ℕ) (h h' : Holder) (s v : ℕ)
     → ((ws : List ℕ) (hs : List Holder) → ClockLaw a ws hs → get_elem? hs id ≡ some h → Stores a ws h h' s v)
     → Keeps a id h (seat_place s) (stored v) (λ _. h')
 keeps_store a id h h' s v each ws hs law at =

@@ -5,7 +5,7 @@ use Rattle.std.proofs.lemmas.List.{set-get_or}
 use Rattle.std.specs.Int.{bit_at}
 use mathlib.Core.Option.{some}
 use lib.ListN.{get_elem?}
-use Rattle.smr_core.specs.declared.about.About.{About}
+use Rattle.smr_core.specs.declared.clock_config.ClockConfig.{ClockConfig}
 use Rattle.smr_core.specs.declared.holder.Holder.{Holder}
 use Rattle.smr_core.specs.declared.phase.Phase.{Phase}
 use Rattle.smr_core.specs.declared.phase.Phase.TheVariants as phase
@@ -26,10 +26,10 @@ module _ (ws : List ℕ) (i v : ℕ) (hand : i < 16) where
   seat_word_after : (s : ℕ) → seat_word (set ws i v) s ≡ seat_word ws s
   seat_word_after s = get_or-set_other ws i (seat_place s) v 0 (λ e. omega arith)
 
-  presence_after : (a : About) → presence_word a (set ws i v) ≡ presence_word a ws
+  presence_after : (a : ClockConfig) → presence_word a (set ws i v) ≡ presence_word a ws
   presence_after a = get_or-set_other ws i (presence_place a) v 0 (λ e. omega arith)
 
-  bit_after : (a : About) (s : ℕ) → bit_at (presence_word a (set ws i v)) s ≡ bit_at (presence_word a ws) s
+  bit_after : (a : ClockConfig) (s : ℕ) → bit_at (presence_word a (set ws i v)) s ≡ bit_at (presence_word a ws) s
   bit_after a s = ap (λ (n : ℕ). bit_at n s) (presence_after a)
 
   word_of_after : (o : Option ℕ) → word_of (set ws i v) o ≡ word_of ws o
@@ -57,7 +57,7 @@ workers_phase o phase.Note f i = not_some (subst IsSome f i)
 workers_phase o phase.Absorbed f i = not_some (subst IsSome f i)
 
 -- It finds what the advance had loaded: two more, for which the advance has seen that there is room.
-module _ (a : About) (ws : List ℕ) (hs : List Holder) (id : ℕ) (h : Holder) where
+module _ (a : ClockConfig) (ws : List ℕ) (hs : List Holder) (id : ℕ) (h : Holder) where
   risen : Holder
   risen = record h { task = task.Idle; seen = max h.seen (h.write + 2); advances = h.advances + 1 }
 
@@ -160,7 +160,7 @@ advance_swap-keeps a id h loaded ws hs law at =
     (loads a ws hs id h (looked a ws hs id h) law at (advance_looks a ws hs id h law at loaded)))
 
 -- Whether or not it hits, the goal is at most the write hand that it leaves.
-pub goal-le-left : (a : About) (ws : List ℕ) (h : Holder) → HandsFit a ws → TaskFits a ws h task.AdvLoaded
+pub goal-le-left : (a : ClockConfig) (ws : List ℕ) (h : Holder) → HandsFit a ws → TaskFits a ws h task.AdvLoaded
     → step.goal_of h ≤ exchanged h.write (step.goal_of h) (write_hand ws)
 goal-le-left a ws h hands t =
     by_test (eqb (write_hand ws) h.write) (λ b. h.write + 2 ≤ cond b (h.write + 2) (write_hand ws))
@@ -174,7 +174,7 @@ goal-le-left a ws h hands t =
 -- ---- the read hand
 
 -- It finds what the poll had loaded. Every seat of its set was scanned, and a section of another is at or above its write hand, so the least mark is at most every section's.
-module _ (a : About) (ws : List ℕ) (hs : List Holder) (id : ℕ) (h : Holder) where
+module _ (a : ClockConfig) (ws : List ℕ) (hs : List Holder) (id : ℕ) (h : Holder) where
   raised : Holder
   raised = record h { task = task.Idle; floor = max h.floor h.least }
 

@@ -6,14 +6,14 @@ ghost use Rattle.trace_text.specs.TraceLine.{clock_in, zone_in, second_in, names
 ghost use Rattle.trace_text.specs.TraceShown.{NamesFit};
 
 use crate::trace_reading::fields::{kind_in, name_in, seven_fields};
-use crate::trace_reading::said::{Said, SecondHead};
+use crate::trace_reading::parsed_line::{ParsedLine, SecondHead};
 use crate::trace_reading::word::HeadWord;
 use crate::{ClockHead, NamesHead, TraceKind, ZoneHead};
 use schedule_text::{start_in, window_in};
 use text_lines::{five_fields, four_fields, no_field, number_within, one_field, two_fields};
 
 /// What a header line says behind the first one.
-pub fn head_said(word: HeadWord, rest: &[u8]) -> Result<Said<'_>, TraceKind>
+pub fn head_said(word: HeadWord, rest: &[u8]) -> Result<ParsedLine<'_>, TraceKind>
     ensures value { result ≡ head_said word (fields_of rest.now) }
     ensures names { (workers : ℕ) → IfOk result (NamesFit workers) }
 {
@@ -21,33 +21,33 @@ pub fn head_said(word: HeadWord, rest: &[u8]) -> Result<Said<'_>, TraceKind>
         HeadWord::Uma => Err(TraceKind::Place),
         HeadWord::Workers => {
             let count = number_within(one_field(rest)?, 1, 16)?;
-            Ok(Said::Workers {
+            Ok(ParsedLine::Workers {
                 count: count as u32,
             })
         }
         HeadWord::Domains => {
             let count = number_within(one_field(rest)?, 1, 4)?;
-            Ok(Said::Domains { count: count as u8 })
+            Ok(ParsedLine::Domains { count: count as u8 })
         }
         HeadWord::Clock => {
             let clock = clock_in(rest)?;
-            Ok(Said::Clock { clock })
+            Ok(ParsedLine::Clock { clock })
         }
         HeadWord::Detail => {
             no_field(rest)?;
-            Ok(Said::Detail)
+            Ok(ParsedLine::Detail)
         }
         HeadWord::Zone => {
             let zone = zone_in(rest)?;
-            Ok(Said::Zone { zone })
+            Ok(ParsedLine::Zone { zone })
         }
         HeadWord::Second => {
             let second = second_in(rest)?;
-            Ok(Said::Second { second })
+            Ok(ParsedLine::Second { second })
         }
         HeadWord::Names => {
             let names = names_in(rest)?;
-            Ok(Said::Names { names })
+            Ok(ParsedLine::Names { names })
         }
     }
 }

@@ -1,8 +1,8 @@
 ghost use Rattle.std.specs.Prelude.{◌≡◌, ◌<◌, [], false, OnOk, IfOk, IfErr};
 ghost use Rattle.text_lines.specs.TextLines.{fields_of};
 ghost use Rattle.trace_text.specs.Grammar.{entry_of, passes_most, stage_of, takes_name, trace_test, work_op};
-ghost use Rattle.trace_text.specs.TraceHeard.{Adds, AddsAll, Hears, clash_found};
-ghost use Rattle.trace_text.specs.declared.trace_reading.said.Said.TheVariants.{InZone, SetMax};
+ghost use Rattle.trace_text.specs.TraceHeard.{Adds, AddsAll, Hears, conflict_found};
+ghost use Rattle.trace_text.specs.declared.trace_reading.parsed_line.ParsedLine.TheVariants.{InZone, SetMax};
 ghost use Rattle.trace_text.specs.TraceTables.{AreWhole, EntryFits, most_workers};
 ghost use Rattle.trace_text.specs.TraceShown.{NamesFit, WorkSlotFits};
 ghost use Rattle.trace_text.specs.TraceKnown.{Keeps, Knows, trace_by};
@@ -10,8 +10,8 @@ ghost use Rattle.trace_text.specs.TraceTaken.{TakesSaid, TakesWord};
 
 use crate::trace_reading::entry::Entry;
 use crate::trace_reading::name_field::NameField;
+use crate::trace_reading::parsed_line::{ParsedLine, ZoneWork, word_in};
 use crate::trace_reading::rounds_so_far::RoundsSoFar;
-use crate::trace_reading::said::{Said, ZoneWork, word_in};
 use crate::trace_reading::stage::Stage;
 use crate::trace_reading::tables::Tables;
 use crate::trace_reading::word::{Word, WorkWord, ZoneWord};
@@ -38,23 +38,24 @@ pub struct TraceReader {
     pub entries: RoundsSoFar,
 }
 
-impl<'a> Said<'a> {
+impl<'a> ParsedLine<'a> {
     /// What the line is in the order of a text.
     #[inline(always)]
     pub fn stage(&self) -> Stage
         ensures { result ≡ stage_of self.now }
     {
         match self {
-            Said::Uma { .. } => Stage::Uma,
-            Said::Workers { .. } => Stage::Workers,
-            Said::Domains { .. } => Stage::Domains,
-            Said::Clock { .. } => Stage::Clock,
-            Said::Detail => Stage::Detail,
-            Said::Zone { .. } | Said::Second { .. } => Stage::Zones,
-            Said::Names { .. } => Stage::Names,
-            Said::Work { .. } | Said::InZone { .. } => Stage::Works,
-            Said::Round | Said::Give { .. } | Said::SetMax { .. } => Stage::Between,
-            Said::End => Stage::End,
+            ParsedLine::Uma { .. } => Stage::Uma,
+            ParsedLine::Workers { .. } => Stage::Workers,
+            ParsedLine::Domains { .. } => Stage::Domains,
+            ParsedLine::Clock { .. } => Stage::Clock,
+            ParsedLine::Detail => Stage::Detail,
+            ParsedLine::Zone { .. } | ParsedLine::Second { .. } => Stage::Zones,
+            ParsedLine::Names { .. } => Stage::Names,
+            ParsedLine::Work { .. } | ParsedLine::InZone { .. } => Stage::Works,
+            ParsedLine::Round | ParsedLine::Give { .. } | ParsedLine::SetMax { .. } =>
+                Stage::Between,
+            ParsedLine::End => Stage::End,
         }
     }
 }
@@ -177,10 +178,10 @@ impl TraceReader {
 
     /// What is wrong with a line that says this.
     #[inline(always)]
-    fn clash(&self, said: &Said<'_>) -> Option<TraceKind>
-        ensures { result ≡ clash_found self.now said.now }
+    fn conflict(&self, said: &ParsedLine<'_>) -> Option<TraceKind>
+        ensures { result ≡ conflict_found self.now said.now }
     {
-        said.clash(
+        said.conflict(
             self.clock.is_some(),
             self.names.is_some(),
             &self.zones,
@@ -190,7 +191,7 @@ impl TraceReader {
 
     /// Takes in what a line behind the first one says.
     #[inline(always)]
-    fn hear(&mut self, said: Said<'_>) -> Result<(), LineRefused>
+    fn apply(&mut self, said: ParsedLine<'_>) -> Result<(), LineRefused>
         requires kept { Keeps self.old }
         requires new { takes_name self.old.zones said ≡ false }
         requires few { passes_most self.old.zones said ≡ false }
@@ -201,17 +202,17 @@ impl TraceReader {
     {
         self.stage = said.stage();
         match said {
-            Said::Workers { count } => self.workers = count,
-            Said::Domains { count } => self.domains = count,
-            Said::Clock { clock } => self.clock = Some(clock),
-            Said::Detail => self.detail = true,
-            Said::Names { names } => self.names = Some(names),
-            Said::Zone { zone } => self.zones.push(zone)?,
-            Said::Second { second } => self.zones.push_second(second)?,
-            Said::Work { worker, op } => self.add(Entry::Does { worker, op })?,
-            Said::InZone { worker, zone, work } => self.add_in_zone(worker, zone, work)?,
-            Said::Round => self.add(Entry::Round)?,
-            Said::Give {
+            ParsedLine::Workers { count } => self.workers = count,
+            ParsedLine::Domains { count } => self.domains = count,
+            ParsedLine::Clock { clock } => self.clock = Some(clock),
+            ParsedLine::Detail => self.detail = true,
+            ParsedLine::Names { names } => self.names = Some(names),
+            ParsedLine::Zone { zone } => self.zones.push(zone)?,
+            ParsedLine::Second { second } => self.zones.push_second(second)?,
+            ParsedLine::Work { worker, op } => self.add(Entry::Does { worker, op })?,
+            ParsedLine::InZone { worker, zone, work } => self.add_in_zone(worker, zone, work)?,
+            ParsedLine::Round => self.add(Entry::Round)?,
+            ParsedLine::Give {
                 giver,
                 slot,
                 taker,
@@ -224,24 +225,24 @@ impl TraceReader {
                     slot2,
                 },
             })?,
-            Said::SetMax { zone, limit } => self.add_limit(zone, limit)?,
-            Said::Uma { version } => self.version = version,
-            Said::End => {}
+            ParsedLine::SetMax { zone, limit } => self.add_limit(zone, limit)?,
+            ParsedLine::Uma { version } => self.version = version,
+            ParsedLine::End => {}
         }
         Ok(())
     }
 
     /// Takes in a line behind the first line that says this, or tells what is wrong with it.
     #[inline(always)]
-    fn take_said(&mut self, said: Said<'_>) -> Result<(), LineRefused>
+    fn take_said(&mut self, said: ParsedLine<'_>) -> Result<(), LineRefused>
         requires kept { Keeps self.old }
         requires names { NamesFit self.old.workers said }
         ensures takes { TakesSaid said.entry self.old result self.new }
         ensures kept { Keeps self.new }
     {
-        match self.clash(&said) {
+        match self.conflict(&said) {
             Some(kind) => Err(kind.into()),
-            None => self.hear(said),
+            None => self.apply(said),
         }
     }
 
@@ -251,7 +252,7 @@ impl TraceReader {
         ensures takes { TakesWord word (fields_of rest.now) self.old result self.new }
         ensures kept { Keeps self.new }
     {
-        let said = Said::by_word(self.workers, word, rest)?;
+        let said = ParsedLine::by_word(self.workers, word, rest)?;
         self.take_said(said)
     }
 

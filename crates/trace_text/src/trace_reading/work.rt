@@ -9,7 +9,7 @@ use crate::trace_reading::fields::{
 };
 use crate::trace_reading::name_field::NameField;
 use crate::trace_reading::number::{number_in, number_within};
-use crate::trace_reading::said::{Said, ZoneWork};
+use crate::trace_reading::parsed_line::{ParsedLine, ZoneWork};
 use crate::trace_reading::word::{WorkWord, ZoneWord};
 use crate::{Op, TraceKind};
 use text_lines::{four_fields, three_fields, two_fields};
@@ -22,7 +22,7 @@ const GREATEST_LIMIT: u64 = 1_000_000;
 
 /// What a worker of so many does by itself.
 #[inline(always)]
-pub fn work_said(workers: u32, word: WorkWord, rest: &[u8]) -> Result<Said<'_>, TraceKind>
+pub fn work_said(workers: u32, word: WorkWord, rest: &[u8]) -> Result<ParsedLine<'_>, TraceKind>
     ensures value { result ≡ work_said workers word (fields_of rest.now) }
     ensures names { IfOk result (NamesFit workers) }
 {
@@ -30,14 +30,14 @@ pub fn work_said(workers: u32, word: WorkWord, rest: &[u8]) -> Result<Said<'_>, 
         WorkWord::Free => free_said(workers, rest),
         WorkWord::Enter => {
             let worker = only_worker(workers, rest)?;
-            Ok(Said::Work {
+            Ok(ParsedLine::Work {
                 worker,
                 op: Op::Enter,
             })
         }
         WorkWord::Exit => {
             let worker = only_worker(workers, rest)?;
-            Ok(Said::Work {
+            Ok(ParsedLine::Work {
                 worker,
                 op: Op::Exit,
             })
@@ -46,23 +46,23 @@ pub fn work_said(workers: u32, word: WorkWord, rest: &[u8]) -> Result<Said<'_>, 
         WorkWord::Unbind => {
             let (worker, key) = worker_and_key(workers, rest)?;
             let op = Op::Unbind { key };
-            Ok(Said::Work { worker, op })
+            Ok(ParsedLine::Work { worker, op })
         }
         WorkWord::Look => {
             let (worker, key) = worker_and_key(workers, rest)?;
             let op = Op::Look { key };
-            Ok(Said::Work { worker, op })
+            Ok(ParsedLine::Work { worker, op })
         }
         WorkWord::Away => {
             let worker = only_worker(workers, rest)?;
-            Ok(Said::Work {
+            Ok(ParsedLine::Work {
                 worker,
                 op: Op::Away,
             })
         }
         WorkWord::Back => {
             let worker = only_worker(workers, rest)?;
-            Ok(Said::Work {
+            Ok(ParsedLine::Work {
                 worker,
                 op: Op::Back,
             })
@@ -72,7 +72,7 @@ pub fn work_said(workers: u32, word: WorkWord, rest: &[u8]) -> Result<Said<'_>, 
 
 /// A free.
 #[inline(always)]
-pub fn free_said(workers: u32, rest: &[u8]) -> Result<Said<'_>, TraceKind>
+pub fn free_said(workers: u32, rest: &[u8]) -> Result<ParsedLine<'_>, TraceKind>
     ensures value { result ≡ free_said workers (fields_of rest.now) }
     ensures names { IfOk result (NamesFit workers) }
 {
@@ -80,11 +80,11 @@ pub fn free_said(workers: u32, rest: &[u8]) -> Result<Said<'_>, TraceKind>
     let worker = worker_in(workers, worker)?;
     let slot = slot_in(slot)?;
     let op = Op::Free { slot };
-    Ok(Said::Work { worker, op })
+    Ok(ParsedLine::Work { worker, op })
 }
 
 /// A binding of a name.
-fn bind_said(workers: u32, rest: &[u8]) -> Result<Said<'_>, TraceKind>
+fn bind_said(workers: u32, rest: &[u8]) -> Result<ParsedLine<'_>, TraceKind>
     ensures value { result ≡ bind_said workers (fields_of rest.now) }
     ensures names { IfOk result (NamesFit workers) }
 {
@@ -93,12 +93,12 @@ fn bind_said(workers: u32, rest: &[u8]) -> Result<Said<'_>, TraceKind>
     let key = number_in(key)?;
     let value = number_in(value)?;
     let op = Op::Bind { key, value };
-    Ok(Said::Work { worker, op })
+    Ok(ParsedLine::Work { worker, op })
 }
 
 /// What a worker of so many does in a zone.
 #[inline(always)]
-pub fn zone_said(workers: u32, word: ZoneWord, rest: &[u8]) -> Result<Said<'_>, TraceKind>
+pub fn zone_said(workers: u32, word: ZoneWord, rest: &[u8]) -> Result<ParsedLine<'_>, TraceKind>
     ensures value { result ≡ zone_said workers word (fields_of rest.now) }
     ensures names { IfOk result (NamesFit workers) }
 {
@@ -110,12 +110,12 @@ pub fn zone_said(workers: u32, word: ZoneWord, rest: &[u8]) -> Result<Said<'_>, 
         ZoneWord::DrainSeat => ZoneWork::DrainSeat,
     };
     let (worker, zone) = worker_and_zone(workers, rest)?;
-    Ok(Said::InZone { worker, zone, work })
+    Ok(ParsedLine::InZone { worker, zone, work })
 }
 
 /// A request.
 #[inline(always)]
-pub fn alloc_said(workers: u32, rest: &[u8]) -> Result<Said<'_>, TraceKind>
+pub fn alloc_said(workers: u32, rest: &[u8]) -> Result<ParsedLine<'_>, TraceKind>
     ensures value { result ≡ alloc_said workers (fields_of rest.now) }
     ensures names { IfOk result (NamesFit workers) }
 {
@@ -129,11 +129,11 @@ pub fn alloc_said(workers: u32, rest: &[u8]) -> Result<Said<'_>, TraceKind>
         arg,
         reserve: fields.reserve,
     };
-    Ok(Said::InZone { worker, zone, work })
+    Ok(ParsedLine::InZone { worker, zone, work })
 }
 
 /// The bringing in of slabs.
-fn prealloc_said(workers: u32, rest: &[u8]) -> Result<Said<'_>, TraceKind>
+fn prealloc_said(workers: u32, rest: &[u8]) -> Result<ParsedLine<'_>, TraceKind>
     ensures value { result ≡ prealloc_said workers (fields_of rest.now) }
     ensures names { IfOk result (NamesFit workers) }
 {
@@ -142,16 +142,16 @@ fn prealloc_said(workers: u32, rest: &[u8]) -> Result<Said<'_>, TraceKind>
     let zone = NameField::of(zone)?;
     let items = number_within(items, 0, MOST_ITEMS)?;
     let work = ZoneWork::Prealloc { items };
-    Ok(Said::InZone { worker, zone, work })
+    Ok(ParsedLine::InZone { worker, zone, work })
 }
 
 /// A move from a worker's slot to one of a worker.
-pub fn give_said(workers: u32, rest: &[u8]) -> Result<Said<'_>, TraceKind>
+pub fn give_said(workers: u32, rest: &[u8]) -> Result<ParsedLine<'_>, TraceKind>
     ensures value { result ≡ give_said workers (fields_of rest.now) }
     ensures names { IfOk result (NamesFit workers) }
 {
     let (giver, slot, taker, slot2) = four_fields(rest)?;
-    Ok(Said::Give {
+    Ok(ParsedLine::Give {
         giver: worker_in(workers, giver)?,
         slot: slot_in(slot)?,
         taker: worker_in(workers, taker)?,
@@ -160,12 +160,12 @@ pub fn give_said(workers: u32, rest: &[u8]) -> Result<Said<'_>, TraceKind>
 }
 
 /// Another limit of a zone.
-pub fn setmax_said(rest: &[u8]) -> Result<Said<'_>, TraceKind>
+pub fn setmax_said(rest: &[u8]) -> Result<ParsedLine<'_>, TraceKind>
     ensures value { result ≡ setmax_said (fields_of rest.now) }
     ensures names { (workers : ℕ) → IfOk result (NamesFit workers) }
 {
     let (zone, limit) = two_fields(rest)?;
-    Ok(Said::SetMax {
+    Ok(ParsedLine::SetMax {
         zone: NameField::of(zone)?,
         limit: number_within(limit, 0, GREATEST_LIMIT)?,
     })

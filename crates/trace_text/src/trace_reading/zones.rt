@@ -3,7 +3,7 @@ ghost use Rattle.trace_text.specs.Grammar.{zone_named, primary_named, second_zon
 ghost use Rattle.trace_text.specs.Valid.{sharer_count};
 
 use crate::ZoneHead;
-use crate::trace_reading::said::SecondHead;
+use crate::trace_reading::parsed_line::SecondHead;
 use indexmap::IndexMap;
 use listed::Listed;
 use std::alloc::{AllocError, Global};

@@ -1,5 +1,5 @@
 ghost use Rattle.std.specs.Prelude.{◌≡◌, ◌≤◌, IfOk};
-ghost use Rattle.smr_clock.specs.Belongs.{IsOf};
+ghost use Rattle.smr_clock.specs.Belongs.{IsPassOf};
 ghost use Rattle.uma_bucket.specs.Bucket.{place_of};
 ghost use Rattle.uma_bucket.specs.Loose.{loose_place};
 
@@ -46,8 +46,8 @@ fn opened(
     pass: &mut Pass<Bare>,
     loose: Loose<Plain>,
 ) -> Result<Bucket<Plain>, Fail>
-    requires here { IsOf clock.now pass.old }
-    ensures here { IsOf clock.now pass.new }
+    requires here { IsPassOf clock.now pass.old }
+    ensures here { IsPassOf clock.now pass.new }
     ensures place { IfOk result (λ bucket. place_of bucket ≡ loose_place loose) }
 {
     let Ok(sealed) = loose.seal(clock, pass) else {
@@ -80,9 +80,9 @@ fn goes_round<R: Abort + Wait>(
     pass: &mut Pass<Bare>,
     last: u32,
 ) -> Result<Bucket<Plain>, Fail>
-    requires here { IsOf clock.now pass.old }
+    requires here { IsPassOf clock.now pass.old }
     requires last { 3 ≤ last }
-    ensures here { IsOf clock.now pass.new }
+    ensures here { IsPassOf clock.now pass.new }
 {
     let mut sums = Sums::none();
     loose.add_to(&mut sums);

@@ -1,6 +1,6 @@
 ghost use Rattle.std.specs.Prelude.{◌≡◌, true, [], IfOk};
 ghost use Rattle.deed_book.specs.Book.{book_table};
-ghost use Rattle.smr_clock.specs.Belongs.{IsOf, clock_id};
+ghost use Rattle.smr_clock.specs.Belongs.{IsPassOf, clock_id};
 ghost use Rattle.uma_seat.specs.Seat.{seat_home, seat_smr, seat_clock};
 
 use super::new_ports::new_ports;
@@ -49,12 +49,12 @@ fn free<R: Wait>(
     requires home { seat_home seat.old ≡ record { book = book_table book.old; zone = 0; domains = 1 } }
     requires smr { seat_smr seat.old ≡ true }
     requires clock { seat_clock seat.old ≡ clock_id clock.now }
-    requires here { IsOf clock.now pass.old }
+    requires here { IsPassOf clock.now pass.old }
     requires no_origin { (book_table book.old).origin ≡ [] }
     ensures home { seat_home seat.new ≡ record { book = book_table book.new; zone = 0; domains = 1 } }
     ensures smr { seat_smr seat.new ≡ true }
     ensures clock { seat_clock seat.new ≡ clock_id clock.now }
-    ensures here { IsOf clock.now pass.new }
+    ensures here { IsPassOf clock.now pass.new }
     ensures no_origin { (book_table book.new).origin ≡ [] }
 {
     let Ok(item) = cached(rt, alloc, book, no, 0)?.build(&idle_hooks(), 0) else {

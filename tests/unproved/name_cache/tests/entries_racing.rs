@@ -1,6 +1,6 @@
 ghost use Rattle.std.specs.Prelude.{◌≡◌, ◌<◌, ◌+◌, ◌%◌, ◌^◌, Some, IsSome, IfOk, IfSome};
 ghost use Rattle.smr_core.specs.declared.phase.Phase.{Phase};
-ghost use Rattle.smr_clock.specs.Belongs.{IsOf, holder, setup_of};
+ghost use Rattle.smr_clock.specs.Belongs.{IsPassOf, holder, setup_of};
 ghost use Rattle.name_rows.specs.Belongs.{IsNamesClock};
 ghost use Rattle.name_rows.specs.Entries.{IsEntryOf, entry_state};
 ghost use Rattle.name_rows.specs.Roots.{IsRootOf};
@@ -22,10 +22,10 @@ const TURNS: u64 = 5000;
 
 // A look of a reader. Whether what it found was bound to that key.
 fn look(clock: &Clock<Names>, pass: &mut Pass<Names>, key: u64) -> bool
-    requires here { IsOf clock.now pass.old }
+    requires here { IsPassOf clock.now pass.old }
     requires names { IsNamesClock clock.now }
     requires outside { (holder pass.old).phase ≡ Phase.Outside }
-    ensures here { IsOf clock.now pass.new }
+    ensures here { IsPassOf clock.now pass.new }
     ensures outside { (holder pass.new).phase ≡ Phase.Outside }
 {
     let Ok(()) = clock.enter(pass) else {
@@ -40,7 +40,7 @@ fn look(clock: &Clock<Names>, pass: &mut Pass<Names>, key: u64) -> bool
 }
 
 fn looks(clock: &Clock<Names>, mut pass: Pass<Names>) -> bool
-    requires here { IsOf clock.now pass }
+    requires here { IsPassOf clock.now pass }
     requires names { IsNamesClock clock.now }
     requires outside { (holder pass).phase ≡ Phase.Outside }
 {
@@ -75,8 +75,8 @@ fn bind(clock: &Clock<Names>, row: &mut Row, entry: Entry, key: u64, value: u64)
 
 // The read hand goes on as far as the open sections let it.
 fn go_on(clock: &Clock<Names>, pass: &mut Pass<Names>)
-    requires here { IsOf clock.now pass.old }
-    ensures here { IsOf clock.now pass.new }
+    requires here { IsPassOf clock.now pass.old }
+    ensures here { IsPassOf clock.now pass.new }
 {
     if let Ok(goal) = clock.advance(pass) {
         let mut note = clock.note(pass);
@@ -92,10 +92,10 @@ fn turn(
     spare: Entry,
     turn: u64,
 ) -> Option<Entry>
-    requires here { IsOf clock.now pass.old × IsRowOf clock.now row.old × IsEntryOf clock.now spare }
+    requires here { IsPassOf clock.now pass.old × IsRowOf clock.now row.old × IsEntryOf clock.now spare }
     requires names { IsNamesClock clock.now }
     requires words { IsSome spare.words }
-    ensures here { IsOf clock.now pass.new × IsRowOf clock.now row.new }
+    ensures here { IsPassOf clock.now pass.new × IsRowOf clock.now row.new }
     ensures spare { IfSome result (λ other. IsEntryOf clock.now other) }
     ensures words { IfSome result (λ other. IsSome other.words) }
 {
@@ -109,7 +109,7 @@ fn turn(
 }
 
 fn turns(clock: &Clock<Names>, mut pass: Pass<Names>, mut row: Row, first: Entry) -> bool
-    requires here { IsOf clock.now pass × IsRowOf clock.now row × IsEntryOf clock.now first }
+    requires here { IsPassOf clock.now pass × IsRowOf clock.now row × IsEntryOf clock.now first }
     requires names { IsNamesClock clock.now }
     requires words { IsSome first.words }
 {
@@ -129,17 +129,17 @@ fn two_look<R: Threads + Sync>(
     first: Pass<Names>,
     second: Pass<Names>,
 ) -> bool
-    requires here { IsOf clock.now first × IsOf clock.now second }
+    requires here { IsPassOf clock.now first × IsPassOf clock.now second }
     requires names { IsNamesClock clock.now }
     requires outside { ((holder first).phase ≡ Phase.Outside) × ((holder second).phase ≡ Phase.Outside) }
 {
     let (one, other) = join(
         rt,
         move || -> bool
-            requires { IsOf clock.now first × IsNamesClock clock.now × ((holder first).phase ≡ Phase.Outside) }
+            requires { IsPassOf clock.now first × IsNamesClock clock.now × ((holder first).phase ≡ Phase.Outside) }
         { looks(clock, first) },
         move || -> bool
-            requires { IsOf clock.now second × IsNamesClock clock.now × ((holder second).phase ≡ Phase.Outside) }
+            requires { IsPassOf clock.now second × IsNamesClock clock.now × ((holder second).phase ≡ Phase.Outside) }
         { looks(clock, second) },
     );
     one && other
@@ -152,17 +152,17 @@ fn three_look<R: Threads + Sync>(
     second: Pass<Names>,
     third: Pass<Names>,
 ) -> bool
-    requires here { IsOf clock.now first × IsOf clock.now second × IsOf clock.now third }
+    requires here { IsPassOf clock.now first × IsPassOf clock.now second × IsPassOf clock.now third }
     requires names { IsNamesClock clock.now }
     requires outside { ((holder first).phase ≡ Phase.Outside) × ((holder second).phase ≡ Phase.Outside) × ((holder third).phase ≡ Phase.Outside) }
 {
     let (one, others) = join(
         rt,
         move || -> bool
-            requires { IsOf clock.now first × IsNamesClock clock.now × ((holder first).phase ≡ Phase.Outside) }
+            requires { IsPassOf clock.now first × IsNamesClock clock.now × ((holder first).phase ≡ Phase.Outside) }
         { looks(clock, first) },
         move || -> bool
-            requires { IsOf clock.now second × IsOf clock.now third × IsNamesClock clock.now × ((holder second).phase ≡ Phase.Outside) × ((holder third).phase ≡ Phase.Outside) }
+            requires { IsPassOf clock.now second × IsPassOf clock.now third × IsNamesClock clock.now × ((holder second).phase ≡ Phase.Outside) × ((holder third).phase ≡ Phase.Outside) }
         { two_look(rt, clock, second, third) },
     );
     one && others
@@ -176,7 +176,7 @@ fn race<R: Threads + Sync>(
     row: Row,
     spare: Entry,
 ) -> bool
-    requires here { IsOf clock.now passes.0 × IsOf clock.now passes.1 × IsOf clock.now passes.2 × IsOf clock.now passes.3 }
+    requires here { IsPassOf clock.now passes.0 × IsPassOf clock.now passes.1 × IsPassOf clock.now passes.2 × IsPassOf clock.now passes.3 }
     requires parts_here { IsRowOf clock.now row × IsEntryOf clock.now spare }
     requires names { IsNamesClock clock.now }
     requires words { IsSome spare.words }
@@ -186,10 +186,10 @@ fn race<R: Threads + Sync>(
     let (wrote, right) = join(
         rt,
         move || -> bool
-            requires { IsOf clock.now writer × IsRowOf clock.now row × IsEntryOf clock.now spare × IsNamesClock clock.now × IsSome spare.words }
+            requires { IsPassOf clock.now writer × IsRowOf clock.now row × IsEntryOf clock.now spare × IsNamesClock clock.now × IsSome spare.words }
         { turns(clock, writer, row, spare) },
         move || -> bool
-            requires { IsOf clock.now first × IsOf clock.now second × IsOf clock.now third × IsNamesClock clock.now × ((holder first).phase ≡ Phase.Outside) × ((holder second).phase ≡ Phase.Outside) × ((holder third).phase ≡ Phase.Outside) }
+            requires { IsPassOf clock.now first × IsPassOf clock.now second × IsPassOf clock.now third × IsNamesClock clock.now × ((holder first).phase ≡ Phase.Outside) × ((holder second).phase ≡ Phase.Outside) × ((holder third).phase ≡ Phase.Outside) }
         { three_look(rt, clock, first, second, third) },
     );
     wrote && right
@@ -208,7 +208,7 @@ fn four_seats(
     Memory,
 >
     ensures names { IfOk result (λ made. IsNamesClock made.0) }
-    ensures here { IfOk result (λ made. IsOf made.0 made.1.0 × IsOf made.0 made.1.1 × IsOf made.0 made.1.2 × IsOf made.0 made.1.3) }
+    ensures here { IfOk result (λ made. IsPassOf made.0 made.1.0 × IsPassOf made.0 made.1.1 × IsPassOf made.0 made.1.2 × IsPassOf made.0 made.1.3) }
     ensures outside { IfOk result (λ made. ((holder made.1.1).phase ≡ Phase.Outside) × ((holder made.1.2).phase ≡ Phase.Outside) × ((holder made.1.3).phase ≡ Phase.Outside)) }
     ensures row { IfOk result (λ made. IsRowOf made.0 made.2) }
     ensures root { IfOk result (λ made. IsRootOf made.0 made.3) }

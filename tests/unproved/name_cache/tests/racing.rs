@@ -1,5 +1,5 @@
 ghost use Rattle.std.specs.Prelude.{◌≡◌, ◌≤◌};
-ghost use Rattle.smr_clock.specs.Belongs.{IsOf, clock_id};
+ghost use Rattle.smr_clock.specs.Belongs.{IsPassOf, clock_id};
 ghost use Rattle.name_cache.specs.Cache.{cache_clock};
 
 use super::setting::{new_cache, take_pass};
@@ -26,7 +26,7 @@ struct Reader<'a> {
     clock: &'a Clock<Names>,
     pass: Pass<Names>,
     ghost clocked: { clock_id clock.now ≡ cache_clock cache.now },
-    ghost here: { IsOf clock.now pass },
+    ghost here: { IsPassOf clock.now pass },
 }
 
 impl Reader<'_> {

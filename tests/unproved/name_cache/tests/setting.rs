@@ -1,5 +1,5 @@
 ghost use Rattle.std.specs.Prelude.{◌≡◌, ◌<◌, ◌*◌, ◌^◌, All, IfOk};
-ghost use Rattle.smr_clock.specs.Belongs.{IsOf, clock_id, setup_of};
+ghost use Rattle.smr_clock.specs.Belongs.{IsPassOf, clock_id, setup_of};
 ghost use Rattle.name_cache.specs.Cache.{cache_clock, cache_domains};
 ghost use Rattle.name_cache.specs.Making.{IsOpened};
 
@@ -26,7 +26,7 @@ pub(super) fn open_names(alloc: Global, rows: u32, slabs: u32, version: u64) -> 
     requires { slabs < 2 ^ 16 }
     ensures opened { IfOk result IsOpened }
     ensures entries { IfOk result (λ opened. (setup_of opened.clock).plan.1 ≡ 64 * slabs) }
-    ensures passes { IfOk result (λ opened. All (IsOf opened.clock) opened.passes) }
+    ensures passes { IfOk result (λ opened. All (IsPassOf opened.clock) opened.passes) }
 {
     let opened = make(alloc, 3, 1, 8, rows, 64 * slabs, version)?;
     Ok(opened)
@@ -42,7 +42,7 @@ pub(super) fn new_cache(
     requires { slabs < 2 ^ 16 }
     ensures clock { IfOk result (λ (cache, clock, passes). clock_id clock ≡ cache_clock cache) }
     ensures domains { IfOk result (λ (cache, clock, passes). cache_domains cache ≡ 1) }
-    ensures passes { IfOk result (λ (cache, clock, passes). All (IsOf clock) passes.items) }
+    ensures passes { IfOk result (λ (cache, clock, passes). All (IsPassOf clock) passes.items) }
 {
     let opened = open_names(alloc, rows, slabs, version)?;
     let (cache, clock, passes) = NameCache::new(alloc, opened, ZoneSet { slabs, ..SET })?;
@@ -54,9 +54,9 @@ pub(super) fn take_pass(
     clock: &Clock<Names>,
     passes: &mut Vec<Pass<Names>>,
 ) -> Result<Pass<Names>, Fail>
-    requires { All (IsOf clock.now) passes.old.items }
-    ensures here { IfOk result (IsOf clock.now) }
-    ensures left { All (IsOf clock.now) passes.new.items }
+    requires { All (IsPassOf clock.now) passes.old.items }
+    ensures here { IfOk result (IsPassOf clock.now) }
+    ensures left { All (IsPassOf clock.now) passes.new.items }
 {
     match passes.pop() {
         Some(pass) => Ok(pass),

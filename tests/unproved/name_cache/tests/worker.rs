@@ -1,5 +1,5 @@
 ghost use Rattle.std.specs.Prelude.{◌≡◌, ◌<◌, All, IfSome, IsTrue};
-ghost use Rattle.smr_clock.specs.Belongs.{IsOf, clock_id};
+ghost use Rattle.smr_clock.specs.Belongs.{IsPassOf, clock_id};
 ghost use Rattle.zone_stats.specs.LedgerSteps.{HasRoom};
 ghost use Rattle.name_cache.specs.Bind.{HasRoomToBind};
 ghost use Rattle.name_cache.specs.Cache.{cache_clock, cache_home, cache_domains, IsCacheSeat};
@@ -30,8 +30,8 @@ pub(super) struct Worker<'a> {
     reader: Pass<Names>,
     pub seat: SeatCache<RaisedEntry, Names>,
     pub ghost clocked: { clock_id clock.now ≡ cache_clock cache.now },
-    pub ghost here: { IsOf clock.now pass },
-    pub ghost reader_here: { IsOf clock.now reader },
+    pub ghost here: { IsPassOf clock.now pass },
+    pub ghost reader_here: { IsPassOf clock.now reader },
     pub ghost seated: { IsCacheSeat cache.now seat },
 }
 
@@ -44,7 +44,7 @@ pub(super) fn new_worker<'a, R: Wait>(
     mut passes: Vec<Pass<Names>>,
 ) -> Result<Worker<'a>, Fail>
     requires clock { clock_id clock.now ≡ cache_clock cache.now }
-    requires passes { All (IsOf clock.now) passes.items }
+    requires passes { All (IsPassOf clock.now) passes.items }
     requires domain { 0 < cache_domains cache.now }
 {
     let pass = take_pass(clock, &mut passes)?;
@@ -193,8 +193,8 @@ fn take_unstamped<R: Wait>(
     key: u64,
 ) -> Option<EntryParts>
     requires clock { clock_id clock.now ≡ cache_clock cache.now }
-    requires pass { IsOf clock.now pass.old }
-    ensures pass { IsOf clock.now pass.new }
+    requires pass { IsPassOf clock.now pass.old }
+    ensures pass { IsPassOf clock.now pass.new }
     ensures item { IfSome result (IsItemOf (cache_clock cache.now) (cache_home cache.now)) }
 {
     let mut guard = cache.lock_row(rt, key);

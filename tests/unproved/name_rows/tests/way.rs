@@ -1,6 +1,6 @@
 ghost use Rattle.std.specs.Prelude.{◌≡◌, ◌<◌, ◌+◌, ◌%◌, ◌^◌, Some, IsSome, IfOk, IfSome};
 ghost use Rattle.smr_core.specs.declared.phase.Phase.{Phase};
-ghost use Rattle.smr_clock.specs.Belongs.{IsOf, holder, setup_of};
+ghost use Rattle.smr_clock.specs.Belongs.{IsPassOf, holder, setup_of};
 ghost use Rattle.name_rows.specs.Belongs.{IsNamesClock};
 ghost use Rattle.name_rows.specs.Entries.{IsEntryOf, entry_state};
 ghost use Rattle.name_rows.specs.Roots.{IsRootOf};
@@ -19,7 +19,7 @@ use std::test::Fail;
 fn one_row(alloc: Global) -> Result<(Clock<Names>, Pass<Names>, Pass<Names>, Row, Root), Memory>
     ensures names { IfOk result (λ made. IsNamesClock made.0) }
     ensures plan { IfOk result (λ made. (setup_of made.0).plan ≡ (1, 2)) }
-    ensures here { IfOk result (λ made. IsOf made.0 made.1 × IsOf made.0 made.2) }
+    ensures here { IfOk result (λ made. IsPassOf made.0 made.1 × IsPassOf made.0 made.2) }
     ensures outside { IfOk result (λ made. ((holder made.1).phase ≡ Phase.Outside) × ((holder made.2).phase ≡ Phase.Outside)) }
     ensures row { IfOk result (λ made. IsRowOf made.0 made.3 × (made.3.number ≡ 0) × (made.3.version ≡ 0)) }
     ensures root { IfOk result (λ made. IsRootOf made.0 made.4) }
@@ -67,8 +67,8 @@ fn bind(clock: &Clock<Names>, row: &mut Row, entry: Entry, key: u64, value: u64)
 
 // The read hand goes on as far as the open sections let it.
 fn go_on(clock: &Clock<Names>, pass: &mut Pass<Names>) -> Result<bool, AdvanceRefused>
-    requires here { IsOf clock.now pass.old }
-    ensures here { IsOf clock.now pass.new }
+    requires here { IsPassOf clock.now pass.old }
+    ensures here { IsPassOf clock.now pass.new }
 {
     let goal = clock.advance(pass)?;
     let mut note = clock.note(pass);

@@ -2,7 +2,7 @@
 use super::no_keys::NoKeys;
 use super::watching::{Seen, Watch};
 use super::{one_zone, take_pass, two_passes};
-use crate::{CountedZone, FreeGate, Gate, Running, Worker};
+use crate::{CountedZone, FreeGate, Gate, WorkerRun, Worker};
 use smr_clock::{Bare, Clock};
 use std::alloc::Global;
 use std::sync::Wait;
@@ -22,12 +22,12 @@ struct Setting {
 }
 
 /// A worker of one zone, before its first turn.
-fn idle<R: Wait>(rt: &R, alloc: Global) -> Result<(Setting, Running<NoKeys>), Fail> {
+fn idle<R: Wait>(rt: &R, alloc: Global) -> Result<(Setting, WorkerRun<NoKeys>), Fail> {
     let (clock, mut passes) = two_passes(alloc)?;
     let pass = take_pass(&clock, &mut passes)?;
     let zones = one_zone(alloc, &clock)?;
     let worker = Worker::new(rt, alloc, zones.as_slice(), &clock, pass, 0, 0)?;
-    let running = Running::new(worker, SeatLedger::new());
+    let running = WorkerRun::new(worker, SeatLedger::new());
     Ok((Setting { clock, zones }, running))
 }
 
@@ -36,7 +36,7 @@ fn take_turn<R: Wait, G: Gate>(
     rt: &R,
     alloc: Global,
     setting: &Setting,
-    running: &mut Running<NoKeys>,
+    running: &mut WorkerRun<NoKeys>,
     gate: &G,
     watch: &Watch,
     round: usize,

@@ -1,6 +1,6 @@
 ghost use Rattle.std.specs.Prelude.{◌≡◌, [], IfOk};
 ghost use Rattle.deed_book.specs.Book.{book_table};
-ghost use Rattle.smr_clock.specs.Belongs.{IsOf, clock_id, holder};
+ghost use Rattle.smr_clock.specs.Belongs.{IsPassOf, clock_id, holder};
 ghost use Rattle.smr_core.specs.declared.phase.Phase.{Phase};
 ghost use Rattle.uma_bucket.specs.Home.{IsHome};
 ghost use Rattle.uma_bucket.specs.Sealed.{IsSealedAt, sealed_bucket};
@@ -23,7 +23,7 @@ use uma_life::{Cached, Stored};
 pub(super) fn two_seats(
     alloc: Global,
 ) -> Result<(Clock<Bare>, Pass<Bare>, Pass<Bare>), ClockRefused>
-    ensures here { IfOk result (λ made. IsOf made.0 made.1 × IsOf made.0 made.2) }
+    ensures here { IfOk result (λ made. IsPassOf made.0 made.1 × IsPassOf made.0 made.2) }
     ensures outside { IfOk result (λ made. ((holder made.1).phase ≡ Phase.Outside) × ((holder made.2).phase ≡ Phase.Outside)) }
 {
     two_seats_within(alloc, 16)
@@ -34,7 +34,7 @@ pub(super) fn two_seats_within(
     alloc: Global,
     window: u64,
 ) -> Result<(Clock<Bare>, Pass<Bare>, Pass<Bare>), ClockRefused>
-    ensures here { IfOk result (λ made. IsOf made.0 made.1 × IsOf made.0 made.2) }
+    ensures here { IfOk result (λ made. IsPassOf made.0 made.1 × IsPassOf made.0 made.2) }
     ensures outside { IfOk result (λ made. ((holder made.1).phase ≡ Phase.Outside) × ((holder made.2).phase ≡ Phase.Outside)) }
 {
     let (clock, mut passes) = Clock::<Bare>::new(alloc, 2, 1, window)?;
@@ -103,9 +103,9 @@ fn sealed<R: Wait>(
     clock: &Clock<Bare>,
     pass: &mut Pass<Bare>,
 ) -> Result<Sealed<Plain, Bare>, Fail>
-    requires here { IsOf clock.now pass.old }
+    requires here { IsPassOf clock.now pass.old }
     requires no_origin { (book_table book.old).origin ≡ [] }
-    ensures here { IsOf clock.now pass.new }
+    ensures here { IsPassOf clock.now pass.new }
     ensures table { book_table book.new ≡ book_table book.old }
     ensures at_home { IfOk result (λ sealed. IsLooseOf (home_of (book_table book.old) 0 1) (sealed_bucket sealed)) }
     ensures clock { IfOk result (IsSealedAt (clock_id clock.now)) }
@@ -170,9 +170,9 @@ pub(super) fn put_sealed<R: Wait>(
 ) -> Result<(), Fail>
     requires home { (domain_identity domain.now).home ≡ home_of (book_table book.old) 0 1 }
     requires clock { (domain_identity domain.now).clock ≡ clock_id clock.now }
-    requires here { IsOf clock.now pass.old }
+    requires here { IsPassOf clock.now pass.old }
     requires no_origin { (book_table book.old).origin ≡ [] }
-    ensures here { IsOf clock.now pass.new }
+    ensures here { IsPassOf clock.now pass.new }
     ensures table { book_table book.new ≡ book_table book.old }
 {
     let bucket = sealed(rt, alloc, book, no, clock, pass)?;

@@ -1,6 +1,6 @@
 ghost use Rattle.std.specs.Prelude.{◌≡◌, ◌≤◌, ◌<◌, ◌^◌, [], IfOk};
 ghost use Rattle.deed_book.specs.Book.{book_table};
-ghost use Rattle.smr_clock.specs.Belongs.{IsOf, clock_id};
+ghost use Rattle.smr_clock.specs.Belongs.{IsPassOf, clock_id};
 ghost use Rattle.uma_life.specs.Ticket.{ticket_table, ticket_zone, ticket_domain};
 ghost use Rattle.uma_life.specs.Cached.{cached_ticket};
 ghost use Rattle.uma_zone.specs.Domains.{IsSeatOf, domains_home, domains_clock};
@@ -34,8 +34,8 @@ pub(super) struct SeatedZone {
     pub ghost of_zone: { (domains_home domains).zone ≡ 0 },
     pub ghost of_clock: { domains_clock domains ≡ clock_id clock },
     pub ghost of_kind: { seat.seating.smr ≡ smr },
-    pub ghost pass_here: { IsOf clock pass },
-    pub ghost reader_here: { IsOf clock reader },
+    pub ghost pass_here: { IsPassOf clock pass },
+    pub ghost reader_here: { IsPassOf clock reader },
     pub ghost no_origin: { (book_table book).origin ≡ [] },
 }
 

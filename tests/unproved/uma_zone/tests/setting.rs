@@ -1,5 +1,5 @@
 ghost use Rattle.std.specs.Prelude.{◌≡◌, All, IfOk};
-ghost use Rattle.smr_clock.specs.Belongs.{IsOf, clock_id};
+ghost use Rattle.smr_clock.specs.Belongs.{IsPassOf, clock_id};
 ghost use Rattle.uma_zone.specs.Zone.{zone_index, zone_clock, zone_smr, zone_domains};
 
 use super::hooks::{Stamped, TestHooks, hooks};
@@ -29,7 +29,7 @@ pub(super) fn new_clock(
     seats: u32,
     window: u64,
 ) -> Result<(Clock<Bare>, Vec<Pass<Bare>>), Fail>
-    ensures { IfOk result (λ made. All (IsOf made.0) made.1.items) }
+    ensures { IfOk result (λ made. All (IsPassOf made.0) made.1.items) }
 {
     let (clock, passes) = Clock::<Bare>::new(alloc, seats, 1, window)?;
     Ok((clock, passes))
@@ -40,9 +40,9 @@ pub(super) fn take_pass(
     clock: &Clock<Bare>,
     passes: &mut Vec<Pass<Bare>>,
 ) -> Result<Pass<Bare>, Fail>
-    requires { All (IsOf clock.now) passes.old.items }
-    ensures here { IfOk result (IsOf clock.now) }
-    ensures left { All (IsOf clock.now) passes.new.items }
+    requires { All (IsPassOf clock.now) passes.old.items }
+    ensures here { IfOk result (IsPassOf clock.now) }
+    ensures left { All (IsPassOf clock.now) passes.new.items }
 {
     match passes.pop() {
         Some(pass) => Ok(pass),
@@ -52,7 +52,7 @@ pub(super) fn take_pass(
 
 /// A clock of one seat from 1 on with this window, and its pass.
 pub(super) fn one_pass(alloc: Global, window: u64) -> Result<(Clock<Bare>, Pass<Bare>), Fail>
-    ensures { IfOk result (λ made. IsOf made.0 made.1) }
+    ensures { IfOk result (λ made. IsPassOf made.0 made.1) }
 {
     let (clock, mut passes) = new_clock(alloc, 1, window)?;
     let pass = take_pass(&clock, &mut passes)?;

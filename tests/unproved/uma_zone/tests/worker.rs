@@ -1,5 +1,5 @@
 ghost use Rattle.std.specs.Prelude.{◌≡◌, ◌≤◌, ◌<◌, All, OnOk, length};
-ghost use Rattle.smr_clock.specs.Belongs.{IsOf, clock_id};
+ghost use Rattle.smr_clock.specs.Belongs.{IsPassOf, clock_id};
 ghost use Rattle.uma_bucket.specs.Home.{IsHome};
 ghost use Rattle.uma_life.specs.Live.{live_ticket};
 ghost use Rattle.uma_seat.specs.Seat.{spares_of, ledger_of};
@@ -34,7 +34,7 @@ pub(super) struct Worker<'a> {
     pub seat: SeatCache<Stamped, Bare>,
     pub held: Vec<Live<Stamped>>,
     pub ghost clocked: { clock_id clock.now ≡ zone_clock zone.now },
-    pub ghost here: { IsOf clock.now pass },
+    pub ghost here: { IsPassOf clock.now pass },
     pub ghost seated: { IsSeatOf zone.now seat },
     pub ghost home: { All (λ live. IsHome (zone_home zone.now) (live_ticket live)) held.items },
 }
@@ -48,7 +48,7 @@ pub(super) fn new_worker<'a, R: Wait>(
     pass: Pass<Bare>,
 ) -> Result<Worker<'a>, Fail>
     requires clock { clock_id clock.now ≡ zone_clock zone.now }
-    requires pass { IsOf clock.now pass }
+    requires pass { IsPassOf clock.now pass }
     requires domain { 0 < zone_domains zone.now }
 {
     new_worker_in(rt, alloc, zone, clock, pass, 0)
@@ -64,7 +64,7 @@ pub(super) fn new_worker_in<'a, R: Wait>(
     domain: u8,
 ) -> Result<Worker<'a>, Fail>
     requires clock { clock_id clock.now ≡ zone_clock zone.now }
-    requires pass { IsOf clock.now pass }
+    requires pass { IsPassOf clock.now pass }
     requires domain { domain < zone_domains zone.now }
 {
     let seat = zone.seat(rt, alloc, domain)?;
@@ -87,7 +87,7 @@ pub(super) fn new_workers<'a, R: Wait>(
     count: u32,
 ) -> Result<Vec<Worker<'a>>, Fail>
     requires clock { clock_id clock.now ≡ zone_clock zone.now }
-    requires passes { All (IsOf clock.now) passes.items }
+    requires passes { All (IsPassOf clock.now) passes.items }
     requires domain { 0 < zone_domains zone.now }
 {
     let mut workers = Vec::new(alloc);

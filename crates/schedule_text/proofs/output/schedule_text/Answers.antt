@@ -3,7 +3,7 @@ use Rattle.std.proofs.Common.{rules, ◌≡◌, ◌++◌}
 use Rattle.std.proofs.lemmas.Result.{err_from_is_err_and}
 use Rattle.smr_core.specs.CoreState.{opening}
 use Rattle.smr_core.proofs.TurnLaws.{turn-is-determined, taken-is-not-refused}
-use Rattle.schedule_text.specs.ScheduleText.{about_of, hands_line}
+use Rattle.schedule_text.specs.ScheduleText.{config_of, hands_line}
 use Rattle.schedule_text.proofs.ScheduleLaws.{refused-prints-nothing, whole-output}
 use Rattle.schedule_text.proofs.ScheduleLemmas.{prints-more, refuses-schedule}
 use Rattle.schedule_text.proofs.ScheduleRange.{valid_in_range}
@@ -22,7 +22,7 @@ pub loop-line-preserved : goal.loop-line-preserved
 loop-line-preserved c =
     let below = rw c.as_slice-line-items.ensures at c.loop-line-test.true in
     let printed = rw c.as_slice-line-items.ensures at c.in_ok-print_line.ensures.printed in
-    prints-more c.args.schedule.now.version (opening (about_of c.args.schedule.now)) c.loop-line.core c.print_line.new.core
+    prints-more c.args.schedule.now.version (opening (config_of c.args.schedule.now)) c.loop-line.core c.print_line.new.core
     c.args.schedule.now.lines
     c.loop-line.line-index _
     c.loop-line.text.items c.print_line.new.text.items below c.loop-line.invariant printed

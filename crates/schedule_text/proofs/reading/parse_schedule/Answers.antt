@@ -1,13 +1,13 @@
 -- The reader shows the lines of the text, and the schedule is that of the reader.
 use Rattle.std.proofs.Common.{rules, ◌≡◌, ◌∙◌, sym, ap, Option, Some, None, IsSome}
 use Rattle.std.specs.Option.{IfSome}
-use Rattle.smr_core.specs.declared.about.About.{About}
-use Rattle.schedule_text.specs.ScheduleText.{about_of}
+use Rattle.smr_core.specs.declared.clock_config.ClockConfig.{ClockConfig}
+use Rattle.schedule_text.specs.ScheduleText.{config_of}
 use Rattle.schedule_text.proofs.reading.parse_schedule.Goals as goal
 
-only : (o : Option About) (a : About) → IsSome o → IfSome o (λ (about : About). about ≡ a) → o ≡ Some a
+only : (o : Option ClockConfig) (a : ClockConfig) → IsSome o → IfSome o (λ (config : ClockConfig). config ≡ a) → o ≡ Some a
 only None a some is = absurd cc
-only (Some about) a some is = ap (λ (x : About). Some x) is
+only (Some config) a some is = ap (λ (x : ClockConfig). Some x) is
 
 pub returns-clause-read : goal.returns-clause-read
 returns-clause-read c =
@@ -17,6 +17,6 @@ returns-clause-read c =
       spoke = r.0;
       right = r.1;
       version = c.schedule.ensures.version ∙ r.2.version;
-      clock = sym r.2.clock ∙ only c.read_lines.new.grammar.clock (about_of c.schedule.result) some c.schedule.ensures.clock;
+      clock = sym r.2.clock ∙ only c.read_lines.new.grammar.clock (config_of c.schedule.result) some c.schedule.ensures.clock;
       lines = c.schedule.ensures.lines ∙ r.2.turns;
     }

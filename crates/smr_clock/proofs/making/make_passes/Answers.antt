@@ -12,14 +12,14 @@ use Rattle.smr_clock.proofs.making.make_passes.Goals as goal
 pub split_seat-seat-requires : goal.split_seat-seat-requires
 split_seat-seat-requires g c =
     let at = c.loop-number.invariant in
-    let below : c.loop-number.number < c.args.setup.about.seats = search rules in (
+    let below : c.loop-number.number < c.args.setup.config.seats = search rules in (
       at.table,
       search rules,
       worker_splits _ g.H.Host.includes g.H.Host.copied g.H.Host.split _ _ _ c.loop-number.number
           (ap (λ (m : Me (Unit {0}) (View g.row.H-Part.Denot)). m.0.setup) at.knows ∙ sym c.requires.table.1)
           at.id
           (ap (λ (m : Me (Unit {0}) (View g.row.H-Part.Denot)). m.0.made) at.knows)
-          (subst (λ (a : Setup). c.loop-number.number < a.about.seats) (sym c.requires.table.1) below),
+          (subst (λ (a : Setup). c.loop-number.number < a.config.seats) (sym c.requires.table.1) below),
     )
 
 pub loop-number-preserved : goal.loop-number-preserved

@@ -5,6 +5,6 @@ use Rattle.smr_core.proofs.presence.all_seats.Goals as goal
 
 pub returns-in_default : goal.returns-in_default
 returns-in_default c =
-    let few : 64 - c.args.about.seats ≤ 64 = omega arith in
-    let left : 64 - (64 - c.args.about.seats) ≡ c.args.about.seats = omega (arith, c.requires) in
-    ones_shr 64 (64 - c.args.about.seats) few ∙ ap (λ (n : ℕ). 2 ^ n - 1) left
+    let few : 64 - c.args.config.seats ≤ 64 = omega arith in
+    let left : 64 - (64 - c.args.config.seats) ≡ c.args.config.seats = omega (arith, c.requires) in
+    ones_shr 64 (64 - c.args.config.seats) few ∙ ap (λ (n : ℕ). 2 ^ n - 1) left

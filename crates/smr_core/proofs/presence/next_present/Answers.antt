@@ -4,4 +4,4 @@ use Rattle.smr_core.proofs.PresenceLemmas.{found-is-next}
 use Rattle.smr_core.proofs.presence.next_present.Goals as goal
 
 pub returns : goal.returns
-returns c = c.min.ensures ∙ found-is-next c.args.about c.args.seats c.args.from c.if-from-about.false c.requires c.ranges.seats.fits
+returns c = c.min.ensures ∙ found-is-next c.args.config c.args.seats c.args.from c.if-from-config.false c.requires c.ranges.seats.fits

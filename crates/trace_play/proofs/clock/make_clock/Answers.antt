@@ -5,4 +5,4 @@ use Rattle.trace_play.proofs.clock.make_clock.Goals as goal
 
 pub returns-in-Ok-clause-passes : goal.returns-in-Ok-clause-passes
 returns-in-Ok-clause-passes c =
-    passes_of c.args.head.now.workers c.in-Ok.made.0 c.in-Ok.made.1.items (ap (λ (s : Setup). s.about.seats) c.in-Ok.ensures.clock) c.in-Ok.ensures.workers
+    passes_of c.args.head.now.workers c.in-Ok.made.0 c.in-Ok.made.1.items (ap (λ (s : Setup). s.config.seats) c.in-Ok.ensures.clock) c.in-Ok.ensures.workers

@@ -2,7 +2,7 @@ use Rattle.std.proofs.Common.{subst, sym}
 use denote.Exit.{no}
 use denote.Param.{param}
 use denote.Param.Send.{IsSend, IsSync, sendable, param_send, arg_send, param_sync, arg_sync}
-use Rattle.trace_worker.specs.contracts.running.Running as Running
+use Rattle.trace_worker.specs.contracts.worker_run.WorkerRun as WorkerRun
 use Rattle.trace_worker.specs.Turn.{IsReady}
 use Rattle.trace_play.proofs.Crossed.{running_send, shared_sync}
 use Rattle.trace_play.proofs.round.work_round.Goals as goal
@@ -15,7 +15,7 @@ for_each_mut-requires-send-T g c κs within =
     let S = param 6 g.row.N-Seat in
     let P = param 7 g.row.N-H-Part in
     let seat : IsSend S = search (c.type_bounds.send-N-Seat, sendable) in
-    let one : IsSend (Running.the_row N H C S P g.N.H.Host) = running_send N H C S P g.N.H.Host c.type_bounds.send-N-H c.type_bounds.sync-N-H seat in
+    let one : IsSend (WorkerRun.the_row N H C S P g.N.H.Host) = running_send N H C S P g.N.H.Host c.type_bounds.send-N-H c.type_bounds.sync-N-H seat in
     param_send _ _ (arg_send _ no _ one)
 
 pub for_each_mut-requires-sync-F : goal.for_each_mut-requires-sync-F

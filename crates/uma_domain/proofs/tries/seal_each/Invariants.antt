@@ -1,12 +1,12 @@
 use Rattle.std.proofs.Common.{◌≡◌, ◌≤◌, ◌+◌}
 use Rattle.std.specs.VecDeque.{deque_len, deque_capacity}
-use Rattle.smr_clock.specs.Belongs.{IsOf, clock_id, view, holder}
+use Rattle.smr_clock.specs.Belongs.{IsPassOf, clock_id, view, holder}
 use Rattle.uma_domain.proofs.Tried.{Trying}
 use Rattle.uma_domain.proofs.tries.seal_each.Given as goal
 
 abbrev pub invariant-loop : goal.invariant-loop
 invariant-loop g l = record {
-  here : IsOf l.clock l.pass;
+  here : IsPassOf l.clock l.pass;
   phase : (holder l.pass).phase ≡ (holder l.fn.pass).phase;
   seen : (holder l.fn.pass).seen ≤ (holder l.pass).seen;
   host : (view l.pass).host ≡ (view l.fn.pass).host;

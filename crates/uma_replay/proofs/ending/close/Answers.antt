@@ -1,6 +1,6 @@
 use Rattle.std.proofs.Common.{ℕ, List, sym, ◌∙◌, subst}
 use Rattle.std.specs.Prelude.{IfOk}
-use Rattle.trace_worker.specs.declared.naming.Naming.{Naming}
+use Rattle.trace_worker.specs.declared.name_work.NameWork.{NameWork}
 use Rattle.trace_worker.specs.declared.worker.Worker.{Worker}
 use Rattle.trace_worker.specs.Items.{CountedZone}
 use Rattle.trace_play.specs.Clock.{ReadsHands}
@@ -25,7 +25,7 @@ reported-requires-clause-can g c κs within =
     let E : List (Worker _ _ _) → Type 0 = λ ws. AreDone t c.from_vec-zones.result c.args.clock ws in
     let P : List (CountedZone _ _ _) → Type 0 = λ zones. NamesDone names t c.args.cache zones c.args.clock c.take_stock.new.workers c.args.namings.items in
     let Q : List (Worker _ _ _) → Type 0 = λ ws. NamesDone names t c.args.cache c.from_vec-zones.result c.args.clock ws c.args.namings.items in
-    let R : List (Naming _ _ _ _ _) → Type 0 = λ gs. NamesDone names t c.args.cache c.from_vec-zones.result c.args.clock c.from_vec-workers.result gs in
+    let R : List (NameWork _ _ _ _ _) → Type 0 = λ gs. NamesDone names t c.args.cache c.from_vec-zones.result c.args.clock c.from_vec-workers.result gs in
     record {
       valid = c.requires.can.valid;
       few = c.requires.can.few;

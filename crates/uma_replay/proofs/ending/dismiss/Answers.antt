@@ -3,7 +3,7 @@ use Rattle.std.proofs.lemmas.Iterator.Adapters.{YieldsList-from_vec}
 use Rattle.std.proofs.lemmas.Iterator.Consumers.{YieldsList-end, YieldsList-turn}
 use Rattle.std.proofs.lemmas.List.{map-id}
 use Rattle.std.proofs.lemmas.Option.{none-some, slice_get_read}
-use Rattle.trace_worker.specs.declared.running.Running.{Running}
+use Rattle.trace_worker.specs.declared.worker_run.WorkerRun.{WorkerRun}
 use Rattle.trace_worker.specs.Together.{crew}
 use Rattle.uma_replay.specs.Playing.{AllBack, gave_ups_of, namings_of}
 use Rattle.uma_replay.proofs.ComingBack.{back_more, pushed_map}
@@ -18,8 +18,8 @@ into_worker-requires g c =
 pub loop-running-preserved : goal.loop-running-preserved
 loop-running-preserved g c = record {
   workers = back_more c.args.clock.now c.loop-running.yielded c.loop-running.workers.items _ c.in-Some.running c.into_worker.result c.loop-running.invariant.workers c.into_worker.ensures.pass c.into_worker.ensures.keeps c.in_ok-push.ensures.items;
-  namings = pushed_map (λ (r : Running _ _ _ _ _ _). r.naming) c.loop-running.yielded c.in-Some.running c.loop-running.namings.items _ c.loop-running.invariant.namings c.in_ok-push-2.ensures.items;
-  gave_ups = pushed_map (λ (r : Running _ _ _ _ _ _). r.gave_up) c.loop-running.yielded c.in-Some.running c.loop-running.gave_ups.items _ c.loop-running.invariant.gave_ups c.in_ok-push-3.ensures.items;
+  namings = pushed_map (λ (r : WorkerRun _ _ _ _ _ _). r.naming) c.loop-running.yielded c.in-Some.running c.loop-running.namings.items _ c.loop-running.invariant.namings c.in_ok-push-2.ensures.items;
+  gave_ups = pushed_map (λ (r : WorkerRun _ _ _ _ _ _). r.gave_up) c.loop-running.yielded c.in-Some.running c.loop-running.gave_ups.items _ c.loop-running.invariant.gave_ups c.in_ok-push-3.ensures.items;
 }
 
 pub loop-running-init : goal.loop-running-init
@@ -32,17 +32,17 @@ loop-running-init g c = record {
 pub returns-clause-workers : goal.returns-clause-workers
 returns-clause-workers g c =
     let end = YieldsList-end (YieldsList-from_vec c.args.runnings.items (cc) (cc)) c.loop-running.yielded c.loop-running.running-iterator c.loop-running.yielded_by c.next.result c.next.new.self c.in-None.is c.next.ensures.steps in
-    let P : List (Running _ _ _ _ _ _) → Type 0 = λ list. AllBack c.args.clock.now (crew list) c.loop-running.workers.items in
+    let P : List (WorkerRun _ _ _ _ _ _) → Type 0 = λ list. AllBack c.args.clock.now (crew list) c.loop-running.workers.items in
     subst P (sym (map-id c.loop-running.yielded) ∙ end.0) c.loop-running.invariant.workers
 
 pub returns-clause-namings : goal.returns-clause-namings
 returns-clause-namings g c =
     let end = YieldsList-end (YieldsList-from_vec c.args.runnings.items (cc) (cc)) c.loop-running.yielded c.loop-running.running-iterator c.loop-running.yielded_by c.next.result c.next.new.self c.in-None.is c.next.ensures.steps in
-    let P : List (Running _ _ _ _ _ _) → Type 0 = λ list. c.loop-running.namings.items ≡ namings_of list in
+    let P : List (WorkerRun _ _ _ _ _ _) → Type 0 = λ list. c.loop-running.namings.items ≡ namings_of list in
     subst P (sym (map-id c.loop-running.yielded) ∙ end.0) c.loop-running.invariant.namings
 
 pub returns-clause-gave_ups : goal.returns-clause-gave_ups
 returns-clause-gave_ups g c =
     let end = YieldsList-end (YieldsList-from_vec c.args.runnings.items (cc) (cc)) c.loop-running.yielded c.loop-running.running-iterator c.loop-running.yielded_by c.next.result c.next.new.self c.in-None.is c.next.ensures.steps in
-    let P : List (Running _ _ _ _ _ _) → Type 0 = λ list. c.loop-running.gave_ups.items ≡ gave_ups_of list in
+    let P : List (WorkerRun _ _ _ _ _ _) → Type 0 = λ list. c.loop-running.gave_ups.items ≡ gave_ups_of list in
     subst P (sym (map-id c.loop-running.yielded) ∙ end.0) c.loop-running.invariant.gave_ups

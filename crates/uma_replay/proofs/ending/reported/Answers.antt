@@ -1,7 +1,7 @@
 use Rattle.std.proofs.Common.{◌≡◌, ◌<◌, ◌^◌, ℕ, List, length, refl, sum, sym, ap, ◌∙◌, subst}
 use Rattle.uma_keg.specs.declared.census.Census.{Census}
 use Rattle.uma_life.specs.declared.tally_sum.TallySum.{TallySum}
-use Rattle.trace_worker.specs.declared.naming.Naming.{Naming}
+use Rattle.trace_worker.specs.declared.name_work.NameWork.{NameWork}
 use Rattle.trace_play.specs.Closes.{AllClose}
 use Rattle.uma_replay.specs.Names.{CountsFit, IsWhole, SeatsFit}
 use Rattle.uma_replay.specs.Reporting.{IsReportOf}
@@ -30,7 +30,7 @@ report_of-requires g c =
 
 pub whole_report-requires-clause-fit : goal.whole_report-requires-clause-fit
 whole_report-requires-clause-fit g c κs within =
-    let P : List (Naming _ _ _ _ _) → Type 0 = λ list. SeatsFit g.N.NameCalls c.args.cache list in
+    let P : List (NameWork _ _ _ _ _) → Type 0 = λ list. SeatsFit g.N.NameCalls c.args.cache list in
     subst P (sym c.as_slice-5.ensures) (record {
       few = few_namings g.N.NameCalls c.args.trace.now c.args.cache c.args.zones c.args.clock c.args.workers c.args.namings c.requires.can.valid c.requires.can.named;
       seats = are_seats g.N.NameCalls c.args.trace.now c.args.cache c.args.zones c.args.clock c.args.workers c.args.namings c.requires.can.done c.requires.can.named;
@@ -38,7 +38,7 @@ whole_report-requires-clause-fit g c κs within =
 
 pub whole_report-requires-clause-counts : goal.whole_report-requires-clause-counts
 whole_report-requires-clause-counts g c κs within =
-    let P : List (Naming _ _ _ _ _) → Type 0 = λ list. CountsFit list in
+    let P : List (NameWork _ _ _ _ _) → Type 0 = λ list. CountsFit list in
     subst P (sym c.as_slice-5.ensures) (fit_counts g.N.NameCalls c.args.trace.now c.args.cache c.args.zones c.args.clock c.args.workers c.args.namings c.requires.can.valid c.requires.can.few c.requires.can.done c.requires.can.named)
 
 pub returns : goal.returns
@@ -56,7 +56,7 @@ returns g c =
     let D : List ℕ → Type 0 = λ deferred. IsReportOf c.args.trace.now c.args.workers c.as_slice-2.result.now c.as_slice-3.result.now deferred ended.read ended.write first.gave_up first in
     let E : List TallySum → Type 0 = λ tallies. IsReportOf c.args.trace.now c.args.workers c.as_slice-2.result.now tallies ended.totals.deferred.items ended.read ended.write first.gave_up first in
     let F : List Census → Type 0 = λ censuses. IsReportOf c.args.trace.now c.args.workers censuses ended.totals.tallies.items ended.totals.deferred.items ended.read ended.write first.gave_up first in
-    let G : List (Naming _ _ _ _ _) → Type 0 = λ namings. IsWhole names c.args.cache head.names namings first c.in_ok-report.report in
+    let G : List (NameWork _ _ _ _ _) → Type 0 = λ namings. IsWhole names c.args.cache head.names namings first c.in_ok-report.report in
     record {
       hall = record {
         done = c.requires.can.done;

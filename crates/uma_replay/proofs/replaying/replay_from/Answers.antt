@@ -2,7 +2,7 @@ use Rattle.std.proofs.Common.{◌≡◌, ◌∙◌, ℕ, List, sum, sym, ap, sub
 use Rattle.std.proofs.lemmas.Result.{IfOk-weaker}
 use Rattle.trace_worker.specs.Attendance.{worker_in}
 use Rattle.trace_worker.specs.Items.{CountedZone}
-use Rattle.trace_play.specs.Rounds.{IsBegun, Suits}
+use Rattle.trace_play.specs.Rounds.{IsBegun, FitsTrace}
 use Rattle.trace_play.proofs.AfterRound.{in_crew}
 use Rattle.trace_worker.specs.Together.{crew}
 use Rattle.uma_replay.specs.Asked.{AreGivenUp}
@@ -26,7 +26,7 @@ play_all-requires-clause-suits g c κs within =
     let t = c.args.trace.now in
     let s = c.args.setting in
     let first = c.in_ok-first.first.items in
-    let P : List (CountedZone _ _ _) → Type 0 = λ zones. Suits g.N.NameCalls c.args.cache t zones s.clock first in
+    let P : List (CountedZone _ _ _) → Type 0 = λ zones. FitsTrace g.N.NameCalls c.args.cache t zones s.clock first in
     subst P (sym c.as_slice-zone_list.ensures.value) (suits_of g.N.NameCalls c.args.cache t s first c.requires.valid c.requires.serves c.requires.few c.requires.set_up c.requires.of_clock c.in_ok-first.ensures)
 
 pub play_all-requires-clause-begun : goal.play_all-requires-clause-begun

@@ -3,11 +3,11 @@ use Rattle.std.proofs.lemmas.Iterator.Adapters.{YieldsList-from_vec}
 use Rattle.std.proofs.lemmas.Iterator.Consumers.{YieldsList-end, YieldsList-turn}
 use Rattle.std.proofs.lemmas.List.{length-map, map-id}
 use Rattle.std.proofs.lemmas.Option.{none-some}
-use Rattle.trace_worker.specs.declared.running.Running.{Running}
+use Rattle.trace_worker.specs.declared.worker_run.WorkerRun.{WorkerRun}
 use Rattle.trace_worker.specs.declared.worker.Worker.{Worker}
 use Rattle.trace_worker.specs.Attendance.{is_out, worker_at, worker_in}
 use Rattle.uma_replay.specs.Playing.{AreFirst}
-use Rattle.uma_replay.proofs.Runnings.{first_more, first_of}
+use Rattle.uma_replay.proofs.WorkerRuns.{first_more, first_of}
 use Rattle.uma_replay.proofs.starting.begin.Goals as goal
 
 pub loop-worker-preserved : goal.loop-worker-preserved
@@ -25,7 +25,7 @@ loop-worker-preserved g c =
 
 pub loop-worker-init : goal.loop-worker-init
 loop-worker-init g c =
-    let P : List (Running _ _ _ _ _ _) → Type 0 = λ list. AreFirst g.N.NameCalls c.args.cache.now c.args.domains [] list in
+    let P : List (WorkerRun _ _ _ _ _ _) → Type 0 = λ list. AreFirst g.N.NameCalls c.args.cache.now c.args.domains [] list in
     subst P (sym c.in_ok-runnings.ensures.items) (record { are = refl; each = λ n r at. absurd (none-some r at) })
 
 pub overflow_cast-domain : goal.overflow_cast-domain

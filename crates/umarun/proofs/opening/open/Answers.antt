@@ -17,7 +17,7 @@ returns-in-Ok-clause-opens c =
     let plan : ℕ × ℕ = (c.args.line.now.rows, c.args.line.now.slabs * 64) in
     record {
       clock = made.clock ∙ ap (λ (o : Option ClockHead). setup c.args.head.now.workers (start_of o) (window_of o) plan) (sym c.in-Some.is);
-      passes = passes_of c.args.head.now.workers c.in-Ok.opened.clock c.in-Ok.opened.passes (ap (λ (s : Setup). s.about.seats) made.clock) made.passes;
+      passes = passes_of c.args.head.now.workers c.in-Ok.opened.clock c.in-Ok.opened.passes (ap (λ (s : Setup). s.config.seats) made.clock) made.passes;
       whole = is_opened c.in-Ok.opened (setup c.args.head.now.workers clock.start clock.window plan) _ made.clock made.names made.long made.rows made.root;
       rows = made.rows;
     }
@@ -29,5 +29,5 @@ returns-in-Err-clause-refused c =
     let workers = c.args.head.now.workers in
     let plan : ℕ × ℕ = (line.rows, line.slabs * 64) in
     let fits = subst (λ (o : Option ClockHead). IfSome o ClockFits) c.in-Some.is c.requires.clock in
-    names_lack (setup workers clock.start clock.window plan).about line.rows (line.slabs * 64) c.in-Err.refused
+    names_lack (setup workers clock.start clock.window plan).config line.rows (line.slabs * 64) c.in-Err.refused
     (in_range workers clock plan c.requires.few_workers fits) (plan_fits c.args.head.now line c.requires.fits) c.in-Err.ensures.refused

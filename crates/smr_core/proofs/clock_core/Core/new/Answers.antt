@@ -5,12 +5,12 @@ use Rattle.smr_core.proofs.OpeningLemmas.{opening-law}
 use Rattle.smr_core.proofs.clock_core.Core.new.Goals as goal
 
 pub invariant_of-result : goal.invariant_of-result
-invariant_of-result c = subst CoreLaw (sym c.in_ok-works.ensures) (opening-law c.in_ok-about.about c.in_ok-about.ensures.made.in_range)
+invariant_of-result c = subst CoreLaw (sym c.in_ok-works.ensures) (opening-law c.in_ok-config.config c.in_ok-config.ensures.made.in_range)
 
 pub returns-clause-opened : goal.returns-clause-opened
 returns-clause-opened c =
     record {
       in_range = search rules;
       opened = search rules;
-      law = subst CoreLaw (sym c.in_ok-works.ensures) (opening-law c.in_ok-about.about c.in_ok-about.ensures.made.in_range);
+      law = subst CoreLaw (sym c.in_ok-works.ensures) (opening-law c.in_ok-config.config c.in_ok-config.ensures.made.in_range);
     }

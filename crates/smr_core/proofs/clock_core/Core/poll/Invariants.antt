@@ -10,8 +10,8 @@ abbrev pub invariant-loop-number : goal.invariant-loop-number
 invariant-loop-number l =
     record {
       run : Run l.fn.self (poll_so_far l.seat l.tag (seats_below l.set l.number)) l.sees.items l.self;
-      scans : Scans l.self l.seat l.set (next_present l.self.about l.set l.number);
-      about : l.self.about ≡ l.fn.self.about;
+      scans : Scans l.self l.seat l.set (next_present l.self.config l.set l.number);
+      config : l.self.config ≡ l.fn.self.config;
       begun : HasBegun l.set l.sees.items;
       count : vec_len l.sees ≤ l.number + 3;
       room : l.seats + 4 ≤ vec_capacity l.sees;

@@ -16,13 +16,13 @@ pub returns : goal.returns
 unfolding word_seen
 returns c =
     let scanning : c.in_ok-actor.actor.holder.task ≡ task.Scanning = search rules in
-    let long : length c.args.self.now.words.items ≡ place_after_seats c.args.self.now.about = c.requires.words in
-    let below : c.in_ok-actor.actor.holder.scanned < c.args.self.now.about.seats = c.if-scanned-self.false in
+    let long : length c.args.self.now.words.items ≡ place_after_seats c.args.self.now.config = c.requires.words in
+    let below : c.in_ok-actor.actor.holder.scanned < c.args.self.now.config.seats = c.if-scanned-self.false in
     let found : c.index.result.now ≡ seat_word c.args.self.now.words.items c.in_ok-actor.actor.holder.scanned =
     c.index.ensures ∙ ap (λ (i : ℕ). get_or c.args.self.now.words.items i c.index.result.now) c.seat_place.ensures
     ∙ get_or_default c.args.self.now.words.items (seat_place c.in_ok-actor.actor.holder.scanned) c.index.result.now 0 (omega arith) in
-    let after : c.poll_scanned-holder.result ≡ clock.poll_scanned c.args.self.now.about c.in_ok-actor.actor.holder (seat_word c.args.self.now.words.items c.in_ok-actor.actor.holder.scanned) =
-    c.poll_scanned-holder.ensures ∙ ap (λ (n : ℕ). clock.poll_scanned c.args.self.now.about c.in_ok-actor.actor.holder n) found in
+    let after : c.poll_scanned-holder.result ≡ clock.poll_scanned c.args.self.now.config c.in_ok-actor.actor.holder (seat_word c.args.self.now.words.items c.in_ok-actor.actor.holder.scanned) =
+    c.poll_scanned-holder.ensures ∙ ap (λ (n : ℕ). clock.poll_scanned c.args.self.now.config c.in_ok-actor.actor.holder n) found in
     let still = set-get_or c.args.self.now.words.items (seat_place c.in_ok-actor.actor.holder.scanned) 0 in
     record {
       stepped =
@@ -32,7 +32,7 @@ returns c =
             needs = (scanning, c.if-scanned-self.false);
             saw_it = λ i. word_seen c.in_ok-actor.actor.holder (found i) (after i).least;
             after = λ i. record {
-              about = c.args.self.now.about;
+              config = c.args.self.now.config;
               words = sym still i;
               actors = set c.args.self.now.actors.items c.args.seat ((c.with.ensures ∙ ap (λ (x : Holder). record c.in_ok-actor.actor { holder = x }) after) i);
             };

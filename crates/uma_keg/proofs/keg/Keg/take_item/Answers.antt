@@ -4,7 +4,7 @@ use Rattle.deed_book.specs.Book.{zones_of}
 use Rattle.uma_life.specs.Stored.{stored_no, stored_origin}
 use Rattle.uma_places.specs.Places.{domain_at, CountsOneOut, Gives}
 use Rattle.uma_keg.specs.HomeItems.{item_at}
-use Rattle.uma_places.specs.Taking.{Takes}
+use Rattle.uma_places.specs.Taking.{TakesPlaces}
 use Rattle.uma_keg.specs.KegLaw.{PlacesLaw}
 use Rattle.uma_keg.proofs.GivenItem.{out_slab, PlacesLaw-given, ZonesLaw-given}
 use Rattle.uma_keg.proofs.TakenItem.{free_home, PlacesLaw-taken, ZonesLaw-taken, same_again, zones_again, items_again, if_some, on_some, takes_item}
@@ -16,7 +16,7 @@ pub invariant_of-self : goal.invariant_of-self
 invariant_of-self g c =
     let keg = c.args.self.now in
     let no = c.unwrap-no.result in
-    let takes : Takes keg.places no c.take.new.self = if_some c.take.result (λ (n : ℕ). Takes keg.places n c.take.new.self) no c.unwrap-no.ensures c.take.ensures.takes in
+    let takes : TakesPlaces keg.places no c.take.new.self = if_some c.take.result (λ (n : ℕ). TakesPlaces keg.places n c.take.new.self) no c.unwrap-no.ensures c.take.ensures.takes in
     let counts : CountsOneOut keg.places c.take.new.self = on_some c.take.result (CountsOneOut keg.places c.take.new.self) no c.unwrap-no.ensures c.take.ensures.counts in
     let past : no < c.take.new.self.cap * c.take.new.self.per_slab = if_some c.take.result (λ (n : ℕ). n < c.take.new.self.cap * c.take.new.self.per_slab) no c.unwrap-no.ensures c.take.ensures.within in
     let below : no < keg.places.cap * keg.places.per_slab = rw (takes.slabs.cap, takes.slabs.per_slab) at past in
@@ -33,14 +33,14 @@ invariant_of-self g c =
 pub domain-domain-requires : goal.domain-domain-requires
 domain-domain-requires g c =
     let no = c.unwrap-no.result in
-    let takes : Takes c.args.self.now.places no c.take.new.self = if_some c.take.result (λ (n : ℕ). Takes c.args.self.now.places n c.take.new.self) no c.unwrap-no.ensures c.take.ensures.takes in
+    let takes : TakesPlaces c.args.self.now.places no c.take.new.self = if_some c.take.result (λ (n : ℕ). TakesPlaces c.args.self.now.places n c.take.new.self) no c.unwrap-no.ensures c.take.ensures.takes in
     rw takes.out refl
 
 pub put-requires : goal.put-requires
 put-requires g c =
     let keg = c.args.self.now in
     let no = c.unwrap-no.result in
-    let takes : Takes keg.places no c.take.new.self = if_some c.take.result (λ (n : ℕ). Takes keg.places n c.take.new.self) no c.unwrap-no.ensures c.take.ensures.takes in
+    let takes : TakesPlaces keg.places no c.take.new.self = if_some c.take.result (λ (n : ℕ). TakesPlaces keg.places n c.take.new.self) no c.unwrap-no.ensures c.take.ensures.takes in
     let past : no < c.take.new.self.cap * c.take.new.self.per_slab = if_some c.take.result (λ (n : ℕ). n < c.take.new.self.cap * c.take.new.self.per_slab) no c.unwrap-no.ensures c.take.ensures.within in
     let below : no < keg.places.cap * keg.places.per_slab = rw (takes.slabs.cap, takes.slabs.per_slab) at past in
     let taken = c.take-2.ensures in
@@ -59,7 +59,7 @@ pub invariant_of-self-in-Err : goal.invariant_of-self-in-Err
 invariant_of-self-in-Err g c =
     let keg = c.args.self.now in
     let no = c.unwrap-no.result in
-    let takes : Takes keg.places no c.take.new.self = if_some c.take.result (λ (n : ℕ). Takes keg.places n c.take.new.self) no c.unwrap-no.ensures c.take.ensures.takes in
+    let takes : TakesPlaces keg.places no c.take.new.self = if_some c.take.result (λ (n : ℕ). TakesPlaces keg.places n c.take.new.self) no c.unwrap-no.ensures c.take.ensures.takes in
     let counts : CountsOneOut keg.places c.take.new.self = on_some c.take.result (CountsOneOut keg.places c.take.new.self) no c.unwrap-no.ensures c.take.ensures.counts in
     let past : no < c.take.new.self.cap * c.take.new.self.per_slab = if_some c.take.result (λ (n : ℕ). n < c.take.new.self.cap * c.take.new.self.per_slab) no c.unwrap-no.ensures c.take.ensures.within in
     let below : no < keg.places.cap * keg.places.per_slab = rw (takes.slabs.cap, takes.slabs.per_slab) at past in
@@ -86,7 +86,7 @@ pub returns-in-Ok-clause-takes : goal.returns-in-Ok-clause-takes
 returns-in-Ok-clause-takes g c =
     let keg = c.args.self.now in
     let no = c.unwrap-no.result in
-    let takes : Takes keg.places no c.take.new.self = if_some c.take.result (λ (n : ℕ). Takes keg.places n c.take.new.self) no c.unwrap-no.ensures c.take.ensures.takes in
+    let takes : TakesPlaces keg.places no c.take.new.self = if_some c.take.result (λ (n : ℕ). TakesPlaces keg.places n c.take.new.self) no c.unwrap-no.ensures c.take.ensures.takes in
     let counts : CountsOneOut keg.places c.take.new.self = on_some c.take.result (CountsOneOut keg.places c.take.new.self) no c.unwrap-no.ensures c.take.ensures.counts in
     let past : no < c.take.new.self.cap * c.take.new.self.per_slab = if_some c.take.result (λ (n : ℕ). n < c.take.new.self.cap * c.take.new.self.per_slab) no c.unwrap-no.ensures c.take.ensures.within in
     let below : no < keg.places.cap * keg.places.per_slab = rw (takes.slabs.cap, takes.slabs.per_slab) at past in
@@ -104,7 +104,7 @@ pub returns-in-Err-clause-refused : goal.returns-in-Err-clause-refused
 returns-in-Err-clause-refused g c =
     let keg = c.args.self.now in
     let no = c.unwrap-no.result in
-    let takes : Takes keg.places no c.take.new.self = if_some c.take.result (λ (n : ℕ). Takes keg.places n c.take.new.self) no c.unwrap-no.ensures c.take.ensures.takes in
+    let takes : TakesPlaces keg.places no c.take.new.self = if_some c.take.result (λ (n : ℕ). TakesPlaces keg.places n c.take.new.self) no c.unwrap-no.ensures c.take.ensures.takes in
     let counts : CountsOneOut keg.places c.take.new.self = on_some c.take.result (CountsOneOut keg.places c.take.new.self) no c.unwrap-no.ensures c.take.ensures.counts in
     let past : no < c.take.new.self.cap * c.take.new.self.per_slab = if_some c.take.result (λ (n : ℕ). n < c.take.new.self.cap * c.take.new.self.per_slab) no c.unwrap-no.ensures c.take.ensures.within in
     let below : no < keg.places.cap * keg.places.per_slab = rw (takes.slabs.cap, takes.slabs.per_slab) at past in

@@ -3,7 +3,7 @@ use Rattle.std.specs.Int.{next_multiple_of}
 use Rattle.std.proofs.lemmas.Result.{err_from_is_err_and}
 use Rattle.vmem_arena.specs.Refused.{IsTakeSize}
 use Rattle.vmem_arena.specs.Steps.{TakesFront}
-use Rattle.vmem_arena.specs.Take.{IsBestFit, Takes}
+use Rattle.vmem_arena.specs.Take.{IsBestFit, TakesRange}
 use Rattle.vmem_arena.specs.Tags.{Tags, greatest_free}
 use Rattle.vmem_arena.proofs.FreeCounts.{largest_is, none_fits}
 use Rattle.vmem_arena.proofs.Choosing.{fit_has_range, chosen, part_of, whole_of, some_fit, takes}
@@ -60,7 +60,7 @@ returns-in_ok-take_part-clause-ok c =
     let n = c.next_multiple_of-size.result in
     let best = subst (λ (t : Tags). IsBestFit t.ranges n r) c.self.view_is h.best in
     let value : n ≡ next_multiple_of c.args.size c.args.self.now.quantum = subst (λ (t : Tags). n ≡ next_multiple_of c.args.size t.quantum) c.self.view_is c.next_multiple_of-size.ensures.value in
-    subst (λ (k : ℕ). Takes c.args.self.now k r.base c.take_part.new.self) value (takes c.args.self.now n r c.take_part.new.self best c.in_ok-take_part.ensures.ok)
+    subst (λ (k : ℕ). TakesRange c.args.self.now k r.base c.take_part.new.self) value (takes c.args.self.now n r c.take_part.new.self best c.in_ok-take_part.ensures.ok)
 
 pub returns-in_ok-take_whole-clause-ok : goal.returns-in_ok-take_whole-clause-ok
 returns-in_ok-take_whole-clause-ok c =
@@ -72,4 +72,4 @@ returns-in_ok-take_whole-clause-ok c =
     let all : r.size ≡ n = omega (arith, within, c.if-size-range.false) in
     let value : n ≡ next_multiple_of c.args.size c.args.self.now.quantum = subst (λ (t : Tags). n ≡ next_multiple_of c.args.size t.quantum) c.self.view_is c.next_multiple_of-size.ensures.value in
     let front = subst (λ (k : ℕ). TakesFront c.args.self.now r k c.take_whole.new.self) all c.in_ok-take_whole.ensures.ok in
-    subst (λ (k : ℕ). Takes c.args.self.now k r.base c.take_whole.new.self) value (takes c.args.self.now n r c.take_whole.new.self best front)
+    subst (λ (k : ℕ). TakesRange c.args.self.now k r.base c.take_whole.new.self) value (takes c.args.self.now n r c.take_whole.new.self best front)

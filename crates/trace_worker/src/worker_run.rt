@@ -1,0 +1,217 @@
+ghost use Rattle.std.specs.Prelude.{◌≡◌, ◌<◌, ◌≤◌, Some, length, IfSome, OnOk, slice_get};
+ghost use Rattle.trace_worker.specs.Asking.{Answers, AsksGate, CanWait, CountsWait, IsAskedLast, KeepsWork, Waits, heard_by};
+ghost use Rattle.trace_worker.specs.Attendance.{worker_in};
+ghost use Rattle.trace_worker.specs.Making.{IsIdle};
+ghost use Rattle.trace_worker.specs.NameLines.{CanGoOn, CanTurn, DoesLine, KeepsGate, StaysFit, doing};
+ghost use Rattle.trace_worker.specs.OwnLines.{own_ops as ops_at};
+ghost use Rattle.trace_worker.specs.Turn.{IsReady, HasWorked, most_asks};
+
+use crate::Memory;
+use crate::attendance::Attendance;
+use crate::gate::{Gate, Go};
+use crate::items::CountedZone;
+use crate::name_calls::NameCalls;
+use crate::name_work::NameWork;
+use crate::reclaim_calls::ReclaimCalls;
+use crate::worker::Worker;
+use crossbeam_utils::CachePadded;
+use smr_clock::Clock;
+use std::alloc::Global;
+use std::sync::Wait;
+use trace_text::{Op, Trace};
+
+/// How often a gate that holds is asked before one operation.
+const MOST_ASKS: u64 = 100_000_000;
+
+/// A worker between its turns, with what the report counts of its gate, and how its last turn ended.
+#[derive(Drop)]
+pub struct WorkerRun<N: NameCalls> {
+    pub attendance: Attendance<N::H>,
+    pub naming: NameWork<N>,
+    /// How often the gate was asked.
+    pub asked: u64,
+    /// Operations that were done though the gate held to the last.
+    pub gave_up: u64,
+    /// Want of memory in the last turn.
+    pub ended: Result<(), Memory>,
+    /// Unused bytes. The workers of a replay lie side by side in a list, and each writes to its own place in it at every
+    /// operation: without these bytes two of them would write to one cache line.
+    apart: CachePadded<()>,
+}
+
+/// An operation that the gate was asked for last, by the calls of a visit, and that isn't yet told as done.
+#[derive(Drop)]
+struct LastAsked<'a, G: Gate> {
+    visit: &'a G::Visit,
+    worker: u32,
+    number: u64,
+    ghost asked: { ∥ IsAskedLast worker number (G.heard visit.now) ∥₁ },
+}
+
+impl<N: NameCalls> WorkerRun<N> {
+    /// A worker before its first turn.
+    pub fn new(worker: Worker<N::H>, seat: N::Seat) -> WorkerRun<N>
+        ensures { IsIdle worker seat result }
+    {
+        WorkerRun {
+            attendance: Attendance::There(worker),
+            naming: NameWork::new(seat),
+            asked: 0,
+            gave_up: 0,
+            ended: Ok(()),
+            apart: CachePadded::new(()),
+        }
+    }
+
+    /// The turn of worker `number` in a round: it does its own list of operations, and asks the gate before each of them.
+    /// A gate that holds is asked again, at most 100,000,000 times; then the worker goes on, and counts that it gave up.
+    /// Want of memory ends the turn. Waits where the worker's lines do.
+    pub fn turn<R: Wait, G: Gate, C: ReclaimCalls>(
+        &mut self,
+        rt: &R,
+        alloc: Global,
+        trace: &Trace,
+        zones: &[CountedZone<N::H>],
+        clock: &Clock<N::H>,
+        names: &N,
+        cache: &N::Cache,
+        gate: &G,
+        reclaim: &C,
+        round: usize,
+        number: usize,
+    )
+        requires ready { IsReady N.NameCalls cache.now trace.now zones.now clock.now round number self.old }
+        ensures worked { OnOk self.new.ended (HasWorked N.NameCalls cache.now trace.now zones.now clock.now round number self.old self.new) }
+        ensures free { G.is_free gate.now → self.new.gave_up ≡ self.old.gave_up }
+        ensures asks { OnOk self.new.ended (AsksGate G.Gate gate.now number (length (ops_at trace.now.rounds round number)) self.old self.new) }
+    {
+        self.ended = self.work(
+            rt, alloc, trace, zones, clock, names, cache, gate, reclaim, round, number,
+        );
+    }
+
+    fn work<R: Wait, G: Gate, C: ReclaimCalls>(
+        &mut self,
+        rt: &R,
+        alloc: Global,
+        trace: &Trace,
+        zones: &[CountedZone<N::H>],
+        clock: &Clock<N::H>,
+        names: &N,
+        cache: &N::Cache,
+        gate: &G,
+        reclaim: &C,
+        round: usize,
+        number: usize,
+    ) -> Result<(), Memory>
+        requires ready { IsReady N.NameCalls cache.now trace.now zones.now clock.now round number self.old }
+        ensures worked { OnOk result (HasWorked N.NameCalls cache.now trace.now zones.now clock.now round number self.old self.new) }
+        ensures free { G.is_free gate.now → self.new.gave_up ≡ self.old.gave_up }
+        ensures asks { OnOk result (AsksGate G.Gate gate.now number (length (ops_at trace.now.rounds round number)) self.old self.new) }
+    {
+        let ops = own_list(trace, round, number);
+        let worker = number as u32;
+        let mut visit = gate.open();
+        for place in 0..ops.len() {
+            let op = place as u64 + 1;
+            self.await_gate(gate, &mut visit, worker, op);
+            let go: LastAsked<'_, G> = LastAsked {
+                visit: &visit,
+                worker,
+                number: op,
+            };
+            self.perform(
+                rt, alloc, zones, clock, names, cache, reclaim, go, ops[place],
+            )?;
+            gate.done(&mut visit, worker, op);
+        }
+        Ok(())
+    }
+
+    /// Does one line of the worker, by its kind: the operation which the gate was asked for last. Waits where the zones' calls do, and those of the names.
+    ///
+    /// After the Err, which is want of memory, the replay is over.
+    fn perform<R: Wait, G: Gate, C: ReclaimCalls>(
+        &mut self,
+        rt: &R,
+        alloc: Global,
+        zones: &[CountedZone<N::H>],
+        clock: &Clock<N::H>,
+        names: &N,
+        cache: &N::Cache,
+        reclaim: &C,
+        _go: LastAsked<'_, G>,
+        op: Op,
+    ) -> Result<(), Memory>
+        requires turn { CanTurn N.NameCalls zones.now self.old op }
+        requires able { CanGoOn N.NameCalls cache.now zones.now clock.now (worker_in self.old) self.old.naming }
+        ensures stays { OnOk result (StaysFit N.NameCalls cache.now zones.now clock.now (worker_in self.new) self.new.naming) }
+        ensures does { OnOk result (DoesLine N.NameCalls cache.now zones.now (doing self.old) op (doing self.new)) }
+        ensures gate { KeepsGate self.old self.new }
+    {
+        match op {
+            Op::Away => {
+                self.attendance.leave(clock);
+                Ok(())
+            }
+            Op::Back => {
+                self.attendance.come(clock);
+                Ok(())
+            }
+            _ => {
+                let Attendance::There(worker) = &mut self.attendance else {
+                    unreachable!()
+                };
+                let naming = &mut self.naming;
+                naming.act(worker, rt, alloc, zones, clock, names, cache, reclaim, op)?;
+                Ok(())
+            }
+        }
+    }
+
+    /// Asks the gate before an operation, and counts it.
+    fn await_gate<G: Gate>(&mut self, gate: &G, visit: &mut G::Visit, worker: u32, op: u64)
+        requires of_gate { G.is_of gate.now visit.old }
+        requires room { CanWait self.old }
+        ensures of_gate { G.is_of gate.now visit.new }
+        ensures waits { Waits worker op (heard_by (G.heard visit.old) self.old) (heard_by (G.heard visit.new) self.new) }
+        ensures asked { IsAskedLast worker op (G.heard visit.new) }
+        ensures keeps { KeepsWork self.old self.new }
+        ensures counts { CountsWait self.old self.new }
+        ensures free { G.is_free gate.now → self.new.gave_up ≡ self.old.gave_up }
+    {
+        match ask(gate, visit, worker, op) {
+            Some(times) => self.asked += times,
+            None => {
+                self.asked += MOST_ASKS;
+                self.gave_up += 1;
+            }
+        }
+    }
+}
+
+/// Asks the gate until it lets the operation go, and answers how often. None where it held each of 100,000,000 times.
+fn ask<G: Gate>(gate: &G, visit: &mut G::Visit, worker: u32, op: u64) -> Option<u64>
+    requires { G.is_of gate.now visit.old }
+    ensures of_gate { G.is_of gate.now visit.new }
+    ensures heard { Answers worker op (G.heard visit.old) result (G.heard visit.new) }
+    ensures times { IfSome result (λ times. (1 ≤ times) × (times ≤ most_asks)) }
+    ensures free { G.is_free gate.now → result ≡ Some 1 }
+{
+    for asked in 0..MOST_ASKS {
+        match gate.at(visit, worker, op) {
+            Go::Go => return Some(asked + 1),
+            Go::Hold => (),
+        }
+    }
+    None
+}
+
+/// What a worker does in a round.
+fn own_list(trace: &Trace, round: usize, number: usize) -> &[Op]
+    requires round { round < length trace.now.rounds }
+    requires worker { IfSome (slice_get trace.now.rounds round) (λ r. number < length r.ops) }
+    ensures { result.now ≡ ops_at trace.now.rounds round number }
+{
+    trace.rounds.as_slice()[round].ops.as_slice()[number].as_slice()
+}
