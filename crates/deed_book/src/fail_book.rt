@@ -13,8 +13,8 @@ const SECOND: usize = 1;
 
 const KIND: usize = 2;
 
-/// A count of refusals, with the cause of each, which its shares add up to. Contracts alone see number and causes, and
-/// these have no bound.
+/// A list of ends, as refusals of fetches and fetches that gave, each with its cause; its shares add up to it. Contracts
+/// alone see number and causes, and these have no bound.
 #[derive(Drop)]
 pub struct FailBook {
     table: FailTable,
@@ -48,7 +48,7 @@ impl FailBook {
         FailShare { seat }
     }
 
-    /// Counts a refusal in the book and in a share of it. Both have its cause at the end of their lists.
+    /// Lists an end in the book and in a share of it. Both have its cause at the end of their lists.
     pub fn add(&mut self, share: &mut FailShare, kind: u64, first: u64, second: u64)
         requires { share_table share.old ≡ fail_book_table self.old }
         ensures { AddsCause (cause kind first second) self.old share.old self.new share.new }

@@ -3,7 +3,7 @@ ghost use Rattle.std.specs.Prelude.{◌≡◌, []};
 use crate::fail_rule::{FailTable, FailView, JoiningIn};
 use atomic_table::Seat;
 
-/// A share of a fail book: the causes of the refusals that its holder met. Contracts alone see them. It may cross
+/// A share of a fail book: the causes of the ends that its holder met. Contracts alone see them. It may cross
 /// threads. What a share that is dropped had stays counted in its book.
 #[derive(Drop)]
 pub struct FailShare {

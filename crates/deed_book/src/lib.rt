@@ -3,8 +3,8 @@
 //! A deed is the one token of an item number that is outside its keg: it can be neither copied nor made out of nothing, and
 //! it may cross threads. So no number is ever out twice.
 //!
-//! A fail book counts refusals, with the cause of each. What it counts is what its shares have, so that no share can make
-//! up a refusal.
+//! A fail book lists how each of what it counts ended, each end with its cause: refusals, and also a fetch that gave. What
+//! it lists is what its shares have, so that no share can make up an end.
 //!
 //! # Choices
 //!
