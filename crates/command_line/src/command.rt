@@ -6,6 +6,12 @@ ghost use Rattle.command_line.specs.Reading.{command_met};
 use clap::ArgMatches;
 use text_lines::{TraceKind, number_in, number_within};
 
+/// The most workers of a trace that a seed gives.
+const MOST_WORKERS: u64 = 16;
+
+/// The most steps of a trace that a seed gives.
+const MOST_OPS: u64 = 50_000;
+
 /// What the program is asked to do.
 #[derive(Clone, Copy, Debug, PartialEq, Eq)]
 pub enum Command {
@@ -82,8 +88,8 @@ impl Command {
         ensures ranges { IfOk result AreNumbers }
     {
         let seed = number_in(seed)?;
-        let workers = number_within(workers, 1, 16)?;
-        let ops = number_within(ops, 1, 50_000)?;
+        let workers = number_within(workers, 1, MOST_WORKERS)?;
+        let ops = number_within(ops, 1, MOST_OPS)?;
         Ok((seed, workers as u32, ops as u32))
     }
 }

@@ -11,14 +11,14 @@ use Rattle.text_lines.specs.TextLines.{TextLine, is_end, is_ended}
 use Rattle.text_lines.specs.Taking.{ReadsLine}
 use Rattle.schedule_text.specs.declared.reading.reader.ScheduleReader.{ScheduleReader}
 use Rattle.schedule_text.specs.declared.reading.parsed_line.ParsedLine.{ParsedLine}
-use Rattle.schedule_text.specs.declared.reading.parsed_line.ParsedLine.TheVariants as said
+use Rattle.schedule_text.specs.declared.reading.parsed_line.ParsedLine.TheVariants as parsed
 use Rattle.schedule_text.specs.declared.reading.word.PairWord.TheVariants as pairs
 use Rattle.schedule_text.specs.declared.reading.word.SeatWord.TheVariants as seats
 use Rattle.schedule_text.specs.declared.reading.word.Word.{Word}
 use Rattle.schedule_text.specs.declared.reading.word.Word.TheVariants as words
-use Rattle.schedule_text.specs.ScheduleGrammar.{version_of, word_named, word_or_wrong, is_known, known, fits_place, placed, clock_in, seat_in, two_numbers_in, said_by, says, schedule_test, clock_of, clock_after, seat_turn, pair_turn}
+use Rattle.schedule_text.specs.ScheduleGrammar.{version_of, word_named, word_or_wrong, is_known, known, fits_place, placed, clock_in, seat_in, two_numbers_in, parsed_by, says, schedule_test, clock_of, clock_after, seat_turn, pair_turn}
 use Rattle.schedule_text.specs.declared.schedule.Version.{Version}
-use Rattle.schedule_text.specs.ScheduleShown.{Shows, Hears, is_last}
+use Rattle.schedule_text.specs.ScheduleShown.{Shows, Applies, is_last}
 use Rattle.schedule_text.proofs.Steps.{bound, is_some_value, is_true}
 
 -- ---- the line `end` says that it is the last, and no other does
@@ -67,33 +67,33 @@ pub not_last : (rest : List (List ℕ)) → false ≡ ends_line false rest
 not_last [] = refl
 not_last (field ∷ rest) = refl
 
-said_last : (version : Version) (word : Word) (rest : List (List ℕ)) (x : ParsedLine) → said_by version word rest ≡ Ok x → is_last x ≡ ends_line (is_end_word word) rest
-said_last version words.Smr rest x e = absurd cc
-said_last version words.Clock rest x e = let b = bound (clock_in rest) (λ config. Ok (said.Clock config)) x e in let is : said.Clock b.0 ≡ x = cc in ap is_last (sym is) ∙ not_last rest
-said_last version (words.Seat word) rest x e =
-    let b = bound (seat_in rest) (λ seat. Ok (said.Does (seat_turn version word seat))) x e in
-    let is : said.Does (seat_turn version word b.0) ≡ x = cc in ap is_last (sym is) ∙ not_last rest
-said_last version (words.Pair word) rest x e =
-    let b = bound (two_numbers_in rest) (λ (n : ℕ × ℕ). Ok (said.Does (pair_turn word n.0 n.1))) x e in
-    let is : said.Does (pair_turn word b.0.0 b.0.1) ≡ x = cc in ap is_last (sym is) ∙ not_last rest
-said_last version words.End [] x e = let is : said.End ≡ x = cc in ap is_last (sym is)
-said_last version words.End (field ∷ rest) x e = absurd cc
+parsed_last : (version : Version) (word : Word) (rest : List (List ℕ)) (x : ParsedLine) → parsed_by version word rest ≡ Ok x → is_last x ≡ ends_line (is_end_word word) rest
+parsed_last version words.Smr rest x e = absurd cc
+parsed_last version words.Clock rest x e = let b = bound (clock_in rest) (λ config. Ok (parsed.Clock config)) x e in let is : parsed.Clock b.0 ≡ x = cc in ap is_last (sym is) ∙ not_last rest
+parsed_last version (words.Seat word) rest x e =
+    let b = bound (seat_in rest) (λ seat. Ok (parsed.Does (seat_turn version word seat))) x e in
+    let is : parsed.Does (seat_turn version word b.0) ≡ x = cc in ap is_last (sym is) ∙ not_last rest
+parsed_last version (words.Pair word) rest x e =
+    let b = bound (two_numbers_in rest) (λ (n : ℕ × ℕ). Ok (parsed.Does (pair_turn word n.0 n.1))) x e in
+    let is : parsed.Does (pair_turn word b.0.0 b.0.1) ≡ x = cc in ap is_last (sym is) ∙ not_last rest
+parsed_last version words.End [] x e = let is : parsed.End ≡ x = cc in ap is_last (sym is)
+parsed_last version words.End (field ∷ rest) x e = absurd cc
 
 -- ---- a line taken in
 
 pub says_parts : (version : Version) (clocked : Bool) (first : List ℕ) (rest : List (List ℕ)) (x : ParsedLine) → says version clocked (first ∷ rest) ≡ Ok x
-    → (word : Word) × (word_named first ≡ Some word) × (fits_place clocked word ≡ true) × (said_by version word rest ≡ Ok x)
+    → (word : Word) × (word_named first ≡ Some word) × (fits_place clocked word ≡ true) × (parsed_by version word rest ≡ Ok x)
 says_parts version clocked first rest x e =
-    let a = bound (word_or_wrong (word_named first)) (λ word. known (is_known version word) >>= λ is. (placed (fits_place clocked word) >>= λ fits. said_by version word rest)) x e in
-    let k = bound (known (is_known version a.0)) (λ is. placed (fits_place clocked a.0) >>= λ fits. said_by version a.0 rest) x a.2 in
-    let b = bound (placed (fits_place clocked a.0)) (λ fits. said_by version a.0 rest) x k.2 in
+    let a = bound (word_or_wrong (word_named first)) (λ word. known (is_known version word) >>= λ is. (placed (fits_place clocked word) >>= λ fits. parsed_by version word rest)) x e in
+    let k = bound (known (is_known version a.0)) (λ is. placed (fits_place clocked a.0) >>= λ fits. parsed_by version a.0 rest) x a.2 in
+    let b = bound (placed (fits_place clocked a.0)) (λ fits. parsed_by version a.0 rest) x k.2 in
     (a.0, is_some_value (word_named first) kinds.Word a.0 a.1, (is_true (fits_place clocked a.0) tt b.0 kinds.Place b.1).0, b.2)
 
 says_last : (version : Version) (clocked : Bool) (fields : List (List ℕ)) (x : ParsedLine) → says version clocked fields ≡ Ok x → (is_end fields ≡ is_last x) × (is_last x ≡ true → clocked ≡ true)
 says_last version clocked [] x e = absurd cc
 says_last version clocked (first ∷ rest) x e =
     let p = says_parts version clocked first rest x e in
-    let last = said_last version p.0 rest x p.3 in (
+    let last = parsed_last version p.0 rest x p.3 in (
       is_end_by first rest ∙ ap (λ b. ends_line b rest) (sym (word_is_end first p.0 p.1)) ∙ sym last,
       λ yes'. clocked_by p.0 rest clocked (sym last ∙ yes') p.2,
     ) where
@@ -106,37 +106,37 @@ says_last version clocked (first ∷ rest) x e =
       clocked_by words.End rest clocked l f = f
 
 clock_kept : (x : ParsedLine) (clock : Option ClockConfig) → is_last x ≡ true → clock_after (Ok x) clock ≡ clock
-clock_kept (said.Clock config) clock e = absurd cc
-clock_kept (said.Does turn) clock e = absurd cc
-clock_kept said.End clock e = refl
+clock_kept (parsed.Clock config) clock e = absurd cc
+clock_kept (parsed.Does turn) clock e = absurd cc
+clock_kept parsed.End clock e = refl
 
-heard : (old new : ScheduleReader) (number : ℕ) (fields : List (List ℕ)) (x : ParsedLine)
-    → old.begun ≡ true → old.ended ≡ false → says old.version (is_some old.clock) fields ≡ Ok x → Hears number x old new
+applied : (old new : ScheduleReader) (number : ℕ) (fields : List (List ℕ)) (x : ParsedLine)
+    → old.begun ≡ true → old.ended ≡ false → says old.version (is_some old.clock) fields ≡ Ok x → Applies number x old new
     → ReadsLine schedule_test Shows old number fields (Ok tt) new
-heard old new number fields x begun ended is hears [] shown = absurd (false_not_true (sym shown.begun ∙ begun)) where
+applied old new number fields x begun ended is applies [] shown = absurd (false_not_true (sym shown.begun ∙ begun)) where
   false_not_true : false ≡ true → ⊥
   false_not_true e = cc
-heard old new number fields x begun ended is hears (last ∷ before) shown =
+applied old new number fields x begun ended is applies (last ∷ before) shown =
     let line : TextLine = record { number = number; fields = fields } in
     let says_it : says (version_of (last ∷ before)) (is_some (clock_of (last ∷ before))) fields ≡ Ok x =
     sym (ap (λ c. says old.version (is_some c) fields) shown.clock ∙ ap (λ v. says v (is_some (clock_of (last ∷ before))) fields) shown.version) ∙ is in
     let still : is_ended (last ∷ before) ≡ false = sym shown.ended ∙ ended in
     let ends = says_last old.version (is_some old.clock) fields x is in
-    let now_ended : new.ended ≡ is_last x = hears.ended ∙ ap (λ b. b || is_last x) ended in (
+    let now_ended : new.ended ≡ is_last x = applies.ended ∙ ap (λ b. b || is_last x) ended in (
       rw (still, says_it) refl,
       record {
-        begun = hears.begun ∙ begun;
-        version = hears.version ∙ shown.version;
-        clock = hears.clock ∙ rw (says_it, shown.clock) refl;
-        turns = hears.turns ∙ rw (says_it, shown.turns) refl;
+        begun = applies.begun ∙ begun;
+        version = applies.version ∙ shown.version;
+        clock = applies.clock ∙ rw (says_it, shown.clock) refl;
+        turns = applies.turns ∙ rw (says_it, shown.turns) refl;
         ended = now_ended ∙ sym ends.0;
-        clocked = λ last'. ap is_some (hears.clock ∙ clock_kept x old.clock (sym now_ended ∙ last')) ∙ ends.1 (sym now_ended ∙ last');
+        clocked = λ last'. ap is_some (applies.clock ∙ clock_kept x old.clock (sym now_ended ∙ last')) ∙ ends.1 (sym now_ended ∙ last');
       },
     )
 
 pub takes : (old new : ScheduleReader) (number : ℕ) (fields : List (List ℕ)) (x : ParsedLine) (r : Result (Unit {0}) LineRefused)
-    → old.begun ≡ true → old.ended ≡ false → says old.version (is_some old.clock) fields ≡ Ok x → OnOk r (Hears number x old new) → IfErr r (λ refused. refused ≡ refusals.Memory)
+    → old.begun ≡ true → old.ended ≡ false → says old.version (is_some old.clock) fields ≡ Ok x → OnOk r (Applies number x old new) → IfErr r (λ refused. refused ≡ refusals.Memory)
     → ReadsLine schedule_test Shows old number fields r new
-takes old new number fields x (Ok done) begun ended is hears memory = heard old new number fields x begun ended is hears
-takes old new number fields x (Err refusals.Memory) begun ended is hears memory = tt
-takes old new number fields x (Err (refusals.Kind why)) begun ended is hears memory = absurd cc
+takes old new number fields x (Ok done) begun ended is applies memory = applied old new number fields x begun ended is applies
+takes old new number fields x (Err refusals.Memory) begun ended is applies memory = tt
+takes old new number fields x (Err (refusals.Kind why)) begun ended is applies memory = absurd cc

@@ -12,10 +12,10 @@ use Rattle.text_lines.proofs.OneVerdict.{one_right_reading}
 use Rattle.schedule_text.specs.declared.schedule.Schedule.{Schedule}
 use Rattle.schedule_text.specs.declared.schedule.Version.{Version}
 use Rattle.schedule_text.specs.declared.reading.parsed_line.ParsedLine.{ParsedLine}
-use Rattle.schedule_text.specs.declared.reading.parsed_line.ParsedLine.TheVariants as said
+use Rattle.schedule_text.specs.declared.reading.parsed_line.ParsedLine.TheVariants as parsed
 use Rattle.schedule_text.specs.declared.reading.word.Word.{Word}
 use Rattle.schedule_text.specs.declared.reading.word.Word.TheVariants as words
-use Rattle.schedule_text.specs.ScheduleGrammar.{clock_in, start_in, window_in, seat_in, two_numbers_in, seat_turn, pair_turn, said_by, says, clock_after, clock_of, version_of, turn_lines, schedule_test, IsScheduleText, IsValidSchedule}
+use Rattle.schedule_text.specs.ScheduleGrammar.{clock_in, start_in, window_in, seat_in, two_numbers_in, seat_turn, pair_turn, parsed_by, says, clock_after, clock_of, version_of, turn_lines, schedule_test, IsScheduleText, IsValidSchedule}
 use Rattle.schedule_text.specs.ScheduleText.{config_of}
 use Rattle.schedule_text.proofs.ScheduleFollowing.{says_parts}
 use Rattle.schedule_text.proofs.Steps.{bound, is_true}
@@ -65,29 +65,29 @@ clock_fits fields a e =
     let P : ClockConfig → Type 0 = λ config. IsInRange config in
     subst P {x = record { start = start.0; window = window.0; seats = seats.0 }} is (record { some_seat = s.0; few_seats = s.1; odd_start = b.0; low_start = b.1; even_window = w.0; least_window = w.1; greatest_window = w.2 })
 
-said_clock : (version : Version) (word : Word) (rest : List (List ℕ)) (a : ClockConfig) → said_by version word rest ≡ Ok (said.Clock a) → IsInRange a
-said_clock version words.Smr rest a e = absurd cc
-said_clock version words.Clock rest a e =
-    let b = bound (clock_in rest) (λ config. Ok (said.Clock config)) (said.Clock a) e in
+parsed_clock : (version : Version) (word : Word) (rest : List (List ℕ)) (a : ClockConfig) → parsed_by version word rest ≡ Ok (parsed.Clock a) → IsInRange a
+parsed_clock version words.Smr rest a e = absurd cc
+parsed_clock version words.Clock rest a e =
+    let b = bound (clock_in rest) (λ config. Ok (parsed.Clock config)) (parsed.Clock a) e in
     let is : b.0 ≡ a = let f = b.2 in cc in
     let P : ClockConfig → Type 0 = λ config. IsInRange config in
     subst P is (clock_fits rest b.0 b.1)
-said_clock version (words.Seat word) rest a e = let b = bound (seat_in rest) (λ seat. Ok (said.Does (seat_turn version word seat))) (said.Clock a) e in let f = b.2 in absurd cc
-said_clock version (words.Pair word) rest a e =
-    let b = bound (two_numbers_in rest) (λ (n : ℕ × ℕ). Ok (said.Does (pair_turn word n.0 n.1))) (said.Clock a) e in let f = b.2 in absurd cc
-said_clock version words.End rest a e = let b = bound (no_field rest) (λ none. Ok said.End) (said.Clock a) e in let f = b.2 in absurd cc
+parsed_clock version (words.Seat word) rest a e = let b = bound (seat_in rest) (λ seat. Ok (parsed.Does (seat_turn version word seat))) (parsed.Clock a) e in let f = b.2 in absurd cc
+parsed_clock version (words.Pair word) rest a e =
+    let b = bound (two_numbers_in rest) (λ (n : ℕ × ℕ). Ok (parsed.Does (pair_turn word n.0 n.1))) (parsed.Clock a) e in let f = b.2 in absurd cc
+parsed_clock version words.End rest a e = let b = bound (no_field rest) (λ none. Ok parsed.End) (parsed.Clock a) e in let f = b.2 in absurd cc
 
-says_clock : (version : Version) (clocked : Bool) (fields : List (List ℕ)) (a : ClockConfig) → says version clocked fields ≡ Ok (said.Clock a) → IsInRange a
+says_clock : (version : Version) (clocked : Bool) (fields : List (List ℕ)) (a : ClockConfig) → says version clocked fields ≡ Ok (parsed.Clock a) → IsInRange a
 says_clock version clocked [] a e = absurd cc
-says_clock version clocked (first ∷ rest) a e = let p = says_parts version clocked first rest (said.Clock a) e in said_clock version p.0 rest a p.3
+says_clock version clocked (first ∷ rest) a e = let p = says_parts version clocked first rest (parsed.Clock a) e in parsed_clock version p.0 rest a p.3
 
-after_clock : (r : Result ParsedLine TraceKind) (before : Option ClockConfig) (a : ClockConfig) → ((b : ClockConfig) → r ≡ Ok (said.Clock b) → IsInRange b) → ((b : ClockConfig) → before ≡ Some b → IsInRange b) → clock_after r before ≡ Some a → IsInRange a
-after_clock (Ok (said.Clock b)) before a f g e = f a (ap (λ (o : Option ClockConfig). clock_said o) e) where
-  clock_said : Option ClockConfig → Result ParsedLine TraceKind
-  clock_said (Some x) = Ok (said.Clock x)
-  clock_said None = Ok said.End
-after_clock (Ok (said.Does turn)) before a f g e = g a e
-after_clock (Ok said.End) before a f g e = g a e
+after_clock : (r : Result ParsedLine TraceKind) (before : Option ClockConfig) (a : ClockConfig) → ((b : ClockConfig) → r ≡ Ok (parsed.Clock b) → IsInRange b) → ((b : ClockConfig) → before ≡ Some b → IsInRange b) → clock_after r before ≡ Some a → IsInRange a
+after_clock (Ok (parsed.Clock b)) before a f g e = f a (ap (λ (o : Option ClockConfig). clock_or_end o) e) where
+  clock_or_end : Option ClockConfig → Result ParsedLine TraceKind
+  clock_or_end (Some x) = Ok (parsed.Clock x)
+  clock_or_end None = Ok parsed.End
+after_clock (Ok (parsed.Does turn)) before a f g e = g a e
+after_clock (Ok parsed.End) before a f g e = g a e
 after_clock (Err why) before a f g e = g a e
 
 clock_in_range : (lines : List TextLine) (a : ClockConfig) → clock_of lines ≡ Some a → IsInRange a

@@ -15,7 +15,7 @@ use Rattle.schedule_text.specs.declared.schedule.TurnLine.{TurnLine}
 use Rattle.schedule_text.specs.declared.schedule.Version.{Version}
 use Rattle.schedule_text.specs.declared.schedule.Version.TheVariants as versions
 use Rattle.schedule_text.specs.declared.reading.parsed_line.ParsedLine.{ParsedLine}
-use Rattle.schedule_text.specs.declared.reading.parsed_line.ParsedLine.TheVariants as said
+use Rattle.schedule_text.specs.declared.reading.parsed_line.ParsedLine.TheVariants as parsed
 use Rattle.schedule_text.specs.declared.reading.word.PairWord.{PairWord}
 use Rattle.schedule_text.specs.declared.reading.word.PairWord.TheVariants as pairs
 use Rattle.schedule_text.specs.declared.reading.word.SeatWord.{SeatWord}
@@ -157,20 +157,20 @@ pair_turn pairs.Absorb s n = turns.One (steps.Absorb s n)
 pair_turn pairs.Poll s t = turns.Poll s t
 
 -- what a line says by its word and the fields behind it
-abbrev pub said_by : Version → Word → List (List ℕ) → Result ParsedLine TraceKind
-said_by version words.Smr fields = Err kinds.Place
-said_by version words.Clock fields = do
+abbrev pub parsed_by : Version → Word → List (List ℕ) → Result ParsedLine TraceKind
+parsed_by version words.Smr fields = Err kinds.Place
+parsed_by version words.Clock fields = do
   config ← clock_in fields
-  Ok (said.Clock config)
-said_by version (words.Seat word) fields = do
+  Ok (parsed.Clock config)
+parsed_by version (words.Seat word) fields = do
   seat ← seat_in fields
-  Ok (said.Does (seat_turn version word seat))
-said_by version (words.Pair word) fields = do
+  Ok (parsed.Does (seat_turn version word seat))
+parsed_by version (words.Pair word) fields = do
   numbers ← two_numbers_in fields
-  Ok (said.Does (pair_turn word numbers.0 numbers.1))
-said_by version words.End fields = do
+  Ok (parsed.Does (pair_turn word numbers.0 numbers.1))
+parsed_by version words.End fields = do
   none ← no_field fields
-  Ok said.End
+  Ok parsed.End
 
 -- what a line with these fields says behind the head, or the first thing that is wrong with it
 abbrev pub says : Version → Bool → List (List ℕ) → Result ParsedLine TraceKind
@@ -179,7 +179,7 @@ says version clocked (first ∷ rest) = do
   word ← word_or_wrong (word_named first)
   is ← known (is_known version word)
   fits ← placed (fits_place clocked word)
-  said_by version word rest
+  parsed_by version word rest
 
 -- ---- all lines
 
@@ -194,7 +194,7 @@ version_of (line ∷ []) = version_or_first (version_in line.fields)
 version_of (line ∷ next ∷ before) = version_of (next ∷ before)
 
 abbrev pub clock_after : Result ParsedLine TraceKind → Option ClockConfig → Option ClockConfig
-clock_after (Ok (said.Clock config)) before = Some config
+clock_after (Ok (parsed.Clock config)) before = Some config
 clock_after line before = before
 
 -- the numbers of the `clock` line among these
@@ -203,7 +203,7 @@ clock_of [] = None
 clock_of (line ∷ before) = clock_after (says (version_of before) (is_some (clock_of before)) line.fields) (clock_of before)
 
 abbrev pub turns_in : ℕ → Result ParsedLine TraceKind → List TurnLine
-turns_in number (Ok (said.Does turn)) = record { line = number; turn = turn } ∷ []
+turns_in number (Ok (parsed.Does turn)) = record { line = number; turn = turn } ∷ []
 turns_in number line = []
 
 -- the lines among these that take steps, in order

@@ -5,7 +5,7 @@ use Rattle.smr_core.specs.declared.clock_config.ClockConfig.{ClockConfig}
 use Rattle.schedule_text.specs.declared.schedule.Schedule.{Schedule}
 use Rattle.schedule_text.specs.declared.reading.reader.ScheduleReader.{ScheduleReader}
 use Rattle.schedule_text.specs.declared.reading.parsed_line.ParsedLine.{ParsedLine}
-use Rattle.schedule_text.specs.declared.reading.parsed_line.ParsedLine.TheVariants as said
+use Rattle.schedule_text.specs.declared.reading.parsed_line.ParsedLine.TheVariants as parsed
 use Rattle.schedule_text.specs.ScheduleGrammar.{version_of, clock_of, turn_lines, clock_after, turns_in}
 
 abbrev pub is_begun : List TextLine → Bool
@@ -23,16 +23,16 @@ pub record Shows (reader : ScheduleReader) (lines : List TextLine) : Type 0 wher
 
 -- the line is `end`
 abbrev pub is_last : ParsedLine → Bool
-is_last said.End = true
+is_last parsed.End = true
 is_last other = false
 
 -- behind the first line, the state takes in what a line of this number says
-pub record Hears (number : ℕ) (said : ParsedLine) (old new : ScheduleReader) : Type 0 where
+pub record Applies (number : ℕ) (parsed : ParsedLine) (old new : ScheduleReader) : Type 0 where
   pub begun : new.begun ≡ old.begun
   pub version : new.version ≡ old.version
-  pub clock : new.clock ≡ clock_after (Ok said) old.clock
-  pub turns : new.turns.items ≡ old.turns.items ++ turns_in number (Ok said)
-  pub ended : new.ended ≡ (old.ended || is_last said)
+  pub clock : new.clock ≡ clock_after (Ok parsed) old.clock
+  pub turns : new.turns.items ≡ old.turns.items ++ turns_in number (Ok parsed)
+  pub ended : new.ended ≡ (old.ended || is_last parsed)
 
 -- the schedule has the numbers and the lines of the state
 pub record IsScheduleOf (schedule : Schedule) (reader : ScheduleReader) : Type 0 where

@@ -2,7 +2,7 @@ mod WorkedRows
 pub mod CanonicalRows
 pub mod RowText
 pub mod RowFields
-pub mod RowSaid
+pub mod RowParsed
 pub mod RoundEntries
 pub mod TraceRebuilt
 pub mod TraceRebuiltZones

@@ -49,9 +49,9 @@ fields_of_row [] is = absurd (omega (arith, is.nonempty))
 fields_of_row (x ∷ xs) is =
     let words = recursion_from_All IsWord (x ∷ xs) is.words in ap (filter is_field) (split_words x xs words) ∙ words_kept (x ∷ xs) words
 
-pub row_is_heard : (row : List (List ℕ)) → IsRow row → is_skipped row ≡ false
-row_is_heard [] is = absurd (omega (arith, is.nonempty))
-row_is_heard (x ∷ xs) is = ne_eqb (get_or x 0 0) 35 is.no_comment
+pub row_is_not_skipped : (row : List (List ℕ)) → IsRow row → is_skipped row ≡ false
+row_is_not_skipped [] is = absurd (omega (arith, is.nonempty))
+row_is_not_skipped (x ∷ xs) is = ne_eqb (get_or x 0 0) 35 is.no_comment
 
 -- ---- the bytes of the line of a row
 
@@ -130,28 +130,28 @@ unfolding texts_behind
 in_order [] earlier = refl
 in_order (row ∷ rows) earlier = in_order rows (join_with_byte 32 row ∷ earlier)
 
-spoken_row : (row : List (List ℕ)) (earlier : List (List ℕ)) (heard : List TextLine) → IsRow row → spoken earlier ≡ heard → length earlier ≡ length heard
-    → spoken (join_with_byte 32 row ∷ earlier) ≡ behind heard row ∷ heard
-spoken_row row earlier heard is same long = rw (fields_of_row row is, row_is_heard row is, long, same) refl
+spoken_row : (row : List (List ℕ)) (earlier : List (List ℕ)) (spoke : List TextLine) → IsRow row → spoken earlier ≡ spoke → length earlier ≡ length spoke
+    → spoken (join_with_byte 32 row ∷ earlier) ≡ behind spoke row ∷ spoke
+spoken_row row earlier spoke is same long = rw (fields_of_row row is, row_is_not_skipped row is, long, same) refl
 
-right_row : (test : Test) (row : List (List ℕ)) (earlier : List (List ℕ)) (heard : List TextLine) → IsRow row → spoken earlier ≡ heard → length earlier ≡ length heard
-    → wrong_with test earlier (join_with_byte 32 row) ≡ test heard (behind heard row)
-right_row test row earlier heard is same long = rw (row_is_allowed row is, fields_of_row row is, row_is_heard row is, long, same) refl
+right_row : (test : Test) (row : List (List ℕ)) (earlier : List (List ℕ)) (spoke : List TextLine) → IsRow row → spoken earlier ≡ spoke → length earlier ≡ length spoke
+    → wrong_with test earlier (join_with_byte 32 row) ≡ test spoke (behind spoke row)
+right_row test row earlier spoke is same long = rw (row_is_allowed row is, fields_of_row row is, row_is_not_skipped row is, long, same) refl
 
-rows_are_right : (test : Test) (rows : List (List (List ℕ))) (earlier : List (List ℕ)) (heard : List TextLine) → AllByRecursion IsRow rows → spoken earlier ≡ heard → length earlier ≡ length heard
-    → AreRight test earlier → PassAll test rows heard → AreRight test (texts_behind rows earlier)
+rows_are_right : (test : Test) (rows : List (List (List ℕ))) (earlier : List (List ℕ)) (spoke : List TextLine) → AllByRecursion IsRow rows → spoken earlier ≡ spoke → length earlier ≡ length spoke
+    → AreRight test earlier → PassAll test rows spoke → AreRight test (texts_behind rows earlier)
 unfolding texts_behind
-rows_are_right test [] earlier heard are same long right pass = right
-rows_are_right test (row ∷ rows) earlier heard are same long right pass =
-    rows_are_right test rows (join_with_byte 32 row ∷ earlier) (behind heard row ∷ heard) are.1 (spoken_row row earlier heard are.0 same long) (omega arith)
-    (right_row test row earlier heard are.0 same long ∙ pass.0, right) pass.1
+rows_are_right test [] earlier spoke are same long right pass = right
+rows_are_right test (row ∷ rows) earlier spoke are same long right pass =
+    rows_are_right test rows (join_with_byte 32 row ∷ earlier) (behind spoke row ∷ spoke) are.1 (spoken_row row earlier spoke are.0 same long) (omega arith)
+    (right_row test row earlier spoke are.0 same long ∙ pass.0, right) pass.1
 
-numbered_is_spoken : (rows : List (List (List ℕ))) (earlier : List (List ℕ)) (heard : List TextLine) → AllByRecursion IsRow rows → spoken earlier ≡ heard → length earlier ≡ length heard
-    → numbered rows heard ≡ spoken (texts_behind rows earlier)
+numbered_is_spoken : (rows : List (List (List ℕ))) (earlier : List (List ℕ)) (spoke : List TextLine) → AllByRecursion IsRow rows → spoken earlier ≡ spoke → length earlier ≡ length spoke
+    → numbered rows spoke ≡ spoken (texts_behind rows earlier)
 unfolding texts_behind
-numbered_is_spoken [] earlier heard are same long = sym same
-numbered_is_spoken (row ∷ rows) earlier heard are same long =
-    numbered_is_spoken rows (join_with_byte 32 row ∷ earlier) (behind heard row ∷ heard) are.1 (spoken_row row earlier heard are.0 same long) (omega arith)
+numbered_is_spoken [] earlier spoke are same long = sym same
+numbered_is_spoken (row ∷ rows) earlier spoke are same long =
+    numbered_is_spoken rows (join_with_byte 32 row ∷ earlier) (behind spoke row ∷ spoke) are.1 (spoken_row row earlier spoke are.0 same long) (omega arith)
 
 pub right_rows : (test : Test) (rows : List (List (List ℕ))) → All IsRow rows → PassAll test rows [] → is_ended (numbered rows []) ≡ true → IsRightText test (flat_map line rows) (numbered rows [])
 right_rows test rows are pass ended =

@@ -13,19 +13,19 @@ use Rattle.trace_text.specs.Lines.{Line}
 use Rattle.trace_text.specs.Reading.{held, in_section, is_away}
 use Rattle.trace_text.specs.TraceLine.{says, rank, is_within}
 use Rattle.trace_text.specs.Valid.{IsKnown, LinesFit}
-use Rattle.trace_text.proofs.TraceTests.{IsClear, no_clash}
+use Rattle.trace_text.proofs.TraceTests.{IsClear, no_conflict}
 
 -- said one after another, behind those
 abbrev pub behind : List ParsedLine → List ParsedLine → List ParsedLine
 behind [] before = before
 behind (s ∷ more) before = behind more (s ∷ before)
 
--- each row says this behind the earlier ones, and clashes with none of them
+-- each row says this behind the earlier ones, and conflicts with none of them
 abbrev pub SaysAll : List ParsedLine → List (List (List ℕ)) → List ParsedLine → Type 0
 SaysAll before [] [] = Unit {0}
-SaysAll before (r ∷ rows) (s ∷ saids) =
-    (says (version_of before) (last_stage before) (workers_of before) r ≡ Ok s) × (conflict_after before s ≡ None) × SaysAll (s ∷ before) rows saids
-SaysAll before [] (s ∷ saids) = ⊥
+SaysAll before (r ∷ rows) (s ∷ parsed_rows) =
+    (says (version_of before) (last_stage before) (workers_of before) r ≡ Ok s) × (conflict_after before s ≡ None) × SaysAll (s ∷ before) rows parsed_rows
+SaysAll before [] (s ∷ parsed_rows) = ⊥
 SaysAll before (r ∷ rows) [] = ⊥
 
 -- Behind these lines there are this header and these entries, each of the lines that are still to come fits, the version has it, and
@@ -39,33 +39,33 @@ pub record Stands (before : List ParsedLine) (h : Head) (entries : List Entry) (
   pub below : rank (last_stage before) ≤ high
 
 -- the rows say this, and so it stands behind them
-pub record Hears (before : List ParsedLine) (rows : List (List (List ℕ))) (saids : List ParsedLine) (h : Head) (entries : List Entry) (rest : List Line) (low high : ℕ) : Type 0 where
-  pub says_all : SaysAll before rows saids
-  pub stands : Stands (behind saids before) h entries rest low high
+pub record Applies (before : List ParsedLine) (rows : List (List (List ℕ))) (parsed_rows : List ParsedLine) (h : Head) (entries : List Entry) (rest : List Line) (low high : ℕ) : Type 0 where
+  pub says_all : SaysAll before rows parsed_rows
+  pub stands : Stands (behind parsed_rows before) h entries rest low high
 
 -- ---- one after another
 
-pub behind_append : (saids more before : List ParsedLine) → behind (saids ++ more) before ≡ behind more (behind saids before)
+pub behind_append : (parsed_rows more before : List ParsedLine) → behind (parsed_rows ++ more) before ≡ behind more (behind parsed_rows before)
 behind_append [] more before = refl
-behind_append (s ∷ saids) more before = behind_append saids more (s ∷ before)
+behind_append (s ∷ parsed_rows) more before = behind_append parsed_rows more (s ∷ before)
 
-pub says_all_append : (before : List ParsedLine) (rows : List (List (List ℕ))) (saids : List ParsedLine) (others : List (List (List ℕ))) (more : List ParsedLine)
-    → SaysAll before rows saids → SaysAll (behind saids before) others more → SaysAll before (rows ++ others) (saids ++ more)
+pub says_all_append : (before : List ParsedLine) (rows : List (List (List ℕ))) (parsed_rows : List ParsedLine) (others : List (List (List ℕ))) (more : List ParsedLine)
+    → SaysAll before rows parsed_rows → SaysAll (behind parsed_rows before) others more → SaysAll before (rows ++ others) (parsed_rows ++ more)
 says_all_append before [] [] others more says then = then
-says_all_append before [] (s ∷ saids) others more says then = absurd says
+says_all_append before [] (s ∷ parsed_rows) others more says then = absurd says
 says_all_append before (r ∷ rows) [] others more says then = absurd says
-says_all_append before (r ∷ rows) (s ∷ saids) others more says then = (says.0, says.1, says_all_append (s ∷ before) rows saids others more says.2 then)
+says_all_append before (r ∷ rows) (s ∷ parsed_rows) others more says then = (says.0, says.1, says_all_append (s ∷ before) rows parsed_rows others more says.2 then)
 
-pub hears_nothing : {before : List ParsedLine} {h : Head} {entries : List Entry} {rest : List Line} {low high : ℕ}
-    → Stands before h entries rest low high → Hears before [] [] h entries rest low high
-hears_nothing stands = record { says_all = tt; stands = stands }
+pub applies_nothing : {before : List ParsedLine} {h : Head} {entries : List Entry} {rest : List Line} {low high : ℕ}
+    → Stands before h entries rest low high → Applies before [] [] h entries rest low high
+applies_nothing stands = record { says_all = tt; stands = stands }
 
-pub hears_append : {before : List ParsedLine} {rows others : List (List (List ℕ))} {saids more : List ParsedLine} {h g : Head} {entries added : List Entry} {rest left : List Line} {low high from to : ℕ}
-    → Hears before rows saids h entries rest low high → Hears (behind saids before) others more g added left from to
-    → Hears before (rows ++ others) (saids ++ more) g added left from to
-hears_append {before = before} {rows = rows} {others = others} {saids = saids} {more = more} {g = g} {added = added} {left = left} {from = from} {to = to} first then = record {
-  says_all = says_all_append before rows saids others more first.says_all then.says_all;
-  stands = subst (λ (b : List ParsedLine). Stands b g added left from to) (sym (behind_append saids more before)) then.stands;
+pub applies_append : {before : List ParsedLine} {rows others : List (List (List ℕ))} {parsed_rows more : List ParsedLine} {h g : Head} {entries added : List Entry} {rest left : List Line} {low high from to : ℕ}
+    → Applies before rows parsed_rows h entries rest low high → Applies (behind parsed_rows before) others more g added left from to
+    → Applies before (rows ++ others) (parsed_rows ++ more) g added left from to
+applies_append {before = before} {rows = rows} {others = others} {parsed_rows = parsed_rows} {more = more} {g = g} {added = added} {left = left} {from = from} {to = to} first then = record {
+  says_all = says_all_append before rows parsed_rows others more first.says_all then.says_all;
+  stands = subst (λ (b : List ParsedLine). Stands b g added left from to) (sym (behind_append parsed_rows more before)) then.stands;
 }
 
 -- ---- what stands
@@ -107,7 +107,7 @@ and_so s h = record {
 clear_behind : (before : List ParsedLine) (s : ParsedLine) (h : Head) → head_of before ≡ h → IsClearBehind h (done before) s → conflict_after before s ≡ None
 clear_behind before s h is clear =
     let at : IsClearBehind (head_of before) (done before) s = subst (λ (g : Head). IsClearBehind g (done before) s) (sym is) clear in
-    no_clash (is_some (head_of before).clock) (is_some (head_of before).names) (head_of before).zones (λ worker slot. is_some (held (done before) worker slot)) (λ worker. in_section (done before) worker) (λ worker. is_away (done before) worker) s at
+    no_conflict (is_some (head_of before).clock) (is_some (head_of before).names) (head_of before).zones (λ worker slot. is_some (held (done before) worker slot)) (λ worker. in_section (done before) worker) (λ worker. is_away (done before) worker) s at
 
 -- what one line more adds
 pub record Adds (before : List ParsedLine) (s : ParsedLine) (h g : Head) (added : List Entry) (left : List Line) (low high : ℕ) : Type 0 where
@@ -132,10 +132,10 @@ stands_next {before = before} {s = s} {entries = entries} {added = added} {left 
       below = adds.below;
     }
 
--- a row that says this line is heard
+-- a row that says this line is applied
 pub next_line : {before : List ParsedLine} {h g : Head} {entries added : List Entry} {rest left : List Line} {low high from to : ℕ} (row : List (List ℕ)) (s : ParsedLine)
     → Stands before h entries rest low high → says (version_of before) (last_stage before) (workers_of before) row ≡ Ok s → Adds before s h g added left from to
-    → Hears before (row ∷ []) (s ∷ []) g (entries ++ added) left from to
+    → Applies before (row ∷ []) (s ∷ []) g (entries ++ added) left from to
 next_line {before = before} {h = h} row s stands says adds =
     record { says_all = (says, clear_behind before s h stands.head_is adds.clear, tt); stands = stands_next stands adds }
 

@@ -1,4 +1,4 @@
--- The rows below a valid header: each says its line, and clashes with none before it.
+-- The rows below a valid header: each says its line, and conflicts with none before it.
 use Rattle.std.proofs.Common.{◌≡◌, ℕ, ◌+◌, ◌<◌, ◌≤◌, Bool, true, false, eqb, List, [], ◌∷◌, ◌++◌, length, map, Option, Some, None, refl, sym, ap, subst, ◌∙◌, arith, append_assoc}
 use Rattle.std.specs.Prelude.{All, ◌&&◌, ◌||◌, not, is_some, codes}
 use Rattle.std.proofs.lemmas.Bool.{eqb-true}
@@ -14,7 +14,7 @@ use Rattle.trace_text.specs.declared.round.Round.{Round}
 use Rattle.trace_text.specs.declared.trace_reading.entry.Entry.{Entry}
 use Rattle.trace_text.specs.declared.trace_reading.entry.Entry.TheVariants as entries
 use Rattle.trace_text.specs.declared.trace_reading.parsed_line.ParsedLine.{ParsedLine}
-use Rattle.trace_text.specs.declared.trace_reading.parsed_line.ParsedLine.TheVariants as said
+use Rattle.trace_text.specs.declared.trace_reading.parsed_line.ParsedLine.TheVariants as parsed
 use Rattle.trace_print.specs.CanonicalText.{between_fields, op_fields}
 use Rattle.trace_text.specs.NamedZones.{zone_name}
 use Rattle.trace_text.specs.Grammar.{stage_of, last_stage, version_after, version_of, workers_of, entry_of, done, zone_named}
@@ -25,9 +25,9 @@ use Rattle.trace_text.specs.TraceLine.{rank}
 use Rattle.trace_text.specs.Valid.{HeadFits, OpFits, BetweenFits, RoundFits, LastRoundEnds, LineFits, LinesFit, IsKnown}
 use Rattle.trace_print.proofs.CanonicalRows.{ops_rows, rounds_rows}
 use Rattle.trace_print.proofs.RoundEntries.{ops_entries, rounds_entries}
-use Rattle.trace_print.proofs.RowSaid.{between_saying, op_saying, ops_saids, rounds_saids, op_row_says, between_row_says, round_row_says, end_row_says, zones_are_named}
+use Rattle.trace_print.proofs.RowParsed.{parsed_between, parsed_op, parsed_ops, parsed_rounds, op_row_says, between_row_says, round_row_says, end_row_says, zones_are_named}
 use Rattle.trace_text.proofs.RowZones.{zone_found, zones_differ}
-use Rattle.trace_print.proofs.TraceRebuilt.{Stands, Hears, Adds, IsClearBehind, and_so, behind, part, hears_nothing, hears_append, stands_within, may_stand, next_line}
+use Rattle.trace_print.proofs.TraceRebuilt.{Stands, Applies, Adds, IsClearBehind, and_so, behind, part, applies_nothing, applies_append, stands_within, may_stand, next_line}
 
 -- ---- an operation's line
 
@@ -42,7 +42,7 @@ given : (b : Bool) → b ≡ true → not b ≡ false
 given b e = ap not e
 
 -- it fails no test: what it needs of the header and the lines before it is there
-op_is_clear : (h : Head) (w : ℕ) (op : Op) (lines : List Line) → HeadFits h → OpFits h op → LineFits lines (Does w op) → IsClearBehind h lines (op_saying h.zones w op)
+op_is_clear : (h : Head) (w : ℕ) (op : Op) (lines : List Line) → HeadFits h → OpFits h op → LineFits lines (Does w op) → IsClearBehind h lines (parsed_op h.zones w op)
 op_is_clear h w (Alloc zone slot arg reserve) lines head fits line = record {
   clock = refl;
   names = refl;
@@ -217,7 +217,7 @@ op_is_clear h w Back lines head fits line = record {
 same_head : (h : Head) → part h h.clock h.detail (h.zones ++ []) h.names ≡ h
 same_head h = ap (λ (zones : List ZoneHead). part h h.clock h.detail zones h.names) (append-nil h.zones)
 
-op_keeps_head : (h : Head) (w : ℕ) (op : Op) → and_so (op_saying h.zones w op) h ≡ h
+op_keeps_head : (h : Head) (w : ℕ) (op : Op) → and_so (parsed_op h.zones w op) h ≡ h
 op_keeps_head h w (Alloc zone slot arg reserve) = same_head h
 op_keeps_head h w (Free slot) = same_head h
 op_keeps_head h w Enter = same_head h
@@ -233,7 +233,7 @@ op_keeps_head h w (DrainSeat zone) = same_head h
 op_keeps_head h w (Prealloc zone items) = same_head h
 
 -- nor does it say a version
-op_keeps_version : (zones : List ZoneHead) (w : ℕ) (op : Op) (version : Version) → version_after (op_saying zones w op) version ≡ version
+op_keeps_version : (zones : List ZoneHead) (w : ℕ) (op : Op) (version : Version) → version_after (parsed_op zones w op) version ≡ version
 op_keeps_version zones w (Alloc zone slot arg reserve) version = refl
 op_keeps_version zones w (Free slot) version = refl
 op_keeps_version zones w Enter version = refl
@@ -249,7 +249,7 @@ op_keeps_version zones w (DrainSeat zone) version = refl
 op_keeps_version zones w (Prealloc zone items) version = refl
 
 -- it stands among the lines of the workers
-op_place : (zones : List ZoneHead) (w : ℕ) (op : Op) → rank (stage_of (op_saying zones w op)) ≡ 8
+op_place : (zones : List ZoneHead) (w : ℕ) (op : Op) → rank (stage_of (parsed_op zones w op)) ≡ 8
 op_place zones w (Alloc zone slot arg reserve) = refl
 op_place zones w (Free slot) = refl
 op_place zones w Enter = refl
@@ -265,7 +265,7 @@ op_place zones w (DrainSeat zone) = refl
 op_place zones w (Prealloc zone items) = refl
 
 -- its zone's name gives back its zone
-op_entry : (h : Head) (w : ℕ) (op : Op) → HeadFits h → OpFits h op → entry_of h.zones (op_saying h.zones w op) ≡ entries.Does w op ∷ []
+op_entry : (h : Head) (w : ℕ) (op : Op) → HeadFits h → OpFits h op → entry_of h.zones (parsed_op h.zones w op) ≡ entries.Does w op ∷ []
 op_entry h w (Alloc zone slot arg reserve) head fits = rw (zone_is_there h zone head fits.0) refl
 op_entry h w (Free slot) head fits = refl
 op_entry h w Enter head fits = refl
@@ -286,16 +286,16 @@ workers_are before h earlier rest low high stands = ap (λ (g : Head). g.workers
 
 op_step : (h : Head) (w : ℕ) (op : Op) (before : List ParsedLine) (earlier : List Entry) (rest : List Line) → HeadFits h → w < h.workers → OpFits h op
     → Stands before h earlier (Does w op ∷ rest) 3 9
-    → Hears before (op_fields h.zones w op ∷ []) (op_saying h.zones w op ∷ []) h (earlier ++ entries.Does w op ∷ []) rest 3 9
+    → Applies before (op_fields h.zones w op ∷ []) (parsed_op h.zones w op ∷ []) h (earlier ++ entries.Does w op ∷ []) rest 3 9
 op_step h w op before earlier rest head lt fits stands =
     let workers : workers_of before ≡ h.workers = workers_are before h earlier (Does w op ∷ rest) 3 9 stands in
-    let place : rank (stage_of (op_saying h.zones w op)) ≡ 8 = op_place h.zones w op in
+    let place : rank (stage_of (parsed_op h.zones w op)) ≡ 8 = op_place h.zones w op in
     let most : h.workers ≤ 16 = head.workers.1 in
     let P : Version → Type 0 = λ version. All (IsKnown version) rest in
     let has = All-head (IsKnown (version_of before)) (Does w op) rest stands.known in
-    let known : P (version_after (op_saying h.zones w op) (version_of before)) =
+    let known : P (version_after (parsed_op h.zones w op) (version_of before)) =
     subst P (sym (op_keeps_version h.zones w op (version_of before))) (All-tail (IsKnown (version_of before)) (Does w op) rest stands.known) in
-    next_line (op_fields h.zones w op) (op_saying h.zones w op) stands
+    next_line (op_fields h.zones w op) (parsed_op h.zones w op) stands
     (op_row_says (version_of before) (last_stage before) (workers_of before) h w op (may_stand 3 9 (omega arith) (omega arith) stands) has (omega arith) (omega arith) (zones_are_named h head) fits)
     (record {
       clear = op_is_clear h w op (done before) head fits stands.fit.0;
@@ -326,7 +326,7 @@ give_finds_free lines giver slot taker slot2 full free =
     rw (not_to_itself lines giver slot taker slot2 (eqb giver taker) (eqb slot slot2) refl refl full free, free) refl
 
 between_adds : (h : Head) (b : Between) (before : List ParsedLine) (rest : List Line) → HeadFits h → BetweenFits h b → LineFits (done before) (Moves b) → LinesFit (Moves b ∷ done before) rest
-    → All (IsKnown (version_of before)) rest → Adds before (between_saying h.zones b) h h (entries.Moves b ∷ []) rest 9 9
+    → All (IsKnown (version_of before)) rest → Adds before (parsed_between h.zones b) h h (entries.Moves b ∷ []) rest 9 9
 between_adds h (Give giver slot taker slot2) before rest head fits line fit known = record {
   clear = record {
     clock = refl;
@@ -372,19 +372,19 @@ between_adds h (SetMax zone limit) before rest head fits line fit known = record
 
 between_step : (h : Head) (b : Between) (before : List ParsedLine) (earlier : List Entry) (rest : List Line) → HeadFits h → BetweenFits h b
     → Stands before h earlier (Moves b ∷ rest) 9 9
-    → Hears before (between_fields h.zones b ∷ []) (between_saying h.zones b ∷ []) h (earlier ++ entries.Moves b ∷ []) rest 9 9
+    → Applies before (between_fields h.zones b ∷ []) (parsed_between h.zones b ∷ []) h (earlier ++ entries.Moves b ∷ []) rest 9 9
 between_step h b before earlier rest head fits stands =
     let workers : workers_of before ≡ h.workers = workers_are before h earlier (Moves b ∷ rest) 9 9 stands in
     let most : h.workers ≤ 16 = head.workers.1 in
     let known = All-head (IsKnown (version_of before)) (Moves b) rest stands.known in
-    next_line (between_fields h.zones b) (between_saying h.zones b) stands
+    next_line (between_fields h.zones b) (parsed_between h.zones b) stands
     (between_row_says (version_of before) (last_stage before) (workers_of before) h b (may_stand 9 9 (omega arith) (omega arith) stands) known (omega arith) (omega arith) (zones_are_named h head) fits)
     (between_adds h b before rest head fits stands.fit.0 stands.fit.1 (All-tail (IsKnown (version_of before)) (Moves b) rest stands.known))
 
 round_step : (h : Head) (before : List ParsedLine) (earlier : List Entry) (rest : List Line) → Stands before h earlier rest 3 9
-    → Hears before ((codes "round" ∷ []) ∷ []) (said.Round ∷ []) h (earlier ++ entries.Round ∷ []) rest 9 9
+    → Applies before ((codes "round" ∷ []) ∷ []) (parsed.Round ∷ []) h (earlier ++ entries.Round ∷ []) rest 9 9
 round_step h before earlier rest stands =
-    next_line (codes "round" ∷ []) said.Round stands
+    next_line (codes "round" ∷ []) parsed.Round stands
     (round_row_says (version_of before) (last_stage before) (workers_of before) (may_stand 3 9 (omega arith) (omega arith) stands))
     (record {
       clear = record { clock = refl; names = refl; name = refl; zone = refl; most = refl; filled = refl; empty = refl; opened = refl; closed = refl; away = refl; there = refl };
@@ -398,9 +398,9 @@ round_step h before earlier rest stands =
 
 -- `end` adds nothing
 pub end_step : (h : Head) (before : List ParsedLine) (earlier : List Entry) → Stands before h earlier [] 3 9
-    → Hears before ((codes "end" ∷ []) ∷ []) (said.End ∷ []) h (earlier ++ []) [] 10 10
+    → Applies before ((codes "end" ∷ []) ∷ []) (parsed.End ∷ []) h (earlier ++ []) [] 10 10
 end_step h before earlier stands =
-    next_line (codes "end" ∷ []) said.End stands
+    next_line (codes "end" ∷ []) parsed.End stands
     (end_row_says (version_of before) (last_stage before) (workers_of before) (may_stand 3 9 (omega arith) (omega arith) stands))
     (record {
       clear = record { clock = refl; names = refl; name = refl; zone = refl; most = refl; filled = refl; empty = refl; opened = refl; closed = refl; away = refl; there = refl };
@@ -415,18 +415,18 @@ end_step h before earlier stands =
 -- ---- the lines of a round
 
 -- the entries of two parts, one after the other
-hears_more : {before : List ParsedLine} {rows others : List (List (List ℕ))} {saids more : List ParsedLine} {h : Head} {rest left : List Line} {low high from to : ℕ} (earlier first then : List Entry)
-    → Hears before rows saids h (earlier ++ first) rest low high → Hears (behind saids before) others more h ((earlier ++ first) ++ then) left from to
-    → Hears before (rows ++ others) (saids ++ more) h (earlier ++ (first ++ then)) left from to
-hears_more {before = before} {rows = rows} {others = others} {saids = saids} {more = more} {h = h} {left = left} {from = from} {to = to} earlier first then one two =
-    let both : Hears before (rows ++ others) (saids ++ more) h ((earlier ++ first) ++ then) left from to = hears_append one two in
-    subst (λ (es : List Entry). Hears before (rows ++ others) (saids ++ more) h es left from to) (append_assoc earlier first then) both
+applies_more : {before : List ParsedLine} {rows others : List (List (List ℕ))} {parsed_rows more : List ParsedLine} {h : Head} {rest left : List Line} {low high from to : ℕ} (earlier first then : List Entry)
+    → Applies before rows parsed_rows h (earlier ++ first) rest low high → Applies (behind parsed_rows before) others more h ((earlier ++ first) ++ then) left from to
+    → Applies before (rows ++ others) (parsed_rows ++ more) h (earlier ++ (first ++ then)) left from to
+applies_more {before = before} {rows = rows} {others = others} {parsed_rows = parsed_rows} {more = more} {h = h} {left = left} {from = from} {to = to} earlier first then one two =
+    let both : Applies before (rows ++ others) (parsed_rows ++ more) h ((earlier ++ first) ++ then) left from to = applies_append one two in
+    subst (λ (es : List Entry). Applies before (rows ++ others) (parsed_rows ++ more) h es left from to) (append_assoc earlier first then) both
 
 -- no line adds no entry
-hears_no_more : {before : List ParsedLine} {h : Head} {earlier : List Entry} {rest : List Line} {low high : ℕ}
-    → Stands before h earlier rest low high → Hears before [] [] h (earlier ++ []) rest low high
-hears_no_more {before = before} {h = h} {earlier = earlier} {rest = rest} {low = low} {high = high} stands =
-    hears_nothing (subst (λ (es : List Entry). Stands before h es rest low high) (sym (append-nil earlier)) stands)
+applies_no_more : {before : List ParsedLine} {h : Head} {earlier : List Entry} {rest : List Line} {low high : ℕ}
+    → Stands before h earlier rest low high → Applies before [] [] h (earlier ++ []) rest low high
+applies_no_more {before = before} {h = h} {earlier = earlier} {rest = rest} {low = low} {high = high} stands =
+    applies_nothing (subst (λ (es : List Entry). Stands before h es rest low high) (sym (append-nil earlier)) stands)
 
 -- the lines to come, written another way
 stands_as : {before : List ParsedLine} {h : Head} {earlier : List Entry} {rest : List Line} {low high : ℕ} (left : List Line) → rest ≡ left
@@ -437,40 +437,40 @@ stands_as {before = before} {h = h} {earlier = earlier} {low = low} {high = high
 -- a worker's lines
 ops_step : (h : Head) (w : ℕ) (ops : List Op) (before : List ParsedLine) (earlier : List Entry) (rest : List Line) → HeadFits h → w < h.workers → All (OpFits h) ops
     → Stands before h earlier (map (Does w) ops ++ rest) 3 9
-    → Hears before (map (op_fields h.zones w) ops) (map (op_saying h.zones w) ops) h (earlier ++ map (entries.Does w) ops) rest 3 9
-ops_step h w [] before earlier rest head lt fits stands = hears_no_more stands
+    → Applies before (map (op_fields h.zones w) ops) (map (parsed_op h.zones w) ops) h (earlier ++ map (entries.Does w) ops) rest 3 9
+ops_step h w [] before earlier rest head lt fits stands = applies_no_more stands
 ops_step h w (op ∷ ops) before earlier rest head lt fits stands =
     let first = op_step h w op before earlier (map (Does w) ops ++ rest) head lt (All-head (OpFits h) op ops fits) stands in
-    hears_more earlier (entries.Does w op ∷ []) (map (entries.Does w) ops) first (ops_step h w ops (op_saying h.zones w op ∷ before) (earlier ++ entries.Does w op ∷ []) rest head lt (All-tail (OpFits h) op ops fits) first.stands)
+    applies_more earlier (entries.Does w op ∷ []) (map (entries.Does w) ops) first (ops_step h w ops (parsed_op h.zones w op ∷ before) (earlier ++ entries.Does w op ∷ []) rest head lt (All-tail (OpFits h) op ops fits) first.stands)
 
 -- the lines of the workers from this one on
 lists_step : (h : Head) (w : ℕ) (lists : List (List Op)) (before : List ParsedLine) (earlier : List Entry) (rest : List Line) → HeadFits h → w + length lists ≡ h.workers
     → All (All (OpFits h)) lists → Stands before h earlier (worker_lines w lists ++ rest) 3 9
-    → Hears before (ops_rows h.zones w lists) (ops_saids h.zones w lists) h (earlier ++ ops_entries w lists) rest 3 9
-lists_step h w [] before earlier rest head all fits stands = hears_no_more stands
+    → Applies before (ops_rows h.zones w lists) (parsed_ops h.zones w lists) h (earlier ++ ops_entries w lists) rest 3 9
+lists_step h w [] before earlier rest head all fits stands = applies_no_more stands
 lists_step h w (ops ∷ lists) before earlier rest head all fits stands =
     let split = append_assoc (map (Does w) ops) (worker_lines (w + 1) lists) rest in
     let first = ops_step h w ops before earlier (worker_lines (w + 1) lists ++ rest) head (omega arith) (All-head (All (OpFits h)) ops lists fits)
     (stands_as (map (Does w) ops ++ (worker_lines (w + 1) lists ++ rest)) split stands) in
-    hears_more earlier (map (entries.Does w) ops) (ops_entries (w + 1) lists) first
-    (lists_step h (w + 1) lists (behind (map (op_saying h.zones w) ops) before) (earlier ++ map (entries.Does w) ops) rest head (omega arith) (All-tail (All (OpFits h)) ops lists fits) first.stands)
+    applies_more earlier (map (entries.Does w) ops) (ops_entries (w + 1) lists) first
+    (lists_step h (w + 1) lists (behind (map (parsed_op h.zones w) ops) before) (earlier ++ map (entries.Does w) ops) rest head (omega arith) (All-tail (All (OpFits h)) ops lists fits) first.stands)
 
 -- the lines between two rounds
 betweens_step : (h : Head) (betweens : List Between) (before : List ParsedLine) (earlier : List Entry) (rest : List Line) → HeadFits h → All (BetweenFits h) betweens
     → Stands before h earlier (map Moves betweens ++ rest) 9 9
-    → Hears before (map (between_fields h.zones) betweens) (map (between_saying h.zones) betweens) h (earlier ++ map entries.Moves betweens) rest 9 9
-betweens_step h [] before earlier rest head fits stands = hears_no_more stands
+    → Applies before (map (between_fields h.zones) betweens) (map (parsed_between h.zones) betweens) h (earlier ++ map entries.Moves betweens) rest 9 9
+betweens_step h [] before earlier rest head fits stands = applies_no_more stands
 betweens_step h (b ∷ betweens) before earlier rest head fits stands =
     let first = between_step h b before earlier (map Moves betweens ++ rest) head (All-head (BetweenFits h) b betweens fits) stands in
-    hears_more earlier (entries.Moves b ∷ []) (map entries.Moves betweens) first
-    (betweens_step h betweens (between_saying h.zones b ∷ before) (earlier ++ entries.Moves b ∷ []) rest head (All-tail (BetweenFits h) b betweens fits) first.stands)
+    applies_more earlier (entries.Moves b ∷ []) (map entries.Moves betweens) first
+    (betweens_step h betweens (parsed_between h.zones b ∷ before) (earlier ++ entries.Moves b ∷ []) rest head (All-tail (BetweenFits h) b betweens fits) first.stands)
 
 -- ---- the rounds
 
 -- each row of the rounds says its line, and behind them stand just their lines
 pub rounds_step : (h : Head) (r : Round) (rounds : List Round) (before : List ParsedLine) (earlier : List Entry) → HeadFits h → All (RoundFits h) (r ∷ rounds) → LastRoundEnds (r ∷ rounds)
     → Stands before h earlier (lines_of (r ∷ rounds)) 3 9
-    → Hears before (rounds_rows h.zones (r ∷ rounds)) (rounds_saids h.zones (r ∷ rounds)) h (earlier ++ rounds_entries (r ∷ rounds)) [] 3 9
+    → Applies before (rounds_rows h.zones (r ∷ rounds)) (parsed_rounds h.zones (r ∷ rounds)) h (earlier ++ rounds_entries (r ∷ rounds)) [] 3 9
 rounds_step h r [] before earlier head fits last stands =
     let round : RoundFits h r = All-head (RoundFits h) r [] fits in
     let ops : List Line = worker_lines 0 r.ops in
@@ -488,6 +488,6 @@ rounds_step h r (next ∷ rounds) before earlier head fits last stands =
     let two = round_step h _ ops (betweens ++ more) one.stands in
     let three = betweens_step h r.between _ begun more head round.between two.stands in
     let four = rounds_step h next rounds _ (begun ++ map entries.Moves r.between) head (All-tail (RoundFits h) r (next ∷ rounds) fits) last (stands_within 3 9 (omega arith) (omega arith) three.stands) in
-    hears_more earlier (ops_entries 0 r.ops) (entries.Round ∷ (map entries.Moves r.between ++ rounds_entries (next ∷ rounds))) one
-    (hears_more ops (entries.Round ∷ []) (map entries.Moves r.between ++ rounds_entries (next ∷ rounds)) two
-    (hears_more begun (map entries.Moves r.between) (rounds_entries (next ∷ rounds)) three four))
+    applies_more earlier (ops_entries 0 r.ops) (entries.Round ∷ (map entries.Moves r.between ++ rounds_entries (next ∷ rounds))) one
+    (applies_more ops (entries.Round ∷ []) (map entries.Moves r.between ++ rounds_entries (next ∷ rounds)) two
+    (applies_more begun (map entries.Moves r.between) (rounds_entries (next ∷ rounds)) three four))

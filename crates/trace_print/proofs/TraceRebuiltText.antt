@@ -12,7 +12,7 @@ use Rattle.trace_text.specs.declared.round.Round.{Round}
 use Rattle.trace_text.specs.declared.trace.Trace.{Trace}
 use Rattle.trace_text.specs.declared.trace_reading.entry.Entry.{Entry}
 use Rattle.trace_text.specs.declared.trace_reading.parsed_line.ParsedLine.{ParsedLine}
-use Rattle.trace_text.specs.declared.trace_reading.parsed_line.ParsedLine.TheVariants as said
+use Rattle.trace_text.specs.declared.trace_reading.parsed_line.ParsedLine.TheVariants as parsed
 use Rattle.trace_text.specs.declared.trace_reading.stage.Stage.{Stage}
 use Rattle.trace_text.specs.declared.trace_reading.stage.Stage.TheVariants as stages
 use Rattle.trace_text.specs.declared.trace_reading.word.HeadWord.TheVariants as heads
@@ -22,53 +22,53 @@ use Rattle.text_lines.specs.CanonicalLine.{line}
 use Rattle.trace_text.specs.declared.version.Version.{Version}
 use Rattle.trace_text.specs.declared.version.Version.TheVariants as versions
 use Rattle.trace_text.proofs.TraceSaying.{says_right}
-use Rattle.trace_text.specs.Grammar.{last_stage, version_after, version_of, version_or_first, workers_of, is_round, rounds_in, sayings, trace_of, trace_test}
+use Rattle.trace_text.specs.Grammar.{last_stage, version_after, version_of, version_or_first, workers_of, is_round, rounds_in, parsed_lines, trace_of, trace_test}
 use Rattle.trace_text.specs.Lines.{lines_of}
 use Rattle.trace_print.specs.TextLaws.{ValidTracesHaveTexts}
-use Rattle.trace_text.specs.TraceLine.{is_known, known, may_follow, placed, said_by, says, version_in, word_named, word_or_wrong}
+use Rattle.trace_text.specs.TraceLine.{is_known, known, may_follow, placed, parsed_by, says, version_in, word_named, word_or_wrong}
 use Rattle.trace_text.specs.Valid.{HeadFits, IsValid, LastRoundEnds, RoundFits}
 use Rattle.trace_print.proofs.CanonicalRows.{first_row, head_rows, other_rows, rounds_rows, trace_rows}
 use Rattle.trace_print.proofs.RoundEntries.{rounds_entries, rounds_rebuilt}
 use Rattle.trace_print.proofs.RowFields.{text_is, rows_right}
-use Rattle.trace_print.proofs.RowSaid.{head_saids, other_saids, rounds_saids}
+use Rattle.trace_print.proofs.RowParsed.{parsed_head, parsed_others, parsed_rounds}
 use Rattle.trace_print.proofs.RowText.{PassAll, behind as line_behind, numbered, right_rows}
-use Rattle.trace_print.proofs.TraceRebuilt.{SaysAll, Stands, Hears, behind, hears_append}
+use Rattle.trace_print.proofs.TraceRebuilt.{SaysAll, Stands, Applies, behind, applies_append}
 use Rattle.trace_print.proofs.TraceRebuiltHead.{head_step}
 use Rattle.trace_print.proofs.TraceRebuiltRounds.{rounds_step, end_step}
 
 -- ---- what all rows say
 
-rounds_heard : (h : Head) (rounds : List Round) (before : List ParsedLine) (earlier : List Entry) → HeadFits h → All (RoundFits h) rounds → LastRoundEnds rounds
-    → Stands before h earlier (lines_of rounds) 3 9 → Hears before (rounds_rows h.zones rounds) (rounds_saids h.zones rounds) h (earlier ++ rounds_entries rounds) [] 3 9
-rounds_heard h [] before earlier head fits last stands = absurd last
-rounds_heard h (r ∷ rounds) before earlier head fits last stands = rounds_step h r rounds before earlier head fits last stands
+rounds_applied : (h : Head) (rounds : List Round) (before : List ParsedLine) (earlier : List Entry) → HeadFits h → All (RoundFits h) rounds → LastRoundEnds rounds
+    → Stands before h earlier (lines_of rounds) 3 9 → Applies before (rounds_rows h.zones rounds) (parsed_rounds h.zones rounds) h (earlier ++ rounds_entries rounds) [] 3 9
+rounds_applied h [] before earlier head fits last stands = absurd last
+rounds_applied h (r ∷ rounds) before earlier head fits last stands = rounds_step h r rounds before earlier head fits last stands
 
 -- each row of a valid trace says its line, and behind them stand its header and the lines of its rounds
-pub trace_heard : (t : Trace) → IsValid t → Hears (said.Uma t.version ∷ []) (other_rows t) (other_saids t) t.head (rounds_entries t.rounds ++ []) [] 10 10
-trace_heard t valid =
+pub trace_applied : (t : Trace) → IsValid t → Applies (parsed.Uma t.version ∷ []) (other_rows t) (parsed_others t) t.head (rounds_entries t.rounds ++ []) [] 10 10
+trace_applied t valid =
     let head = head_step t.version t.head (lines_of t.rounds) valid.head valid.lines valid.known in
-    let rounds = rounds_heard t.head t.rounds (behind (head_saids t.head) (said.Uma t.version ∷ [])) [] valid.head valid.rounds valid.last head.stands in
+    let rounds = rounds_applied t.head t.rounds (behind (parsed_head t.head) (parsed.Uma t.version ∷ [])) [] valid.head valid.rounds valid.last head.stands in
     let last = end_step t.head _ (rounds_entries t.rounds) rounds.stands in
-    hears_append head (hears_append rounds last)
+    applies_append head (applies_append rounds last)
 
 -- only the first line says a version
 says_no_version : (version : Version) (stage : Stage) (workers : ℕ) (row : List (List ℕ)) (s : ParsedLine) (old : Version) → says version stage workers row ≡ Ok s → version_after s old ≡ old
-says_no_version version stage workers row (said.Uma other) old e = absurd (let place = (says_right version stage workers row (said.Uma other) e).place in omega arith)
+says_no_version version stage workers row (parsed.Uma other) old e = absurd (let place = (says_right version stage workers row (parsed.Uma other) e).place in omega arith)
 says_no_version version stage workers row s old e = refl
 
-version_stays : (before : List ParsedLine) (rows : List (List (List ℕ))) (saids : List ParsedLine) → SaysAll before rows saids → version_of (behind saids before) ≡ version_of before
+version_stays : (before : List ParsedLine) (rows : List (List (List ℕ))) (parsed_rows : List ParsedLine) → SaysAll before rows parsed_rows → version_of (behind parsed_rows before) ≡ version_of before
 version_stays before [] [] says_all = refl
-version_stays before [] (s ∷ saids) says_all = absurd says_all
+version_stays before [] (s ∷ parsed_rows) says_all = absurd says_all
 version_stays before (row ∷ rows) [] says_all = absurd says_all
-version_stays before (row ∷ rows) (s ∷ saids) says_all =
-    version_stays (s ∷ before) rows saids says_all.2 ∙ says_no_version (version_of before) (last_stage before) (workers_of before) row s (version_of before) says_all.0
+version_stays before (row ∷ rows) (s ∷ parsed_rows) says_all =
+    version_stays (s ∷ before) rows parsed_rows says_all.2 ∙ says_no_version (version_of before) (last_stage before) (workers_of before) row s (version_of before) says_all.0
 
 -- what they say gives the trace back
-pub trace_rebuilt : (t : Trace) → IsValid t → trace_of (behind (other_saids t) (said.Uma t.version ∷ [])) ≡ t
+pub trace_rebuilt : (t : Trace) → IsValid t → trace_of (behind (parsed_others t) (parsed.Uma t.version ∷ [])) ≡ t
 trace_rebuilt t valid =
-    let stands = (trace_heard t valid).stands in
-    let before : List ParsedLine = behind (other_saids t) (said.Uma t.version ∷ []) in
-    let version : version_of before ≡ t.version = version_stays (said.Uma t.version ∷ []) (other_rows t) (other_saids t) (trace_heard t valid).says_all in
+    let stands = (trace_applied t valid).stands in
+    let before : List ParsedLine = behind (parsed_others t) (parsed.Uma t.version ∷ []) in
+    let version : version_of before ≡ t.version = version_stays (parsed.Uma t.version ∷ []) (other_rows t) (parsed_others t) (trace_applied t valid).says_all in
     let made : Head → List Entry → Trace = λ h es. record { version = version_of before; head = h; rounds = rounds_in h.workers (slice_split is_round es) } in
     let with_rounds : List Round → Trace = λ rounds. record { version = version_of before; head = t.head; rounds = rounds } in
     let with_version : Version → Trace = λ v. record { version = v; head = t.head; rounds = t.rounds } in
@@ -95,78 +95,78 @@ nothing_follows words.SetMax = refl
 nothing_follows words.End = refl
 
 unplaced_says_nothing : (has : Bool) (workers : ℕ) (word : Word) (rest : List (List ℕ)) (s : ParsedLine)
-    → (known has >>= (λ is. placed false >>= (λ fits. said_by workers word rest))) ≡ Ok s → ⊥
+    → (known has >>= (λ is. placed false >>= (λ fits. parsed_by workers word rest))) ≡ Ok s → ⊥
 unplaced_says_nothing true workers word rest s e = cc
 unplaced_says_nothing false workers word rest s e = cc
 
 no_word_follows : (version : Version) (o : Option Word) (workers : ℕ) (rest : List (List ℕ)) (s : ParsedLine)
-    → (word_or_wrong o >>= (λ (word : Word). known (is_known version word) >>= (λ is. placed (may_follow stages.End word) >>= (λ fits. said_by workers word rest)))) ≡ Ok s → ⊥
+    → (word_or_wrong o >>= (λ (word : Word). known (is_known version word) >>= (λ is. placed (may_follow stages.End word) >>= (λ fits. parsed_by workers word rest)))) ≡ Ok s → ⊥
 no_word_follows version None workers rest s e = cc
 no_word_follows version (Some word) workers rest s e = let none = rw (nothing_follows word) at e in unplaced_says_nothing (is_known version word) workers word rest s none
 
-nothing_is_said : (version : Version) (workers : ℕ) (row : List (List ℕ)) (s : ParsedLine) → says version stages.End workers row ≡ Ok s → ⊥
-nothing_is_said version workers [] s e = cc
-nothing_is_said version workers (first ∷ rest) s e = no_word_follows version (word_named first) workers rest s e
+nothing_is_parsed : (version : Version) (workers : ℕ) (row : List (List ℕ)) (s : ParsedLine) → says version stages.End workers row ≡ Ok s → ⊥
+nothing_is_parsed version workers [] s e = cc
+nothing_is_parsed version workers (first ∷ rest) s e = no_word_follows version (word_named first) workers rest s e
 
 not_behind_end : (version : Version) (stage : Stage) (workers : ℕ) (row : List (List ℕ)) (s : ParsedLine) → says version stage workers row ≡ Ok s → stage ≡ stages.End → ⊥
 not_behind_end version stage workers row s says_it end =
-    nothing_is_said version workers row s (subst (λ (g : Stage). says version g workers row ≡ Ok s) end says_it)
+    nothing_is_parsed version workers row s (subst (λ (g : Stage). says version g workers row ≡ Ok s) end says_it)
 
 -- the row `end` says just that
-end_or_place : (fits : Bool) (s : ParsedLine) → (placed fits >>= (λ done. Ok said.End)) ≡ Ok s → s ≡ said.End
+end_or_place : (fits : Bool) (s : ParsedLine) → (placed fits >>= (λ done. Ok parsed.End)) ≡ Ok s → s ≡ parsed.End
 end_or_place true s e = cc
 end_or_place false s e = absurd cc
 
-end_is_said : (version : Version) (stage : Stage) (workers : ℕ) (row : List (List ℕ)) (s : ParsedLine) → is_end row ≡ true → says version stage workers row ≡ Ok s → s ≡ said.End
-end_is_said version stage workers [] s is e = absurd cc
-end_is_said version stage workers (word ∷ []) s is e =
+end_is_parsed : (version : Version) (stage : Stage) (workers : ℕ) (row : List (List ℕ)) (s : ParsedLine) → is_end row ≡ true → says version stage workers row ≡ Ok s → s ≡ parsed.End
+end_is_parsed version stage workers [] s is e = absurd cc
+end_is_parsed version stage workers (word ∷ []) s is e =
     let word_is : word ≡ codes "end" = (bytes_eq-Decides word (codes "end")).0 is in
     end_or_place (may_follow stage words.End) s (subst (λ (w : List ℕ). says version stage workers (w ∷ []) ≡ Ok s) word_is e)
-end_is_said version stage workers (word ∷ next ∷ more) s is e = absurd cc
+end_is_parsed version stage workers (word ∷ next ∷ more) s is e = absurd cc
 
 -- ---- each row passes its test
 
 -- behind a row that says this
-next_sayings : (last : TextLine) (earlier : List TextLine) (row : List (List ℕ)) (s : ParsedLine)
-    → says (version_of (sayings (last ∷ earlier))) (last_stage (sayings (last ∷ earlier))) (workers_of (sayings (last ∷ earlier))) row ≡ Ok s
-    → sayings (line_behind (last ∷ earlier) row ∷ last ∷ earlier) ≡ s ∷ sayings (last ∷ earlier)
-next_sayings last earlier row s says_it = rw says_it refl
+next_parsed_lines : (last : TextLine) (earlier : List TextLine) (row : List (List ℕ)) (s : ParsedLine)
+    → says (version_of (parsed_lines (last ∷ earlier))) (last_stage (parsed_lines (last ∷ earlier))) (workers_of (parsed_lines (last ∷ earlier))) row ≡ Ok s
+    → parsed_lines (line_behind (last ∷ earlier) row ∷ last ∷ earlier) ≡ s ∷ parsed_lines (last ∷ earlier)
+next_parsed_lines last earlier row s says_it = rw says_it refl
 
 -- where the last line is `end`, it was so understood
 abbrev KnowsEnd : TextLine → List TextLine → Type 0
-KnowsEnd last earlier = is_end last.fields ≡ true → last_stage (sayings (last ∷ earlier)) ≡ stages.End
+KnowsEnd last earlier = is_end last.fields ≡ true → last_stage (parsed_lines (last ∷ earlier)) ≡ stages.End
 
 knows_next : (last : TextLine) (earlier : List TextLine) (row : List (List ℕ)) (s : ParsedLine)
-    → says (version_of (sayings (last ∷ earlier))) (last_stage (sayings (last ∷ earlier))) (workers_of (sayings (last ∷ earlier))) row ≡ Ok s → KnowsEnd (line_behind (last ∷ earlier) row) (last ∷ earlier)
+    → says (version_of (parsed_lines (last ∷ earlier))) (last_stage (parsed_lines (last ∷ earlier))) (workers_of (parsed_lines (last ∷ earlier))) row ≡ Ok s → KnowsEnd (line_behind (last ∷ earlier) row) (last ∷ earlier)
 knows_next last earlier row s says_it ends =
-    let said_is : s ≡ said.End = end_is_said (version_of (sayings (last ∷ earlier))) (last_stage (sayings (last ∷ earlier))) (workers_of (sayings (last ∷ earlier))) row s ends says_it in
-    ap (λ (b : List ParsedLine). last_stage b) (next_sayings last earlier row s says_it)
-    ∙ ap (λ (x : ParsedLine). last_stage (x ∷ sayings (last ∷ earlier))) said_is
+    let parsed_is : s ≡ parsed.End = end_is_parsed (version_of (parsed_lines (last ∷ earlier))) (last_stage (parsed_lines (last ∷ earlier))) (workers_of (parsed_lines (last ∷ earlier))) row s ends says_it in
+    ap (λ (b : List ParsedLine). last_stage b) (next_parsed_lines last earlier row s says_it)
+    ∙ ap (λ (x : ParsedLine). last_stage (x ∷ parsed_lines (last ∷ earlier))) parsed_is
 
 row_passes : (last : TextLine) (earlier : List TextLine) (row : List (List ℕ)) (s : ParsedLine) → KnowsEnd last earlier
-    → SaysAll (sayings (last ∷ earlier)) (row ∷ []) (s ∷ []) → trace_test (last ∷ earlier) (line_behind (last ∷ earlier) row) ≡ None
+    → SaysAll (parsed_lines (last ∷ earlier)) (row ∷ []) (s ∷ []) → trace_test (last ∷ earlier) (line_behind (last ∷ earlier) row) ≡ None
 row_passes last earlier row s knows says_all =
-    let before : List ParsedLine = sayings (last ∷ earlier) in
+    let before : List ParsedLine = parsed_lines (last ∷ earlier) in
     let unended : is_end last.fields ≡ false = false_from_ne_true (is_end last.fields) (λ e. not_behind_end (version_of before) (last_stage before) (workers_of before) row s says_all.0 (knows e)) in
     rw (unended, says_all.0, says_all.1) refl
 
 -- the rows pass, and so they are understood
-record Understood (rows : List (List (List ℕ))) (saids : List ParsedLine) (last : TextLine) (earlier : List TextLine) : Type 0 where
+record Understood (rows : List (List (List ℕ))) (parsed_rows : List ParsedLine) (last : TextLine) (earlier : List TextLine) : Type 0 where
   pass : PassAll trace_test rows (last ∷ earlier)
-  sayings_are : sayings (numbered rows (last ∷ earlier)) ≡ behind saids (sayings (last ∷ earlier))
+  parsed_are : parsed_lines (numbered rows (last ∷ earlier)) ≡ behind parsed_rows (parsed_lines (last ∷ earlier))
 
-understood : (rows : List (List (List ℕ))) (saids : List ParsedLine) (last : TextLine) (earlier : List TextLine) → KnowsEnd last earlier
-    → SaysAll (sayings (last ∷ earlier)) rows saids → Understood rows saids last earlier
-understood [] [] last earlier knows says_all = record { pass = tt; sayings_are = refl }
-understood [] (s ∷ saids) last earlier knows says_all = absurd says_all
+understood : (rows : List (List (List ℕ))) (parsed_rows : List ParsedLine) (last : TextLine) (earlier : List TextLine) → KnowsEnd last earlier
+    → SaysAll (parsed_lines (last ∷ earlier)) rows parsed_rows → Understood rows parsed_rows last earlier
+understood [] [] last earlier knows says_all = record { pass = tt; parsed_are = refl }
+understood [] (s ∷ parsed_rows) last earlier knows says_all = absurd says_all
 understood (row ∷ rows) [] last earlier knows says_all = absurd says_all
-understood (row ∷ rows) (s ∷ saids) last earlier knows says_all =
-    let next : sayings (line_behind (last ∷ earlier) row ∷ last ∷ earlier) ≡ s ∷ sayings (last ∷ earlier) = next_sayings last earlier row s says_all.0 in
-    let then : SaysAll (sayings (line_behind (last ∷ earlier) row ∷ last ∷ earlier)) rows saids = subst (λ (b : List ParsedLine). SaysAll b rows saids) (sym next) says_all.2 in
-    let more = understood rows saids (line_behind (last ∷ earlier) row) (last ∷ earlier) (knows_next last earlier row s says_all.0) then in
+understood (row ∷ rows) (s ∷ parsed_rows) last earlier knows says_all =
+    let next : parsed_lines (line_behind (last ∷ earlier) row ∷ last ∷ earlier) ≡ s ∷ parsed_lines (last ∷ earlier) = next_parsed_lines last earlier row s says_all.0 in
+    let then : SaysAll (parsed_lines (line_behind (last ∷ earlier) row ∷ last ∷ earlier)) rows parsed_rows = subst (λ (b : List ParsedLine). SaysAll b rows parsed_rows) (sym next) says_all.2 in
+    let more = understood rows parsed_rows (line_behind (last ∷ earlier) row) (last ∷ earlier) (knows_next last earlier row s says_all.0) then in
     record {
       pass = (row_passes last earlier row s knows (says_all.0, says_all.1, tt), more.pass);
-      sayings_are = more.sayings_are ∙ ap (behind saids) next;
+      parsed_are = more.parsed_are ∙ ap (behind parsed_rows) next;
     }
 
 -- ---- the text
@@ -189,10 +189,10 @@ first_passes versions.One = refl
 first_passes versions.Two = refl
 first_passes versions.Three = refl
 
-trace_understood : (t : Trace) → IsValid t → Understood (other_rows t) (other_saids t) (line_behind [] (first_row t.version)) []
+trace_understood : (t : Trace) → IsValid t → Understood (other_rows t) (parsed_others t) (line_behind [] (first_row t.version)) []
 trace_understood t valid =
-    let P : Version → Type 0 = λ version. SaysAll (said.Uma version ∷ []) (other_rows t) (other_saids t) in
-    understood (other_rows t) (other_saids t) (line_behind [] (first_row t.version)) [] (λ e. absurd cc) (subst P (sym (first_says t.version)) (trace_heard t valid).says_all)
+    let P : Version → Type 0 = λ version. SaysAll (parsed.Uma version ∷ []) (other_rows t) (parsed_others t) in
+    understood (other_rows t) (parsed_others t) (line_behind [] (first_row t.version)) [] (λ e. absurd cc) (subst P (sym (first_says t.version)) (trace_applied t valid).says_all)
 
 trace_ends : (t : Trace) → is_ended (numbered (trace_rows t) []) ≡ true
 trace_ends t =
@@ -210,7 +210,7 @@ valid_has_text t valid =
     record {
       spoke = spoke;
       right = subst (λ (bytes : List ℕ). IsRightText trace_test bytes spoke) (sym (text_is t)) right;
-      trace_is = sym (ap (λ (before : List ParsedLine). trace_of before) known.sayings_are
-          ∙ ap (λ (version : Version). trace_of (behind (other_saids t) (said.Uma version ∷ []))) (first_says t.version)
+      trace_is = sym (ap (λ (before : List ParsedLine). trace_of before) known.parsed_are
+          ∙ ap (λ (version : Version). trace_of (behind (parsed_others t) (parsed.Uma version ∷ []))) (first_says t.version)
           ∙ trace_rebuilt t valid);
     }

@@ -1,4 +1,4 @@
--- The rows of the zones of a valid header: each says its zone, and clashes with none before it.
+-- The rows of the zones of a valid header: each says its zone, and conflicts with none before it.
 use Rattle.std.proofs.Common.{◌≡◌, ℕ, ◌+◌, ◌<◌, ◌≤◌, Bool, true, false, cond, eqb, leb, List, [], ◌∷◌, ◌++◌, length, get_or, map, Option, Some, None, refl, sym, ap, subst, ◌∙◌, arith, append_assoc}
 use Rattle.std.specs.Prelude.{All, ◌&&◌, not, is_some, IfSome, count_by, slice_get}
 use Rattle.std.specs.List.{sum_by}
@@ -14,17 +14,17 @@ use Rattle.trace_text.specs.declared.head.ZoneHead.{ZoneHead}
 use Rattle.trace_text.specs.declared.head.ZoneKind.{ZoneKind}
 use Rattle.trace_text.specs.declared.head.ZoneKind.TheVariants.{Plain, Smr}
 use Rattle.trace_text.specs.declared.trace_reading.parsed_line.ParsedLine.{ParsedLine}
-use Rattle.trace_text.specs.declared.trace_reading.parsed_line.ParsedLine.TheVariants as said
+use Rattle.trace_text.specs.declared.trace_reading.parsed_line.ParsedLine.TheVariants as parsed
 use Rattle.trace_print.specs.CanonicalText.{zone_fields}
 use Rattle.trace_text.specs.NamedZones.{zone_name}
 use Rattle.trace_text.specs.Grammar.{last_stage, version_of, workers_of, done, is_smr, zone_named, primary_named, second_zone}
 use Rattle.trace_text.specs.Lines.{Line}
 use Rattle.trace_text.specs.Valid.{ZoneFits, NamesFits, KegFits, KindFits, SecondaryFits, HeadFits, IsKnown, LinesFit, sharer_count}
 use Rattle.trace_print.proofs.CanonicalRows.{names_rows}
-use Rattle.trace_print.proofs.RowSaid.{zone_saying, zone_row_says, names_saids, names_row_says, zones_are_named}
+use Rattle.trace_print.proofs.RowParsed.{parsed_zone, zone_row_says, parsed_names, names_row_says, zones_are_named}
 use Rattle.trace_text.proofs.HeadZones.{called, slice_get_front}
 use Rattle.trace_text.proofs.RowZones.{Differ, nowhere, primary_found_in_front, zone_not_named_yet, names_not_named_yet, zones_differ}
-use Rattle.trace_print.proofs.TraceRebuilt.{Stands, Hears, Adds, part, hears_nothing, hears_append, stands_within, may_stand, next_line}
+use Rattle.trace_print.proofs.TraceRebuilt.{Stands, Applies, Adds, part, applies_nothing, applies_append, stands_within, may_stand, next_line}
 
 -- ---- a zone behind the first ones
 
@@ -121,7 +121,7 @@ name_is_new h front more z fits e =
 
 zone_adds : (h : Head) (front more : List ZoneHead) (z : ZoneHead) (parent : Option ℕ) (before : List ParsedLine) (rest : List Line) → HeadFits h → h.zones ≡ front ++ z ∷ more
     → z.parent ≡ parent → KegFits h.zones (length front) parent z → LinesFit (done before) rest → All (IsKnown (version_of before)) rest
-    → Adds before (zone_saying h.zones parent z) (part h h.clock h.detail front None) (part h h.clock h.detail (front ++ z ∷ []) None) [] rest 3 6
+    → Adds before (parsed_zone h.zones parent z) (part h h.clock h.detail front None) (part h h.clock h.detail (front ++ z ∷ []) None) [] rest 3 6
 zone_adds h front more z None before rest fits e is keg fit known =
     let zone = zone_at h front more z fits e in
     let room : length front < 16 = omega (arith, zone_inside h.zones front more z e, zones_are_few h fits) in
@@ -177,11 +177,11 @@ zone_adds h front more z (Some p) before rest fits e is keg fit known =
 
 zone_step : (h : Head) (front more : List ZoneHead) (z : ZoneHead) (before : List ParsedLine) (rest : List Line) → HeadFits h → h.zones ≡ front ++ z ∷ more
     → Stands before (part h h.clock h.detail front None) [] rest 3 6
-    → Hears before (zone_fields h.zones z.parent z ∷ []) (zone_saying h.zones z.parent z ∷ []) (part h h.clock h.detail (front ++ z ∷ []) None) [] rest 3 6
+    → Applies before (zone_fields h.zones z.parent z ∷ []) (parsed_zone h.zones z.parent z ∷ []) (part h h.clock h.detail (front ++ z ∷ []) None) [] rest 3 6
 zone_step h front more z before rest fits e stands =
     let zone = zone_at h front more z fits e in
     let follows = may_stand 3 6 (omega arith) (omega arith) stands in
-    next_line (zone_fields h.zones z.parent z) (zone_saying h.zones z.parent z) stands
+    next_line (zone_fields h.zones z.parent z) (parsed_zone h.zones z.parent z) stands
     (zone_row_says (version_of before) (last_stage before) (workers_of before) h (length front) z follows (zones_are_named h fits) (zone_inside h.zones front more z e) zone)
     (zone_adds h front more z z.parent before rest fits e refl zone.keg stands.fit stands.known)
 
@@ -189,15 +189,15 @@ zone_step h front more z before rest fits e stands =
 
 pub zones_step : (h : Head) (front more : List ZoneHead) (before : List ParsedLine) (rest : List Line) → HeadFits h → h.zones ≡ front ++ more
     → Stands before (part h h.clock h.detail front None) [] rest 3 6
-    → Hears before (map (λ (z : ZoneHead). zone_fields h.zones z.parent z) more) (map (λ (z : ZoneHead). zone_saying h.zones z.parent z) more) (part h h.clock h.detail h.zones None) [] rest 3 6
+    → Applies before (map (λ (z : ZoneHead). zone_fields h.zones z.parent z) more) (map (λ (z : ZoneHead). parsed_zone h.zones z.parent z) more) (part h h.clock h.detail h.zones None) [] rest 3 6
 zones_step h front [] before rest fits e stands =
     let same : front ≡ h.zones = sym (e ∙ append-nil front) in
-    hears_nothing (subst (λ (zs : List ZoneHead). Stands before (part h h.clock h.detail zs None) [] rest 3 6) same stands)
+    applies_nothing (subst (λ (zs : List ZoneHead). Stands before (part h h.clock h.detail zs None) [] rest 3 6) same stands)
 zones_step h front (z ∷ more) before rest fits e stands =
     let first = zone_step h front more z before rest fits e stands in
     let next : List ZoneHead = front ++ z ∷ [] in
     let split : h.zones ≡ next ++ more = e ∙ sym (append_assoc front (z ∷ []) more) in
-    hears_append first (zones_step h next more (zone_saying h.zones z.parent z ∷ before) rest fits split first.stands)
+    applies_append first (zones_step h next more (parsed_zone h.zones z.parent z ∷ before) rest fits split first.stands)
 
 -- ---- the row of the names
 
@@ -213,15 +213,15 @@ names_have_room h n fits is =
     omega (arith, fits.most_zones, length-append (map (λ (z : ZoneHead). z.name) h.zones) (option_map_or named h.names []), length-map h.zones (λ (z : ZoneHead). z.name))
 
 names_by : (h : Head) (o : Option NamesHead) (before : List ParsedLine) (rest : List Line) → HeadFits h → h.names ≡ o
-    → Stands before (part h h.clock h.detail h.zones None) [] rest 3 6 → Hears before (names_rows o) (names_saids o) (part h h.clock h.detail h.zones o) [] rest 3 9
+    → Stands before (part h h.clock h.detail h.zones None) [] rest 3 6 → Applies before (names_rows o) (parsed_names o) (part h h.clock h.detail h.zones o) [] rest 3 9
 names_by h None before rest fits is stands =
-    hears_nothing (stands_within 3 9 (omega arith) (omega arith) stands)
+    applies_nothing (stands_within 3 9 (omega arith) (omega arith) stands)
 names_by h (Some n) before rest fits is stands =
     let follows = may_stand 3 6 (omega arith) (omega arith) stands in
     let P : Option NamesHead → Type 0 = λ o. IfSome o (NamesFits h) in
     let names : NamesFits h n = subst P is fits.names in
     let clock : is_some h.clock ≡ true = names.clock in
-    next_line _ (said.Names n) stands
+    next_line _ (parsed.Names n) stands
     (names_row_says (version_of before) (last_stage before) (workers_of before) h n follows names)
     (record {
       clear = record {
@@ -246,5 +246,5 @@ names_by h (Some n) before rest fits is stands =
     })
 
 pub names_step : (h : Head) (before : List ParsedLine) (rest : List Line) → HeadFits h
-    → Stands before (part h h.clock h.detail h.zones None) [] rest 3 6 → Hears before (names_rows h.names) (names_saids h.names) h [] rest 3 9
+    → Stands before (part h h.clock h.detail h.zones None) [] rest 3 6 → Applies before (names_rows h.names) (parsed_names h.names) h [] rest 3 9
 names_step h before rest fits stands = names_by h h.names before rest fits refl stands

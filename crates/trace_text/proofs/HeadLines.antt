@@ -8,7 +8,7 @@ use Rattle.zone_stats.specs.Name.{IsName}
 use Rattle.trace_text.specs.declared.head.NamesHead.{NamesHead}
 use Rattle.trace_text.specs.declared.head.ZoneHead.{ZoneHead}
 use Rattle.trace_text.specs.declared.trace_reading.parsed_line.ParsedLine.{ParsedLine}
-use Rattle.trace_text.specs.declared.trace_reading.parsed_line.ParsedLine.TheVariants as said
+use Rattle.trace_text.specs.declared.trace_reading.parsed_line.ParsedLine.TheVariants as parsed
 use Rattle.trace_text.specs.declared.trace_reading.parsed_line.SecondHead.{SecondHead}
 use Rattle.trace_text.specs.Limits.{IsWithin}
 use Rattle.schedule_text.specs.ScheduleGrammar.{start_in, window_in}
@@ -43,12 +43,12 @@ pub record NamesAreRead (n : NamesHead) : Type 0 where
 
 -- what a header line says
 abbrev pub HeadIsRead : ParsedLine → Type 0
-HeadIsRead (said.Workers count) = IsWithin 1 16 count
-HeadIsRead (said.Domains count) = IsWithin 1 4 count
-HeadIsRead (said.Clock clock) = ClockFits clock
-HeadIsRead (said.Zone zone) = ZoneIsRead zone
-HeadIsRead (said.Second second) = SecondIsRead second
-HeadIsRead (said.Names names) = NamesAreRead names
+HeadIsRead (parsed.Workers count) = IsWithin 1 16 count
+HeadIsRead (parsed.Domains count) = IsWithin 1 4 count
+HeadIsRead (parsed.Clock clock) = ClockFits clock
+HeadIsRead (parsed.Zone zone) = ZoneIsRead zone
+HeadIsRead (parsed.Second second) = SecondIsRead second
+HeadIsRead (parsed.Names names) = NamesAreRead names
 HeadIsRead other = Unit {0}
 
 -- ---- the fields

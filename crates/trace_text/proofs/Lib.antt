@@ -5,7 +5,7 @@ pub mod TraceFields
 pub mod TraceRounds
 pub mod PartLists
 pub mod Parts
-pub mod TraceClash
+pub mod TraceConflict
 mod TraceRows
 pub mod TraceSlots
 pub mod TraceTexts

@@ -12,11 +12,11 @@ use Rattle.trace_text.specs.declared.between.Between.{Between}
 use Rattle.trace_text.specs.declared.head.ZoneHead.{ZoneHead}
 use Rattle.trace_text.specs.declared.trace.Trace.{Trace}
 use Rattle.trace_text.specs.declared.trace_reading.parsed_line.ParsedLine.{ParsedLine}
-use Rattle.trace_text.specs.declared.trace_reading.parsed_line.ParsedLine.TheVariants as said
+use Rattle.trace_text.specs.declared.trace_reading.parsed_line.ParsedLine.TheVariants as parsed
 use Rattle.trace_text.specs.declared.trace_reading.parsed_line.ZoneWork.{ZoneWork}
 use Rattle.trace_text.specs.declared.trace_reading.entry.Entry.{Entry}
 use Rattle.trace_text.specs.declared.trace_reading.entry.Entry.TheVariants as entries
-use Rattle.trace_text.specs.Grammar.{and_said, entries_of, entry_in, entry_of, limit_in, between_in, is_round, last_stage, op_by, ops_in, rounds_in, sayings, version_of, workers_of, zone_named, zones_of}
+use Rattle.trace_text.specs.Grammar.{and_parsed, entries_of, entry_in, entry_of, limit_in, between_in, is_round, last_stage, op_by, ops_in, rounds_in, parsed_lines, version_of, workers_of, zone_named, zones_of}
 use Rattle.trace_text.specs.TraceLine.{says}
 use Rattle.trace_text.specs.Lines.{Line, Does, Moves, lines_of, worker_lines}
 use Rattle.trace_text.specs.TraceLaws.{TracesAreNoLonger}
@@ -67,16 +67,16 @@ spoken_few : (all : List (List ℕ)) → length (spoken all) ≤ length all
 spoken_few [] = omega arith
 spoken_few (line ∷ earlier) = spoken_by (is_skipped (fields_of line)) (record { number = length earlier + 1; fields = fields_of line }) (spoken earlier) (length earlier) (spoken_few earlier)
 
-said_by : (s : Result ParsedLine TraceKind) (before : List ParsedLine) (count : ℕ) → length before ≤ count → length (and_said s before) ≤ suc count
-said_by (Ok s) before count few = omega arith
-said_by (Err why) before count few = omega arith
+and_parsed_few : (s : Result ParsedLine TraceKind) (before : List ParsedLine) (count : ℕ) → length before ≤ count → length (and_parsed s before) ≤ suc count
+and_parsed_few (Ok s) before count few = omega arith
+and_parsed_few (Err why) before count few = omega arith
 
-sayings_few : (spoke : List TextLine) → length (sayings spoke) ≤ length spoke
-sayings_few [] = omega arith
-sayings_few (line ∷ []) = omega arith
-sayings_few (line ∷ last ∷ before) =
-    let earlier = sayings (last ∷ before) in
-    said_by (says (version_of earlier) (last_stage earlier) (workers_of earlier) line.fields) earlier (length (last ∷ before)) (sayings_few (last ∷ before))
+parsed_lines_few : (spoke : List TextLine) → length (parsed_lines spoke) ≤ length spoke
+parsed_lines_few [] = omega arith
+parsed_lines_few (line ∷ []) = omega arith
+parsed_lines_few (line ∷ last ∷ before) =
+    let earlier = parsed_lines (last ∷ before) in
+    and_parsed_few (says (version_of earlier) (last_stage earlier) (workers_of earlier) line.fields) earlier (length (last ∷ before)) (parsed_lines_few (last ∷ before))
 
 in_zone : (worker : ℕ) (work : ZoneWork) (zone : Option ℕ) → length (entry_in worker work zone) ≤ 1
 in_zone worker work None = omega arith
@@ -87,11 +87,11 @@ one_limit limit None = omega arith
 one_limit limit (Some zone) = omega arith
 
 one_entry : (zones : List ZoneHead) (s : ParsedLine) → length (entry_of zones s) ≤ 1
-one_entry zones (said.Work worker op) = omega arith
-one_entry zones (said.InZone worker zone work) = in_zone worker work (zone_named zones zone)
-one_entry zones said.Round = omega arith
-one_entry zones (said.Give giver slot taker slot2) = omega arith
-one_entry zones (said.SetMax zone limit) = one_limit limit (zone_named zones zone)
+one_entry zones (parsed.Work worker op) = omega arith
+one_entry zones (parsed.InZone worker zone work) = in_zone worker work (zone_named zones zone)
+one_entry zones parsed.Round = omega arith
+one_entry zones (parsed.Give giver slot taker slot2) = omega arith
+one_entry zones (parsed.SetMax zone limit) = one_limit limit (zone_named zones zone)
 one_entry zones other = omega arith
 
 one_more : (count total more : ℕ) → total ≡ count + more → more ≤ 1 → (limit : ℕ) → count ≤ limit → total ≤ suc limit
@@ -234,7 +234,7 @@ six lines entries before spoke spoken all whole bytes a b c d e f g = omega arit
 
 pub traces_are_no_longer : TracesAreNoLonger
 traces_are_no_longer bytes trace text =
-    let before : List ParsedLine = sayings text.spoke in
+    let before : List ParsedLine = parsed_lines text.spoke in
     let all = text.right.all in
     let P : Trace → Type 0 = λ t. length (lines_of t.rounds) ≤ length bytes in
     let cut = lines_of_entries (workers_of before) (entries_of before) in
@@ -242,4 +242,4 @@ traces_are_no_longer bytes trace text =
     let spoke : length text.spoke ≡ length (spoken all) = ap length text.right.spoke_is in
     subst P (sym text.trace_is)
     (six (length (lines_of (rounds_in (workers_of before) (slice_split is_round (entries_of before))))) (length (entries_of before)) (length before)
-    (length text.spoke) (length (spoken all)) (length all) (length (lines bytes)) (length bytes) cut (entries_few before) (sayings_few text.spoke) spoke (spoken_few all) whole (lines_few bytes))
+    (length text.spoke) (length (spoken all)) (length all) (length (lines bytes)) (length bytes) cut (entries_few before) (parsed_lines_few text.spoke) spoke (spoken_few all) whole (lines_few bytes))

@@ -19,7 +19,7 @@ use Rattle.trace_text.specs.declared.op.Op.TheVariants as ops
 use Rattle.trace_text.specs.declared.trace_reading.entry.Entry.{Entry}
 use Rattle.trace_text.specs.declared.trace_reading.entry.Entry.TheVariants as entries
 use Rattle.trace_text.specs.declared.trace_reading.parsed_line.ParsedLine.{ParsedLine}
-use Rattle.trace_text.specs.declared.trace_reading.parsed_line.ParsedLine.TheVariants as said
+use Rattle.trace_text.specs.declared.trace_reading.parsed_line.ParsedLine.TheVariants as parsed
 use Rattle.trace_text.specs.declared.trace_reading.parsed_line.ZoneWork.{ZoneWork}
 use Rattle.trace_text.specs.declared.trace_reading.parsed_line.ZoneWork.TheVariants as works
 use Rattle.trace_text.specs.declared.version.Version.{Version}
@@ -29,9 +29,9 @@ use Rattle.trace_text.specs.Reading.{held, in_section, is_away}
 use Rattle.trace_text.specs.Limits.{IsWithin}
 use Rattle.trace_text.specs.TraceLine.{rank}
 use Rattle.trace_text.specs.Valid.{SlotFits, LineFits, LinesFit, OpFits, IsKnownOp, changes_limits, comes_back}
-use Rattle.trace_text.proofs.TraceBehind.{Behind, ClashesWithNone, behind, by_lines}
+use Rattle.trace_text.proofs.TraceBehind.{Behind, ConflictsWithNone, behind, by_lines}
 use Rattle.trace_text.proofs.TraceParts.{FitsHead, BetweensStand, HasEntry, entry_line}
-use Rattle.trace_text.proofs.TraceSaying.{OpNumbersFit, WorkNumbersFit, is_known_saying}
+use Rattle.trace_text.proofs.TraceSaying.{OpNumbersFit, WorkNumbersFit, is_known_line}
 use Rattle.trace_text.proofs.TraceTold.{Told}
 
 -- ---- the lines of the header come first
@@ -41,20 +41,20 @@ abbrev pub is_in_head : List ParsedLine → Bool
 is_in_head before = leb (rank (last_stage before)) 7
 
 none_more : (before : List ParsedLine) (s : ParsedLine) → Behind before s → (is_in_head before ≡ true → entries_of before ≡ []) → leb (rank (stage_of s)) 7 ≡ true → entries_of (s ∷ before) ≡ []
-none_more before (said.Uma version) b none e = absurd (let p = b.place in omega arith)
-none_more before (said.Workers count) b none e = append-nil (entries_of before) ∙ none (let place = b.place in le-leb (rank (last_stage before)) 7 (omega arith))
-none_more before (said.Domains count) b none e = append-nil (entries_of before) ∙ none (let place = b.place in le-leb (rank (last_stage before)) 7 (omega arith))
-none_more before (said.Clock clock) b none e = append-nil (entries_of before) ∙ none (let place = b.place in le-leb (rank (last_stage before)) 7 (omega arith))
-none_more before said.Detail b none e = append-nil (entries_of before) ∙ none (let place = b.place in le-leb (rank (last_stage before)) 7 (omega arith))
-none_more before (said.Zone zone) b none e = append-nil (entries_of before) ∙ none (let place = b.place in le-leb (rank (last_stage before)) 7 (omega arith))
-none_more before (said.Second second) b none e = append-nil (entries_of before) ∙ none (let place = b.place in le-leb (rank (last_stage before)) 7 (omega arith))
-none_more before (said.Names names) b none e = append-nil (entries_of before) ∙ none (let place = b.place in le-leb (rank (last_stage before)) 7 (omega arith))
-none_more before (said.Work worker op) b none e = absurd cc
-none_more before (said.InZone worker zone work) b none e = absurd cc
-none_more before said.Round b none e = absurd cc
-none_more before (said.Give giver slot taker slot2) b none e = absurd cc
-none_more before (said.SetMax zone limit) b none e = absurd cc
-none_more before said.End b none e = absurd cc
+none_more before (parsed.Uma version) b none e = absurd (let p = b.place in omega arith)
+none_more before (parsed.Workers count) b none e = append-nil (entries_of before) ∙ none (let place = b.place in le-leb (rank (last_stage before)) 7 (omega arith))
+none_more before (parsed.Domains count) b none e = append-nil (entries_of before) ∙ none (let place = b.place in le-leb (rank (last_stage before)) 7 (omega arith))
+none_more before (parsed.Clock clock) b none e = append-nil (entries_of before) ∙ none (let place = b.place in le-leb (rank (last_stage before)) 7 (omega arith))
+none_more before parsed.Detail b none e = append-nil (entries_of before) ∙ none (let place = b.place in le-leb (rank (last_stage before)) 7 (omega arith))
+none_more before (parsed.Zone zone) b none e = append-nil (entries_of before) ∙ none (let place = b.place in le-leb (rank (last_stage before)) 7 (omega arith))
+none_more before (parsed.Second second) b none e = append-nil (entries_of before) ∙ none (let place = b.place in le-leb (rank (last_stage before)) 7 (omega arith))
+none_more before (parsed.Names names) b none e = append-nil (entries_of before) ∙ none (let place = b.place in le-leb (rank (last_stage before)) 7 (omega arith))
+none_more before (parsed.Work worker op) b none e = absurd cc
+none_more before (parsed.InZone worker zone work) b none e = absurd cc
+none_more before parsed.Round b none e = absurd cc
+none_more before (parsed.Give giver slot taker slot2) b none e = absurd cc
+none_more before (parsed.SetMax zone limit) b none e = absurd cc
+none_more before parsed.End b none e = absurd cc
 
 -- no line below the header stands behind nothing but header lines
 pub head_has_none : (before : List ParsedLine) → Told before → is_in_head before ≡ true → entries_of before ≡ []
@@ -93,11 +93,11 @@ still_fits old new g (entries.Moves (SetMax zone limit)) f = let more : zone < l
 still_fits old new g entries.Round f = tt
 
 pub clock_kept : (s : ParsedLine) (before : Option ClockHead) → IsSome before → IsSome (clock_after s before)
-clock_kept (said.Clock clock) before h = refl
+clock_kept (parsed.Clock clock) before h = refl
 clock_kept other before h = h
 
 names_kept : (s : ParsedLine) (before : Option NamesHead) → IsSome before → IsSome (names_after s before)
-names_kept (said.Names names) before h = refl
+names_kept (parsed.Names names) before h = refl
 names_kept other before h = h
 
 grows : (before : List ParsedLine) (s : ParsedLine) → workers_of before ≡ workers_after s (workers_of before) → Grows (head_of before) (head_of (s ∷ before))
@@ -107,7 +107,7 @@ grows before s same =
 
 -- ---- the line's own
 
-op_fits : (before : List ParsedLine) (worker : ℕ) (op : Op) → OpNumbersFit op → ClashesWithNone before (said.Work worker op) → OpFits (head_of before) op
+op_fits : (before : List ParsedLine) (worker : ℕ) (op : Op) → OpNumbersFit op → ConflictsWithNone before (parsed.Work worker op) → OpFits (head_of before) op
 op_fits before worker (ops.Free slot) n c = n
 op_fits before worker ops.Enter n c = not-false (is_some (clock_of before)) c.clock
 op_fits before worker ops.Exit n c = not-false (is_some (clock_of before)) c.clock
@@ -143,14 +143,14 @@ limit_fits h limit None le there = All-nil (FitsHead h)
 limit_fits h limit (Some zone) le there = All-push (FitsHead h) [] (entries.Moves (SetMax zone limit)) (All-nil (FitsHead h)) (there zone refl, le)
 
 entry_fits : (before : List ParsedLine) (s : ParsedLine) → Behind before s → All (FitsHead (head_of before)) (entry_of (zones_of before) s)
-entry_fits before (said.Work worker op) b =
-    All-push (FitsHead (head_of before)) [] (entries.Does worker op) (All-nil (FitsHead (head_of before))) (b.numbers.0, op_fits before worker op b.numbers.1 b.clashes)
-entry_fits before (said.InZone worker zone work) b =
+entry_fits before (parsed.Work worker op) b =
+    All-push (FitsHead (head_of before)) [] (entries.Does worker op) (All-nil (FitsHead (head_of before))) (b.numbers.0, op_fits before worker op b.numbers.1 b.conflicts)
+entry_fits before (parsed.InZone worker zone work) b =
     in_zone_fits (head_of before) worker work (zone_named (zones_of before) zone) b.numbers.0 b.numbers.1 (λ place e. named_there (zones_of before) zone place e)
-entry_fits before said.Round b = All-push (FitsHead (head_of before)) [] entries.Round (All-nil (FitsHead (head_of before))) tt
-entry_fits before (said.Give giver slot taker slot2) b =
+entry_fits before parsed.Round b = All-push (FitsHead (head_of before)) [] entries.Round (All-nil (FitsHead (head_of before))) tt
+entry_fits before (parsed.Give giver slot taker slot2) b =
     All-push (FitsHead (head_of before)) [] (entries.Moves (Give giver slot taker slot2)) (All-nil (FitsHead (head_of before))) b.numbers
-entry_fits before (said.SetMax zone limit) b =
+entry_fits before (parsed.SetMax zone limit) b =
     limit_fits (head_of before) limit (zone_named (zones_of before) zone) b.numbers (λ place e. named_there (zones_of before) zone place e)
 entry_fits before other b = All-nil (FitsHead (head_of before))
 
@@ -158,20 +158,20 @@ entry_fits before other b = All-nil (FitsHead (head_of before))
 
 -- only a `workers` line, which stands in the header, says how many workers there are
 fit_more : (before : List ParsedLine) (s : ParsedLine) → Told before → Behind before s → All (FitsHead (head_of before)) (entries_of (s ∷ before)) → All (FitsHead (head_of (s ∷ before))) (entries_of (s ∷ before))
-fit_more before (said.Workers count) t b fit =
-    let none : entries_of (said.Workers count ∷ before) ≡ [] = append-nil (entries_of before) ∙ head_has_none before t (let place = b.place in le-leb (rank (last_stage before)) 7 (omega arith)) in
-    All-same (FitsHead (head_of (said.Workers count ∷ before))) (entries_of (said.Workers count ∷ before)) [] none (All-nil (FitsHead (head_of (said.Workers count ∷ before))))
+fit_more before (parsed.Workers count) t b fit =
+    let none : entries_of (parsed.Workers count ∷ before) ≡ [] = append-nil (entries_of before) ∙ head_has_none before t (let place = b.place in le-leb (rank (last_stage before)) 7 (omega arith)) in
+    All-same (FitsHead (head_of (parsed.Workers count ∷ before))) (entries_of (parsed.Workers count ∷ before)) [] none (All-nil (FitsHead (head_of (parsed.Workers count ∷ before))))
 fit_more before other t b fit =
     All-weaker (FitsHead (head_of before)) (FitsHead (head_of (other ∷ before))) (still_fits (head_of before) (head_of (other ∷ before)) (grows before other refl)) (entries_of (other ∷ before)) fit
 
 pub entries_fit : (before : List ParsedLine) → Told before → All (FitsHead (head_of before)) (entries_of before)
 entries_fit =
-    by_lines (λ before. All (FitsHead (head_of before)) (entries_of before)) (All-nil (FitsHead (head_of []))) (λ version. All-nil (FitsHead (head_of (said.Uma version ∷ []))))
+    by_lines (λ before. All (FitsHead (head_of before)) (entries_of before)) (All-nil (FitsHead (head_of []))) (λ version. All-nil (FitsHead (head_of (parsed.Uma version ∷ []))))
     (λ before s t b fit. fit_more before s t b (All-append (FitsHead (head_of before)) (entries_of before) (entry_of (zones_of before) s) fit (entry_fits before s b)))
 
 -- ---- each line is one that the version has
 
-op_known : (version : Version) (worker : ℕ) (op : Op) → is_known_saying version (said.Work worker op) ≡ true → IsKnownOp version op
+op_known : (version : Version) (worker : ℕ) (op : Op) → is_known_line version (parsed.Work worker op) ≡ true → IsKnownOp version op
 op_known version worker ops.Away is = is
 op_known version worker ops.Back is = is
 op_known version worker other is = tt
@@ -192,18 +192,18 @@ limit_known version limit None is = All-nil (HasEntry version)
 limit_known version limit (Some zone) is = All-push (HasEntry version) [] (entries.Moves (SetMax zone limit)) (All-nil (HasEntry version)) is
 
 entry_known : (before : List ParsedLine) (s : ParsedLine) → Behind before s → All (HasEntry (version_of before)) (entry_of (zones_of before) s)
-entry_known before (said.Work worker op) b =
+entry_known before (parsed.Work worker op) b =
     All-push (HasEntry (version_of before)) [] (entries.Does worker op) (All-nil (HasEntry (version_of before))) (op_known (version_of before) worker op b.known)
-entry_known before (said.InZone worker zone work) b = in_zone_known (version_of before) worker work (zone_named (zones_of before) zone)
-entry_known before said.Round b = All-push (HasEntry (version_of before)) [] entries.Round (All-nil (HasEntry (version_of before))) tt
-entry_known before (said.Give giver slot taker slot2) b =
+entry_known before (parsed.InZone worker zone work) b = in_zone_known (version_of before) worker work (zone_named (zones_of before) zone)
+entry_known before parsed.Round b = All-push (HasEntry (version_of before)) [] entries.Round (All-nil (HasEntry (version_of before))) tt
+entry_known before (parsed.Give giver slot taker slot2) b =
     All-push (HasEntry (version_of before)) [] (entries.Moves (Give giver slot taker slot2)) (All-nil (HasEntry (version_of before))) tt
-entry_known before (said.SetMax zone limit) b = limit_known (version_of before) limit (zone_named (zones_of before) zone) b.known
+entry_known before (parsed.SetMax zone limit) b = limit_known (version_of before) limit (zone_named (zones_of before) zone) b.known
 entry_known before other b = All-nil (HasEntry (version_of before))
 
 -- only the first line says the version
 version_kept : (before : List ParsedLine) (s : ParsedLine) → Behind before s → version_of before ≡ version_of (s ∷ before)
-version_kept before (said.Uma version) b = absurd (let p = b.place in omega arith)
+version_kept before (parsed.Uma version) b = absurd (let p = b.place in omega arith)
 version_kept before other b = refl
 
 known_more : (before : List ParsedLine) (s : ParsedLine) → Behind before s → All (HasEntry (version_of before)) (entries_of before) → All (HasEntry (version_of (s ∷ before))) (entries_of (s ∷ before))
@@ -242,19 +242,19 @@ begun_limit begun limit None there = absurd cc
 begun_limit begun limit (Some zone) there = refl
 
 -- a `setmax` line that is told names a zone
-limit_last : (zone : List ℕ) (limit : ℕ) (before : List ParsedLine) → Told (said.SetMax zone limit ∷ before) → begun_by false (entries_of (said.SetMax zone limit ∷ before)) ≡ true
+limit_last : (zone : List ℕ) (limit : ℕ) (before : List ParsedLine) → Told (parsed.SetMax zone limit ∷ before) → begun_by false (entries_of (parsed.SetMax zone limit ∷ before)) ≡ true
 limit_last zone limit [] t = absurd (let first = t.1 in cc)
 limit_last zone limit (last ∷ before) t =
     let earlier : List ParsedLine = last ∷ before in
     let place : Option ℕ = zone_named (zones_of earlier) zone in
-    let there : is_some place ≡ true = not-false (is_some place) (behind last before (said.SetMax zone limit) t).clashes.zone in
+    let there : is_some place ≡ true = not-false (is_some place) (behind last before (parsed.SetMax zone limit) t).conflicts.zone in
     begun_by-append false (entries_of earlier) (limit_in limit place) ∙ begun_limit (begun_by false (entries_of earlier)) limit place there
 
 begun_last : (before : List ParsedLine) → Told before → IsWithin 9 9 (rank (last_stage before)) → begun_by false (entries_of before) ≡ true
 begun_last [] t e = absurd (omega arith)
-begun_last (said.Round ∷ before) t e = begun_by-append false (entries_of before) (entries.Round ∷ [])
-begun_last (said.Give giver slot taker slot2 ∷ before) t e = begun_by-append false (entries_of before) (entries.Moves (Give giver slot taker slot2) ∷ [])
-begun_last (said.SetMax zone limit ∷ before) t e = limit_last zone limit before t
+begun_last (parsed.Round ∷ before) t e = begun_by-append false (entries_of before) (entries.Round ∷ [])
+begun_last (parsed.Give giver slot taker slot2 ∷ before) t e = begun_by-append false (entries_of before) (entries.Moves (Give giver slot taker slot2) ∷ [])
+begun_last (parsed.SetMax zone limit ∷ before) t e = limit_last zone limit before t
 begun_last (other ∷ before) t e = absurd (omega arith)
 
 in_zone_stands : (begun : Bool) (worker : ℕ) (work : ZoneWork) (o : Option ℕ) → BetweensStand begun (entry_in worker work o)
@@ -266,9 +266,9 @@ limit_stands begun limit None is = tt
 limit_stands begun limit (Some zone) is = (is, tt)
 
 entry_stands : (before : List ParsedLine) (s : ParsedLine) → Told before → Behind before s → BetweensStand (begun_by false (entries_of before)) (entry_of (zones_of before) s)
-entry_stands before (said.Give giver slot taker slot2) t b = (begun_last before t b.place, tt)
-entry_stands before (said.SetMax zone limit) t b = limit_stands (begun_by false (entries_of before)) limit (zone_named (zones_of before) zone) (begun_last before t b.place)
-entry_stands before (said.InZone worker zone work) t b = in_zone_stands (begun_by false (entries_of before)) worker work (zone_named (zones_of before) zone)
+entry_stands before (parsed.Give giver slot taker slot2) t b = (begun_last before t b.place, tt)
+entry_stands before (parsed.SetMax zone limit) t b = limit_stands (begun_by false (entries_of before)) limit (zone_named (zones_of before) zone) (begun_last before t b.place)
+entry_stands before (parsed.InZone worker zone work) t b = in_zone_stands (begun_by false (entries_of before)) worker work (zone_named (zones_of before) zone)
 entry_stands before other t b = tt
 
 pub betweens_stand : (before : List ParsedLine) → Told before → BetweensStand false (entries_of before)
@@ -300,8 +300,8 @@ limit_done limit None earlier = refl
 limit_done limit (Some zone) earlier = refl
 
 entry_done : (zones : List ZoneHead) (s : ParsedLine) (earlier : List Line) → onto (flat_map entry_line (entry_of zones s)) earlier ≡ line_of (entry_of zones s) ++ earlier
-entry_done zones (said.InZone worker zone work) earlier = in_zone_done worker work (zone_named zones zone) earlier
-entry_done zones (said.SetMax zone limit) earlier = limit_done limit (zone_named zones zone) earlier
+entry_done zones (parsed.InZone worker zone work) earlier = in_zone_done worker work (zone_named zones zone) earlier
+entry_done zones (parsed.SetMax zone limit) earlier = limit_done limit (zone_named zones zone) earlier
 entry_done zones other earlier = refl
 
 -- what was done is what the lines below the header do
@@ -317,7 +317,7 @@ none_held : (o : Option ℕ) → is_some o ≡ false → o ≡ None
 none_held None e = refl
 none_held (Some x) e = absurd cc
 
-op_slot_fits : (before : List ParsedLine) (worker : ℕ) (op : Op) → OpNumbersFit op → ClashesWithNone before (said.Work worker op) → SlotFits (done before) worker op
+op_slot_fits : (before : List ParsedLine) (worker : ℕ) (op : Op) → OpNumbersFit op → ConflictsWithNone before (parsed.Work worker op) → SlotFits (done before) worker op
 op_slot_fits before worker (ops.Free slot) n c = not-false (is_some (held (done before) worker slot)) c.empty
 op_slot_fits before worker ops.Enter n c = c.opened
 op_slot_fits before worker ops.Exit n c = not-false (in_section (done before) worker) c.closed
@@ -326,7 +326,7 @@ op_slot_fits before worker (ops.Alloc zone slot arg reserve) n c = absurd n
 op_slot_fits before worker other n c = tt
 
 -- a worker is there unless the operation is `back`
-presence_fits : (earlier : List Line) (worker : ℕ) (op : Op) → finds_away (λ w. is_away earlier w) (said.Work worker op) ≡ false → finds_there (λ w. is_away earlier w) (said.Work worker op) ≡ false
+presence_fits : (earlier : List Line) (worker : ℕ) (op : Op) → finds_away (λ w. is_away earlier w) (parsed.Work worker op) ≡ false → finds_there (λ w. is_away earlier w) (parsed.Work worker op) ≡ false
     → is_away earlier worker ≡ comes_back op
 presence_fits earlier worker ops.Back away there = not-false (is_away earlier worker) there
 presence_fits earlier worker (ops.Alloc zone slot arg reserve) away there = away
@@ -342,10 +342,10 @@ presence_fits earlier worker (ops.DrainSeat zone) away there = away
 presence_fits earlier worker (ops.Prealloc zone items) away there = away
 presence_fits earlier worker ops.Away away there = away
 
-op_line_fits : (before : List ParsedLine) (worker : ℕ) (op : Op) → OpNumbersFit op → ClashesWithNone before (said.Work worker op) → LineFits (done before) (Does worker op)
+op_line_fits : (before : List ParsedLine) (worker : ℕ) (op : Op) → OpNumbersFit op → ConflictsWithNone before (parsed.Work worker op) → LineFits (done before) (Does worker op)
 op_line_fits before worker op n c = (op_slot_fits before worker op n c, presence_fits (done before) worker op c.away c.there)
 
-work_line_fits : (earlier : List Line) (worker : ℕ) (name : List ℕ) (work : ZoneWork) (zone : ℕ) → finds_filled (λ w slot. is_some (held earlier w slot)) (said.InZone worker name work) ≡ false
+work_line_fits : (earlier : List Line) (worker : ℕ) (name : List ℕ) (work : ZoneWork) (zone : ℕ) → finds_filled (λ w slot. is_some (held earlier w slot)) (parsed.InZone worker name work) ≡ false
     → is_away earlier worker ≡ false → LineFits earlier (Does worker (work_op work zone))
 work_line_fits earlier worker name (works.Alloc slot arg reserve) zone e there = (none_held (held earlier worker slot) e, there)
 work_line_fits earlier worker name works.Trim zone e there = (tt, there)
@@ -353,7 +353,7 @@ work_line_fits earlier worker name works.Drain zone e there = (tt, there)
 work_line_fits earlier worker name works.DrainSeat zone e there = (tt, there)
 work_line_fits earlier worker name (works.Prealloc items) zone e there = (tt, there)
 
-in_zone_line_fits : (earlier : List Line) (worker : ℕ) (name : List ℕ) (work : ZoneWork) (o : Option ℕ) → finds_filled (λ w slot. is_some (held earlier w slot)) (said.InZone worker name work) ≡ false
+in_zone_line_fits : (earlier : List Line) (worker : ℕ) (name : List ℕ) (work : ZoneWork) (o : Option ℕ) → finds_filled (λ w slot. is_some (held earlier w slot)) (parsed.InZone worker name work) ≡ false
     → is_away earlier worker ≡ false → LinesFit earlier (flat_map entry_line (entry_in worker work o))
 in_zone_line_fits earlier worker name work None e there = tt
 in_zone_line_fits earlier worker name work (Some zone) e there = (work_line_fits earlier worker name work zone e there, tt)
@@ -363,12 +363,12 @@ limit_line_fits earlier limit None = tt
 limit_line_fits earlier limit (Some zone) = (tt, tt)
 
 entry_line_fits : (before : List ParsedLine) (s : ParsedLine) → Behind before s → LinesFit (done before) (flat_map entry_line (entry_of (zones_of before) s))
-entry_line_fits before (said.Work worker op) b = (op_line_fits before worker op b.numbers.1 b.clashes, tt)
-entry_line_fits before (said.InZone worker zone work) b = in_zone_line_fits (done before) worker zone work (zone_named (zones_of before) zone) b.clashes.filled b.clashes.away
-entry_line_fits before (said.SetMax zone limit) b = limit_line_fits (done before) limit (zone_named (zones_of before) zone)
-entry_line_fits before (said.Give giver slot taker slot2) b =
-    let to = or_parts (eqb giver taker && eqb slot slot2) (is_some (held (done before) taker slot2)) b.clashes.filled in
-    ((not-false (is_some (held (done before) giver slot)) b.clashes.empty, none_held (held (done before) taker slot2) to.1), tt)
+entry_line_fits before (parsed.Work worker op) b = (op_line_fits before worker op b.numbers.1 b.conflicts, tt)
+entry_line_fits before (parsed.InZone worker zone work) b = in_zone_line_fits (done before) worker zone work (zone_named (zones_of before) zone) b.conflicts.filled b.conflicts.away
+entry_line_fits before (parsed.SetMax zone limit) b = limit_line_fits (done before) limit (zone_named (zones_of before) zone)
+entry_line_fits before (parsed.Give giver slot taker slot2) b =
+    let to = or_parts (eqb giver taker && eqb slot slot2) (is_some (held (done before) taker slot2)) b.conflicts.filled in
+    ((not-false (is_some (held (done before) giver slot)) b.conflicts.empty, none_held (held (done before) taker slot2) to.1), tt)
 entry_line_fits before other b = tt
 
 line_more : (before : List ParsedLine) (s : ParsedLine) → Behind before s → LinesFit [] (flat_map entry_line (entries_of before)) → LinesFit [] (flat_map entry_line (entries_of (s ∷ before)))

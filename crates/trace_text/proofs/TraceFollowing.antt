@@ -18,22 +18,22 @@ use Rattle.trace_text.specs.declared.trace_reading.entry.Entry.{Entry}
 use Rattle.trace_text.specs.declared.trace_reading.entry.Entry.TheVariants as entries
 use Rattle.trace_text.specs.declared.trace_reading.reader.TraceReader.{TraceReader}
 use Rattle.trace_text.specs.declared.trace_reading.parsed_line.ParsedLine.{ParsedLine}
-use Rattle.trace_text.specs.declared.trace_reading.parsed_line.ParsedLine.TheVariants as said
+use Rattle.trace_text.specs.declared.trace_reading.parsed_line.ParsedLine.TheVariants as parsed
 use Rattle.trace_text.specs.declared.trace_reading.parsed_line.ZoneWork.{ZoneWork}
 use Rattle.trace_text.specs.declared.trace_reading.parsed_line.ZoneWork.TheVariants as works
 use Rattle.trace_text.specs.declared.trace_reading.stage.Stage.TheVariants as stages
 use Rattle.trace_text.specs.declared.trace_reading.tables.Tables.{Tables}
 use Rattle.trace_text.specs.declared.version.Version.{Version}
 use Rattle.trace_text.specs.declared.version.Version.TheVariants as versions
-use Rattle.trace_text.specs.Grammar.{head_wrong, stage_of, version_after, version_of, version_or_first, workers_after, domains_after, clock_after, detail_after, names_after, new_zone, last_stage, workers_of, zones_of, entry_of, entry_in, limit_in, zone_named, line_of, done, finds_filled, finds_empty, finds_open, finds_closed, finds_away, finds_there, conflict_after, is_filled_by, is_open_by, is_away_by, sayings, and_said, tells, trace_test}
+use Rattle.trace_text.specs.Grammar.{head_wrong, stage_of, version_after, version_of, version_or_first, workers_after, domains_after, clock_after, detail_after, names_after, new_zone, last_stage, workers_of, zones_of, entry_of, entry_in, limit_in, zone_named, line_of, done, finds_filled, finds_empty, finds_open, finds_closed, finds_away, finds_there, conflict_after, is_filled_by, is_open_by, is_away_by, parsed_lines, and_parsed, tells, trace_test}
 use Rattle.trace_text.specs.Limits.{last_slot, slots}
 use Rattle.trace_text.specs.Reading.{held, in_section, is_away}
-use Rattle.trace_text.specs.TraceHeard.{Hears, MarksAll, conflict_found}
-use Rattle.trace_text.specs.TraceKnown.{Knows, KnowsSaid, KnowsTables, is_start, is_last}
+use Rattle.trace_text.specs.TraceApplied.{Applies, MarksAll, conflict_found}
+use Rattle.trace_text.specs.TraceKnown.{Knows, KnowsParsed, KnowsTables, is_start, is_last}
 use Rattle.trace_text.specs.TraceLine.{says, version_in}
 use Rattle.trace_text.specs.TraceShown.{slot_at, is_marked, filled_by, filled_after, opened_after, left_after, NamesFit}
 use Rattle.trace_text.specs.TraceTables.{AreEmpty}
-use Rattle.trace_text.proofs.TraceClash.{same_clash}
+use Rattle.trace_text.proofs.TraceConflict.{same_conflict}
 use Rattle.trace_text.proofs.TraceSlots.{filled_next, opened_next, left_next}
 use Rattle.trace_text.proofs.TraceSpoken.{end_is_told, head_no_end}
 
@@ -46,54 +46,54 @@ abbrev pub SameWorkers : (ℕ → Bool) → (ℕ → Bool) → Type 0
 SameWorkers p q = (w : ℕ) → p w ≡ q w
 
 same_filled : (a b : ℕ → ℕ → Bool) → SameSlots a b → (n : ℕ) (s : ParsedLine) → NamesFit n s → finds_filled a s ≡ finds_filled b s
-same_filled a b same n (said.Uma version) fit = refl
-same_filled a b same n (said.Workers count) fit = refl
-same_filled a b same n (said.Domains count) fit = refl
-same_filled a b same n (said.Clock clock) fit = refl
-same_filled a b same n said.Detail fit = refl
-same_filled a b same n (said.Zone zone) fit = refl
-same_filled a b same n (said.Second second) fit = refl
-same_filled a b same n (said.Names names) fit = refl
-same_filled a b same n (said.Work w op) fit = refl
-same_filled a b same n (said.InZone w zone (works.Alloc slot arg reserve)) fit = same w slot fit.1
-same_filled a b same n (said.InZone w zone works.Trim) fit = refl
-same_filled a b same n (said.InZone w zone works.Drain) fit = refl
-same_filled a b same n (said.InZone w zone works.DrainSeat) fit = refl
-same_filled a b same n (said.InZone w zone (works.Prealloc items)) fit = refl
-same_filled a b same n said.Round fit = refl
-same_filled a b same n (said.Give giver slot taker slot2) fit = ap (λ x. (giver == taker && slot == slot2) || x) (same taker slot2 fit.3)
-same_filled a b same n (said.SetMax zone limit) fit = refl
-same_filled a b same n said.End fit = refl
+same_filled a b same n (parsed.Uma version) fit = refl
+same_filled a b same n (parsed.Workers count) fit = refl
+same_filled a b same n (parsed.Domains count) fit = refl
+same_filled a b same n (parsed.Clock clock) fit = refl
+same_filled a b same n parsed.Detail fit = refl
+same_filled a b same n (parsed.Zone zone) fit = refl
+same_filled a b same n (parsed.Second second) fit = refl
+same_filled a b same n (parsed.Names names) fit = refl
+same_filled a b same n (parsed.Work w op) fit = refl
+same_filled a b same n (parsed.InZone w zone (works.Alloc slot arg reserve)) fit = same w slot fit.1
+same_filled a b same n (parsed.InZone w zone works.Trim) fit = refl
+same_filled a b same n (parsed.InZone w zone works.Drain) fit = refl
+same_filled a b same n (parsed.InZone w zone works.DrainSeat) fit = refl
+same_filled a b same n (parsed.InZone w zone (works.Prealloc items)) fit = refl
+same_filled a b same n parsed.Round fit = refl
+same_filled a b same n (parsed.Give giver slot taker slot2) fit = ap (λ x. (giver == taker && slot == slot2) || x) (same taker slot2 fit.3)
+same_filled a b same n (parsed.SetMax zone limit) fit = refl
+same_filled a b same n parsed.End fit = refl
 
 same_empty : (a b : ℕ → ℕ → Bool) → SameSlots a b → (n : ℕ) (s : ParsedLine) → NamesFit n s → finds_empty a s ≡ finds_empty b s
-same_empty a b same n (said.Uma version) fit = refl
-same_empty a b same n (said.Workers count) fit = refl
-same_empty a b same n (said.Domains count) fit = refl
-same_empty a b same n (said.Clock clock) fit = refl
-same_empty a b same n said.Detail fit = refl
-same_empty a b same n (said.Zone zone) fit = refl
-same_empty a b same n (said.Second second) fit = refl
-same_empty a b same n (said.Names names) fit = refl
-same_empty a b same n (said.Work w (ops.Alloc zone slot arg reserve)) fit = refl
-same_empty a b same n (said.Work w (ops.Free slot)) fit = ap not (same w slot fit.1)
-same_empty a b same n (said.Work w ops.Enter) fit = refl
-same_empty a b same n (said.Work w ops.Exit) fit = refl
-same_empty a b same n (said.Work w (ops.Bind key value)) fit = refl
-same_empty a b same n (said.Work w (ops.Unbind key)) fit = refl
-same_empty a b same n (said.Work w (ops.Look key)) fit = refl
-same_empty a b same n (said.Work w (ops.Trim zone)) fit = refl
-same_empty a b same n (said.Work w (ops.Drain zone)) fit = refl
-same_empty a b same n (said.Work w (ops.DrainSeat zone)) fit = refl
-same_empty a b same n (said.Work w (ops.Prealloc zone items)) fit = refl
-same_empty a b same n (said.Work w ops.Away) fit = refl
-same_empty a b same n (said.Work w ops.Back) fit = refl
-same_empty a b same n (said.InZone w zone work) fit = refl
-same_empty a b same n said.Round fit = refl
-same_empty a b same n (said.Give giver slot taker slot2) fit = ap not (same giver slot fit.1)
-same_empty a b same n (said.SetMax zone limit) fit = refl
-same_empty a b same n said.End fit = refl
+same_empty a b same n (parsed.Uma version) fit = refl
+same_empty a b same n (parsed.Workers count) fit = refl
+same_empty a b same n (parsed.Domains count) fit = refl
+same_empty a b same n (parsed.Clock clock) fit = refl
+same_empty a b same n parsed.Detail fit = refl
+same_empty a b same n (parsed.Zone zone) fit = refl
+same_empty a b same n (parsed.Second second) fit = refl
+same_empty a b same n (parsed.Names names) fit = refl
+same_empty a b same n (parsed.Work w (ops.Alloc zone slot arg reserve)) fit = refl
+same_empty a b same n (parsed.Work w (ops.Free slot)) fit = ap not (same w slot fit.1)
+same_empty a b same n (parsed.Work w ops.Enter) fit = refl
+same_empty a b same n (parsed.Work w ops.Exit) fit = refl
+same_empty a b same n (parsed.Work w (ops.Bind key value)) fit = refl
+same_empty a b same n (parsed.Work w (ops.Unbind key)) fit = refl
+same_empty a b same n (parsed.Work w (ops.Look key)) fit = refl
+same_empty a b same n (parsed.Work w (ops.Trim zone)) fit = refl
+same_empty a b same n (parsed.Work w (ops.Drain zone)) fit = refl
+same_empty a b same n (parsed.Work w (ops.DrainSeat zone)) fit = refl
+same_empty a b same n (parsed.Work w (ops.Prealloc zone items)) fit = refl
+same_empty a b same n (parsed.Work w ops.Away) fit = refl
+same_empty a b same n (parsed.Work w ops.Back) fit = refl
+same_empty a b same n (parsed.InZone w zone work) fit = refl
+same_empty a b same n parsed.Round fit = refl
+same_empty a b same n (parsed.Give giver slot taker slot2) fit = ap not (same giver slot fit.1)
+same_empty a b same n (parsed.SetMax zone limit) fit = refl
+same_empty a b same n parsed.End fit = refl
 
-open_op : (p q : ℕ → Bool) → SameWorkers p q → (w : ℕ) (op : Op) → (finds_open p (said.Work w op) ≡ finds_open q (said.Work w op)) × (finds_closed p (said.Work w op) ≡ finds_closed q (said.Work w op))
+open_op : (p q : ℕ → Bool) → SameWorkers p q → (w : ℕ) (op : Op) → (finds_open p (parsed.Work w op) ≡ finds_open q (parsed.Work w op)) × (finds_closed p (parsed.Work w op) ≡ finds_closed q (parsed.Work w op))
 open_op p q same w (ops.Alloc zone slot arg reserve) = (refl, refl)
 open_op p q same w (ops.Free slot) = (refl, refl)
 open_op p q same w ops.Enter = (same w, refl)
@@ -109,22 +109,22 @@ open_op p q same w ops.Away = (same w, refl)
 open_op p q same w ops.Back = (refl, refl)
 
 same_open : (p q : ℕ → Bool) → SameWorkers p q → (s : ParsedLine) → (finds_open p s ≡ finds_open q s) × (finds_closed p s ≡ finds_closed q s)
-same_open p q same (said.Uma version) = (refl, refl)
-same_open p q same (said.Workers count) = (refl, refl)
-same_open p q same (said.Domains count) = (refl, refl)
-same_open p q same (said.Clock clock) = (refl, refl)
-same_open p q same said.Detail = (refl, refl)
-same_open p q same (said.Zone zone) = (refl, refl)
-same_open p q same (said.Second second) = (refl, refl)
-same_open p q same (said.Names names) = (refl, refl)
-same_open p q same (said.Work w op) = open_op p q same w op
-same_open p q same (said.InZone w zone work) = (refl, refl)
-same_open p q same said.Round = (refl, refl)
-same_open p q same (said.Give giver slot taker slot2) = (refl, refl)
-same_open p q same (said.SetMax zone limit) = (refl, refl)
-same_open p q same said.End = (refl, refl)
+same_open p q same (parsed.Uma version) = (refl, refl)
+same_open p q same (parsed.Workers count) = (refl, refl)
+same_open p q same (parsed.Domains count) = (refl, refl)
+same_open p q same (parsed.Clock clock) = (refl, refl)
+same_open p q same parsed.Detail = (refl, refl)
+same_open p q same (parsed.Zone zone) = (refl, refl)
+same_open p q same (parsed.Second second) = (refl, refl)
+same_open p q same (parsed.Names names) = (refl, refl)
+same_open p q same (parsed.Work w op) = open_op p q same w op
+same_open p q same (parsed.InZone w zone work) = (refl, refl)
+same_open p q same parsed.Round = (refl, refl)
+same_open p q same (parsed.Give giver slot taker slot2) = (refl, refl)
+same_open p q same (parsed.SetMax zone limit) = (refl, refl)
+same_open p q same parsed.End = (refl, refl)
 
-away_op : (p q : ℕ → Bool) → SameWorkers p q → (w : ℕ) (op : Op) → (finds_away p (said.Work w op) ≡ finds_away q (said.Work w op)) × (finds_there p (said.Work w op) ≡ finds_there q (said.Work w op))
+away_op : (p q : ℕ → Bool) → SameWorkers p q → (w : ℕ) (op : Op) → (finds_away p (parsed.Work w op) ≡ finds_away q (parsed.Work w op)) × (finds_there p (parsed.Work w op) ≡ finds_there q (parsed.Work w op))
 away_op p q same w (ops.Alloc zone slot arg reserve) = (same w, refl)
 away_op p q same w (ops.Free slot) = (same w, refl)
 away_op p q same w ops.Enter = (same w, refl)
@@ -140,17 +140,17 @@ away_op p q same w ops.Away = (same w, refl)
 away_op p q same w ops.Back = (refl, ap not (same w))
 
 same_away : (p q : ℕ → Bool) → SameWorkers p q → (s : ParsedLine) → (finds_away p s ≡ finds_away q s) × (finds_there p s ≡ finds_there q s)
-same_away p q same (said.Work w op) = away_op p q same w op
-same_away p q same (said.InZone w zone work) = (same w, refl)
+same_away p q same (parsed.Work w op) = away_op p q same w op
+same_away p q same (parsed.InZone w zone work) = (same w, refl)
 same_away p q same other = (refl, refl)
 
-same_found : (reader : TraceReader) (before : List ParsedLine) (n : ℕ) (s : ParsedLine) → NamesFit n s → KnowsSaid reader before → conflict_found reader s ≡ conflict_after before s
+same_found : (reader : TraceReader) (before : List ParsedLine) (n : ℕ) (s : ParsedLine) → NamesFit n s → KnowsParsed reader before → conflict_found reader s ≡ conflict_after before s
 same_found reader before n s fit knows =
     let filled = same_filled (slot_at reader.tables.slots.items) (is_filled_by before) knows.tables.filled n s fit in
     let empty = same_empty (slot_at reader.tables.slots.items) (is_filled_by before) knows.tables.filled n s fit in
     let opened = same_open (is_marked reader.tables.sections.items) (is_open_by before) knows.tables.opened s in
     let left = same_away (is_marked reader.tables.away.items) (is_away_by before) knows.tables.left s in
-    let agree = same_clash (is_some reader.clock) (is_some reader.names) reader.zones (slot_at reader.tables.slots.items) (is_filled_by before) (is_marked reader.tables.sections.items) (is_open_by before) (is_marked reader.tables.away.items) (is_away_by before) s
+    let agree = same_conflict (is_some reader.clock) (is_some reader.names) reader.zones (slot_at reader.tables.slots.items) (is_filled_by before) (is_marked reader.tables.sections.items) (is_open_by before) (is_marked reader.tables.away.items) (is_away_by before) s
     (record { filled = filled; empty = empty; opened = opened.0; closed = opened.1; away = left.0; there = left.1 }) in
     agree ∙ rw (knows.clock, knows.names, knows.zones) refl
 
@@ -173,20 +173,20 @@ limit_first limit None = tt
 limit_first limit (Some place) = tt
 
 first_fits : (n : ℕ) (zones : List ZoneHead) (s : ParsedLine) → NamesFit n s → FirstFits (entry_of zones s)
-first_fits n zones (said.Uma version) fit = tt
-first_fits n zones (said.Workers count) fit = tt
-first_fits n zones (said.Domains count) fit = tt
-first_fits n zones (said.Clock clock) fit = tt
-first_fits n zones said.Detail fit = tt
-first_fits n zones (said.Zone zone) fit = tt
-first_fits n zones (said.Second second) fit = tt
-first_fits n zones (said.Names names) fit = tt
-first_fits n zones (said.Work w op) fit = tt
-first_fits n zones (said.InZone w zone work) fit = in_zone_first w work (zone_named zones zone)
-first_fits n zones said.Round fit = tt
-first_fits n zones (said.Give giver slot taker slot2) fit = fit.1
-first_fits n zones (said.SetMax zone limit) fit = limit_first limit (zone_named zones zone)
-first_fits n zones said.End fit = tt
+first_fits n zones (parsed.Uma version) fit = tt
+first_fits n zones (parsed.Workers count) fit = tt
+first_fits n zones (parsed.Domains count) fit = tt
+first_fits n zones (parsed.Clock clock) fit = tt
+first_fits n zones parsed.Detail fit = tt
+first_fits n zones (parsed.Zone zone) fit = tt
+first_fits n zones (parsed.Second second) fit = tt
+first_fits n zones (parsed.Names names) fit = tt
+first_fits n zones (parsed.Work w op) fit = tt
+first_fits n zones (parsed.InZone w zone work) fit = in_zone_first w work (zone_named zones zone)
+first_fits n zones parsed.Round fit = tt
+first_fits n zones (parsed.Give giver slot taker slot2) fit = fit.1
+first_fits n zones (parsed.SetMax zone limit) fit = limit_first limit (zone_named zones zone)
+first_fits n zones parsed.End fit = tt
 
 op_filled_as : (op : Op) (slot : ℕ) (x y : Bool) → x ≡ y → filled_by op slot x ≡ filled_by op slot y
 op_filled_as op slot x y e = ap (filled_by op slot) e
@@ -229,7 +229,7 @@ empty_tables tables empty = record {
 pub knows_none : (reader : TraceReader) → reader.stage ≡ stages.Start → reader.version ≡ versions.One → reader.workers ≡ 0 → reader.domains ≡ 0 → reader.clock ≡ None → reader.detail ≡ false → reader.zones ≡ [] → reader.names ≡ None
     → reader.entries ≡ [] → AreEmpty reader.tables → Knows reader []
 knows_none reader stage version workers domains clock detail zones names entries empty = record {
-  said = record { stage = stage; version = version; workers = workers; domains = domains; clock = clock; detail = detail; zones = zones; names = names; entries = entries; tables = empty_tables reader.tables empty };
+  parsed = record { stage = stage; version = version; workers = workers; domains = domains; clock = clock; detail = detail; zones = zones; names = names; entries = entries; tables = empty_tables reader.tables empty };
   begun = ap is_start stage;
   ended = ap is_last stage;
 }
@@ -241,9 +241,9 @@ pub begins : (old new : TraceReader) (number : ℕ) (fields : List (List ℕ)) (
 begins old new number fields version start head is [] shown =
     let e : head_wrong (is_some (version_in fields)) ≡ None = ap (λ (o : Option Version). head_wrong (is_some o)) head in
     let P : TraceReader → Type 0 = λ r. Knows r (record { number = number; fields = fields } ∷ []) in
-    let s = shown.said in
+    let s = shown.parsed in
     let first : version ≡ version_or_first (version_in fields) = sym (ap version_or_first head) in
-    let known : KnowsSaid (record old { stage = stages.Uma; version = version }) (said.Uma (version_or_first (version_in fields)) ∷ []) = record {
+    let known : KnowsParsed (record old { stage = stages.Uma; version = version }) (parsed.Uma (version_or_first (version_in fields)) ∷ []) = record {
       stage = refl;
       version = first;
       workers = s.workers;
@@ -255,7 +255,7 @@ begins old new number fields version start head is [] shown =
       entries = s.entries;
       tables = record { filled = s.tables.filled; opened = s.tables.opened; left = s.tables.left };
     } in
-    (e, subst P (sym is) (record { said = known; begun = refl; ended = sym (head_no_end fields e) }))
+    (e, subst P (sym is) (record { parsed = known; begun = refl; ended = sym (head_no_end fields e) }))
 begins old new number fields version start head is (last ∷ before) shown = absurd (let some = shown.begun in cc)
 
 pub bad_head : (old new : TraceReader) (number : ℕ) (fields : List (List ℕ)) → is_start old.stage ≡ true → version_in fields ≡ None
@@ -287,93 +287,93 @@ tables_next old new before (e ∷ more) fits marks knows = (
 )
 
 -- the state after lines that said this, and then what it took in
-said_next : (old new : TraceReader) (before : List ParsedLine) (n : ℕ) (s : ParsedLine) → NamesFit n s → Hears s old new → KnowsSaid old before → KnowsSaid new (s ∷ before)
-said_next old new before n s fit hears knows =
+parsed_next : (old new : TraceReader) (before : List ParsedLine) (n : ℕ) (s : ParsedLine) → NamesFit n s → Applies s old new → KnowsParsed old before → KnowsParsed new (s ∷ before)
+parsed_next old new before n s fit applies knows =
     let P : List ZoneHead → Type 0 = λ zones. MarksAll (entry_of zones s) old.tables new.tables in
-    let tables = tables_next old.tables new.tables before (entry_of (zones_of before) s) (first_fits n (zones_of before) s fit) (subst P knows.zones hears.marks) knows.tables in
+    let tables = tables_next old.tables new.tables before (entry_of (zones_of before) s) (first_fits n (zones_of before) s fit) (subst P knows.zones applies.marks) knows.tables in
     record {
-      stage = hears.stage;
-      version = hears.version ∙ ap (version_after s) knows.version;
-      workers = hears.workers ∙ ap (workers_after s) knows.workers;
-      domains = hears.domains ∙ ap (domains_after s) knows.domains;
-      clock = hears.clock ∙ ap (clock_after s) knows.clock;
-      detail = hears.detail ∙ ap (detail_after s) knows.detail;
-      zones = hears.zones ∙ ap (λ (zones : List ZoneHead). zones ++ new_zone zones s) knows.zones;
-      names = hears.names ∙ ap (names_after s) knows.names;
-      entries = hears.entries ∙ rw (knows.entries, knows.zones) refl;
+      stage = applies.stage;
+      version = applies.version ∙ ap (version_after s) knows.version;
+      workers = applies.workers ∙ ap (workers_after s) knows.workers;
+      domains = applies.domains ∙ ap (domains_after s) knows.domains;
+      clock = applies.clock ∙ ap (clock_after s) knows.clock;
+      detail = applies.detail ∙ ap (detail_after s) knows.detail;
+      zones = applies.zones ∙ ap (λ (zones : List ZoneHead). zones ++ new_zone zones s) knows.zones;
+      names = applies.names ∙ ap (names_after s) knows.names;
+      entries = applies.entries ∙ rw (knows.entries, knows.zones) refl;
       tables = record { filled = tables.0; opened = tables.1; left = tables.2 };
     }
 
 -- ---- a line taken in, or refused
 
 begun_by : (s : ParsedLine) → is_start (stage_of s) ≡ false
-begun_by (said.Uma version) = refl
-begun_by (said.Workers count) = refl
-begun_by (said.Domains count) = refl
-begun_by (said.Clock clock) = refl
-begun_by said.Detail = refl
-begun_by (said.Zone zone) = refl
-begun_by (said.Second second) = refl
-begun_by (said.Names names) = refl
-begun_by (said.Work worker op) = refl
-begun_by (said.InZone worker zone work) = refl
-begun_by said.Round = refl
-begun_by (said.Give giver slot taker slot2) = refl
-begun_by (said.SetMax zone limit) = refl
-begun_by said.End = refl
+begun_by (parsed.Uma version) = refl
+begun_by (parsed.Workers count) = refl
+begun_by (parsed.Domains count) = refl
+begun_by (parsed.Clock clock) = refl
+begun_by parsed.Detail = refl
+begun_by (parsed.Zone zone) = refl
+begun_by (parsed.Second second) = refl
+begun_by (parsed.Names names) = refl
+begun_by (parsed.Work worker op) = refl
+begun_by (parsed.InZone worker zone work) = refl
+begun_by parsed.Round = refl
+begun_by (parsed.Give giver slot taker slot2) = refl
+begun_by (parsed.SetMax zone limit) = refl
+begun_by parsed.End = refl
 
 -- behind the first line
 pub record IsBehind (reader : TraceReader) (last : TextLine) (before : List TextLine) : Type 0 where
-  pub knows : KnowsSaid reader (sayings (last ∷ before))
+  pub knows : KnowsParsed reader (parsed_lines (last ∷ before))
   pub unended : is_ended (last ∷ before) ≡ false
 
 behind_some : (reader : TraceReader) (lines : List TextLine) → is_start reader.stage ≡ false → is_last reader.stage ≡ false → Knows reader lines
     → (P : List TextLine → Type 0) → ((last : TextLine) (before : List TextLine) → IsBehind reader last before → P (last ∷ before)) → P lines
 behind_some reader [] begun unended knows P f = absurd (let none = knows.begun in cc)
-behind_some reader (last ∷ before) begun unended knows P f = f last before (record { knows = knows.said; unended = sym knows.ended ∙ unended })
+behind_some reader (last ∷ before) begun unended knows P f = f last before (record { knows = knows.parsed; unended = sym knows.ended ∙ unended })
 
 -- what the fields say, by the state
-says_there : (reader : TraceReader) (before : List ParsedLine) (fields : List (List ℕ)) → KnowsSaid reader before
+says_there : (reader : TraceReader) (before : List ParsedLine) (fields : List (List ℕ)) → KnowsParsed reader before
     → says reader.version reader.stage reader.workers fields ≡ says (version_of before) (last_stage before) (workers_of before) fields
 says_there reader before fields knows = rw (knows.version, knows.stage, knows.workers) refl
 
-tested : (last : TextLine) (before : List TextLine) (line : TextLine) → is_ended (last ∷ before) ≡ false → trace_test (last ∷ before) line ≡ wrong (tells (sayings (last ∷ before)) line.fields)
+tested : (last : TextLine) (before : List TextLine) (line : TextLine) → is_ended (last ∷ before) ≡ false → trace_test (last ∷ before) line ≡ wrong (tells (parsed_lines (last ∷ before)) line.fields)
 tested last before line unended = rw unended refl
 
-heard : (old new : TraceReader) (number : ℕ) (fields : List (List ℕ)) (n : ℕ) (s : ParsedLine)
-    → is_start old.stage ≡ false → is_last old.stage ≡ false → says old.version old.stage old.workers fields ≡ Ok s → NamesFit n s → conflict_found old s ≡ None → Hears s old new
+applied : (old new : TraceReader) (number : ℕ) (fields : List (List ℕ)) (n : ℕ) (s : ParsedLine)
+    → is_start old.stage ≡ false → is_last old.stage ≡ false → says old.version old.stage old.workers fields ≡ Ok s → NamesFit n s → conflict_found old s ≡ None → Applies s old new
     → ReadsLine trace_test Knows old number fields (Ok tt) new
-heard old new number fields n s begun unended is fit none hears lines shown =
+applied old new number fields n s begun unended is fit none applies lines shown =
     behind_some old lines begun unended shown (λ all. (trace_test all (record { number = number; fields = fields }) ≡ None) × Knows new (record { number = number; fields = fields } ∷ all)) (λ last before behind.
     let line : TextLine = record { number = number; fields = fields } in
-    let earlier : List ParsedLine = sayings (last ∷ before) in
+    let earlier : List ParsedLine = parsed_lines (last ∷ before) in
     let says_it : says (version_of earlier) (last_stage earlier) (workers_of earlier) fields ≡ Ok s = sym (says_there old earlier fields behind.knows) ∙ is in
-    let no_clash : conflict_after earlier s ≡ None = sym (same_found old earlier n s fit behind.knows) ∙ none in
-    let tells_it : tells earlier fields ≡ Ok s = rw (says_it, no_clash) refl in
-    let all : sayings (line ∷ last ∷ before) ≡ s ∷ earlier = ap (λ r. and_said r earlier) says_it in
-    let P : List ParsedLine → Type 0 = λ before. KnowsSaid new before in (
+    let no_conflict : conflict_after earlier s ≡ None = sym (same_found old earlier n s fit behind.knows) ∙ none in
+    let tells_it : tells earlier fields ≡ Ok s = rw (says_it, no_conflict) refl in
+    let all : parsed_lines (line ∷ last ∷ before) ≡ s ∷ earlier = ap (λ r. and_parsed r earlier) says_it in
+    let P : List ParsedLine → Type 0 = λ before. KnowsParsed new before in (
       tested last before line behind.unended ∙ ap wrong tells_it,
       record {
-        said = subst P (sym all) (said_next old new earlier n s fit hears behind.knows);
-        begun = ap is_start hears.stage ∙ begun_by s;
-        ended = ap is_last hears.stage ∙ sym (end_is_told (version_of earlier) (last_stage earlier) (workers_of earlier) fields s says_it);
+        parsed = subst P (sym all) (parsed_next old new earlier n s fit applies behind.knows);
+        begun = ap is_start applies.stage ∙ begun_by s;
+        ended = ap is_last applies.stage ∙ sym (end_is_told (version_of earlier) (last_stage earlier) (workers_of earlier) fields s says_it);
       },
     ))
 
 pub takes : (old new : TraceReader) (number : ℕ) (fields : List (List ℕ)) (n : ℕ) (s : ParsedLine) (r : Result (Unit {0}) LineRefused)
     → is_start old.stage ≡ false → is_last old.stage ≡ false → says old.version old.stage old.workers fields ≡ Ok s → NamesFit n s → conflict_found old s ≡ None
-    → OnOk r (Hears s old new) → IfErr r (λ refused. refused ≡ refusals.Memory)
+    → OnOk r (Applies s old new) → IfErr r (λ refused. refused ≡ refusals.Memory)
     → ReadsLine trace_test Knows old number fields r new
-takes old new number fields n s (Ok done) begun unended is fit none hears memory = heard old new number fields n s begun unended is fit none hears
-takes old new number fields n s (Err refusals.Memory) begun unended is fit none hears memory = tt
-takes old new number fields n s (Err (refusals.Kind why)) begun unended is fit none hears memory = absurd cc
+takes old new number fields n s (Ok done) begun unended is fit none applies memory = applied old new number fields n s begun unended is fit none applies
+takes old new number fields n s (Err refusals.Memory) begun unended is fit none applies memory = tt
+takes old new number fields n s (Err (refusals.Kind why)) begun unended is fit none applies memory = absurd cc
 
-pub clashes : (old new : TraceReader) (number : ℕ) (fields : List (List ℕ)) (n : ℕ) (s : ParsedLine) (why : TraceKind)
+pub conflicts : (old new : TraceReader) (number : ℕ) (fields : List (List ℕ)) (n : ℕ) (s : ParsedLine) (why : TraceKind)
     → is_start old.stage ≡ false → is_last old.stage ≡ false → says old.version old.stage old.workers fields ≡ Ok s → NamesFit n s → conflict_found old s ≡ Some why
     → ReadsLine trace_test Knows old number fields (Err (refusals.Kind why)) new
-clashes old new number fields n s why begun unended is fit found lines shown =
+conflicts old new number fields n s why begun unended is fit found lines shown =
     behind_some old lines begun unended shown (λ all. trace_test all (record { number = number; fields = fields }) ≡ Some why) (λ last before behind.
-    let earlier : List ParsedLine = sayings (last ∷ before) in
+    let earlier : List ParsedLine = parsed_lines (last ∷ before) in
     let says_it : says (version_of earlier) (last_stage earlier) (workers_of earlier) fields ≡ Ok s = sym (says_there old earlier fields behind.knows) ∙ is in
     let conflict : conflict_after earlier s ≡ Some why = sym (same_found old earlier n s fit behind.knows) ∙ found in
     let tells_it : tells earlier fields ≡ Err why = rw (says_it, conflict) refl in
@@ -384,7 +384,7 @@ pub says_wrong : (old new : TraceReader) (number : ℕ) (fields : List (List ℕ
     → ReadsLine trace_test Knows old number fields (Err (refusals.Kind why)) new
 says_wrong old new number fields why begun unended is lines shown =
     behind_some old lines begun unended shown (λ all. trace_test all (record { number = number; fields = fields }) ≡ Some why) (λ last before behind.
-    let earlier : List ParsedLine = sayings (last ∷ before) in
+    let earlier : List ParsedLine = parsed_lines (last ∷ before) in
     let says_it : says (version_of earlier) (last_stage earlier) (workers_of earlier) fields ≡ Err why = sym (says_there old earlier fields behind.knows) ∙ is in
     let tells_it : tells earlier fields ≡ Err why = rw says_it refl in
     tested last before (record { number = number; fields = fields }) behind.unended ∙ ap wrong tells_it)

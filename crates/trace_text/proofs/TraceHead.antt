@@ -9,7 +9,7 @@ use Rattle.trace_text.specs.declared.head.Head.{Head}
 use Rattle.trace_text.specs.declared.head.NamesHead.{NamesHead}
 use Rattle.trace_text.specs.declared.head.ZoneHead.{ZoneHead}
 use Rattle.trace_text.specs.declared.trace_reading.parsed_line.ParsedLine.{ParsedLine}
-use Rattle.trace_text.specs.declared.trace_reading.parsed_line.ParsedLine.TheVariants as said
+use Rattle.trace_text.specs.declared.trace_reading.parsed_line.ParsedLine.TheVariants as parsed
 use Rattle.trace_text.specs.declared.trace_reading.stage.Stage.TheVariants as stages
 use Rattle.trace_text.specs.declared.version.Version.{Version}
 use Rattle.trace_text.specs.Grammar.{stage_of, last_stage, workers_after, workers_of, domains_after, domains_of, clock_after, clock_of, names_after, names_of, new_zone, zones_of, head_of, fills_keg, primary_named}
@@ -26,29 +26,29 @@ use Rattle.trace_text.proofs.TraceTold.{Told}
 
 -- each part of the header keeps its range from one line to the next
 workers_next : (before : List ParsedLine) (s : ParsedLine) → Behind before s → (2 ≤ rank (last_stage before) → IsWithin 1 16 (workers_of before)) → 2 ≤ rank (stage_of s) → IsWithin 1 16 (workers_after s (workers_of before))
-workers_next before (said.Workers count) b h le = b.own
+workers_next before (parsed.Workers count) b h le = b.own
 workers_next before other b h le = let place = b.place in h (omega arith)
 
 domains_next : (before : List ParsedLine) (s : ParsedLine) → Behind before s → (3 ≤ rank (last_stage before) → IsWithin 1 4 (domains_of before)) → 3 ≤ rank (stage_of s) → IsWithin 1 4 (domains_after s (domains_of before))
-domains_next before (said.Domains count) b h le = b.own
+domains_next before (parsed.Domains count) b h le = b.own
 domains_next before other b h le = let place = b.place in h (omega arith)
 
 clock_next : (before : List ParsedLine) (s : ParsedLine) → Behind before s → IfSome (clock_of before) ClockFits → IfSome (clock_after s (clock_of before)) ClockFits
-clock_next before (said.Clock clock) b h = b.own
+clock_next before (parsed.Clock clock) b h = b.own
 clock_next before other b h = h
 
 -- before the names line there are no names
 unnamed_next : (before : List ParsedLine) (s : ParsedLine) → Behind before s → (rank (last_stage before) ≤ 6 → names_of before ≡ None) → rank (stage_of s) ≤ 6 → names_after s (names_of before) ≡ None
-unnamed_next before (said.Names names) b h le = absurd (omega arith)
+unnamed_next before (parsed.Names names) b h le = absurd (omega arith)
 unnamed_next before other b h le = let place = b.place in h (omega arith)
 
 -- the zone that a line names may be named next, and all zones are right again
 zone_joins_next : (before : List ParsedLine) (s : ParsedLine) → Behind before s → Join (clock_after s (clock_of before)) (zones_of before) (new_zone (zones_of before) s)
-zone_joins_next before (said.Zone zone) b = zone_joins (clock_of before) (zones_of before) zone b.own b.clashes.clock b.clashes.name b.clashes.most
-zone_joins_next before (said.Second second) b =
+zone_joins_next before (parsed.Zone zone) b = zone_joins (clock_of before) (zones_of before) zone b.own b.conflicts.clock b.conflicts.name b.conflicts.most
+zone_joins_next before (parsed.Second second) b =
     let zones : List ZoneHead = zones_of before in
-    let most = or_parts (leb 16 (length zones)) (fills_keg zones (primary_named zones second.of)) b.clashes.most in
-    second_joins (clock_of before) zones second (primary_named zones second.of) refl b.own b.clashes.clock b.clashes.name most.0 most.1
+    let most = or_parts (leb 16 (length zones)) (fills_keg zones (primary_named zones second.of)) b.conflicts.most in
+    second_joins (clock_of before) zones second (primary_named zones second.of) refl b.own b.conflicts.clock b.conflicts.name most.0 most.1
 zone_joins_next before other b = tt
 
 zones_next : (before : List ParsedLine) (s : ParsedLine) → Behind before s → AreRight (clock_of before) (zones_of before) → AreRight (clock_after s (clock_of before)) (zones_of before ++ new_zone (zones_of before) s)
@@ -68,12 +68,12 @@ pub record NamesStand (clock : Option ClockHead) (zones : List ZoneHead) (n : Na
 abbrev pub NamesRight : Option ClockHead → List ZoneHead → Option NamesHead → Type 0
 NamesRight clock zones names = IfSome names (NamesStand clock zones)
 
-names_stand : (before : List ParsedLine) (n : NamesHead) → Behind before (said.Names n) → AreRight (clock_of before) (zones_of before) → NamesStand (clock_of before) (zones_of before) n
+names_stand : (before : List ParsedLine) (n : NamesHead) → Behind before (parsed.Names n) → AreRight (clock_of before) (zones_of before) → NamesStand (clock_of before) (zones_of before) n
 names_stand before n b right = record {
   read = b.own;
-  clocked = not-false (is_some (clock_of before)) b.clashes.clock;
-  differ = all_pairs_push (λ (a b : List ℕ). a ≢ b) (called (zones_of before)) n.name right.differ (not_named (zones_of before) n.name b.clashes.name);
-  few = leb-false 16 (length (zones_of before)) b.clashes.most;
+  clocked = not-false (is_some (clock_of before)) b.conflicts.clock;
+  differ = all_pairs_push (λ (a b : List ℕ). a ≢ b) (called (zones_of before)) n.name right.differ (not_named (zones_of before) n.name b.conflicts.name);
+  few = leb-false 16 (length (zones_of before)) b.conflicts.most;
 }
 
 no_names : (clock : Option ClockHead) (zones : List ZoneHead) (names : Option NamesHead) → names ≡ None → NamesRight clock zones names
@@ -86,10 +86,10 @@ no_zone_more clock zones names h = subst (λ (zs : List ZoneHead). NamesRight cl
 names_next : (before : List ParsedLine) (s : ParsedLine) → Behind before s → AreRight (clock_of before) (zones_of before) → (rank (last_stage before) ≤ 6 → names_of before ≡ None)
     → NamesRight (clock_of before) (zones_of before) (names_of before)
     → NamesRight (clock_after s (clock_of before)) (zones_of before ++ new_zone (zones_of before) s) (names_after s (names_of before))
-names_next before (said.Names n) b right unnamed h = no_zone_more (clock_of before) (zones_of before) (Some n) (names_stand before n b right)
-names_next before (said.Clock c) b right unnamed h = let place = b.place in no_names _ _ (names_of before) (unnamed (omega arith))
-names_next before (said.Zone zone) b right unnamed h = let place = b.place in no_names _ _ (names_of before) (unnamed (omega arith))
-names_next before (said.Second second) b right unnamed h = let place = b.place in no_names _ _ (names_of before) (unnamed (omega arith))
+names_next before (parsed.Names n) b right unnamed h = no_zone_more (clock_of before) (zones_of before) (Some n) (names_stand before n b right)
+names_next before (parsed.Clock c) b right unnamed h = let place = b.place in no_names _ _ (names_of before) (unnamed (omega arith))
+names_next before (parsed.Zone zone) b right unnamed h = let place = b.place in no_names _ _ (names_of before) (unnamed (omega arith))
+names_next before (parsed.Second second) b right unnamed h = let place = b.place in no_names _ _ (names_of before) (unnamed (omega arith))
 names_next before other b right unnamed h = no_zone_more (clock_of before) (zones_of before) (names_of before) h
 
 -- ---- what holds of the header behind each line
@@ -123,7 +123,7 @@ holds_at_start = record {
   unnamed = λ le. refl;
 }
 
-holds_at_first : (version : Version) → HeadHolds (said.Uma version ∷ [])
+holds_at_first : (version : Version) → HeadHolds (parsed.Uma version ∷ [])
 holds_at_first version = record {
   workers = λ le. absurd (omega arith);
   domains = λ le. absurd (omega arith);

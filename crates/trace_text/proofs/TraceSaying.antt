@@ -13,7 +13,7 @@ use Rattle.text_lines.proofs.Numbers.{IsNumber-from_number_of}
 use Rattle.trace_text.specs.declared.op.Op.{Op}
 use Rattle.trace_text.specs.declared.op.Op.TheVariants as ops
 use Rattle.trace_text.specs.declared.trace_reading.parsed_line.ParsedLine.{ParsedLine}
-use Rattle.trace_text.specs.declared.trace_reading.parsed_line.ParsedLine.TheVariants as said
+use Rattle.trace_text.specs.declared.trace_reading.parsed_line.ParsedLine.TheVariants as parsed
 use Rattle.trace_text.specs.declared.trace_reading.parsed_line.ZoneWork.{ZoneWork}
 use Rattle.trace_text.specs.declared.trace_reading.parsed_line.ZoneWork.TheVariants as works
 use Rattle.trace_text.specs.declared.trace_reading.stage.Stage.{Stage}
@@ -29,7 +29,7 @@ use Rattle.trace_text.specs.declared.version.Version.{Version}
 use Rattle.trace_text.specs.Grammar.{stage_of}
 use Rattle.trace_text.specs.Limits.{IsWithin, last_slot}
 use Rattle.trace_text.specs.TraceKnown.{is_last}
-use Rattle.trace_text.specs.TraceLine.{word_named, word_or_wrong, rank, may_follow, is_within, placed, name_in, worker_in, slot_in, clock_in, zone_in, second_in, names_in, head_said, alloc_fields, arg_in, alloc_said, worker_and_zone, prealloc_said, zone_said, only_worker, worker_and_key, free_said, bind_said, work_said, give_said, setmax_said, said_by, says, is_known, known}
+use Rattle.trace_text.specs.TraceLine.{word_named, word_or_wrong, rank, may_follow, is_within, placed, name_in, worker_in, slot_in, clock_in, zone_in, second_in, names_in, parse_head, alloc_fields, arg_in, parse_alloc, worker_and_zone, parse_prealloc, parse_zone_work, only_worker, worker_and_key, parse_free, parse_bind, parse_work, parse_give, parse_setmax, parsed_by, says, is_known, known}
 use Rattle.trace_text.specs.Valid.{ClockFits, changes_limits, lets_leave}
 use Rattle.trace_text.proofs.HeadLines.{HeadIsRead, ZoneIsRead, SecondIsRead, NamesAreRead, within_fits, clock_is_read, zone_is_read, second_is_read, names_are_read}
 use Rattle.schedule_text.proofs.ScheduleFollowing.{ends_line, is_end_by, not_last}
@@ -39,22 +39,22 @@ use Rattle.schedule_text.proofs.Steps.{bound, step, any, where_true, is_some_val
 
 -- the first and the last place in the order of a text that the line before may have
 abbrev pub earliest : ParsedLine → ℕ
-earliest (said.Uma version) = 1
-earliest (said.Workers count) = 1
-earliest (said.Domains count) = 2
-earliest (said.Give giver slot taker slot2) = 9
-earliest (said.SetMax zone limit) = 9
+earliest (parsed.Uma version) = 1
+earliest (parsed.Workers count) = 1
+earliest (parsed.Domains count) = 2
+earliest (parsed.Give giver slot taker slot2) = 9
+earliest (parsed.SetMax zone limit) = 9
 earliest other = 3
 
 abbrev pub latest : ParsedLine → ℕ
-latest (said.Uma version) = 0
-latest (said.Workers count) = 1
-latest (said.Domains count) = 2
-latest (said.Clock clock) = 3
-latest said.Detail = 4
-latest (said.Zone zone) = 6
-latest (said.Second second) = 6
-latest (said.Names names) = 6
+latest (parsed.Uma version) = 0
+latest (parsed.Workers count) = 1
+latest (parsed.Domains count) = 2
+latest (parsed.Clock clock) = 3
+latest parsed.Detail = 4
+latest (parsed.Zone zone) = 6
+latest (parsed.Second second) = 6
+latest (parsed.Names names) = 6
 latest other = 9
 
 -- where it may stand
@@ -89,21 +89,21 @@ WorkNumbersFit other = Unit {0}
 
 -- of so many workers, those that the line names are some, and its other numbers are in their ranges
 abbrev pub NumbersFit : ℕ → ParsedLine → Type 0
-NumbersFit workers (said.Work worker op) = (worker < workers) × OpNumbersFit op
-NumbersFit workers (said.InZone worker zone work) = (worker < workers) × WorkNumbersFit work
-NumbersFit workers (said.Give giver slot taker slot2) = (giver < workers) × (slot ≤ last_slot) × (taker < workers) × (slot2 ≤ last_slot)
-NumbersFit workers (said.SetMax zone limit) = limit ≤ 1000000
+NumbersFit workers (parsed.Work worker op) = (worker < workers) × OpNumbersFit op
+NumbersFit workers (parsed.InZone worker zone work) = (worker < workers) × WorkNumbersFit work
+NumbersFit workers (parsed.Give giver slot taker slot2) = (giver < workers) × (slot ≤ last_slot) × (taker < workers) × (slot2 ≤ last_slot)
+NumbersFit workers (parsed.SetMax zone limit) = limit ≤ 1000000
 NumbersFit workers other = Unit {0}
 
 -- the version has a line that says this
-abbrev pub is_known_saying : Version → ParsedLine → Bool
-is_known_saying version (said.SetMax zone limit) = changes_limits version
-is_known_saying version (said.Work worker ops.Away) = lets_leave version
-is_known_saying version (said.Work worker ops.Back) = lets_leave version
-is_known_saying version other = true
+abbrev pub is_known_line : Version → ParsedLine → Bool
+is_known_line version (parsed.SetMax zone limit) = changes_limits version
+is_known_line version (parsed.Work worker ops.Away) = lets_leave version
+is_known_line version (parsed.Work worker ops.Back) = lets_leave version
+is_known_line version other = true
 
 pub record SaysRight (version : Version) (stage : Stage) (workers : ℕ) (fields : List (List ℕ)) (s : ParsedLine) : Type 0 where
-  pub known : is_known_saying version s ≡ true
+  pub known : is_known_line version s ≡ true
   pub place : StandsBehind stage s
   pub ends : is_end fields ≡ is_last (stage_of s)
   pub own : HeadIsRead s
@@ -131,14 +131,14 @@ abbrev is_end_word : Word → Bool
 is_end_word words.End = true
 is_end_word word = false
 
-record SaidBy (workers : ℕ) (word : Word) (rest : List (List ℕ)) (s : ParsedLine) : Type 0 where
-  known : (version : Version) → is_known_saying version s ≡ is_known version word
+record ParsedBy (workers : ℕ) (word : Word) (rest : List (List ℕ)) (s : ParsedLine) : Type 0 where
+  known : (version : Version) → is_known_line version s ≡ is_known version word
   place : (stage : Stage) → follows stage s ≡ may_follow stage word
   ends : is_last (stage_of s) ≡ ends_line (is_end_word word) rest
   own : HeadIsRead s
   numbers : NumbersFit workers s
 
-head_by : (workers : ℕ) (word : HeadWord) (rest : List (List ℕ)) → IfOk (head_said word rest) (SaidBy workers (words.Head word) rest)
+head_by : (workers : ℕ) (word : HeadWord) (rest : List (List ℕ)) → IfOk (parse_head word rest) (ParsedBy workers (words.Head word) rest)
 head_by workers heads.Uma rest = tt
 head_by workers heads.Workers rest =
     any _ (one_field rest) _ (λ field.
@@ -156,14 +156,14 @@ head_by workers heads.Second rest =
 head_by workers heads.Names rest =
     step NamesAreRead _ (names_in rest) _ (names_are_read rest) (λ names own. record { known = λ version. refl; place = λ stage. refl; ends = not_last rest; own = own; numbers = tt })
 
-free_by : (workers : ℕ) (rest : List (List ℕ)) → IfOk (free_said workers rest) (SaidBy workers (words.Work by_self.Free) rest)
+free_by : (workers : ℕ) (rest : List (List ℕ)) → IfOk (parse_free workers rest) (ParsedBy workers (words.Work by_self.Free) rest)
 free_by workers rest =
     any _ (two_fields rest) _ (λ parts.
     step (λ n. n < workers) _ (worker_in workers parts.0) _ (worker_fits workers parts.0) (λ worker lt.
     step (IsWithin 0 last_slot) _ (slot_in parts.1) _ (within_fits 0 last_slot parts.1) (λ slot in'.
     record { known = λ version. refl; place = λ stage. refl; ends = not_last rest; own = tt; numbers = (lt, in'.1) })))
 
-bind_by : (workers : ℕ) (rest : List (List ℕ)) → IfOk (bind_said workers rest) (SaidBy workers (words.Work by_self.Bind) rest)
+bind_by : (workers : ℕ) (rest : List (List ℕ)) → IfOk (parse_bind workers rest) (ParsedBy workers (words.Work by_self.Bind) rest)
 bind_by workers rest =
     any _ (three_fields rest) _ (λ parts.
     step (λ n. n < workers) _ (worker_in workers parts.0) _ (worker_fits workers parts.0) (λ worker lt.
@@ -180,7 +180,7 @@ key_fits workers rest =
     step (λ n. n < workers) _ (worker_in workers parts.0) _ (worker_fits workers parts.0) (λ worker lt.
     step (λ n. n < 2 ^ 64) _ (number_in parts.1) _ (number_fits parts.1) (λ key low. (lt, low))))
 
-work_by : (workers : ℕ) (word : WorkWord) (rest : List (List ℕ)) → IfOk (work_said workers word rest) (SaidBy workers (words.Work word) rest)
+work_by : (workers : ℕ) (word : WorkWord) (rest : List (List ℕ)) → IfOk (parse_work workers word rest) (ParsedBy workers (words.Work word) rest)
 work_by workers by_self.Free rest = free_by workers rest
 work_by workers by_self.Enter rest =
     step (λ n. n < workers) _ (only_worker workers rest) _ (only_fits workers rest) (λ worker lt. record { known = λ version. refl; place = λ stage. refl; ends = not_last rest; own = tt; numbers = (lt, tt) })
@@ -196,7 +196,7 @@ work_by workers by_self.Away rest =
 work_by workers by_self.Back rest =
     step (λ n. n < workers) _ (only_worker workers rest) _ (only_fits workers rest) (λ worker lt. record { known = λ version. refl; place = λ stage. refl; ends = not_last rest; own = tt; numbers = (lt, tt) })
 
-alloc_by : (workers : ℕ) (rest : List (List ℕ)) → IfOk (alloc_said workers rest) (SaidBy workers (words.Zone in_zone.Alloc) rest)
+alloc_by : (workers : ℕ) (rest : List (List ℕ)) → IfOk (parse_alloc workers rest) (ParsedBy workers (words.Zone in_zone.Alloc) rest)
 alloc_by workers rest =
     any _ (alloc_fields rest) _ (λ parts.
     step (λ n. n < workers) _ (worker_in workers parts.0.0) _ (worker_fits workers parts.0.0) (λ worker lt.
@@ -211,7 +211,7 @@ zone_fits workers rest =
     step (λ n. n < workers) _ (worker_in workers parts.0) _ (worker_fits workers parts.0) (λ worker lt.
     any _ (name_in parts.1) _ (λ zone. lt)))
 
-prealloc_by : (workers : ℕ) (rest : List (List ℕ)) → IfOk (prealloc_said workers rest) (SaidBy workers (words.Zone in_zone.Prealloc) rest)
+prealloc_by : (workers : ℕ) (rest : List (List ℕ)) → IfOk (parse_prealloc workers rest) (ParsedBy workers (words.Zone in_zone.Prealloc) rest)
 prealloc_by workers rest =
     any _ (three_fields rest) _ (λ parts.
     step (λ n. n < workers) _ (worker_in workers parts.0) _ (worker_fits workers parts.0) (λ worker lt.
@@ -219,7 +219,7 @@ prealloc_by workers rest =
     step (IsWithin 0 262144) _ (number_within 0 262144 parts.2) _ (within_fits 0 262144 parts.2) (λ items few.
     record { known = λ version. refl; place = λ stage. refl; ends = not_last rest; own = tt; numbers = (lt, few.1) }))))
 
-zone_by : (workers : ℕ) (word : ZoneWord) (rest : List (List ℕ)) → IfOk (zone_said workers word rest) (SaidBy workers (words.Zone word) rest)
+zone_by : (workers : ℕ) (word : ZoneWord) (rest : List (List ℕ)) → IfOk (parse_zone_work workers word rest) (ParsedBy workers (words.Zone word) rest)
 zone_by workers in_zone.Alloc rest = alloc_by workers rest
 zone_by workers in_zone.Trim rest =
     step (λ (p : ℕ × List ℕ). p.0 < workers) _ (worker_and_zone workers rest) _ (zone_fits workers rest) (λ parts lt. record { known = λ version. refl; place = λ stage. refl; ends = not_last rest; own = tt; numbers = (lt, tt) })
@@ -229,7 +229,7 @@ zone_by workers in_zone.DrainSeat rest =
     step (λ (p : ℕ × List ℕ). p.0 < workers) _ (worker_and_zone workers rest) _ (zone_fits workers rest) (λ parts lt. record { known = λ version. refl; place = λ stage. refl; ends = not_last rest; own = tt; numbers = (lt, tt) })
 zone_by workers in_zone.Prealloc rest = prealloc_by workers rest
 
-give_by : (workers : ℕ) (rest : List (List ℕ)) → IfOk (give_said workers rest) (SaidBy workers words.Give rest)
+give_by : (workers : ℕ) (rest : List (List ℕ)) → IfOk (parse_give workers rest) (ParsedBy workers words.Give rest)
 give_by workers rest =
     any _ (four_fields rest) _ (λ parts.
     step (λ n. n < workers) _ (worker_in workers parts.0) _ (worker_fits workers parts.0) (λ giver lt.
@@ -238,14 +238,14 @@ give_by workers rest =
     step (IsWithin 0 last_slot) _ (slot_in parts.3) _ (within_fits 0 last_slot parts.3) (λ slot2 in2.
     record { known = λ version. refl; place = λ stage. refl; ends = not_last rest; own = tt; numbers = (lt, in'.1, lt', in2.1) })))))
 
-setmax_by : (workers : ℕ) (rest : List (List ℕ)) → IfOk (setmax_said rest) (SaidBy workers words.SetMax rest)
+setmax_by : (workers : ℕ) (rest : List (List ℕ)) → IfOk (parse_setmax rest) (ParsedBy workers words.SetMax rest)
 setmax_by workers rest =
     any _ (two_fields rest) _ (λ parts.
     any _ (name_in parts.0) _ (λ zone.
     step (IsWithin 0 1000000) _ (number_within 0 1000000 parts.1) _ (within_fits 0 1000000 parts.1) (λ limit low.
     record { known = λ version. refl; place = λ stage. refl; ends = not_last rest; own = tt; numbers = low.1 })))
 
-by_word : (workers : ℕ) (word : Word) (rest : List (List ℕ)) → IfOk (said_by workers word rest) (SaidBy workers word rest)
+by_word : (workers : ℕ) (word : Word) (rest : List (List ℕ)) → IfOk (parsed_by workers word rest) (ParsedBy workers word rest)
 by_word workers (words.Head word) rest = head_by workers word rest
 by_word workers (words.Work word) rest = work_by workers word rest
 by_word workers (words.Zone word) rest = zone_by workers word rest
@@ -312,10 +312,10 @@ word_is_end first =
 pub says_right : (version : Version) (stage : Stage) (workers : ℕ) (fields : List (List ℕ)) (s : ParsedLine) → says version stage workers fields ≡ Ok s → SaysRight version stage workers fields s
 says_right version stage workers [] s e = absurd cc
 says_right version stage workers (first ∷ rest) s e =
-    let a = bound (word_or_wrong (word_named first)) (λ word. known (is_known version word) >>= λ is. (placed (may_follow stage word) >>= λ fits. said_by workers word rest)) s e in
-    let k = bound (known (is_known version a.0)) (λ is. placed (may_follow stage a.0) >>= λ fits. said_by workers a.0 rest) s a.2 in
-    let b = bound (placed (may_follow stage a.0)) (λ fits. said_by workers a.0 rest) s k.2 in
-    let by : SaidBy workers a.0 rest s = IfOk-at_ok (SaidBy workers a.0 rest) b.2 (by_word workers a.0 rest) in
+    let a = bound (word_or_wrong (word_named first)) (λ word. known (is_known version word) >>= λ is. (placed (may_follow stage word) >>= λ fits. parsed_by workers word rest)) s e in
+    let k = bound (known (is_known version a.0)) (λ is. placed (may_follow stage a.0) >>= λ fits. parsed_by workers a.0 rest) s a.2 in
+    let b = bound (placed (may_follow stage a.0)) (λ fits. parsed_by workers a.0 rest) s k.2 in
+    let by : ParsedBy workers a.0 rest s = IfOk-at_ok (ParsedBy workers a.0 rest) b.2 (by_word workers a.0 rest) in
     let word_is : is_end_word a.0 ≡ bytes_eq first (codes "end") = word_is_end first a.0 (is_some_value (word_named first) kinds.Word a.0 a.1) in
     record {
       known = by.known version ∙ (is_true (is_known version a.0) tt k.0 kinds.Word k.1).0;

@@ -10,12 +10,12 @@ use Rattle.trace_text.specs.declared.trace_reading.parsed_line.ParsedLine.{Parse
 use Rattle.trace_text.specs.declared.trace_reading.stage.Stage.{Stage}
 use Rattle.trace_text.specs.declared.trace_reading.stage.Stage.TheVariants as stages
 use Rattle.trace_text.specs.declared.version.Version.{Version}
-use Rattle.trace_text.specs.Grammar.{and_said, conflict_after, head_wrong, last_stage, or_clash, sayings, stage_of, tells, trace_test, version_of, version_or_first, workers_of}
+use Rattle.trace_text.specs.Grammar.{and_parsed, conflict_after, head_wrong, last_stage, or_conflict, parsed_lines, stage_of, tells, trace_test, version_of, version_or_first, workers_of}
 use Rattle.trace_text.specs.TraceKnown.{is_last}
 use Rattle.trace_text.specs.TraceLine.{says, version_in}
 use Rattle.schedule_text.proofs.Steps.{bound}
 use Rattle.trace_text.proofs.TraceSaying.{says_right}
-use Rattle.trace_text.proofs.TraceTold.{IsSaid, Told}
+use Rattle.trace_text.proofs.TraceTold.{IsParsed, Told}
 
 -- ---- each line that isn't skipped passes its test behind the earlier ones
 
@@ -45,58 +45,58 @@ not_wrong : {A : Type 0} (r : Result A TraceKind) → wrong r ≡ None → (x : 
 not_wrong (Ok x) e = (x, refl)
 not_wrong (Err why) e = absurd cc
 
-no_clash : (o : Option TraceKind) (x s : ParsedLine) → or_clash o x ≡ Ok s → (o ≡ None) × (x ≡ s)
-no_clash None x s e = (refl, cc)
-no_clash (Some why) x s e = absurd cc
+no_conflict : (o : Option TraceKind) (x s : ParsedLine) → or_conflict o x ≡ Ok s → (o ≡ None) × (x ≡ s)
+no_conflict None x s e = (refl, cc)
+no_conflict (Some why) x s e = absurd cc
 
 not_after : (b : Bool) (o : Option TraceKind) → cond b (Some kinds.After) o ≡ None → o ≡ None
 not_after true o e = absurd cc
 not_after false o e = e
 
 -- of a line behind others
-pub record SaidBehind (last : TextLine) (before : List TextLine) (line : TextLine) (s : ParsedLine) : Type 0 where
-  pub says_it : says (version_of (sayings (last ∷ before))) (last_stage (sayings (last ∷ before))) (workers_of (sayings (last ∷ before))) line.fields ≡ Ok s
-  pub fits : conflict_after (sayings (last ∷ before)) s ≡ None
-  pub all : sayings (line ∷ last ∷ before) ≡ s ∷ sayings (last ∷ before)
+pub record ParsedBehind (last : TextLine) (before : List TextLine) (line : TextLine) (s : ParsedLine) : Type 0 where
+  pub says_it : says (version_of (parsed_lines (last ∷ before))) (last_stage (parsed_lines (last ∷ before))) (workers_of (parsed_lines (last ∷ before))) line.fields ≡ Ok s
+  pub fits : conflict_after (parsed_lines (last ∷ before)) s ≡ None
+  pub all : parsed_lines (line ∷ last ∷ before) ≡ s ∷ parsed_lines (last ∷ before)
 
 tells_parts : (before : List ParsedLine) (fields : List (List ℕ)) (s : ParsedLine) → tells before fields ≡ Ok s → (says (version_of before) (last_stage before) (workers_of before) fields ≡ Ok s) × (conflict_after before s ≡ None)
 tells_parts before fields s e =
-    let b = bound (says (version_of before) (last_stage before) (workers_of before) fields) (λ x. or_clash (conflict_after before x) x) s e in
-    let c = no_clash (conflict_after before b.0) b.0 s b.2 in
+    let b = bound (says (version_of before) (last_stage before) (workers_of before) fields) (λ x. or_conflict (conflict_after before x) x) s e in
+    let c = no_conflict (conflict_after before b.0) b.0 s b.2 in
     let P : ParsedLine → Type 0 = λ x. (says (version_of before) (last_stage before) (workers_of before) fields ≡ Ok x) × (conflict_after before x ≡ None) in
     subst P c.1 (b.1, c.0)
 
-pub said_behind : (last : TextLine) (before : List TextLine) (line : TextLine) → trace_test (last ∷ before) line ≡ None → (s : ParsedLine) × SaidBehind last before line s
-said_behind last before line e =
-    let earlier : List ParsedLine = sayings (last ∷ before) in
+pub parsed_behind : (last : TextLine) (before : List TextLine) (line : TextLine) → trace_test (last ∷ before) line ≡ None → (s : ParsedLine) × ParsedBehind last before line s
+parsed_behind last before line e =
+    let earlier : List ParsedLine = parsed_lines (last ∷ before) in
     let told = not_wrong (tells earlier line.fields) (not_after (is_ended (last ∷ before)) (wrong (tells earlier line.fields)) e) in
     let parts = tells_parts earlier line.fields told.0 told.1 in
-    (told.0, record { says_it = parts.0; fits = parts.1; all = ap (λ r. and_said r earlier) parts.0 })
+    (told.0, record { says_it = parts.0; fits = parts.1; all = ap (λ r. and_parsed r earlier) parts.0 })
 
 -- ---- all lines
 
-and_said_some : (r : Result ParsedLine TraceKind) (earlier : List ParsedLine) → (earlier ≡ [] → ⊥) → and_said r earlier ≡ [] → ⊥
-and_said_some (Ok s) earlier some e = cc
-and_said_some (Err why) earlier some e = some e
+and_parsed_some : (r : Result ParsedLine TraceKind) (earlier : List ParsedLine) → (earlier ≡ [] → ⊥) → and_parsed r earlier ≡ [] → ⊥
+and_parsed_some (Ok s) earlier some e = cc
+and_parsed_some (Err why) earlier some e = some e
 
-sayings_some : (line : TextLine) (before : List TextLine) → sayings (line ∷ before) ≡ [] → ⊥
-sayings_some line [] e = cc
-sayings_some line (last ∷ before) e =
-    let earlier : List ParsedLine = sayings (last ∷ before) in
-    and_said_some (says (version_of earlier) (last_stage earlier) (workers_of earlier) line.fields) earlier (sayings_some last before) e
+parsed_lines_some : (line : TextLine) (before : List TextLine) → parsed_lines (line ∷ before) ≡ [] → ⊥
+parsed_lines_some line [] e = cc
+parsed_lines_some line (last ∷ before) e =
+    let earlier : List ParsedLine = parsed_lines (last ∷ before) in
+    and_parsed_some (says (version_of earlier) (last_stage earlier) (workers_of earlier) line.fields) earlier (parsed_lines_some last before) e
 
-told_next : (earlier : List ParsedLine) (s : ParsedLine) → (earlier ≡ [] → ⊥) → IsSaid earlier s → conflict_after earlier s ≡ None → Told earlier → Told (s ∷ earlier)
+told_next : (earlier : List ParsedLine) (s : ParsedLine) → (earlier ≡ [] → ⊥) → IsParsed earlier s → conflict_after earlier s ≡ None → Told earlier → Told (s ∷ earlier)
 told_next [] s some is fits t = absurd (some refl)
 told_next (last ∷ before) s some is fits t = (is, fits, t)
 
-pub passing_told : (lines : List TextLine) → Passes trace_test lines → Told (sayings lines)
+pub passing_told : (lines : List TextLine) → Passes trace_test lines → Told (parsed_lines lines)
 passing_told [] p = tt
 passing_told (line ∷ []) p = (version_or_first (version_in line.fields), refl)
 passing_told (line ∷ last ∷ before) p =
-    let b = said_behind last before line p.0 in
-    let is : IsSaid (sayings (last ∷ before)) b.0 = record { fields = line.fields; says_it = b.1.says_it } in
+    let b = parsed_behind last before line p.0 in
+    let is : IsParsed (parsed_lines (last ∷ before)) b.0 = record { fields = line.fields; says_it = b.1.says_it } in
     let P : List ParsedLine → Type 0 = λ all. Told all in
-    subst P (sym b.1.all) (told_next (sayings (last ∷ before)) b.0 (sayings_some last before) is b.1.fits (passing_told (last ∷ before) p.1))
+    subst P (sym b.1.all) (told_next (parsed_lines (last ∷ before)) b.0 (parsed_lines_some last before) is b.1.fits (passing_told (last ∷ before) p.1))
 
 -- ---- the last line
 
@@ -123,20 +123,20 @@ head_no_end (word ∷ []) e = absurd cc
 head_no_end (word ∷ version ∷ rest) e = refl
 
 -- the last line of lines that pass is `end` where the last thing said is
-pub ended_is_told : (lines : List TextLine) → Passes trace_test lines → is_ended lines ≡ is_last (last_stage (sayings lines))
+pub ended_is_told : (lines : List TextLine) → Passes trace_test lines → is_ended lines ≡ is_last (last_stage (parsed_lines lines))
 ended_is_told [] p = refl
 ended_is_told (line ∷ []) p = head_no_end line.fields p.0
 ended_is_told (line ∷ last ∷ before) p =
-    let b = said_behind last before line p.0 in
-    let earlier : List ParsedLine = sayings (last ∷ before) in
+    let b = parsed_behind last before line p.0 in
+    let earlier : List ParsedLine = parsed_lines (last ∷ before) in
     end_is_told (version_of earlier) (last_stage earlier) (workers_of earlier) line.fields b.0 b.1.says_it ∙ sym (ap (λ (all : List ParsedLine). is_last (last_stage all)) b.1.all)
 
-pub ended_where_end : (lines : List TextLine) → Passes trace_test lines → (is_ended lines ≡ true) ↔ (last_stage (sayings lines) ≡ stages.End)
+pub ended_where_end : (lines : List TextLine) → Passes trace_test lines → (is_ended lines ≡ true) ↔ (last_stage (parsed_lines lines) ≡ stages.End)
 ended_where_end lines p =
-    let same : is_ended lines ≡ is_last (last_stage (sayings lines)) = ended_is_told lines p in
-    (λ e. end_stage_is (last_stage (sayings lines)) (sym same ∙ e), λ e. same ∙ ap is_last e)
+    let same : is_ended lines ≡ is_last (last_stage (parsed_lines lines)) = ended_is_told lines p in
+    (λ e. end_stage_is (last_stage (parsed_lines lines)) (sym same ∙ e), λ e. same ∙ ap is_last e)
 
-pub told : (bytes : List ℕ) (spoke : List TextLine) → IsRightText trace_test bytes spoke → Told (sayings spoke) × (last_stage (sayings spoke) ≡ stages.End)
+pub told : (bytes : List ℕ) (spoke : List TextLine) → IsRightText trace_test bytes spoke → Told (parsed_lines spoke) × (last_stage (parsed_lines spoke) ≡ stages.End)
 told bytes spoke right =
     let p : Passes trace_test spoke = text_passes trace_test bytes spoke right in
-    (passing_told spoke p, end_stage_is (last_stage (sayings spoke)) (sym (ended_is_told spoke p) ∙ right.ended))
+    (passing_told spoke p, end_stage_is (last_stage (parsed_lines spoke)) (sym (ended_is_told spoke p) ∙ right.ended))

@@ -1,4 +1,4 @@
--- The eleven tests of a line behind others: it clashes with none of them just where each test is passed.
+-- The eleven tests of a line behind others: it conflicts with none of them just where each test is passed.
 use Rattle.std.proofs.Common.{◌≡◌, ℕ, Bool, true, false, cond, List, Option, Some, None, refl}
 use Rattle.std.specs.Prelude.{◌&&◌, not}
 use Rattle.text_lines.specs.declared.refused.TraceKind.{TraceKind}
@@ -21,18 +21,18 @@ pub record IsClear (has_clock has_names : Bool) (zones : List ZoneHead) (is_fill
   pub away : finds_away is_away s ≡ false
   pub there : finds_there is_away s ≡ false
 
-pub no_clash : (has_clock has_names : Bool) (zones : List ZoneHead) (is_filled : ℕ → ℕ → Bool) (is_open is_away : ℕ → Bool) (s : ParsedLine)
+pub no_conflict : (has_clock has_names : Bool) (zones : List ZoneHead) (is_filled : ℕ → ℕ → Bool) (is_open is_away : ℕ → Bool) (s : ParsedLine)
     → IsClear has_clock has_names zones is_filled is_open is_away s → conflict has_clock has_names zones is_filled is_open is_away s ≡ None
-no_clash has_clock has_names zones is_filled is_open is_away s clear =
+no_conflict has_clock has_names zones is_filled is_open is_away s clear =
     rw (clear.clock, clear.names, clear.name, clear.zone, clear.most, clear.filled, clear.empty, clear.opened, clear.closed, clear.away, clear.there) refl
 
 passed : (failed : Bool) (why : TraceKind) (more : Option TraceKind) → cond failed (Some why) more ≡ None → (failed ≡ false) × (more ≡ None)
 passed true why more e = absurd cc
 passed false why more e = (refl, e)
 
-pub clear_without_clash : (has_clock has_names : Bool) (zones : List ZoneHead) (is_filled : ℕ → ℕ → Bool) (is_open is_away : ℕ → Bool) (s : ParsedLine)
+pub clear_without_conflict : (has_clock has_names : Bool) (zones : List ZoneHead) (is_filled : ℕ → ℕ → Bool) (is_open is_away : ℕ → Bool) (s : ParsedLine)
     → conflict has_clock has_names zones is_filled is_open is_away s ≡ None → IsClear has_clock has_names zones is_filled is_open is_away s
-clear_without_clash has_clock has_names zones is_filled is_open is_away s e =
+clear_without_conflict has_clock has_names zones is_filled is_open is_away s e =
     let a = passed (needs_clock s && not has_clock) kinds.NoClock _ e in
     let b = passed (needs_names s && not has_names) kinds.NoNames _ a.1 in
     let c = passed (takes_name zones s) kinds.DoubleName _ b.1 in

@@ -11,7 +11,7 @@ use Rattle.trace_text.specs.declared.trace_reading.word.Word.TheVariants as word
 use Rattle.trace_text.specs.declared.trace_reading.word.WorkWord.TheVariants as by_self
 use Rattle.trace_text.specs.declared.trace_reading.word.ZoneWord.TheVariants as in_zone
 use Rattle.trace_text.specs.declared.version.Version.{Version}
-use Rattle.trace_text.specs.TraceLine.{is_known, known, may_follow, placed, said_by, says, word_named, word_or_wrong}
+use Rattle.trace_text.specs.TraceLine.{is_known, known, may_follow, placed, parsed_by, says, word_named, word_or_wrong}
 use Rattle.trace_text.specs.TraceWord.{word_from}
 
 -- ---- the word, and then what is behind it
@@ -20,7 +20,7 @@ abbrev behind : Version → Stage → ℕ → Word × List (List ℕ) → Result
 behind version stage workers x = do
   is ← known (is_known version x.0)
   fits ← placed (may_follow stage x.0)
-  said_by workers x.0 x.1
+  parsed_by workers x.0 x.1
 
 says_is : (version : Version) (stage : Stage) (workers : ℕ) (fields : List (List ℕ)) → says version stage workers fields ≡ (word_from fields >>= behind version stage workers)
 says_is version stage workers [] = refl
@@ -30,7 +30,7 @@ says_is version stage workers (first ∷ rest) = by_name (word_named first) wher
   by_name (Some word) = refl
 
 pub says_by_word : (version : Version) (stage : Stage) (workers : ℕ) (fields : List (List ℕ)) (word : Word) (rest : List (List ℕ)) → word_from fields ≡ Ok (word, rest)
-    → is_known version word ≡ true → may_follow stage word ≡ true → says version stage workers fields ≡ said_by workers word rest
+    → is_known version word ≡ true → may_follow stage word ≡ true → says version stage workers fields ≡ parsed_by workers word rest
 says_by_word version stage workers fields word rest e is fits =
     says_is version stage workers fields ∙ ap (λ r. r >>= behind version stage workers) e ∙ rw (is, fits) refl
 

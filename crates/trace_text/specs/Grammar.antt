@@ -24,7 +24,7 @@ use Rattle.trace_text.specs.declared.version.Version.TheVariants as versions
 use Rattle.trace_text.specs.declared.trace_reading.entry.Entry.{Entry}
 use Rattle.trace_text.specs.declared.trace_reading.entry.Entry.TheVariants as entries
 use Rattle.trace_text.specs.declared.trace_reading.parsed_line.ParsedLine.{ParsedLine}
-use Rattle.trace_text.specs.declared.trace_reading.parsed_line.ParsedLine.TheVariants as said
+use Rattle.trace_text.specs.declared.trace_reading.parsed_line.ParsedLine.TheVariants as parsed
 use Rattle.trace_text.specs.declared.trace_reading.parsed_line.SecondHead.{SecondHead}
 use Rattle.trace_text.specs.declared.trace_reading.parsed_line.ZoneWork.{ZoneWork}
 use Rattle.trace_text.specs.declared.trace_reading.parsed_line.ZoneWork.TheVariants as works
@@ -38,20 +38,20 @@ use Rattle.trace_text.specs.Valid.{sharer_count}
 -- ---- what the earlier lines said: the header
 
 abbrev pub stage_of : ParsedLine → Stage
-stage_of (said.Uma version) = stages.Uma
-stage_of (said.Workers count) = stages.Workers
-stage_of (said.Domains count) = stages.Domains
-stage_of (said.Clock clock) = stages.Clock
-stage_of said.Detail = stages.Detail
-stage_of (said.Zone zone) = stages.Zones
-stage_of (said.Second second) = stages.Zones
-stage_of (said.Names names) = stages.Names
-stage_of (said.Work worker op) = stages.Works
-stage_of (said.InZone worker zone work) = stages.Works
-stage_of said.Round = stages.Between
-stage_of (said.Give giver slot taker slot2) = stages.Between
-stage_of (said.SetMax zone limit) = stages.Between
-stage_of said.End = stages.End
+stage_of (parsed.Uma version) = stages.Uma
+stage_of (parsed.Workers count) = stages.Workers
+stage_of (parsed.Domains count) = stages.Domains
+stage_of (parsed.Clock clock) = stages.Clock
+stage_of parsed.Detail = stages.Detail
+stage_of (parsed.Zone zone) = stages.Zones
+stage_of (parsed.Second second) = stages.Zones
+stage_of (parsed.Names names) = stages.Names
+stage_of (parsed.Work worker op) = stages.Works
+stage_of (parsed.InZone worker zone work) = stages.Works
+stage_of parsed.Round = stages.Between
+stage_of (parsed.Give giver slot taker slot2) = stages.Between
+stage_of (parsed.SetMax zone limit) = stages.Between
+stage_of parsed.End = stages.End
 
 -- what the last line was
 abbrev pub last_stage : List ParsedLine → Stage
@@ -60,7 +60,7 @@ last_stage (last ∷ before) = stage_of last
 
 -- the version
 abbrev pub version_after : ParsedLine → Version → Version
-version_after (said.Uma version) before = version
+version_after (parsed.Uma version) before = version
 version_after other before = before
 
 abbrev pub version_of : List ParsedLine → Version
@@ -69,7 +69,7 @@ version_of (s ∷ before) = version_after s (version_of before)
 
 -- how many workers there are
 abbrev pub workers_after : ParsedLine → ℕ → ℕ
-workers_after (said.Workers count) before = count
+workers_after (parsed.Workers count) before = count
 workers_after other before = before
 
 abbrev pub workers_of : List ParsedLine → ℕ
@@ -77,7 +77,7 @@ workers_of [] = 0
 workers_of (s ∷ before) = workers_after s (workers_of before)
 
 abbrev pub domains_after : ParsedLine → ℕ → ℕ
-domains_after (said.Domains count) before = count
+domains_after (parsed.Domains count) before = count
 domains_after other before = before
 
 abbrev pub domains_of : List ParsedLine → ℕ
@@ -85,7 +85,7 @@ domains_of [] = 0
 domains_of (s ∷ before) = domains_after s (domains_of before)
 
 abbrev pub clock_after : ParsedLine → Option ClockHead → Option ClockHead
-clock_after (said.Clock clock) before = Some clock
+clock_after (parsed.Clock clock) before = Some clock
 clock_after other before = before
 
 abbrev pub clock_of : List ParsedLine → Option ClockHead
@@ -93,7 +93,7 @@ clock_of [] = None
 clock_of (s ∷ before) = clock_after s (clock_of before)
 
 abbrev pub detail_after : ParsedLine → Bool → Bool
-detail_after said.Detail before = true
+detail_after parsed.Detail before = true
 detail_after other before = before
 
 abbrev pub has_detail : List ParsedLine → Bool
@@ -101,7 +101,7 @@ has_detail [] = false
 has_detail (s ∷ before) = detail_after s (has_detail before)
 
 abbrev pub names_after : ParsedLine → Option NamesHead → Option NamesHead
-names_after (said.Names names) before = Some names
+names_after (parsed.Names names) before = Some names
 names_after other before = before
 
 abbrev pub names_of : List ParsedLine → Option NamesHead
@@ -128,8 +128,8 @@ second_zone (Some place) zones second = second_over place (slice_get zones place
 
 -- the zone that a line names for the first time, behind these
 abbrev pub new_zone : List ZoneHead → ParsedLine → List ZoneHead
-new_zone zones (said.Zone zone) = zone ∷ []
-new_zone zones (said.Second second) = second_zone (primary_named zones second.of) zones second
+new_zone zones (parsed.Zone zone) = zone ∷ []
+new_zone zones (parsed.Second second) = second_zone (primary_named zones second.of) zones second
 new_zone zones other = []
 
 -- the zones in order of naming
@@ -166,11 +166,11 @@ limit_in limit (Some zone) = entries.Moves (SetMax zone limit) ∷ []
 
 -- what a line adds to those below the header
 abbrev pub entry_of : List ZoneHead → ParsedLine → List Entry
-entry_of zones (said.Work worker op) = entries.Does worker op ∷ []
-entry_of zones (said.InZone worker zone work) = entry_in worker work (zone_named zones zone)
-entry_of zones said.Round = entries.Round ∷ []
-entry_of zones (said.Give giver slot taker slot2) = entries.Moves (Give giver slot taker slot2) ∷ []
-entry_of zones (said.SetMax zone limit) = limit_in limit (zone_named zones zone)
+entry_of zones (parsed.Work worker op) = entries.Does worker op ∷ []
+entry_of zones (parsed.InZone worker zone work) = entry_in worker work (zone_named zones zone)
+entry_of zones parsed.Round = entries.Round ∷ []
+entry_of zones (parsed.Give giver slot taker slot2) = entries.Moves (Give giver slot taker slot2) ∷ []
+entry_of zones (parsed.SetMax zone limit) = limit_in limit (zone_named zones zone)
 entry_of zones other = []
 
 -- the lines below the header, in order
@@ -198,33 +198,33 @@ is_smr Plain = false
 is_smr Smr = true
 
 abbrev pub needs_clock : ParsedLine → Bool
-needs_clock (said.Zone zone) = is_smr zone.kind
-needs_clock (said.Second second) = is_smr second.kind
-needs_clock (said.Names names) = true
-needs_clock (said.Work worker ops.Enter) = true
-needs_clock (said.Work worker ops.Exit) = true
-needs_clock (said.Work worker ops.Away) = true
-needs_clock (said.Work worker ops.Back) = true
+needs_clock (parsed.Zone zone) = is_smr zone.kind
+needs_clock (parsed.Second second) = is_smr second.kind
+needs_clock (parsed.Names names) = true
+needs_clock (parsed.Work worker ops.Enter) = true
+needs_clock (parsed.Work worker ops.Exit) = true
+needs_clock (parsed.Work worker ops.Away) = true
+needs_clock (parsed.Work worker ops.Back) = true
 needs_clock other = false
 
 abbrev pub needs_names : ParsedLine → Bool
-needs_names (said.Work worker (ops.Bind key value)) = true
-needs_names (said.Work worker (ops.Unbind key)) = true
-needs_names (said.Work worker (ops.Look key)) = true
+needs_names (parsed.Work worker (ops.Bind key value)) = true
+needs_names (parsed.Work worker (ops.Unbind key)) = true
+needs_names (parsed.Work worker (ops.Look key)) = true
 needs_names other = false
 
 -- a name given before
 abbrev pub takes_name : List ZoneHead → ParsedLine → Bool
-takes_name zones (said.Zone zone) = is_some (zone_named zones zone.name)
-takes_name zones (said.Second second) = is_some (zone_named zones second.name)
-takes_name zones (said.Names names) = is_some (zone_named zones names.name)
+takes_name zones (parsed.Zone zone) = is_some (zone_named zones zone.name)
+takes_name zones (parsed.Second second) = is_some (zone_named zones second.name)
+takes_name zones (parsed.Names names) = is_some (zone_named zones names.name)
 takes_name zones other = false
 
 -- a zone that isn't there, or none of the kind wanted
 abbrev pub lacks_zone : List ZoneHead → ParsedLine → Bool
-lacks_zone zones (said.Second second) = not (is_some (primary_named zones second.of))
-lacks_zone zones (said.InZone worker zone work) = not (is_some (zone_named zones zone))
-lacks_zone zones (said.SetMax zone limit) = not (is_some (zone_named zones zone))
+lacks_zone zones (parsed.Second second) = not (is_some (primary_named zones second.of))
+lacks_zone zones (parsed.InZone worker zone work) = not (is_some (zone_named zones zone))
+lacks_zone zones (parsed.SetMax zone limit) = not (is_some (zone_named zones zone))
 lacks_zone zones other = false
 
 -- a keg has eight zones at most
@@ -234,43 +234,43 @@ fills_keg zones (Some primary) = nat_le 7 (sharer_count zones primary)
 
 -- a ninth zone of a keg, or a seventeenth zone, that of the names among them
 abbrev pub passes_most : List ZoneHead → ParsedLine → Bool
-passes_most zones (said.Zone zone) = nat_le 16 (length zones)
-passes_most zones (said.Second second) = nat_le 16 (length zones) || fills_keg zones (primary_named zones second.of)
-passes_most zones (said.Names names) = nat_le 16 (length zones)
+passes_most zones (parsed.Zone zone) = nat_le 16 (length zones)
+passes_most zones (parsed.Second second) = nat_le 16 (length zones) || fills_keg zones (primary_named zones second.of)
+passes_most zones (parsed.Names names) = nat_le 16 (length zones)
 passes_most zones other = false
 
 -- A filled slot is to be filled. A `give` from a slot to itself counts as this.
 abbrev pub finds_filled : (ℕ → ℕ → Bool) → ParsedLine → Bool
-finds_filled is_filled (said.InZone worker zone (works.Alloc slot arg reserve)) = is_filled worker slot
-finds_filled is_filled (said.Give giver slot taker slot2) = (giver == taker && slot == slot2) || is_filled taker slot2
+finds_filled is_filled (parsed.InZone worker zone (works.Alloc slot arg reserve)) = is_filled worker slot
+finds_filled is_filled (parsed.Give giver slot taker slot2) = (giver == taker && slot == slot2) || is_filled taker slot2
 finds_filled is_filled other = false
 
 -- an empty slot is to be emptied
 abbrev pub finds_empty : (ℕ → ℕ → Bool) → ParsedLine → Bool
-finds_empty is_filled (said.Work worker (ops.Free slot)) = not (is_filled worker slot)
-finds_empty is_filled (said.Give giver slot taker slot2) = not (is_filled giver slot)
+finds_empty is_filled (parsed.Work worker (ops.Free slot)) = not (is_filled worker slot)
+finds_empty is_filled (parsed.Give giver slot taker slot2) = not (is_filled giver slot)
 finds_empty is_filled other = false
 
 -- the worker of an `enter` or `away` line is in a section
 abbrev pub finds_open : (ℕ → Bool) → ParsedLine → Bool
-finds_open is_open (said.Work worker ops.Enter) = is_open worker
-finds_open is_open (said.Work worker ops.Away) = is_open worker
+finds_open is_open (parsed.Work worker ops.Enter) = is_open worker
+finds_open is_open (parsed.Work worker ops.Away) = is_open worker
 finds_open is_open other = false
 
 abbrev pub finds_closed : (ℕ → Bool) → ParsedLine → Bool
-finds_closed is_open (said.Work worker ops.Exit) = not (is_open worker)
+finds_closed is_open (parsed.Work worker ops.Exit) = not (is_open worker)
 finds_closed is_open other = false
 
 -- the worker of an operation other than `back` is away
 abbrev pub finds_away : (ℕ → Bool) → ParsedLine → Bool
-finds_away is_away (said.Work worker ops.Back) = false
-finds_away is_away (said.Work worker op) = is_away worker
-finds_away is_away (said.InZone worker zone work) = is_away worker
+finds_away is_away (parsed.Work worker ops.Back) = false
+finds_away is_away (parsed.Work worker op) = is_away worker
+finds_away is_away (parsed.InZone worker zone work) = is_away worker
 finds_away is_away other = false
 
 -- the worker of a `back` line isn't away
 abbrev pub finds_there : (ℕ → Bool) → ParsedLine → Bool
-finds_there is_away (said.Work worker ops.Back) = not (is_away worker)
+finds_there is_away (parsed.Work worker ops.Back) = not (is_away worker)
 finds_there is_away other = false
 
 -- the kind of the first test that is failed
@@ -321,25 +321,25 @@ version_or_first (Some version) = version
 version_or_first None = versions.One
 
 -- what these lines said, the last one first
-abbrev pub and_said : Result ParsedLine TraceKind → List ParsedLine → List ParsedLine
-and_said (Ok s) before = s ∷ before
-and_said (Err why) before = before
+abbrev pub and_parsed : Result ParsedLine TraceKind → List ParsedLine → List ParsedLine
+and_parsed (Ok s) before = s ∷ before
+and_parsed (Err why) before = before
 
-abbrev pub sayings : List TextLine → List ParsedLine
-sayings [] = []
-sayings (line ∷ []) = said.Uma (version_or_first (version_in line.fields)) ∷ []
-sayings (line ∷ last ∷ before) =
-    let earlier = sayings (last ∷ before) in and_said (says (version_of earlier) (last_stage earlier) (workers_of earlier) line.fields) earlier
+abbrev pub parsed_lines : List TextLine → List ParsedLine
+parsed_lines [] = []
+parsed_lines (line ∷ []) = parsed.Uma (version_or_first (version_in line.fields)) ∷ []
+parsed_lines (line ∷ last ∷ before) =
+    let earlier = parsed_lines (last ∷ before) in and_parsed (says (version_of earlier) (last_stage earlier) (workers_of earlier) line.fields) earlier
 
-abbrev pub or_clash : Option TraceKind → ParsedLine → Result ParsedLine TraceKind
-or_clash None s = Ok s
-or_clash (Some kind) s = Err kind
+abbrev pub or_conflict : Option TraceKind → ParsedLine → Result ParsedLine TraceKind
+or_conflict None s = Ok s
+or_conflict (Some kind) s = Err kind
 
 -- what a line with these fields says behind lines that said this, or the first thing that is wrong with it
 abbrev pub tells : List ParsedLine → List (List ℕ) → Result ParsedLine TraceKind
 tells before fields = do
   s ← says (version_of before) (last_stage before) (workers_of before) fields
-  or_clash (conflict_after before s) s
+  or_conflict (conflict_after before s) s
 
 abbrev pub head_wrong : Bool → Option TraceKind
 head_wrong is = if is then None else Some kinds.Head
@@ -349,7 +349,7 @@ abbrev pub trace_test : List TextLine → TextLine → Option TraceKind
 trace_test [] line = head_wrong (is_some (version_in line.fields))
 trace_test (last ∷ before) line =
     if is_ended (last ∷ before) then Some kinds.After else
-    wrong (tells (sayings (last ∷ before)) line.fields)
+    wrong (tells (parsed_lines (last ∷ before)) line.fields)
 
 -- ---- the rounds
 
@@ -387,4 +387,4 @@ trace_of before = record { version = version_of before; head = head_of before; r
 pub record IsTraceText (bytes : List ℕ) (trace : Trace) : Type 0 where
   pub spoke : List TextLine
   pub right : IsRightText trace_test bytes spoke
-  pub trace_is : trace ≡ trace_of (sayings spoke)
+  pub trace_is : trace ≡ trace_of (parsed_lines spoke)

@@ -4,7 +4,7 @@ pub mod Lines
 pub mod NamedZones
 pub mod Parts
 pub mod Reading
-pub mod TraceHeard
+pub mod TraceApplied
 pub mod TraceKnown
 pub mod TraceLaws
 pub mod TraceLine

@@ -7,7 +7,7 @@ use Rattle.trace_text.specs.declared.trace_reading.parsed_line.ParsedLine.{Parse
 use Rattle.trace_text.specs.declared.trace_reading.stage.Stage.{Stage}
 use Rattle.trace_text.specs.declared.trace_reading.stage.Stage.TheVariants as stages
 use Rattle.trace_text.specs.declared.trace.Trace.{Trace}
-use Rattle.trace_text.specs.Grammar.{is_round, rounds_in, last_stage, version_of, workers_of, domains_of, clock_of, has_detail, zones_of, names_of, entries_of, sayings, is_filled_by, is_open_by, is_away_by}
+use Rattle.trace_text.specs.Grammar.{is_round, rounds_in, last_stage, version_of, workers_of, domains_of, clock_of, has_detail, zones_of, names_of, entries_of, parsed_lines, is_filled_by, is_open_by, is_away_by}
 use Rattle.trace_text.specs.Limits.{last_slot, most_workers}
 use Rattle.trace_text.specs.TraceShown.{slot_at, is_marked}
 use Rattle.trace_text.specs.TraceTables.{AreWhole}
@@ -36,7 +36,7 @@ pub record KnowsTables (slots sections away : List Bool) (before : List ParsedLi
   pub left : (w : ℕ) → is_marked away w ≡ is_away_by before w
 
 -- the state is the one after lines that said this, the last one first
-pub record KnowsSaid (reader : TraceReader) (before : List ParsedLine) : Type 0 where
+pub record KnowsParsed (reader : TraceReader) (before : List ParsedLine) : Type 0 where
   pub stage : reader.stage ≡ last_stage before
   pub version : reader.version ≡ version_of before
   pub workers : reader.workers ≡ workers_of before
@@ -50,7 +50,7 @@ pub record KnowsSaid (reader : TraceReader) (before : List ParsedLine) : Type 0 
 
 -- the state is the one after these lines, the last one first
 pub record Knows (reader : TraceReader) (lines : List TextLine) : Type 0 where
-  pub said : KnowsSaid reader (sayings lines)
+  pub parsed : KnowsParsed reader (parsed_lines lines)
   pub begun : is_start reader.stage ≡ are_none lines
   pub ended : is_last reader.stage ≡ is_ended lines
 

@@ -14,7 +14,7 @@ use Rattle.trace_text.specs.declared.head.ZoneKind.{ZoneKind}
 use Rattle.trace_text.specs.declared.head.ZoneKind.TheVariants.{Plain, Smr}
 use Rattle.trace_text.specs.declared.op.Op.TheVariants as ops
 use Rattle.trace_text.specs.declared.trace_reading.parsed_line.ParsedLine.{ParsedLine}
-use Rattle.trace_text.specs.declared.trace_reading.parsed_line.ParsedLine.TheVariants as said
+use Rattle.trace_text.specs.declared.trace_reading.parsed_line.ParsedLine.TheVariants as parsed
 use Rattle.trace_text.specs.declared.trace_reading.parsed_line.SecondHead.{SecondHead}
 use Rattle.trace_text.specs.declared.trace_reading.parsed_line.ZoneWork.TheVariants as works
 use Rattle.trace_text.specs.declared.trace_reading.stage.Stage.{Stage}
@@ -211,31 +211,31 @@ names_in fields = do
   bucket ← number_within 4 64 parts.3
   Ok (record { name = name; rows = rows; slabs = slabs; bucket = bucket })
 
-abbrev pub head_said : HeadWord → List (List ℕ) → Result ParsedLine TraceKind
-head_said heads.Uma fields = Err kinds.Place
-head_said heads.Workers fields = do
+abbrev pub parse_head : HeadWord → List (List ℕ) → Result ParsedLine TraceKind
+parse_head heads.Uma fields = Err kinds.Place
+parse_head heads.Workers fields = do
   field ← one_field fields
   count ← number_within 1 16 field
-  Ok (said.Workers count)
-head_said heads.Domains fields = do
+  Ok (parsed.Workers count)
+parse_head heads.Domains fields = do
   field ← one_field fields
   count ← number_within 1 4 field
-  Ok (said.Domains count)
-head_said heads.Clock fields = do
+  Ok (parsed.Domains count)
+parse_head heads.Clock fields = do
   clock ← clock_in fields
-  Ok (said.Clock clock)
-head_said heads.Detail fields = do
+  Ok (parsed.Clock clock)
+parse_head heads.Detail fields = do
   none ← no_field fields
-  Ok said.Detail
-head_said heads.Zone fields = do
+  Ok parsed.Detail
+parse_head heads.Zone fields = do
   zone ← zone_in fields
-  Ok (said.Zone zone)
-head_said heads.Second fields = do
+  Ok (parsed.Zone zone)
+parse_head heads.Second fields = do
   second ← second_in fields
-  Ok (said.Second second)
-head_said heads.Names fields = do
+  Ok (parsed.Second second)
+parse_head heads.Names fields = do
   names ← names_in fields
-  Ok (said.Names names)
+  Ok (parsed.Names names)
 
 -- ---- what workers do
 
@@ -270,14 +270,14 @@ abbrev pub arg_in : Option (List ℕ) → Result ℕ TraceKind
 arg_in None = Ok 0
 arg_in (Some field) = number_within 0 254 field
 
-abbrev pub alloc_said : ℕ → List (List ℕ) → Result ParsedLine TraceKind
-alloc_said workers fields = do
+abbrev pub parse_alloc : ℕ → List (List ℕ) → Result ParsedLine TraceKind
+parse_alloc workers fields = do
   parts ← alloc_fields fields
   worker ← worker_in workers parts.0.0
   zone ← name_in parts.0.1
   slot ← slot_in parts.0.2
   arg ← arg_in parts.1.0
-  Ok (said.InZone worker zone (works.Alloc slot arg parts.1.1))
+  Ok (parsed.InZone worker zone (works.Alloc slot arg parts.1.1))
 
 -- W ZONE
 abbrev pub worker_and_zone : ℕ → List (List ℕ) → Result (ℕ × List ℕ) TraceKind
@@ -288,26 +288,26 @@ worker_and_zone workers fields = do
   Ok (worker, zone)
 
 -- W ZONE N
-abbrev pub prealloc_said : ℕ → List (List ℕ) → Result ParsedLine TraceKind
-prealloc_said workers fields = do
+abbrev pub parse_prealloc : ℕ → List (List ℕ) → Result ParsedLine TraceKind
+parse_prealloc workers fields = do
   parts ← three_fields fields
   worker ← worker_in workers parts.0
   zone ← name_in parts.1
   items ← number_within 0 262144 parts.2
-  Ok (said.InZone worker zone (works.Prealloc items))
+  Ok (parsed.InZone worker zone (works.Prealloc items))
 
-abbrev pub zone_said : ℕ → ZoneWord → List (List ℕ) → Result ParsedLine TraceKind
-zone_said workers in_zone.Alloc fields = alloc_said workers fields
-zone_said workers in_zone.Trim fields = do
+abbrev pub parse_zone_work : ℕ → ZoneWord → List (List ℕ) → Result ParsedLine TraceKind
+parse_zone_work workers in_zone.Alloc fields = parse_alloc workers fields
+parse_zone_work workers in_zone.Trim fields = do
   parts ← worker_and_zone workers fields
-  Ok (said.InZone parts.0 parts.1 works.Trim)
-zone_said workers in_zone.Drain fields = do
+  Ok (parsed.InZone parts.0 parts.1 works.Trim)
+parse_zone_work workers in_zone.Drain fields = do
   parts ← worker_and_zone workers fields
-  Ok (said.InZone parts.0 parts.1 works.Drain)
-zone_said workers in_zone.DrainSeat fields = do
+  Ok (parsed.InZone parts.0 parts.1 works.Drain)
+parse_zone_work workers in_zone.DrainSeat fields = do
   parts ← worker_and_zone workers fields
-  Ok (said.InZone parts.0 parts.1 works.DrainSeat)
-zone_said workers in_zone.Prealloc fields = prealloc_said workers fields
+  Ok (parsed.InZone parts.0 parts.1 works.DrainSeat)
+parse_zone_work workers in_zone.Prealloc fields = parse_prealloc workers fields
 
 -- W
 abbrev pub only_worker : ℕ → List (List ℕ) → Result ℕ TraceKind
@@ -324,77 +324,77 @@ worker_and_key workers fields = do
   Ok (worker, key)
 
 -- W SLOT
-abbrev pub free_said : ℕ → List (List ℕ) → Result ParsedLine TraceKind
-free_said workers fields = do
+abbrev pub parse_free : ℕ → List (List ℕ) → Result ParsedLine TraceKind
+parse_free workers fields = do
   parts ← two_fields fields
   worker ← worker_in workers parts.0
   slot ← slot_in parts.1
-  Ok (said.Work worker (ops.Free slot))
+  Ok (parsed.Work worker (ops.Free slot))
 
 -- W KEY VALUE
-abbrev pub bind_said : ℕ → List (List ℕ) → Result ParsedLine TraceKind
-bind_said workers fields = do
+abbrev pub parse_bind : ℕ → List (List ℕ) → Result ParsedLine TraceKind
+parse_bind workers fields = do
   parts ← three_fields fields
   worker ← worker_in workers parts.0
   key ← number_in parts.1
   value ← number_in parts.2
-  Ok (said.Work worker (ops.Bind key value))
+  Ok (parsed.Work worker (ops.Bind key value))
 
-abbrev pub work_said : ℕ → WorkWord → List (List ℕ) → Result ParsedLine TraceKind
-work_said workers by_self.Free fields = free_said workers fields
-work_said workers by_self.Enter fields = do
+abbrev pub parse_work : ℕ → WorkWord → List (List ℕ) → Result ParsedLine TraceKind
+parse_work workers by_self.Free fields = parse_free workers fields
+parse_work workers by_self.Enter fields = do
   worker ← only_worker workers fields
-  Ok (said.Work worker ops.Enter)
-work_said workers by_self.Exit fields = do
+  Ok (parsed.Work worker ops.Enter)
+parse_work workers by_self.Exit fields = do
   worker ← only_worker workers fields
-  Ok (said.Work worker ops.Exit)
-work_said workers by_self.Bind fields = bind_said workers fields
-work_said workers by_self.Unbind fields = do
+  Ok (parsed.Work worker ops.Exit)
+parse_work workers by_self.Bind fields = parse_bind workers fields
+parse_work workers by_self.Unbind fields = do
   parts ← worker_and_key workers fields
-  Ok (said.Work parts.0 (ops.Unbind parts.1))
-work_said workers by_self.Look fields = do
+  Ok (parsed.Work parts.0 (ops.Unbind parts.1))
+parse_work workers by_self.Look fields = do
   parts ← worker_and_key workers fields
-  Ok (said.Work parts.0 (ops.Look parts.1))
-work_said workers by_self.Away fields = do
+  Ok (parsed.Work parts.0 (ops.Look parts.1))
+parse_work workers by_self.Away fields = do
   worker ← only_worker workers fields
-  Ok (said.Work worker ops.Away)
-work_said workers by_self.Back fields = do
+  Ok (parsed.Work worker ops.Away)
+parse_work workers by_self.Back fields = do
   worker ← only_worker workers fields
-  Ok (said.Work worker ops.Back)
+  Ok (parsed.Work worker ops.Back)
 
 -- W SLOT V SLOT2
-abbrev pub give_said : ℕ → List (List ℕ) → Result ParsedLine TraceKind
-give_said workers fields = do
+abbrev pub parse_give : ℕ → List (List ℕ) → Result ParsedLine TraceKind
+parse_give workers fields = do
   parts ← four_fields fields
   giver ← worker_in workers parts.0
   slot ← slot_in parts.1
   taker ← worker_in workers parts.2
   slot2 ← slot_in parts.3
-  Ok (said.Give giver slot taker slot2)
+  Ok (parsed.Give giver slot taker slot2)
 
 -- ZONE N
-abbrev pub setmax_said : List (List ℕ) → Result ParsedLine TraceKind
-setmax_said fields = do
+abbrev pub parse_setmax : List (List ℕ) → Result ParsedLine TraceKind
+parse_setmax fields = do
   parts ← two_fields fields
   zone ← name_in parts.0
   limit ← number_within 0 1000000 parts.1
-  Ok (said.SetMax zone limit)
+  Ok (parsed.SetMax zone limit)
 
 -- ---- the line
 
 -- what a line says by its word and the fields behind it, where there are so many workers
-abbrev pub said_by : ℕ → Word → List (List ℕ) → Result ParsedLine TraceKind
-said_by workers (words.Head word) fields = head_said word fields
-said_by workers (words.Work word) fields = work_said workers word fields
-said_by workers (words.Zone word) fields = zone_said workers word fields
-said_by workers words.Round fields = do
+abbrev pub parsed_by : ℕ → Word → List (List ℕ) → Result ParsedLine TraceKind
+parsed_by workers (words.Head word) fields = parse_head word fields
+parsed_by workers (words.Work word) fields = parse_work workers word fields
+parsed_by workers (words.Zone word) fields = parse_zone_work workers word fields
+parsed_by workers words.Round fields = do
   none ← no_field fields
-  Ok said.Round
-said_by workers words.Give fields = give_said workers fields
-said_by workers words.SetMax fields = setmax_said fields
-said_by workers words.End fields = do
+  Ok parsed.Round
+parsed_by workers words.Give fields = parse_give workers fields
+parsed_by workers words.SetMax fields = parse_setmax fields
+parsed_by workers words.End fields = do
   none ← no_field fields
-  Ok said.End
+  Ok parsed.End
 
 -- what a line with these fields says behind the first line, or the first thing that is wrong with it
 abbrev pub says : Version → Stage → ℕ → List (List ℕ) → Result ParsedLine TraceKind
@@ -403,4 +403,4 @@ says version stage workers (first ∷ rest) = do
   word ← word_or_wrong (word_named first)
   is ← known (is_known version word)
   fits ← placed (may_follow stage word)
-  said_by workers word rest
+  parsed_by workers word rest

@@ -6,7 +6,7 @@ use Rattle.trace_text.specs.declared.op.Op.TheVariants.{Alloc, Free}
 use Rattle.trace_text.specs.declared.trace_reading.entry.Entry.{Entry}
 use Rattle.trace_text.specs.declared.trace_reading.entry.Entry.TheVariants as entries
 use Rattle.trace_text.specs.declared.trace_reading.parsed_line.ParsedLine.{ParsedLine}
-use Rattle.trace_text.specs.declared.trace_reading.parsed_line.ParsedLine.TheVariants as said
+use Rattle.trace_text.specs.declared.trace_reading.parsed_line.ParsedLine.TheVariants as parsed
 use Rattle.trace_text.specs.declared.trace_reading.parsed_line.ZoneWork.{ZoneWork}
 use Rattle.trace_text.specs.declared.trace_reading.parsed_line.ZoneWork.TheVariants as works
 use Rattle.trace_text.specs.Limits.{last_slot, most_workers, slots}
@@ -59,8 +59,8 @@ WorkSlotFits work = Unit {0}
 
 -- of so many workers, those that a line names are some, and so are the slots that it names of a worker's; and a `workers` line names as many as there may be
 abbrev pub NamesFit : ℕ → ParsedLine → Type 0
-NamesFit workers (said.Workers count) = count ≤ most_workers
-NamesFit workers (said.Work worker op) = (worker < workers) × OpSlotFits op
-NamesFit workers (said.InZone worker zone work) = (worker < workers) × WorkSlotFits work
-NamesFit workers (said.Give giver slot taker slot2) = (giver < workers) × (slot ≤ last_slot) × (taker < workers) × (slot2 ≤ last_slot)
+NamesFit workers (parsed.Workers count) = count ≤ most_workers
+NamesFit workers (parsed.Work worker op) = (worker < workers) × OpSlotFits op
+NamesFit workers (parsed.InZone worker zone work) = (worker < workers) × WorkSlotFits work
+NamesFit workers (parsed.Give giver slot taker slot2) = (giver < workers) × (slot ≤ last_slot) × (taker < workers) × (slot2 ≤ last_slot)
 NamesFit workers other = Unit {0}

@@ -1,7 +1,7 @@
 //! What one line of a schedule says.
 ghost use Rattle.std.specs.Prelude.{◌≡◌};
 ghost use Rattle.text_lines.specs.TextLines.{fields_of};
-ghost use Rattle.schedule_text.specs.ScheduleGrammar.{said_by, says, number_of_32_bits, start_in, window_in, clock_in, seat_in, two_numbers_in};
+ghost use Rattle.schedule_text.specs.ScheduleGrammar.{parsed_by, says, number_of_32_bits, start_in, window_in, clock_in, seat_in, two_numbers_in};
 
 use crate::reading::word::Word;
 use crate::{TraceKind, Turn, Version};
@@ -49,7 +49,7 @@ impl ParsedLine {
 
     /// What a line says by its word and what stands behind it.
     fn by_word(version: Version, word: Word, rest: &[u8]) -> Result<ParsedLine, TraceKind>
-        ensures { result ≡ said_by version word (fields_of rest.now) }
+        ensures { result ≡ parsed_by version word (fields_of rest.now) }
     {
         match word {
             Word::Smr => Err(TraceKind::Place),

@@ -1,6 +1,6 @@
 ghost use Rattle.std.specs.Prelude.{◌≡◌, [], IsSome, OnOk, IfErr};
 ghost use Rattle.schedule_text.specs.ScheduleGrammar.{schedule_test};
-ghost use Rattle.schedule_text.specs.ScheduleShown.{Shows, Hears, IsScheduleOf};
+ghost use Rattle.schedule_text.specs.ScheduleShown.{Shows, Applies, IsScheduleOf};
 
 use crate::reading::parsed_line::ParsedLine;
 use crate::{Schedule, TraceKind, TurnLine, Version};
@@ -53,11 +53,11 @@ impl ScheduleReader {
     }
 
     /// Takes in what a line behind the first one says.
-    fn apply(&mut self, number: u64, said: ParsedLine) -> Result<(), LineRefused>
-        ensures heard { OnOk result (Hears number said self.old self.new) }
+    fn apply(&mut self, number: u64, parsed: ParsedLine) -> Result<(), LineRefused>
+        ensures applied { OnOk result (Applies number parsed self.old self.new) }
         ensures memory { IfErr result (λ refused. refused ≡ LineRefused.Memory) }
     {
-        match said {
+        match parsed {
             ParsedLine::Clock { config } => self.clock = Some(config),
             ParsedLine::Does { turn } => self.turns.push(TurnLine { line: number, turn })?,
             ParsedLine::End => self.ended = true,
@@ -85,8 +85,8 @@ impl Grammar for ScheduleReader {
         if self.ended {
             return Err(TraceKind::After.into());
         }
-        let said = ParsedLine::by_line(self.version, self.clock.is_some(), line)?;
-        self.apply(number, said)
+        let parsed = ParsedLine::by_line(self.version, self.clock.is_some(), line)?;
+        self.apply(number, parsed)
     }
 
     fn is_ended(&self) -> bool {

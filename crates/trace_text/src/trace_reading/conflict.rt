@@ -186,13 +186,13 @@ impl<'a> ParsedLine<'a> {
         if self.passes_most(zones) {
             return Some(TraceKind::Zones);
         }
-        self.worker_clash(tables)
+        self.worker_conflict(tables)
     }
 
     /// What is wrong with what a line says of a worker, where there are these slots and sections, and workers that are
     /// away.
     #[inline(always)]
-    fn worker_clash(&self, tables: &Tables) -> Option<TraceKind>
+    fn worker_conflict(&self, tables: &Tables) -> Option<TraceKind>
         ensures { result ≡ first_failed (worker_tests (slot_at tables.now.slots.items) (is_marked tables.now.sections.items) (is_marked tables.now.away.items) self.now) }
     {
         let slots = tables.slots.as_slice();

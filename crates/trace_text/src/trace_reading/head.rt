@@ -2,9 +2,10 @@
 ghost use Rattle.std.specs.Prelude.{◌≡◌, IfOk, ℕ};
 ghost use Rattle.text_lines.specs.TextLines.{fields_of};
 ghost use Rattle.schedule_text.specs.ScheduleGrammar.{start_in, window_in};
-ghost use Rattle.trace_text.specs.TraceLine.{clock_in, zone_in, second_in, names_in, head_said};
+ghost use Rattle.trace_text.specs.TraceLine.{clock_in, zone_in, second_in, names_in, parse_head};
 ghost use Rattle.trace_text.specs.TraceShown.{NamesFit};
 
+use crate::limits::{GREATEST_LIMIT, MOST_WORKERS};
 use crate::trace_reading::fields::{kind_in, name_in, seven_fields};
 use crate::trace_reading::parsed_line::{ParsedLine, SecondHead};
 use crate::trace_reading::word::HeadWord;
@@ -12,21 +13,45 @@ use crate::{ClockHead, NamesHead, TraceKind, ZoneHead};
 use schedule_text::{start_in, window_in};
 use text_lines::{five_fields, four_fields, no_field, number_within, one_field, two_fields};
 
+/// The most memory domains.
+const MOST_DOMAINS: u64 = 4;
+
+/// The least size of an item, in bytes.
+const LEAST_SIZE: u64 = 8;
+
+/// The greatest size of an item, in bytes.
+const GREATEST_SIZE: u64 = 4_096;
+
+/// The most slabs of a keg, and of the zone of a cache's entries.
+const MOST_SLABS: u64 = 1_024;
+
+/// The fewest items of a bucket.
+const LEAST_BUCKET: u64 = 4;
+
+/// The most items of a bucket.
+const GREATEST_BUCKET: u64 = 64;
+
+/// The most free items that a keg keeps for requests with `reserve`.
+const GREATEST_RESERVE: u64 = 65_535;
+
+/// The most rows of a cache of names.
+const MOST_ROWS: u64 = 4_096;
+
 /// What a header line says behind the first one.
-pub fn head_said(word: HeadWord, rest: &[u8]) -> Result<ParsedLine<'_>, TraceKind>
-    ensures value { result ≡ head_said word (fields_of rest.now) }
+pub fn parse_head(word: HeadWord, rest: &[u8]) -> Result<ParsedLine<'_>, TraceKind>
+    ensures value { result ≡ parse_head word (fields_of rest.now) }
     ensures names { (workers : ℕ) → IfOk result (NamesFit workers) }
 {
     match word {
         HeadWord::Uma => Err(TraceKind::Place),
         HeadWord::Workers => {
-            let count = number_within(one_field(rest)?, 1, 16)?;
+            let count = number_within(one_field(rest)?, 1, MOST_WORKERS as u64)?;
             Ok(ParsedLine::Workers {
                 count: count as u32,
             })
         }
         HeadWord::Domains => {
-            let count = number_within(one_field(rest)?, 1, 4)?;
+            let count = number_within(one_field(rest)?, 1, MOST_DOMAINS)?;
             Ok(ParsedLine::Domains { count: count as u8 })
         }
         HeadWord::Clock => {
@@ -71,11 +96,11 @@ fn zone_in(rest: &[u8]) -> Result<ZoneHead, TraceKind>
     Ok(ZoneHead {
         name: name_in(name)?,
         parent: None,
-        size: number_within(size, 8, 4096)? as u32,
-        slabs: number_within(five.0, 1, 1024)? as u32,
-        bucket: number_within(five.1, 4, 64)? as u32,
-        limit: number_within(five.2, 0, 1_000_000)?,
-        reserve: number_within(five.3, 0, 65535)?,
+        size: number_within(size, LEAST_SIZE, GREATEST_SIZE)? as u32,
+        slabs: number_within(five.0, 1, MOST_SLABS)? as u32,
+        bucket: number_within(five.1, LEAST_BUCKET, GREATEST_BUCKET)? as u32,
+        limit: number_within(five.2, 0, GREATEST_LIMIT)?,
+        reserve: number_within(five.3, 0, GREATEST_RESERVE)?,
         kind: kind_in(five.4)?,
     })
 }
@@ -88,8 +113,8 @@ fn second_in(rest: &[u8]) -> Result<SecondHead, TraceKind>
     Ok(SecondHead {
         name: name_in(name)?,
         of: name_in(of)?,
-        bucket: number_within(bucket, 4, 64)? as u32,
-        limit: number_within(limit, 0, 1_000_000)?,
+        bucket: number_within(bucket, LEAST_BUCKET, GREATEST_BUCKET)? as u32,
+        limit: number_within(limit, 0, GREATEST_LIMIT)?,
         kind: kind_in(kind)?,
     })
 }
@@ -101,8 +126,8 @@ fn names_in(rest: &[u8]) -> Result<NamesHead, TraceKind>
     let (name, rows, slabs, bucket) = four_fields(rest)?;
     Ok(NamesHead {
         name: name_in(name)?,
-        rows: number_within(rows, 1, 4096)? as u32,
-        slabs: number_within(slabs, 1, 1024)? as u32,
-        bucket: number_within(bucket, 4, 64)? as u32,
+        rows: number_within(rows, 1, MOST_ROWS)? as u32,
+        slabs: number_within(slabs, 1, MOST_SLABS)? as u32,
+        bucket: number_within(bucket, LEAST_BUCKET, GREATEST_BUCKET)? as u32,
     })
 }

@@ -2,15 +2,15 @@
 ghost use Rattle.std.specs.Prelude.{◌≡◌, ℕ, Err, IfOk, IfErr};
 ghost use Rattle.text_lines.specs.Fields.{Reads};
 ghost use Rattle.text_lines.specs.TextLines.{fields_of};
-ghost use Rattle.trace_text.specs.TraceLine.{said_by, says};
+ghost use Rattle.trace_text.specs.TraceLine.{parsed_by, says};
 ghost use Rattle.trace_text.specs.TraceShown.{NamesFit};
 ghost use Rattle.trace_text.specs.TraceWord.{word_from};
 
-use crate::trace_reading::head::head_said;
+use crate::trace_reading::head::parse_head;
 use crate::trace_reading::name_field::NameField;
 use crate::trace_reading::stage::Stage;
 use crate::trace_reading::word::{Word, WorkWord, ZoneWord};
-use crate::trace_reading::work::{give_said, setmax_said, work_said, zone_said};
+use crate::trace_reading::work::{parse_give, parse_setmax, parse_work, parse_zone_work};
 use crate::{ClockHead, NamesHead, Op, TraceKind, Version, ZoneHead, ZoneKind};
 use text_lines::{next_field, no_field};
 use zone_stats::ZoneName;
@@ -126,7 +126,7 @@ fn first_word(line: &[u8]) -> Result<(Word, &[u8]), TraceKind>
 #[tactic(auto, using(crate::proofs::TraceWords::says_by_word, crate::proofs::TraceWords::says_unknown, crate::proofs::TraceWords::says_misplaced, crate::proofs::TraceWords::says_no_word))]
 #[inline(always)]
 pub fn word_in(version: Version, stage: Stage, line: &[u8]) -> Result<(Word, &[u8]), TraceKind>
-    ensures word { IfOk result (λ x. (workers : ℕ) → says version stage workers (fields_of line.now) ≡ said_by workers x.0 (fields_of x.1.now)) }
+    ensures word { IfOk result (λ x. (workers : ℕ) → says version stage workers (fields_of line.now) ≡ parsed_by workers x.0 (fields_of x.1.now)) }
     ensures wrong { IfErr result (λ kind. (workers : ℕ) → says version stage workers (fields_of line.now) ≡ Err kind) }
 {
     let (word, rest) = first_word(line)?;
@@ -143,19 +143,19 @@ impl<'a> ParsedLine<'a> {
     /// What a line says by its word and what stands behind it.
     #[inline(always)]
     pub fn by_word(workers: u32, word: Word, rest: &'a [u8]) -> Result<ParsedLine<'a>, TraceKind>
-        ensures value { result ≡ said_by workers word (fields_of rest.now) }
+        ensures value { result ≡ parsed_by workers word (fields_of rest.now) }
         ensures names { IfOk result (NamesFit workers) }
     {
         match word {
-            Word::Head(word) => head_said(word, rest),
-            Word::Work(word) => work_said(workers, word, rest),
-            Word::Zone(word) => zone_said(workers, word, rest),
+            Word::Head(word) => parse_head(word, rest),
+            Word::Work(word) => parse_work(workers, word, rest),
+            Word::Zone(word) => parse_zone_work(workers, word, rest),
             Word::Round => {
                 no_field(rest)?;
                 Ok(ParsedLine::Round)
             }
-            Word::Give => give_said(workers, rest),
-            Word::SetMax => setmax_said(rest),
+            Word::Give => parse_give(workers, rest),
+            Word::SetMax => parse_setmax(rest),
             Word::End => {
                 no_field(rest)?;
                 Ok(ParsedLine::End)

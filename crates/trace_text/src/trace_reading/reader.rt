@@ -1,12 +1,12 @@
 ghost use Rattle.std.specs.Prelude.{◌≡◌, ◌<◌, [], false, OnOk, IfOk, IfErr};
 ghost use Rattle.text_lines.specs.TextLines.{fields_of};
 ghost use Rattle.trace_text.specs.Grammar.{entry_of, passes_most, stage_of, takes_name, trace_test, work_op};
-ghost use Rattle.trace_text.specs.TraceHeard.{Adds, AddsAll, Hears, conflict_found};
+ghost use Rattle.trace_text.specs.TraceApplied.{Adds, AddsAll, Applies, conflict_found};
 ghost use Rattle.trace_text.specs.declared.trace_reading.parsed_line.ParsedLine.TheVariants.{InZone, SetMax};
 ghost use Rattle.trace_text.specs.TraceTables.{AreWhole, EntryFits, most_workers};
 ghost use Rattle.trace_text.specs.TraceShown.{NamesFit, WorkSlotFits};
 ghost use Rattle.trace_text.specs.TraceKnown.{Keeps, Knows, trace_by};
-ghost use Rattle.trace_text.specs.TraceTaken.{TakesSaid, TakesWord};
+ghost use Rattle.trace_text.specs.TraceTaken.{TakesParsed, TakesWord};
 
 use crate::trace_reading::entry::Entry;
 use crate::trace_reading::name_field::NameField;
@@ -15,7 +15,7 @@ use crate::trace_reading::rounds_so_far::RoundsSoFar;
 use crate::trace_reading::stage::Stage;
 use crate::trace_reading::tables::Tables;
 use crate::trace_reading::word::{Word, WorkWord, ZoneWord};
-use crate::trace_reading::work::{alloc_said, free_said};
+use crate::trace_reading::work::{parse_alloc, parse_free};
 use crate::trace_reading::zones::Zones;
 use crate::{Between, ClockHead, Head, NamesHead, Op, Trace, TraceKind, Version};
 use std::alloc::{AllocError, Global};
@@ -178,10 +178,10 @@ impl TraceReader {
 
     /// What is wrong with a line that says this.
     #[inline(always)]
-    fn conflict(&self, said: &ParsedLine<'_>) -> Option<TraceKind>
-        ensures { result ≡ conflict_found self.now said.now }
+    fn conflict(&self, parsed: &ParsedLine<'_>) -> Option<TraceKind>
+        ensures { result ≡ conflict_found self.now parsed.now }
     {
-        said.conflict(
+        parsed.conflict(
             self.clock.is_some(),
             self.names.is_some(),
             &self.zones,
@@ -191,17 +191,17 @@ impl TraceReader {
 
     /// Takes in what a line behind the first one says.
     #[inline(always)]
-    fn apply(&mut self, said: ParsedLine<'_>) -> Result<(), LineRefused>
+    fn apply(&mut self, parsed: ParsedLine<'_>) -> Result<(), LineRefused>
         requires kept { Keeps self.old }
-        requires new { takes_name self.old.zones said ≡ false }
-        requires few { passes_most self.old.zones said ≡ false }
-        requires names { NamesFit most_workers said }
-        ensures heard { OnOk result (Hears said.entry self.old self.new) }
+        requires new { takes_name self.old.zones parsed ≡ false }
+        requires few { passes_most self.old.zones parsed ≡ false }
+        requires names { NamesFit most_workers parsed }
+        ensures applied { OnOk result (Applies parsed.entry self.old self.new) }
         ensures kept { Keeps self.new }
         ensures memory { IfErr result (λ refused. refused ≡ LineRefused.Memory) }
     {
-        self.stage = said.stage();
-        match said {
+        self.stage = parsed.stage();
+        match parsed {
             ParsedLine::Workers { count } => self.workers = count,
             ParsedLine::Domains { count } => self.domains = count,
             ParsedLine::Clock { clock } => self.clock = Some(clock),
@@ -234,15 +234,15 @@ impl TraceReader {
 
     /// Takes in a line behind the first line that says this, or tells what is wrong with it.
     #[inline(always)]
-    fn take_said(&mut self, said: ParsedLine<'_>) -> Result<(), LineRefused>
+    fn take_parsed(&mut self, parsed: ParsedLine<'_>) -> Result<(), LineRefused>
         requires kept { Keeps self.old }
-        requires names { NamesFit self.old.workers said }
-        ensures takes { TakesSaid said.entry self.old result self.new }
+        requires names { NamesFit self.old.workers parsed }
+        ensures takes { TakesParsed parsed.entry self.old result self.new }
         ensures kept { Keeps self.new }
     {
-        match self.conflict(&said) {
+        match self.conflict(&parsed) {
             Some(kind) => Err(kind.into()),
-            None => self.apply(said),
+            None => self.apply(parsed),
         }
     }
 
@@ -252,8 +252,8 @@ impl TraceReader {
         ensures takes { TakesWord word (fields_of rest.now) self.old result self.new }
         ensures kept { Keeps self.new }
     {
-        let said = ParsedLine::by_word(self.workers, word, rest)?;
-        self.take_said(said)
+        let parsed = ParsedLine::by_word(self.workers, word, rest)?;
+        self.take_parsed(parsed)
     }
 
     /// Takes in an `alloc` line.
@@ -262,8 +262,8 @@ impl TraceReader {
         ensures takes { TakesWord (Word.Zone ZoneWord.Alloc) (fields_of rest.now) self.old result self.new }
         ensures kept { Keeps self.new }
     {
-        let said = alloc_said(self.workers, rest)?;
-        self.take_said(said)
+        let parsed = parse_alloc(self.workers, rest)?;
+        self.take_parsed(parsed)
     }
 
     /// Takes in a `free` line.
@@ -272,8 +272,8 @@ impl TraceReader {
         ensures takes { TakesWord (Word.Work WorkWord.Free) (fields_of rest.now) self.old result self.new }
         ensures kept { Keeps self.new }
     {
-        let said = free_said(self.workers, rest)?;
-        self.take_said(said)
+        let parsed = parse_free(self.workers, rest)?;
+        self.take_parsed(parsed)
     }
 }
 

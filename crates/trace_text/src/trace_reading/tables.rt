@@ -3,17 +3,14 @@ ghost use Rattle.std.specs.Prelude.{◌≡◌, ◌<◌, All, IfOk, length, false
 ghost use Rattle.trace_text.specs.declared.trace_reading.entry.Entry.TheVariants.{Does, Moves};
 ghost use Rattle.trace_text.specs.TraceTables.{AreEmpty, AreWhole, EntryFits, Marks, OpSlotFits, most_workers};
 
-use crate::limits::SLOTS;
+use crate::limits::{MOST_WORKERS, SLOTS};
 use crate::trace_reading::entry::Entry;
 use crate::trace_reading::slots::{set_mark, set_slot, slot_at};
 use crate::{Between, Op};
 use std::alloc::{AllocError, Global};
 
-/// How many workers the tables have room for.
-const WORKERS: usize = 16;
-
-/// How many slots they have together.
-const ALL_SLOTS: usize = WORKERS * SLOTS;
+/// How many slots the workers have together.
+const ALL_SLOTS: usize = MOST_WORKERS * SLOTS;
 
 /// Which slots are filled, which workers are in a section, and which are away.
 #[derive(Drop)]
@@ -40,8 +37,8 @@ impl Tables {
     {
         Ok(Tables {
             slots: all_false(alloc, ALL_SLOTS)?,
-            sections: all_false(alloc, WORKERS)?,
-            away: all_false(alloc, WORKERS)?,
+            sections: all_false(alloc, MOST_WORKERS)?,
+            away: all_false(alloc, MOST_WORKERS)?,
         })
     }
 

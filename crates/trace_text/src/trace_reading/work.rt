@@ -1,9 +1,10 @@
 //! What the lines below the header say.
 ghost use Rattle.std.specs.Prelude.{◌≡◌, ℕ, IfOk};
 ghost use Rattle.text_lines.specs.TextLines.{fields_of};
-ghost use Rattle.trace_text.specs.TraceLine.{alloc_said, prealloc_said, zone_said, free_said, bind_said, work_said, give_said, setmax_said};
+ghost use Rattle.trace_text.specs.TraceLine.{parse_alloc, parse_prealloc, parse_zone_work, parse_free, parse_bind, parse_work, parse_give, parse_setmax};
 ghost use Rattle.trace_text.specs.TraceShown.{NamesFit};
 
+use crate::limits::GREATEST_LIMIT;
 use crate::trace_reading::fields::{
     AllocFields, arg_in, only_worker, slot_in, worker_and_key, worker_and_zone, worker_in,
 };
@@ -17,32 +18,25 @@ use text_lines::{four_fields, three_fields, two_fields};
 /// The most items that a `prealloc` line brings in.
 const MOST_ITEMS: u64 = 262_144;
 
-/// The greatest limit of a zone.
-const GREATEST_LIMIT: u64 = 1_000_000;
-
 /// What a worker of so many does by itself.
 #[inline(always)]
-pub fn work_said(workers: u32, word: WorkWord, rest: &[u8]) -> Result<ParsedLine<'_>, TraceKind>
-    ensures value { result ≡ work_said workers word (fields_of rest.now) }
+pub fn parse_work(workers: u32, word: WorkWord, rest: &[u8]) -> Result<ParsedLine<'_>, TraceKind>
+    ensures value { result ≡ parse_work workers word (fields_of rest.now) }
     ensures names { IfOk result (NamesFit workers) }
 {
     match word {
-        WorkWord::Free => free_said(workers, rest),
+        WorkWord::Free => parse_free(workers, rest),
         WorkWord::Enter => {
             let worker = only_worker(workers, rest)?;
-            Ok(ParsedLine::Work {
-                worker,
-                op: Op::Enter,
-            })
+            let op = Op::Enter;
+            Ok(ParsedLine::Work { worker, op })
         }
         WorkWord::Exit => {
             let worker = only_worker(workers, rest)?;
-            Ok(ParsedLine::Work {
-                worker,
-                op: Op::Exit,
-            })
+            let op = Op::Exit;
+            Ok(ParsedLine::Work { worker, op })
         }
-        WorkWord::Bind => bind_said(workers, rest),
+        WorkWord::Bind => parse_bind(workers, rest),
         WorkWord::Unbind => {
             let (worker, key) = worker_and_key(workers, rest)?;
             let op = Op::Unbind { key };
@@ -55,25 +49,21 @@ pub fn work_said(workers: u32, word: WorkWord, rest: &[u8]) -> Result<ParsedLine
         }
         WorkWord::Away => {
             let worker = only_worker(workers, rest)?;
-            Ok(ParsedLine::Work {
-                worker,
-                op: Op::Away,
-            })
+            let op = Op::Away;
+            Ok(ParsedLine::Work { worker, op })
         }
         WorkWord::Back => {
             let worker = only_worker(workers, rest)?;
-            Ok(ParsedLine::Work {
-                worker,
-                op: Op::Back,
-            })
+            let op = Op::Back;
+            Ok(ParsedLine::Work { worker, op })
         }
     }
 }
 
 /// A free.
 #[inline(always)]
-pub fn free_said(workers: u32, rest: &[u8]) -> Result<ParsedLine<'_>, TraceKind>
-    ensures value { result ≡ free_said workers (fields_of rest.now) }
+pub fn parse_free(workers: u32, rest: &[u8]) -> Result<ParsedLine<'_>, TraceKind>
+    ensures value { result ≡ parse_free workers (fields_of rest.now) }
     ensures names { IfOk result (NamesFit workers) }
 {
     let (worker, slot) = two_fields(rest)?;
@@ -84,8 +74,8 @@ pub fn free_said(workers: u32, rest: &[u8]) -> Result<ParsedLine<'_>, TraceKind>
 }
 
 /// A binding of a name.
-fn bind_said(workers: u32, rest: &[u8]) -> Result<ParsedLine<'_>, TraceKind>
-    ensures value { result ≡ bind_said workers (fields_of rest.now) }
+fn parse_bind(workers: u32, rest: &[u8]) -> Result<ParsedLine<'_>, TraceKind>
+    ensures value { result ≡ parse_bind workers (fields_of rest.now) }
     ensures names { IfOk result (NamesFit workers) }
 {
     let (worker, key, value) = three_fields(rest)?;
@@ -98,13 +88,17 @@ fn bind_said(workers: u32, rest: &[u8]) -> Result<ParsedLine<'_>, TraceKind>
 
 /// What a worker of so many does in a zone.
 #[inline(always)]
-pub fn zone_said(workers: u32, word: ZoneWord, rest: &[u8]) -> Result<ParsedLine<'_>, TraceKind>
-    ensures value { result ≡ zone_said workers word (fields_of rest.now) }
+pub fn parse_zone_work(
+    workers: u32,
+    word: ZoneWord,
+    rest: &[u8],
+) -> Result<ParsedLine<'_>, TraceKind>
+    ensures value { result ≡ parse_zone_work workers word (fields_of rest.now) }
     ensures names { IfOk result (NamesFit workers) }
 {
     let work = match word {
-        ZoneWord::Alloc => return alloc_said(workers, rest),
-        ZoneWord::Prealloc => return prealloc_said(workers, rest),
+        ZoneWord::Alloc => return parse_alloc(workers, rest),
+        ZoneWord::Prealloc => return parse_prealloc(workers, rest),
         ZoneWord::Trim => ZoneWork::Trim,
         ZoneWord::Drain => ZoneWork::Drain,
         ZoneWord::DrainSeat => ZoneWork::DrainSeat,
@@ -115,8 +109,8 @@ pub fn zone_said(workers: u32, word: ZoneWord, rest: &[u8]) -> Result<ParsedLine
 
 /// A request.
 #[inline(always)]
-pub fn alloc_said(workers: u32, rest: &[u8]) -> Result<ParsedLine<'_>, TraceKind>
-    ensures value { result ≡ alloc_said workers (fields_of rest.now) }
+pub fn parse_alloc(workers: u32, rest: &[u8]) -> Result<ParsedLine<'_>, TraceKind>
+    ensures value { result ≡ parse_alloc workers (fields_of rest.now) }
     ensures names { IfOk result (NamesFit workers) }
 {
     let fields = AllocFields::of(rest)?;
@@ -133,8 +127,8 @@ pub fn alloc_said(workers: u32, rest: &[u8]) -> Result<ParsedLine<'_>, TraceKind
 }
 
 /// The bringing in of slabs.
-fn prealloc_said(workers: u32, rest: &[u8]) -> Result<ParsedLine<'_>, TraceKind>
-    ensures value { result ≡ prealloc_said workers (fields_of rest.now) }
+fn parse_prealloc(workers: u32, rest: &[u8]) -> Result<ParsedLine<'_>, TraceKind>
+    ensures value { result ≡ parse_prealloc workers (fields_of rest.now) }
     ensures names { IfOk result (NamesFit workers) }
 {
     let (worker, zone, items) = three_fields(rest)?;
@@ -146,8 +140,8 @@ fn prealloc_said(workers: u32, rest: &[u8]) -> Result<ParsedLine<'_>, TraceKind>
 }
 
 /// A move from a worker's slot to one of a worker.
-pub fn give_said(workers: u32, rest: &[u8]) -> Result<ParsedLine<'_>, TraceKind>
-    ensures value { result ≡ give_said workers (fields_of rest.now) }
+pub fn parse_give(workers: u32, rest: &[u8]) -> Result<ParsedLine<'_>, TraceKind>
+    ensures value { result ≡ parse_give workers (fields_of rest.now) }
     ensures names { IfOk result (NamesFit workers) }
 {
     let (giver, slot, taker, slot2) = four_fields(rest)?;
@@ -160,8 +154,8 @@ pub fn give_said(workers: u32, rest: &[u8]) -> Result<ParsedLine<'_>, TraceKind>
 }
 
 /// Another limit of a zone.
-pub fn setmax_said(rest: &[u8]) -> Result<ParsedLine<'_>, TraceKind>
-    ensures value { result ≡ setmax_said (fields_of rest.now) }
+pub fn parse_setmax(rest: &[u8]) -> Result<ParsedLine<'_>, TraceKind>
+    ensures value { result ≡ parse_setmax (fields_of rest.now) }
     ensures names { (workers : ℕ) → IfOk result (NamesFit workers) }
 {
     let (zone, limit) = two_fields(rest)?;

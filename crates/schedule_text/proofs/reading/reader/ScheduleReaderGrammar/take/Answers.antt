@@ -6,6 +6,6 @@ use Rattle.schedule_text.proofs.reading.reader.ScheduleReaderGrammar.take.Goals 
 
 pub returns-clause-takes : goal.returns-clause-takes
 returns-clause-takes c =
-    takes c.args.self.now c.apply.new.self c.args.number (fields_of c.args.line.now) c.in_ok-said.said c.apply.result
-    c.if-not-self.false c.if-self.false (sym (c.by_line.ensures ∙ ap (λ b. says c.args.self.now.version b (fields_of c.args.line.now)) c.is_some.ensures) ∙ c.in_ok-said.was)
-    c.apply.ensures.heard c.apply.ensures.memory
+    takes c.args.self.now c.apply.new.self c.args.number (fields_of c.args.line.now) c.in_ok-parsed.parsed c.apply.result
+    c.if-not-self.false c.if-self.false (sym (c.by_line.ensures ∙ ap (λ b. says c.args.self.now.version b (fields_of c.args.line.now)) c.is_some.ensures) ∙ c.in_ok-parsed.was)
+    c.apply.ensures.applied c.apply.ensures.memory

@@ -13,5 +13,5 @@ pub record AgreeOn (s : ParsedLine) (a b : ℕ → ℕ → Bool) (p q u v : ℕ 
   pub away : finds_away u s ≡ finds_away v s
   pub there : finds_there u s ≡ finds_there v s
 
-pub same_clash : (c n : Bool) (zones : List ZoneHead) (a b : ℕ → ℕ → Bool) (p q u v : ℕ → Bool) (s : ParsedLine) → AgreeOn s a b p q u v → conflict c n zones a p u s ≡ conflict c n zones b q v s
-same_clash c n zones a b p q u v s same = rw (same.filled, same.empty, same.opened, same.closed, same.away, same.there) refl
+pub same_conflict : (c n : Bool) (zones : List ZoneHead) (a b : ℕ → ℕ → Bool) (p q u v : ℕ → Bool) (s : ParsedLine) → AgreeOn s a b p q u v → conflict c n zones a p u s ≡ conflict c n zones b q v s
+same_conflict c n zones a b p q u v s same = rw (same.filled, same.empty, same.opened, same.closed, same.away, same.there) refl

@@ -42,7 +42,7 @@ MarksAll [] old new = new ≡ old
 MarksAll (entry ∷ more) old new = Marks entry old new
 
 -- what a line behind the first one says is taken in
-pub record Hears (s : ParsedLine) (old new : TraceReader) : Type 0 where
+pub record Applies (s : ParsedLine) (old new : TraceReader) : Type 0 where
   pub stage : new.stage ≡ stage_of s
   pub version : new.version ≡ version_after s old.version
   pub workers : new.workers ≡ workers_after s old.workers
