@@ -17,7 +17,8 @@ use uma_seat::SeatCache;
 use uma_zone::Zone;
 
 /// Flushes the seat, settles each domain of the zone, gives back all that may be given back of what they list, and then has
-/// the keg give up its wholly free slabs, the greatest index first, as long as the reserve stays.
+/// the keg give up its wholly free slabs, the greatest index first, as long as the reserve stays. That slabs go last, tests
+/// show.
 ///
 /// Of each domain each plain bucket goes back, and each sealed one whose poll says yes, after `dtor`. Sealed buckets whose
 /// poll says no, and loose ones, stay. Waits until it has the locks of the domains and of the keg.
@@ -45,7 +46,7 @@ pub fn drain<T: Body + Drop, K: Hooks<T>, H: Host, R: Wait>(
 }
 
 /// Does what [`drain`] does, and gives back the usable and the cross items of the seat besides, before the keg gives up
-/// slabs. The seat's deferred items stay. Waits as `drain` does.
+/// slabs, as tests show. The seat's deferred items stay. Waits as `drain` does.
 ///
 /// After `Memory` it is as after that of `drain`, and the seat has all its items still.
 pub fn drain_seat<T: Body + Drop, K: Hooks<T>, H: Host, R: Wait>(

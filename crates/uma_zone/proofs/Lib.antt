@@ -10,6 +10,7 @@ mod NewSeats
 mod OneFetch
 mod Opened
 mod Prealloc
+mod Reused
 mod Rights
 mod Sealed
 mod Seats

@@ -1,5 +1,5 @@
 -- What is deferred on a seat was freed by a call before.
-use Rattle.std.proofs.Common.{◌≡◌, ◌<◌, ℕ, Bool, true, false, List, [], ◌∷◌, ◌++◌, All, length, map, get_or, set, inl, inr, refl, sym, ap, ◌∙◌, subst, arith}
+use Rattle.std.proofs.Common.{◌≡◌, ℕ, Bool, true, false, List, [], ◌∷◌, ◌++◌, All, length, map, get_or, set, inl, inr, refl, ap, ◌∙◌, subst, arith}
 use Rattle.std.specs.List.{Contains}
 use Rattle.std.proofs.lemmas.Bool.{cases_eq, cases_lt}
 use Rattle.std.proofs.lemmas.List.{set_past, get_or_past, get_or-set_same, get_or-set_other}
@@ -16,10 +16,10 @@ use Rattle.uma_seat.specs.Seat.{freed_of}
 use Rattle.uma_seat.specs.Stack.{Stack, stack_at, empty_stack}
 use Rattle.uma_zone.specs.SealLaw.{is_filled_by, with_freed, SmrFree, FreesSoFar, lives_of, GoalsAreLater}
 
-none_of : {A : Type 0} (xs : List A) (x : A) → xs ≡ [] → Contains xs x → ⊥
+pub none_of : {A : Type 0} (xs : List A) (x : A) → xs ≡ [] → Contains xs x → ⊥
 none_of xs x none has = let e : length xs ≡ 0 = ap length none in let within = has.1 in absurd (omega (arith, e, within))
 
-either : {A : Type 0} (b : Bool) → (b ≡ true → A) → (b ≡ false → A) → A
+pub either : {A : Type 0} (b : Bool) → (b ≡ true → A) → (b ≡ false → A) → A
 either true f h = f refl
 either false f h = h refl
 

@@ -18,6 +18,7 @@ pub mod OneDomain
 pub mod Ports
 pub mod OwnDomain
 pub mod Prealloc
+pub mod ReuseLaw
 pub mod Right
 pub mod SafeReuse
 pub mod SealLaw

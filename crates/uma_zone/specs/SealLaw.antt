@@ -49,7 +49,7 @@ module _ {T H P : Type 0} {g h : _} where
     pub freed : (item : Live T g) → Contains (map freed_item (loose_items shelves.loose)) item → Contains (lives_of copied (free ∷ before)) item
     pub goal : (number : ℕ) (sealed : Sealed T H P g h) → shelves.newest ≡ Sealed' number sealed → Seals copied free.v shelves.loose sealed free.v'
 
--- So an item's bucket gets its goal no earlier than in the item's own free. What stays loose then is sealed by a later try (`TriesLoseNone`), and what is found ripe waited for just that goal: a ripe bucket is made of a sealed one alone, and keeps its items and its goal.
+-- So an item's bucket gets its goal no earlier than in the item's own free. What stays loose then is sealed by a later try (`TriesLoseNone`), and what is found ripe waited for just that goal (`ReuseLaw`).
 abbrev pub GoalsAreLater : (T H P : Type 0) (g : Ghosts T) (h : HostGhosts H P) → Type 0
 GoalsAreLater T H P g h =
     (copied : P → P) (free : SmrFree T H P g h copied) (before : List (SmrFree T H P g h copied))

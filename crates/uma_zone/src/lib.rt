@@ -28,7 +28,9 @@
 //!   of every sequence of calls. It names the ripe bucket of which the items are, with its goal, and its note, which knows
 //!   the goal to be expired. That a poll of this very call said yes is `uma_domain`'s: a domain's lock hides which sealed
 //!   bucket became the ripe one. That a bucket's goal is made no earlier than the frees of its items is a law over the frees
-//!   of a seat (`specs/SealLaw`), and for a bucket that stays loose one of its later tries (`specs/TriesLaw`).
+//!   of a seat (`specs/SealLaw`), and for a bucket that stays loose one of its later tries (`specs/TriesLaw`). Over all calls
+//!   a second law of sequences joins these (`specs/ReuseLaw`): it has the place of each item, and takes from the types that a
+//!   bucket found ripe is one of those sealed before.
 //! - What a domain's lists come to over its calls is said by laws (`laws`): that a trim leaves the working set and stops
 //!   there, that neither a trim nor a drain loses an item, and that the working set is how far the count moved. The domain's
 //!   calls say the same step by step, in `uma_domain`.
