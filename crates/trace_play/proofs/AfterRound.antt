@@ -126,14 +126,14 @@ module _ {H Part : Type 0} {h : Ghosts H Part} where
 module _ {N H C S Part : Type 0} {h : Ghosts H Part} where
   -- who stands in the crew
   pub record Member (workers : List (WorkerRun N H C S Part h)) (n : ℕ) (w : Worker H Part h) : Type 0 where
-    pub running : WorkerRun N H C S Part h
-    pub at : slice_get workers n ≡ Some running
-    pub is : worker_in running ≡ w
+    pub run : WorkerRun N H C S Part h
+    pub at : slice_get workers n ≡ Some run
+    pub is : worker_in run ≡ w
 
   pub member : (workers : List (WorkerRun N H C S Part h)) (n : ℕ) (w : Worker H Part h) → slice_get (crew workers) n ≡ Some w → Member workers n w
   member [] n w at = absurd (none-some w at)
-  member (r ∷ workers) zero w at = record { running = r; at = refl; is = same_Some (worker_in r) w at }
-  member (r ∷ workers) (suc n) w at = let rest = member workers n w at in record { running = rest.running; at = rest.at; is = rest.is }
+  member (r ∷ workers) zero w at = record { run = r; at = refl; is = same_Some (worker_in r) w at }
+  member (r ∷ workers) (suc n) w at = let rest = member workers n w at in record { run = rest.run; at = rest.at; is = rest.is }
 
 -- the lines of names of a worker are as many in both
 pub record SameNumbers (n : ℕ) (a b : List Line) : Type 0 where
@@ -145,8 +145,8 @@ same_numbers : (n : ℕ) (a b : List Line) → SameFor n a b → SameNumbers n a
 same_numbers n a b same = record { looks_same = same.looks_same; binds_same = same.binds_same; unbinds_same = same.unbinds_same }
 
 module _ {N H C S Part : Type 0} (names : NameGhosts N H C S Part) (cache : C) where
-  pub named_as : (n : ℕ) (a b : List Line) (late : ℕ) (naming : NameWork N H C S Part) → SameNumbers n a b → NamesStand names cache n b late naming → NamesStand names cache n a late naming
-  named_as n a b late naming same stands = record {
+  pub named_as : (n : ℕ) (a b : List Line) (late : ℕ) (name_work : NameWork N H C S Part) → SameNumbers n a b → NamesStand names cache n b late name_work → NamesStand names cache n a late name_work
+  named_as n a b late name_work same stands = record {
     seat = stands.seat;
     counts = record {
       looks_add_up = stands.counts.looks_add_up ∙ sym same.looks_same;
@@ -154,7 +154,7 @@ module _ {N H C S Part : Type 0} (names : NameGhosts N H C S Part) (cache : C) w
       unbound = up_as same.unbinds_same stands.counts.unbound;
       late_few = stands.counts.late_few;
     };
-    ledger = if_some (names.counted naming.seat) (λ ledger was. record {
+    ledger = if_some (names.counted name_work.seat) (λ ledger was. record {
       requests = was.requests ∙ sym same.binds_same;
       turned = was.turned;
       fails = was.fails;
@@ -171,16 +171,16 @@ module _ {N H C S Part : Type 0} {h : Ghosts H Part} (names : NameGhosts N H C S
   stand_after = record {
     fits = λ n w at.
         let m = member new n w at in
-        subst (FitsZones zones clock) m.is (turn_of n m.running m.at).fits;
+        subst (FitsZones zones clock) m.is (turn_of n m.run m.at).fits;
     stands = λ n w at.
         let m = member new n w at in
         subst (Stands zones clock n (after_workers t.rounds k)) m.is
-        (stands_as zones clock n (after_workers t.rounds k) (worked n (own_ops t.rounds k n) (lines_before t.rounds k)) (worker_in m.running) (own_of_round t.rounds k n) (turn_of n m.running m.at).stands);
+        (stands_as zones clock n (after_workers t.rounds k) (worked n (own_ops t.rounds k n) (lines_before t.rounds k)) (worker_in m.run) (own_of_round t.rounds k n) (turn_of n m.run m.at).stands);
   }
 
   pub named_after : AllNamed names cache (after_workers t.rounds k) new
   named_after n is now =
-      named_as names cache n (after_workers t.rounds k) (worked n (own_ops t.rounds k n) (lines_before t.rounds k)) (worker_in is).late is.naming (same_numbers n _ _ (own_of_round t.rounds k n)) (turn_of n is now).named
+      named_as names cache n (after_workers t.rounds k) (worked n (own_ops t.rounds k n) (lines_before t.rounds k)) (worker_in is).late is.name_work (same_numbers n _ _ (own_of_round t.rounds k n)) (turn_of n is now).named
 
   pub absent_after : AllAbsent (after_workers t.rounds k) new
   absent_after n is now = (turn_of n is now).absent ∙ sym (own_of_round t.rounds k n).alike.same_away

@@ -3,7 +3,7 @@ use Rattle.std.proofs.Crossing.{Vec-send, crosses, sync as heap_sync}
 use Rattle.std.specs.contracts.alloc.Global as heap
 use denote.RattleType.{RattleType}
 use denote.Builtin.{u64}
-use denote.Ref.{ShrRef}
+use denote.Ref.{NamedLft, ShrRef}
 use denote.Slice.{ShrSlice}
 use base.Fml.{Lft}
 use denote.Param.Send.{AllSync, IsSend, IsSync, enum_send, recorded_send, recorded_sync, struct_send, struct_sync, shr_sync, shr_slice_sync, sendable}
@@ -35,6 +35,7 @@ use Rattle.trace_worker.proofs.count_hooks.CountHooks.TheSendSync as counts
 use Rattle.trace_worker.specs.contracts.name_work.NameWork as NameWork
 use Rattle.trace_worker.proofs.name_work.NameCounts.TheSendSync as counts_of_names
 use Rattle.trace_worker.specs.contracts.worker_run.WorkerRun as WorkerRun
+use Rattle.trace_worker.specs.contracts.shared.Shared as Shared
 use Rattle.trace_worker.proofs.slots.Slots.TheSendSync as slots
 use Rattle.trace_worker.specs.contracts.worker.Worker as Worker
 
@@ -70,15 +71,15 @@ module _ (H P : RattleType) (h : host.Ghosts H.Denot P.Denot) (s : IsSend H) (y 
   clock_sync = search (clock.the_sync, sendable) depth 20
 
 module _ (N H C S P : RattleType) (h : host.Ghosts H.Denot P.Denot) (s : IsSend H) (y : IsSync H) (seat : IsSend S) where
-  naming_field_send : IsSend (NameWork.the_field N H C S P).row
-  naming_field_send = struct_send (shape (NameWork.the_type N H C S P)) (seat, (search (counts_of_names.the_field_send), tt))
+  name_work_field_send : IsSend (NameWork.the_field N H C S P).row
+  name_work_field_send = struct_send (shape (NameWork.the_type N H C S P)) (seat, (search (counts_of_names.the_field_send), tt))
 
-  running_field_send : IsSend (WorkerRun.the_field N H C S P h).row
-  running_field_send = struct_send (shape (WorkerRun.the_type N H C S P h))
-      (attendance_field_send H P h s y, (naming_field_send, (search sendable, (search sendable, (search (crosses, sendable) depth 20, (search (padded.the_field_send, sendable), tt))))))
+  run_field_send : IsSend (WorkerRun.the_field N H C S P h).row
+  run_field_send = struct_send (shape (WorkerRun.the_type N H C S P h))
+      (attendance_field_send H P h s y, (name_work_field_send, (search sendable, (search sendable, (search (crosses, sendable) depth 20, (search (padded.the_field_send, sendable), tt))))))
 
-  pub running_send : IsSend (WorkerRun.the_row N H C S P h)
-  running_send = recorded_send (WorkerRun.the_field N H C S P h).row _ _ (WorkerRun.the_type N H C S P h).to_one running_field_send
+  pub run_send : IsSend (WorkerRun.the_row N H C S P h)
+  run_send = recorded_send (WorkerRun.the_field N H C S P h).row _ _ (WorkerRun.the_type N H C S P h).to_one run_field_send
 
 pub trace_sync : IsSync Trace.the_row
 trace_sync = search (trace.the_sync, sendable)
@@ -91,29 +92,26 @@ parts_sync (T ∷ Ts) all = (all.0, parts_sync Ts all.1)
 pub tuple_sync : (ν : Sym) (Ts : List RattleType) → AllSync Ts → IsSync (TupleAt ν Ts)
 tuple_sync ν Ts all = recorded_sync (Struct (shape (type_at ν Ts))) _ _ (type_at ν Ts).to_one (struct_sync (shape (type_at ν Ts)) (parts_sync Ts all))
 
--- what a round's threads share: the handle, the allocator, the trace, the zones, the clock, the calls of names and their cache, the gate, the calls of reclaim and the round
-module _ (H P : RattleType) (h : host.Ghosts H.Denot P.Denot) (s : IsSend H) (y : IsSync H) (R N M G C : RattleType) (ℓ1 ℓ2 ℓ3 ℓ4 ℓ5 ℓ6 ℓ7 ℓ8 ℓ9 ℓ10 : Lifetime) (κ1 κ2 κ3 κ4 κ5 κ6 κ7 κ8 κ9 κ10 : Lft) where
-  abbrev pub shared : List RattleType
-  shared = ShrRef ℓ1 κ1 R ∷ ShrRef ℓ2 κ2 heap.the_row ∷ ShrRef ℓ3 κ3 Trace.the_row ∷ ShrSlice ℓ4 κ4 (ZoneRow H P h s y)
-      ∷ ShrRef ℓ5 κ5 (Clock.the_row H P h) ∷ ShrRef ℓ6 κ6 N ∷ ShrRef ℓ7 κ7 M ∷ ShrRef ℓ8 κ8 G ∷ ShrRef ℓ9 κ9 C ∷ ShrRef ℓ10 κ10 u64 ∷ []
-
-  shared_each : IsSync R → IsSync N → IsSync M → IsSync G → IsSync C → AllSync shared
-  shared_each r n m g c = (
-    shr_sync _ _ _ r,
+-- what a round's threads share: the handle, the allocator, what all workers share, and the round
+module _ (a : NamedLft) (N G C H M S P : RattleType) (h : host.Ghosts H.Denot P.Denot) (s : IsSend H) (y : IsSync H) (names : IsSync N) (gate : IsSync G) (calls : IsSync C) (cache : IsSync M) where
+  shared_field_sync : IsSync (Shared.the_field a N G C H M S P h).row
+  shared_field_sync = struct_sync (shape (Shared.the_type a N G C H M S P h)) (
+    shr_sync _ _ _ trace_sync,
     (
-      shr_sync _ _ _ heap_sync,
-      (
-        shr_sync _ _ _ trace_sync,
-        (
-          shr_slice_sync _ _ _ (counted_zone_sync H P h s y),
-          (
-            shr_sync _ _ _ (clock_sync H P h s y),
-            (shr_sync _ _ _ n, (shr_sync _ _ _ m, (shr_sync _ _ _ g, (shr_sync _ _ _ c, (shr_sync _ _ u64 (search sendable), tt))))),
-          ),
-        ),
-      ),
+      shr_slice_sync _ _ _ (counted_zone_sync H P h s y),
+      (shr_sync _ _ _ (clock_sync H P h s y), (shr_sync _ _ _ names, (shr_sync _ _ _ cache, (shr_sync _ _ _ gate, (shr_sync _ _ _ calls, tt))))),
     ),
   )
 
-  pub shared_sync : (ν : Sym) → IsSync R → IsSync N → IsSync M → IsSync G → IsSync C → IsSync (TupleAt ν shared)
-  shared_sync ν r n m g c = tuple_sync ν shared (shared_each r n m g c)
+  abbrev pub SharedRow : RattleType
+  SharedRow = Shared.the_row a N G C H M S P h
+
+  shared_sync : IsSync SharedRow
+  shared_sync = recorded_sync (Shared.the_field a N G C H M S P h).row _ _ (Shared.the_type a N G C H M S P h).to_one shared_field_sync
+
+  module _ (R : RattleType) (ℓ1 ℓ2 ℓ3 ℓ4 : Lifetime) (κ1 κ2 κ3 κ4 : Lft) where
+    abbrev pub captured : List RattleType
+    captured = ShrRef ℓ1 κ1 R ∷ ShrRef ℓ2 κ2 heap.the_row ∷ ShrRef ℓ3 κ3 SharedRow ∷ ShrRef ℓ4 κ4 u64 ∷ []
+
+    pub captured_sync : (ν : Sym) → IsSync R → IsSync (TupleAt ν captured)
+    captured_sync ν r = tuple_sync ν captured (shr_sync _ _ _ r, (shr_sync _ _ _ heap_sync, (shr_sync _ _ _ shared_sync, (shr_sync _ _ u64 (search sendable), tt))))

@@ -76,8 +76,8 @@ module _ {N H C S Part : Type 0} {h : Ghosts H Part} (names : NameGhosts N H C S
   each_adds z n was is all at now =
       let m = member old n was at in
       let v = member new n is now in
-      let turn = done.each n m.running v.running m.at v.at in
-      let P : Worker H Part h → Type 0 = λ w. Balances z w (worker_in v.running) in
+      let turn = done.each n m.run v.run m.at v.at in
+      let P : Worker H Part h → Type 0 = λ w. Balances z w (worker_in v.run) in
       let Q : Worker H Part h → Type 0 = λ w. Balances z was w in
       worker_adds zones clock z was is (all.fits n was at) ((stand_after names cache t zones clock k old new done).fits n is now) (subst Q v.is (subst P m.is (turn.balances z)))
 

@@ -94,11 +94,11 @@ module _ {N H C S Part : Type 0} {h : Ghosts H Part} (names : NameGhosts N H C S
   named_moved : (betweens : List Between) (lines : List Line) (old new : List (WorkerRun N H C S Part h)) → KeepsRest old new → AllNamed names cache lines old → AllNamed names cache (stacked (map Moves betweens) lines) new
   named_moved betweens lines old new keeps named n r at =
       let b = before (λ (x : WorkerRun N H C S Part h). with_slots x []) old new n r keeps at in
-      let P : ℕ → Type 0 = λ late. NamesStand names cache n (stacked (map Moves betweens) lines) late r.naming in
-      let Q : NameWork N H C S Part → Type 0 = λ naming. NamesStand names cache n (stacked (map Moves betweens) lines) (worker_in b.was).late naming in
+      let P : ℕ → Type 0 = λ late. NamesStand names cache n (stacked (map Moves betweens) lines) late r.name_work in
+      let Q : NameWork N H C S Part → Type 0 = λ name_work. NamesStand names cache n (stacked (map Moves betweens) lines) (worker_in b.was).late name_work in
       subst P (sym (ap (λ (w : Worker H Part h). w.late) (same_bare r b.was b.same)))
-      (subst Q (sym (ap (λ (x : WorkerRun N H C S Part h). x.naming) b.same))
-      (named_as names cache n (stacked (map Moves betweens) lines) lines (worker_in b.was).late b.was.naming (same_numbers-moves n betweens lines) (named n b.was b.at)))
+      (subst Q (sym (ap (λ (x : WorkerRun N H C S Part h). x.name_work) b.same))
+      (named_as names cache n (stacked (map Moves betweens) lines) lines (worker_in b.was).late b.was.name_work (same_numbers-moves n betweens lines) (named n b.was b.at)))
 
 is_away-moves : (n : ℕ) (betweens : List Between) (lines : List Line) → is_away (stacked (map Moves betweens) lines) n ≡ is_away lines n
 unfolding stacked

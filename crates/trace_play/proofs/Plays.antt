@@ -29,7 +29,7 @@ module _ {N H C S Part : Type 0} {h : Ghosts H Part} (names : NameGhosts N H C S
       record {
         worked = doing b.was;
         does = (done.each n was b.was at b.at).plays;
-        given = record { worker = same_bare is b.was b.same; naming = ap (λ (x : WorkerRun N H C S Part h). x.naming) b.same; out = same_out is b.was b.same };
+        given = record { worker = same_bare is b.was b.same; name_work = ap (λ (x : WorkerRun N H C S Part h). x.name_work) b.same; out = same_out is b.was b.same };
       }
 
 module _ {N H C S Part : Type 0} {h : Ghosts H Part} (names : NameGhosts N H C S Part) (cache : C) (zones : List (CountedZone H Part h)) (n : ℕ) where

@@ -14,7 +14,7 @@ module _ {N H C S P : Type 0} {h : Ghosts H P} where
   -- the worker is as it was but for its slots, there or away, and so is what it has of the names
   pub record KeepsButSlots (old new : Doing N H C S P h) : Type 0 where
     pub worker : record new.worker { slots = [] } ≡ record old.worker { slots = [] }
-    pub naming : new.naming ≡ old.naming
+    pub name_work : new.name_work ≡ old.name_work
     pub out : new.out ≡ old.out
 
 module _ {N H C S P : Type 0} {h : Ghosts H P} (names : NameGhosts N H C S P) (cache : C) where

@@ -48,8 +48,8 @@ fn note_of<H: Host>(clock: &Clock<H>, pass: &mut Pass<H>) -> Note<H>
     clock.note(pass)
 }
 
-// The numbers of a trace's clock.
-fn clock_head(line: &Option<ClockHead>) -> ClockHead
+/// The numbers of a trace's clock: those of its clock line, or 1 and 1,024.
+pub fn clock_head(line: &Option<ClockHead>) -> ClockHead
     requires { IfSome line.now ClockFits }
     ensures fits { ClockFits result }
     ensures start { result.start ≡ start_of line.now }

@@ -38,7 +38,7 @@ mod totals;
 mod workers;
 mod zones;
 
-pub use clock::make_clock;
+pub use clock::{clock_head, make_clock};
 pub use hands::read_hands;
 pub use plain_names::{NoSeat, PlainNames};
 pub use playing::play;

@@ -47,6 +47,8 @@ impl NameCalls for PlainNames {
 
     ghost IsFound = { λ cache refusal. ⊥ };
 
+    ghost TurnsBack = { λ cache key v old v' new. ⊥ };
+
     ghost IsCensus = { λ cache census. ⊥ };
 
     ghost passed = { λ seat hook. 0 };

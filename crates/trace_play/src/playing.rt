@@ -6,12 +6,11 @@ ghost use Rattle.trace_worker.specs.OwnLines.{lines_before};
 
 use crate::betweens::do_betweens;
 use crate::round::{all_ended, work_round};
-use smr_clock::Clock;
 use std::alloc::Global;
 use std::sync::Wait;
 use std::thread::Threads;
 use trace_text::{Between, Trace};
-use trace_worker::{CountedZone, Gate, Memory, NameCalls, ReclaimCalls, WorkerRun};
+use trace_worker::{Gate, Memory, NameCalls, ReclaimCalls, Shared, WorkerRun};
 
 /// All rounds of a trace: in each round every worker does its own list on a thread of its own, and behind it the lines
 /// between this round and the next are done in order: `give` lines, and `setmax` lines, each of which sets the limit of its
@@ -19,25 +18,17 @@ use trace_worker::{CountedZone, Gate, Memory, NameCalls, ReclaimCalls, WorkerRun
 pub fn play<N: NameCalls + Sync, R: Threads + Wait + Sync, G: Gate + Sync, C: ReclaimCalls + Sync>(
     rt: &R,
     alloc: Global,
-    trace: &Trace,
-    zones: &[CountedZone<N::H>],
-    clock: &Clock<N::H>,
-    names: &N,
-    cache: &N::Cache,
-    gate: &G,
-    reclaim: &C,
+    shared: &Shared<'_, N, G, C>,
     workers: &mut [WorkerRun<N>],
 ) -> Result<(), Memory>
-    requires suits { FitsTrace N.NameCalls cache.now trace.now zones.now clock.now workers.old }
-    requires begun { IsBegun N.NameCalls cache.now zones.now clock.now workers.old }
-    ensures played { OnOk result (IsPlayed N.NameCalls cache.now G.Gate gate.now trace.now zones.now clock.now workers.old workers.new) }
+    requires suits { FitsTrace N.NameCalls shared.now.cache.now shared.now.trace.now shared.now.zones.now shared.now.clock.now workers.old }
+    requires begun { IsBegun N.NameCalls shared.now.cache.now shared.now.zones.now shared.now.clock.now workers.old }
+    ensures played { OnOk result (IsPlayed N.NameCalls shared.now.cache.now G.Gate shared.now.gate.now shared.now.trace.now shared.now.zones.now shared.now.clock.now workers.old workers.new) }
     ensures count { length workers.new ≡ length workers.old }
-    ensures free { G.is_free gate.now → OnOk result (GaveUpAsBefore workers.old workers.new) }
+    ensures free { G.is_free shared.now.gate.now → OnOk result (GaveUpAsBefore workers.old workers.new) }
 {
-    for round in 0..trace.rounds.len() {
-        play_round(
-            rt, alloc, trace, zones, clock, names, cache, gate, reclaim, round, workers,
-        )?;
+    for round in 0..shared.trace.rounds.len() {
+        play_round(rt, alloc, shared, round, workers)?;
     }
     Ok(())
 }
@@ -51,27 +42,20 @@ fn play_round<
 >(
     rt: &R,
     alloc: Global,
-    trace: &Trace,
-    zones: &[CountedZone<N::H>],
-    clock: &Clock<N::H>,
-    names: &N,
-    cache: &N::Cache,
-    gate: &G,
-    reclaim: &C,
+    shared: &Shared<'_, N, G, C>,
     round: usize,
     workers: &mut [WorkerRun<N>],
 ) -> Result<(), Memory>
-    requires suits { FitsTrace N.NameCalls cache.now trace.now zones.now clock.now workers.old }
-    requires round { round < length trace.now.rounds }
-    requires after { AreAfter N.NameCalls cache.now zones.now clock.now (lines_before trace.now.rounds round) workers.old }
-    ensures played { OnOk result (IsRoundPlayed N.NameCalls cache.now G.Gate gate.now trace.now zones.now clock.now round workers.old workers.new) }
-    ensures free { G.is_free gate.now → OnOk result (GaveUpAsBefore workers.old workers.new) }
+    requires suits { FitsTrace N.NameCalls shared.now.cache.now shared.now.trace.now shared.now.zones.now shared.now.clock.now workers.old }
+    requires round { round < length shared.now.trace.now.rounds }
+    requires after { AreAfter N.NameCalls shared.now.cache.now shared.now.zones.now shared.now.clock.now (lines_before shared.now.trace.now.rounds round) workers.old }
+    ensures played { OnOk result (IsRoundPlayed N.NameCalls shared.now.cache.now G.Gate shared.now.gate.now shared.now.trace.now shared.now.zones.now shared.now.clock.now round workers.old workers.new) }
+    ensures free { G.is_free shared.now.gate.now → OnOk result (GaveUpAsBefore workers.old workers.new) }
 {
-    work_round(
-        rt, alloc, trace, zones, clock, names, cache, gate, reclaim, round, workers,
-    );
+    work_round(rt, alloc, shared, round, workers);
     all_ended(workers)?;
-    do_betweens(rt, alloc, zones, betweens_of(trace, round), workers)
+    let between = betweens_of(shared.trace, round);
+    do_betweens(rt, alloc, shared.zones, between, workers)
 }
 
 /// The lines between a round and the next.

@@ -101,25 +101,25 @@ module _ {N H C S Part : Type 0} {h : Ghosts H Part} (names : NameGhosts N H C S
 
   -- ---- a worker that is there and stays
 
-  there_line : (op : Op) (old new : Worker H Part h) (naming naming' : NameWork N H C S Part) → op ≢ Away → op ≢ Back → false ≡ comes_back op
-      → Acts names cache zones (doing_there old naming) op (doing_there new naming') → DoesLine names cache zones (doing_there old naming) op (doing_there new naming')
-  there_line (Alloc zone slot arg reserve) old new naming naming' here stays was acts = record { changes = acts; was = was; is = refl }
-  there_line (Free slot) old new naming naming' here stays was acts = record { changes = acts; was = was; is = refl }
-  there_line Enter old new naming naming' here stays was acts = record { changes = acts; was = was; is = refl }
-  there_line Exit old new naming naming' here stays was acts = record { changes = acts; was = was; is = refl }
-  there_line (Bind key value) old new naming naming' here stays was acts = record { changes = acts; was = was; is = refl }
-  there_line (Unbind key) old new naming naming' here stays was acts = record { changes = acts; was = was; is = refl }
-  there_line (Look key) old new naming naming' here stays was acts = record { changes = acts; was = was; is = refl }
-  there_line (Trim zone) old new naming naming' here stays was acts = record { changes = acts; was = was; is = refl }
-  there_line (Drain zone) old new naming naming' here stays was acts = record { changes = acts; was = was; is = refl }
-  there_line (DrainSeat zone) old new naming naming' here stays was acts = record { changes = acts; was = was; is = refl }
-  there_line (Prealloc zone items) old new naming naming' here stays was acts = record { changes = acts; was = was; is = refl }
-  there_line Away old new naming naming' here stays was acts = absurd (here refl)
-  there_line Back old new naming naming' here stays was acts = absurd (stays refl)
+  there_line : (op : Op) (old new : Worker H Part h) (name_work name_work' : NameWork N H C S Part) → op ≢ Away → op ≢ Back → false ≡ comes_back op
+      → Acts names cache zones (doing_there old name_work) op (doing_there new name_work') → DoesLine names cache zones (doing_there old name_work) op (doing_there new name_work')
+  there_line (Alloc zone slot arg reserve) old new name_work name_work' here stays was acts = record { changes = acts; was = was; is = refl }
+  there_line (Free slot) old new name_work name_work' here stays was acts = record { changes = acts; was = was; is = refl }
+  there_line Enter old new name_work name_work' here stays was acts = record { changes = acts; was = was; is = refl }
+  there_line Exit old new name_work name_work' here stays was acts = record { changes = acts; was = was; is = refl }
+  there_line (Bind key value) old new name_work name_work' here stays was acts = record { changes = acts; was = was; is = refl }
+  there_line (Unbind key) old new name_work name_work' here stays was acts = record { changes = acts; was = was; is = refl }
+  there_line (Look key) old new name_work name_work' here stays was acts = record { changes = acts; was = was; is = refl }
+  there_line (Trim zone) old new name_work name_work' here stays was acts = record { changes = acts; was = was; is = refl }
+  there_line (Drain zone) old new name_work name_work' here stays was acts = record { changes = acts; was = was; is = refl }
+  there_line (DrainSeat zone) old new name_work name_work' here stays was acts = record { changes = acts; was = was; is = refl }
+  there_line (Prealloc zone items) old new name_work name_work' here stays was acts = record { changes = acts; was = was; is = refl }
+  there_line Away old new name_work name_work' here stays was acts = absurd (here refl)
+  there_line Back old new name_work name_work' here stays was acts = absurd (stays refl)
 
-  pub acts_there : (r : WorkerRun N H C S Part h) (op : Op) (old new : Worker H Part h) (naming : NameWork N H C S Part) → op ≢ Away → op ≢ Back → r.attendance ≡ There old → is_out r.attendance ≡ comes_back op
-      → Acts names cache zones (doing_there old r.naming) op (doing_there new naming) → DoesLine names cache zones (doing r) op (doing_there new naming)
-  acts_there r op old new naming here stays is was acts =
-      let of : Attendance H Part h → Doing N H C S Part h = λ a. record { worker = worker_at a; naming = r.naming; out = is_out a } in
-      let P : Doing N H C S Part h → Type 0 = λ d. DoesLine names cache zones d op (doing_there new naming) in
-      subst P (sym (ap of is)) (there_line op old new r.naming naming here stays (sym (ap is_out is) ∙ was) acts)
+  pub acts_there : (r : WorkerRun N H C S Part h) (op : Op) (old new : Worker H Part h) (name_work : NameWork N H C S Part) → op ≢ Away → op ≢ Back → r.attendance ≡ There old → is_out r.attendance ≡ comes_back op
+      → Acts names cache zones (doing_there old r.name_work) op (doing_there new name_work) → DoesLine names cache zones (doing r) op (doing_there new name_work)
+  acts_there r op old new name_work here stays is was acts =
+      let of : Attendance H Part h → Doing N H C S Part h = λ a. record { worker = worker_at a; name_work = r.name_work; out = is_out a } in
+      let P : Doing N H C S Part h → Type 0 = λ d. DoesLine names cache zones d op (doing_there new name_work) in
+      subst P (sym (ap of is)) (there_line op old new r.name_work name_work here stays (sym (ap is_out is) ∙ was) acts)

@@ -47,7 +47,7 @@ module _ {N H C S Part : Type 0} {h : Ghosts H Part} (names : NameGhosts N H C S
     pub within : i ≤ length ops
     pub fits : FitsZones zones clock (worker_in now)
     pub stands : Stands zones clock n (worked n (take i ops) before) (worker_in now)
-    pub named : NamesStand names cache n (worked n (take i ops) before) (worker_in now).late now.naming
+    pub named : NamesStand names cache n (worked n (take i ops) before) (worker_in now).late now.name_work
     pub absent : IsAbsent n (worked n (take i ops) before) now
     pub plays : DoesAll names cache zones (doing old) (take i ops) (doing now)
     pub balances : (z : ℕ) → Balances z (worker_in old) (worker_in now)
@@ -140,7 +140,7 @@ module _ {N H C S Part : Type 0} {h : Ghosts H Part} (names : NameGhosts N H C S
         within = zero-le;
         fits = ready.fits;
         stands = subst P (sym (worked-none n ops (lines_before t.rounds k))) ready.stands;
-        named = let Q : List Line → Type 0 = λ lines. NamesStand names cache n lines (worker_in r).late r.naming in subst Q (sym (worked-none n ops (lines_before t.rounds k))) ready.named;
+        named = let Q : List Line → Type 0 = λ lines. NamesStand names cache n lines (worker_in r).late r.name_work in subst Q (sym (worked-none n ops (lines_before t.rounds k))) ready.named;
         absent = let A : List Line → Type 0 = λ lines. IsAbsent n lines r in subst A (sym (worked-none n ops (lines_before t.rounds k))) ready.absent;
         plays = plays-none names cache zones ops (doing r);
         balances = Balances-self (worker_in r) (worker_in r) refl;
@@ -188,15 +188,15 @@ module _ {N H C S Part : Type 0} {h : Ghosts H Part} (names : NameGhosts N H C S
       few_so_far (length (lines_before t.rounds k)) below all taken size ready.few
 
   pub Midway-rooms : (t : Trace) (zones : List (CountedZone H Part h)) (clock : Clock H Part) (k n i : ℕ) (ops : List Op) (old now : WorkerRun N H C S Part h) → IsReady names cache t zones clock k n old
-      → ops ≡ own_ops t.rounds k n → i < length ops → Midway names cache zones clock n (lines_before t.rounds k) ops i old now → HasRooms (worker_in now) × HasNameRooms names now.naming
+      → ops ≡ own_ops t.rounds k n → i < length ops → Midway names cache zones clock n (lines_before t.rounds k) ops i old now → HasRooms (worker_in now) × HasNameRooms names now.name_work
   Midway-rooms t zones clock k n i ops old now ready is below midway =
       let lines = worked n (take i ops) (lines_before t.rounds k) in
       let few = few_lines t zones clock k n i ops old ready is below in
-      (rooms_of zones clock n lines (worker_in now) few midway.fits midway.stands, name_rooms names cache n lines (worker_in now).late now.naming few midway.named)
+      (rooms_of zones clock n lines (worker_in now) few midway.fits midway.stands, name_rooms names cache n lines (worker_in now).late now.name_work few midway.named)
 
   -- what a worker has for its next line, once the gate was asked, which leaves it as it is
   pub Midway-waits : (t : Trace) (zones : List (CountedZone H Part h)) (clock : Clock H Part) (k n i : ℕ) (ops : List Op) (old now waited : WorkerRun N H C S Part h) → IsReady names cache t zones clock k n old
-      → ops ≡ own_ops t.rounds k n → i < length ops → Midway names cache zones clock n (lines_before t.rounds k) ops i old now → KeepsWork now waited → CanGoOn names cache zones clock (worker_in waited) waited.naming
+      → ops ≡ own_ops t.rounds k n → i < length ops → Midway names cache zones clock n (lines_before t.rounds k) ops i old now → KeepsWork now waited → CanGoOn names cache zones clock (worker_in waited) waited.name_work
   Midway-waits t zones clock k n i ops old now waited ready is below midway keeps =
       let rooms = Midway-rooms t zones clock k n i ops old now ready is below midway in
       let F : Worker H Part h → Type 0 = λ w. FitsZones zones clock w in
@@ -205,9 +205,9 @@ module _ {N H C S Part : Type 0} {h : Ghosts H Part} (names : NameGhosts N H C S
         clock = ready.of_clock;
         of_clock = ready.names_of_clock;
         fits = subst F (sym (ap worker_at keeps.attendance)) midway.fits;
-        seat = subst I (sym keeps.naming) midway.named.seat;
+        seat = subst I (sym keeps.name_work) midway.named.seat;
         rooms = subst HasRooms (sym (ap worker_at keeps.attendance)) rooms.0;
-        name_rooms = subst (HasNameRooms names) (sym keeps.naming) rooms.1;
+        name_rooms = subst (HasNameRooms names) (sym keeps.name_work) rooms.1;
       }
 
   pub Midway-turn : (t : Trace) (zones : List (CountedZone H Part h)) (clock : Clock H Part) (k n i : ℕ) (ops : List Op) (d : Op) (old now waited : WorkerRun N H C S Part h) → IsReady names cache t zones clock k n old
@@ -219,26 +219,26 @@ module _ {N H C S Part : Type 0} {h : Ghosts H Part} (names : NameGhosts N H C S
         there = Midway-there t zones clock k n i ops d old now waited ready is below midway same;
       }
 
-  same_doing : (a b : WorkerRun N H C S Part h) → a.attendance ≡ b.attendance → a.naming ≡ b.naming → doing a ≡ doing b
-  same_doing a b attendance naming =
-      let with_attendance : Attendance H Part h → Doing N H C S Part h = λ x. record { worker = worker_at x; naming = a.naming; out = is_out x } in
-      let with_naming : NameWork N H C S Part → Doing N H C S Part h = λ x. record { worker = worker_in b; naming = x; out = is_out b.attendance } in
-      ap with_attendance attendance ∙ ap with_naming naming
+  same_doing : (a b : WorkerRun N H C S Part h) → a.attendance ≡ b.attendance → a.name_work ≡ b.name_work → doing a ≡ doing b
+  same_doing a b attendance name_work =
+      let with_attendance : Attendance H Part h → Doing N H C S Part h = λ x. record { worker = worker_at x; name_work = a.name_work; out = is_out x } in
+      let with_name_work : NameWork N H C S Part → Doing N H C S Part h = λ x. record { worker = worker_in b; name_work = x; out = is_out b.attendance } in
+      ap with_attendance attendance ∙ ap with_name_work name_work
 
   -- The gate was asked, and the next operation is done.
   pub Midway-more : (zones : List (CountedZone H Part h)) (clock : Clock H Part) (n i : ℕ) (before : List Line) (ops : List Op) (d : Op) (old now waited next : WorkerRun N H C S Part h) → i < length ops
-      → Midway names cache zones clock n before ops i old now → waited.attendance ≡ now.attendance → waited.naming ≡ now.naming → CanDo names zones (worker_in now) (get_or ops i d)
-      → DoesLine names cache zones (doing waited) (get_or ops i d) (doing next) → FitsZones zones clock (worker_in next) → names.IsSeat cache next.naming.seat
+      → Midway names cache zones clock n before ops i old now → waited.attendance ≡ now.attendance → waited.name_work ≡ now.name_work → CanDo names zones (worker_in now) (get_or ops i d)
+      → DoesLine names cache zones (doing waited) (get_or ops i d) (doing next) → FitsZones zones clock (worker_in next) → names.IsSeat cache next.name_work.seat
       → now.asked + 1 ≤ next.asked → next.asked ≤ now.asked + most_asks → next.gave_up ≤ now.gave_up + 1
       → Midway names cache zones clock n before ops (i + 1) old next
-  Midway-more zones clock n i before ops d old now waited next below midway same same_naming can does fits seat some few gave_up =
+  Midway-more zones clock n i before ops d old now waited next below midway same same_name_work can does fits seat some few gave_up =
       let op : Op = get_or ops i d in
       let lines : List Line = worked n (take i ops) before in
       let P : List Line → Type 0 = λ lines. Stands zones clock n lines (worker_in next) in
       let Q : Doing N H C S Part h → Type 0 = λ d. DoesLine names cache zones d op (doing next) in
-      let L : List Line → Type 0 = λ lines. NamesStand names cache n lines (worker_in next).late next.naming in
+      let L : List Line → Type 0 = λ lines. NamesStand names cache n lines (worker_in next).late next.name_work in
       let A : List Line → Type 0 = λ lines. IsAbsent n lines next in
-      let step : DoesLine names cache zones (doing now) op (doing next) = subst Q (same_doing waited now same same_naming) does in
+      let step : DoesLine names cache zones (doing now) op (doing next) = subst Q (same_doing waited now same same_name_work) does in
       let leaves = line_step names cache zones clock n op lines (doing now) (doing next) midway.fits.pass can step.changes midway.stands in
       record {
         within = one_more_within below;
@@ -255,11 +255,11 @@ module _ {N H C S Part : Type 0} {h : Ghosts H Part} (names : NameGhosts N H C S
       }
 
   pub Midway-step : (t : Trace) (zones : List (CountedZone H Part h)) (clock : Clock H Part) (k n i : ℕ) (ops : List Op) (d : Op) (old now waited next : WorkerRun N H C S Part h) → IsReady names cache t zones clock k n old
-      → ops ≡ own_ops t.rounds k n → i < length ops → Midway names cache zones clock n (lines_before t.rounds k) ops i old now → waited.attendance ≡ now.attendance → waited.naming ≡ now.naming
-      → DoesLine names cache zones (doing waited) (get_or ops i d) (doing next) → FitsZones zones clock (worker_in next) → names.IsSeat cache next.naming.seat
+      → ops ≡ own_ops t.rounds k n → i < length ops → Midway names cache zones clock n (lines_before t.rounds k) ops i old now → waited.attendance ≡ now.attendance → waited.name_work ≡ now.name_work
+      → DoesLine names cache zones (doing waited) (get_or ops i d) (doing next) → FitsZones zones clock (worker_in next) → names.IsSeat cache next.name_work.seat
       → now.asked + 1 ≤ next.asked → next.asked ≤ now.asked + most_asks → next.gave_up ≤ now.gave_up + 1 → Midway names cache zones clock n (lines_before t.rounds k) ops (i + 1) old next
-  Midway-step t zones clock k n i ops d old now waited next ready is below midway same same_naming does fits seat some few gave_up =
-      Midway-more zones clock n i (lines_before t.rounds k) ops d old now waited next below midway same same_naming (Midway-can t zones clock k n i ops d old now ready is below midway) does fits seat some few gave_up
+  Midway-step t zones clock k n i ops d old now waited next ready is below midway same same_name_work does fits seat some few gave_up =
+      Midway-more zones clock n i (lines_before t.rounds k) ops d old now waited next below midway same same_name_work (Midway-can t zones clock k n i ops d old now ready is below midway) does fits seat some few gave_up
 
   -- the counts of the gate have room for the next operation
   pub Midway-asks : (t : Trace) (zones : List (CountedZone H Part h)) (clock : Clock H Part) (k n i : ℕ) (ops : List Op) (old now : WorkerRun N H C S Part h) → IsReady names cache t zones clock k n old

@@ -306,13 +306,13 @@ ledger_refused slabs n key value lines more more' old new refusal one_more turne
       kept = λ other is. subst (NamesRefuse slabs) (same_Some refusal other (sym turned.last ∙ is)) fits;
     }
 
-ledger_bind : (slabs n key value : ℕ) (IsFound : Refusal → Type 0) (lines : List Line) (done : Bool) (counts counts' : NameCounts) (old new : SeatLedger) → CountsBind done counts counts' → BindCounts slabs IsFound done old new
+ledger_bind : (slabs n key value : ℕ) (IsFound : Refusal → Type 0) (Cause : Type 0) (lines : List Line) (done : Bool) (counts counts' : NameCounts) (old new : SeatLedger) → CountsBind done counts counts' → BindCounts slabs IsFound Cause done old new
     → NameLedgerStands slabs n lines counts.refused old → NameLedgerStands slabs n (Does n (Bind key value) ∷ lines) counts'.refused new
-ledger_bind slabs n key value IsFound lines true counts counts' old new is counted stands =
+ledger_bind slabs n key value IsFound Cause lines true counts counts' old new is counted stands =
     ledger_got slabs n key value lines counts.refused counts'.refused old counted.between new (same_of (ap refused is)) counted.alloc counted.evicts stands
-ledger_bind slabs n key value IsFound lines false counts counts' old new is (inl turned) stands =
+ledger_bind slabs n key value IsFound Cause lines false counts counts' old new is (inl turned) stands =
     ledger_refused slabs n key value lines counts.refused counts'.refused old new turned.refusal (ap refused is) turned.turned turned.fits stands
-ledger_bind slabs n key value IsFound lines false counts counts' old new is (inr given) stands =
+ledger_bind slabs n key value IsFound Cause lines false counts counts' old new is (inr given) stands =
     ledger_got slabs n key value lines counts.refused counts'.refused old given.between new (more_of (ap refused is)) given.alloc (inr given.back) stands
 
 ledger_unbind : (slabs n key : ℕ) (lines : List Line) (done : Bool) (counts counts' : NameCounts) (old new : SeatLedger) → CountsUnbind done counts counts' → UnbindCounts done old new
@@ -370,78 +370,78 @@ module _ {N H C S Part : Type 0} (names : NameGhosts N H C S Part) (cache : C) w
       subst P (sym same) (if_some (names.counted old.seat) (λ it was. ledger_quiet slabs n line lines old.counts.refused new.counts.refused it refl refl (same_of same_refused) was) ledger)
 
   -- each count can be one more
-  pub name_rooms : (n : ℕ) (lines : List Line) (late : ℕ) (naming : NameWork N H C S Part) → length lines < 2 ^ 32 → NamesStand names cache n lines late naming → HasNameRooms names naming
-  name_rooms n lines late naming few stands =
+  pub name_rooms : (n : ℕ) (lines : List Line) (late : ℕ) (name_work : NameWork N H C S Part) → length lines < 2 ^ 32 → NamesStand names cache n lines late name_work → HasNameRooms names name_work
+  name_rooms n lines late name_work few stands =
       let looked = three_few few stands.counts.looks_add_up (looks-few n lines) in
       let tried = two_few few stands.counts.binds_add_up (binds-few n lines) in
       record {
         counts = record { hits = looked.0; misses = looked.1; late = looked.2; binds = tried.0; unbound = one_few few stands.counts.unbound (unbinds-few n lines); refused = tried.1 };
-        ledger = if_some (names.counted naming.seat) (λ ledger was. record {
+        ledger = if_some (names.counted name_work.seat) (λ ledger was. record {
           now = record { requests = room_of few was.requests (binds-few n lines); frees = frees_room few was.frees (binds-few n lines) (unbinds-few n lines) };
           later = next_room few was.requests (binds-few n lines);
         }) stands.ledger;
       }
 
 module _ {N H C S Part : Type 0} {h : Ghosts H Part} (names : NameGhosts N H C S Part) (cache : C) where
-  named_bind : (n key value : ℕ) (lines : List Line) (old new : Doing N H C S Part h) → BindsLine names cache old key value new → names.IsSeat cache new.naming.seat
-      → NamesStand names cache n lines old.worker.late old.naming → NamesStand names cache n (Does n (Bind key value) ∷ lines) new.worker.late new.naming
+  named_bind : (n key value : ℕ) (lines : List Line) (old new : Doing N H C S Part h) → BindsLine names cache old key value new → names.IsSeat cache new.name_work.seat
+      → NamesStand names cache n lines old.worker.late old.name_work → NamesStand names cache n (Does n (Bind key value) ∷ lines) new.worker.late new.name_work
   named_bind n key value lines old new step seat stands = record {
     seat = seat;
-    counts = counts_bind n key value lines old.worker.late new.worker.late step.done old.naming.counts new.naming.counts (same_of step.section.late) step.counts stands.counts;
-    ledger = on_both (names.counted old.naming.seat) (names.counted new.naming.seat) step.ledger
-        (λ before after counted was. ledger_bind (slabs names cache) n key value (names.IsFound cache) lines step.done old.naming.counts new.naming.counts before after step.counts counted was) stands.ledger;
+    counts = counts_bind n key value lines old.worker.late new.worker.late step.done old.name_work.counts new.name_work.counts (same_of step.section.late) step.counts stands.counts;
+    ledger = on_both (names.counted old.name_work.seat) (names.counted new.name_work.seat) step.ledger
+        (λ before after counted was. ledger_bind (slabs names cache) n key value (names.IsFound cache) _ lines step.done old.name_work.counts new.name_work.counts before after step.counts counted was) stands.ledger;
   }
 
-  named_unbind : (n key : ℕ) (lines : List Line) (old new : Doing N H C S Part h) → UnbindsLine names cache old key new → names.IsSeat cache new.naming.seat
-      → NamesStand names cache n lines old.worker.late old.naming → NamesStand names cache n (Does n (Unbind key) ∷ lines) new.worker.late new.naming
+  named_unbind : (n key : ℕ) (lines : List Line) (old new : Doing N H C S Part h) → UnbindsLine names cache old key new → names.IsSeat cache new.name_work.seat
+      → NamesStand names cache n lines old.worker.late old.name_work → NamesStand names cache n (Does n (Unbind key) ∷ lines) new.worker.late new.name_work
   named_unbind n key lines old new step seat stands = record {
     seat = seat;
-    counts = counts_unbind n key lines old.worker.late new.worker.late step.done old.naming.counts new.naming.counts (same_of step.section.late) step.counts stands.counts;
-    ledger = on_both (names.counted old.naming.seat) (names.counted new.naming.seat) step.ledger
-        (λ before after counted was. ledger_unbind (slabs names cache) n key lines step.done old.naming.counts new.naming.counts before after step.counts counted was) stands.ledger;
+    counts = counts_unbind n key lines old.worker.late new.worker.late step.done old.name_work.counts new.name_work.counts (same_of step.section.late) step.counts stands.counts;
+    ledger = on_both (names.counted old.name_work.seat) (names.counted new.name_work.seat) step.ledger
+        (λ before after counted was. ledger_unbind (slabs names cache) n key lines step.done old.name_work.counts new.name_work.counts before after step.counts counted was) stands.ledger;
   }
 
-  named_look : (n key : ℕ) (lines : List Line) (old new : Doing N H C S Part h) → LooksLine names cache old key new → names.IsSeat cache new.naming.seat
-      → NamesStand names cache n lines old.worker.late old.naming → NamesStand names cache n (Does n (Look key) ∷ lines) new.worker.late new.naming
+  named_look : (n key : ℕ) (lines : List Line) (old new : Doing N H C S Part h) → LooksLine names cache old key new → names.IsSeat cache new.name_work.seat
+      → NamesStand names cache n lines old.worker.late old.name_work → NamesStand names cache n (Does n (Look key) ∷ lines) new.worker.late new.name_work
   named_look n key lines old new (inl step) seat stands = record {
     seat = seat;
-    counts = counts_answer n key lines old.worker.late new.worker.late step.found old.naming.counts new.naming.counts (same_of step.section.late) step.counts stands.counts;
-    ledger = looked_ledger names cache n key lines old.naming new.naming step.seat (answer_refused step.found old.naming.counts new.naming.counts step.counts) stands.ledger;
+    counts = counts_answer n key lines old.worker.late new.worker.late step.found old.name_work.counts new.name_work.counts (same_of step.section.late) step.counts stands.counts;
+    ledger = looked_ledger names cache n key lines old.name_work new.name_work step.seat (answer_refused step.found old.name_work.counts new.name_work.counts step.counts) stands.ledger;
   }
   named_look n key lines old new (inr (inl step)) seat stands = record {
     seat = seat;
-    counts = counts_answer n key lines old.worker.late new.worker.late step.found old.naming.counts new.naming.counts (same_of step.late) step.counts stands.counts;
-    ledger = looked_ledger names cache n key lines old.naming new.naming step.seat (answer_refused step.found old.naming.counts new.naming.counts step.counts) stands.ledger;
+    counts = counts_answer n key lines old.worker.late new.worker.late step.found old.name_work.counts new.name_work.counts (same_of step.late) step.counts stands.counts;
+    ledger = looked_ledger names cache n key lines old.name_work new.name_work step.seat (answer_refused step.found old.name_work.counts new.name_work.counts step.counts) stands.ledger;
   }
   named_look n key lines old new (inr (inr step)) seat stands = record {
     seat = seat;
-    counts = counts_late n key lines old.worker.late new.worker.late old.naming.counts new.naming.counts step.late step.counts stands.counts;
-    ledger = looked_ledger names cache n key lines old.naming new.naming step.seat (ap refused step.counts) stands.ledger;
+    counts = counts_late n key lines old.worker.late new.worker.late old.name_work.counts new.name_work.counts step.late step.counts stands.counts;
+    ledger = looked_ledger names cache n key lines old.name_work new.name_work step.seat (ap refused step.counts) stands.ledger;
   }
 
   -- a line of any kind
-  pub named_step : (zones : List (CountedZone H Part h)) (n : ℕ) (op : Op) (lines : List Line) (old new : Doing N H C S Part h) → Changes names cache zones old op new → names.IsSeat cache new.naming.seat
-      → NamesStand names cache n lines old.worker.late old.naming → NamesStand names cache n (Does n op ∷ lines) new.worker.late new.naming
+  pub named_step : (zones : List (CountedZone H Part h)) (n : ℕ) (op : Op) (lines : List Line) (old new : Doing N H C S Part h) → Changes names cache zones old op new → names.IsSeat cache new.name_work.seat
+      → NamesStand names cache n lines old.worker.late old.name_work → NamesStand names cache n (Does n op ∷ lines) new.worker.late new.name_work
   named_step zones n (Bind key value) lines old new step seat stands = named_bind n key value lines old new step seat stands
   named_step zones n (Unbind key) lines old new step seat stands = named_unbind n key lines old new step seat stands
   named_step zones n (Look key) lines old new step seat stands = named_look n key lines old new step seat stands
   named_step zones n (Alloc zone slot arg reserve) lines old new step seat stands =
-      named_quiet names cache n (Alloc zone slot arg reserve) lines old.worker.late new.worker.late old.naming new.naming refl refl refl (late_step zones (Alloc zone slot arg reserve) old.worker new.worker step.0) step.1 stands
+      named_quiet names cache n (Alloc zone slot arg reserve) lines old.worker.late new.worker.late old.name_work new.name_work refl refl refl (late_step zones (Alloc zone slot arg reserve) old.worker new.worker step.0) step.1 stands
   named_step zones n (Free slot) lines old new step seat stands =
-      named_quiet names cache n (Free slot) lines old.worker.late new.worker.late old.naming new.naming refl refl refl (late_step zones (Free slot) old.worker new.worker step.0) step.1 stands
+      named_quiet names cache n (Free slot) lines old.worker.late new.worker.late old.name_work new.name_work refl refl refl (late_step zones (Free slot) old.worker new.worker step.0) step.1 stands
   named_step zones n Enter lines old new step seat stands =
-      named_quiet names cache n Enter lines old.worker.late new.worker.late old.naming new.naming refl refl refl (late_step zones Enter old.worker new.worker step.0) step.1 stands
+      named_quiet names cache n Enter lines old.worker.late new.worker.late old.name_work new.name_work refl refl refl (late_step zones Enter old.worker new.worker step.0) step.1 stands
   named_step zones n Exit lines old new step seat stands =
-      named_quiet names cache n Exit lines old.worker.late new.worker.late old.naming new.naming refl refl refl (late_step zones Exit old.worker new.worker step.0) step.1 stands
+      named_quiet names cache n Exit lines old.worker.late new.worker.late old.name_work new.name_work refl refl refl (late_step zones Exit old.worker new.worker step.0) step.1 stands
   named_step zones n (Prealloc zone items) lines old new step seat stands =
-      named_quiet names cache n (Prealloc zone items) lines old.worker.late new.worker.late old.naming new.naming refl refl refl (late_step zones (Prealloc zone items) old.worker new.worker step.0) step.1 stands
+      named_quiet names cache n (Prealloc zone items) lines old.worker.late new.worker.late old.name_work new.name_work refl refl refl (late_step zones (Prealloc zone items) old.worker new.worker step.0) step.1 stands
   named_step zones n (Trim zone) lines old new step seat stands =
-      named_quiet names cache n (Trim zone) lines old.worker.late new.worker.late old.naming new.naming refl refl refl (late_step zones (Trim zone) old.worker new.worker step.0) step.1 stands
+      named_quiet names cache n (Trim zone) lines old.worker.late new.worker.late old.name_work new.name_work refl refl refl (late_step zones (Trim zone) old.worker new.worker step.0) step.1 stands
   named_step zones n (Drain zone) lines old new step seat stands =
-      named_quiet names cache n (Drain zone) lines old.worker.late new.worker.late old.naming new.naming refl refl refl (late_step zones (Drain zone) old.worker new.worker step.0) step.1 stands
+      named_quiet names cache n (Drain zone) lines old.worker.late new.worker.late old.name_work new.name_work refl refl refl (late_step zones (Drain zone) old.worker new.worker step.0) step.1 stands
   named_step zones n (DrainSeat zone) lines old new step seat stands =
-      named_quiet names cache n (DrainSeat zone) lines old.worker.late new.worker.late old.naming new.naming refl refl refl (late_step zones (DrainSeat zone) old.worker new.worker step.0) step.1 stands
+      named_quiet names cache n (DrainSeat zone) lines old.worker.late new.worker.late old.name_work new.name_work refl refl refl (late_step zones (DrainSeat zone) old.worker new.worker step.0) step.1 stands
   named_step zones n Away lines old new step seat stands =
-      named_quiet names cache n Away lines old.worker.late new.worker.late old.naming new.naming refl refl refl (same_of step.keeps.late) step.naming stands
+      named_quiet names cache n Away lines old.worker.late new.worker.late old.name_work new.name_work refl refl refl (same_of step.keeps.late) step.name_work stands
   named_step zones n Back lines old new step seat stands =
-      named_quiet names cache n Back lines old.worker.late new.worker.late old.naming new.naming refl refl refl (same_of step.keeps.late) step.naming stands
+      named_quiet names cache n Back lines old.worker.late new.worker.late old.name_work new.name_work refl refl refl (same_of step.keeps.late) step.name_work stands

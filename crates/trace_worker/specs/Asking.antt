@@ -66,7 +66,7 @@ module _ {N H C S P : Type 0} {h : Ghosts H P} where
   -- a wait changes nothing of it but what it counted of its gate
   pub record KeepsWork (old new : WorkerRun N H C S P h) : Type 0 where
     pub attendance : new.attendance ≡ old.attendance
-    pub naming : new.naming ≡ old.naming
+    pub name_work : new.name_work ≡ old.name_work
 
   -- it was asked once at least and at most so often, and gave up once at most
   pub record CountsWait (old new : WorkerRun N H C S P h) : Type 0 where

@@ -33,7 +33,7 @@ module _ {N H C S P : Type 0} {h : Ghosts H P} where
   -- It is there, has this seat of the names, and its gate was asked nothing yet.
   pub record IsIdle (w : Worker H P h) (s : S) (r : WorkerRun N H C S P h) : Type 0 where
     pub worker : r.attendance ≡ There w
-    pub seat : r.naming.seat ≡ s
-    pub counts : r.naming.counts ≡ no_counts
+    pub seat : r.name_work.seat ≡ s
+    pub counts : r.name_work.counts ≡ no_counts
     pub asked : r.asked ≡ 0
     pub gave_up : r.gave_up ≡ 0

@@ -23,8 +23,8 @@ OnBoth Counts None None = Unit {0}
 OnBoth Counts old new = ⊥
 
 -- what a bind counts
-abbrev pub CountedBind : ℕ → (Refusal → Type 0) → Bool → Option SeatLedger → Option SeatLedger → Type 0
-CountedBind slabs IsFound done old new = OnBoth (BindCounts slabs IsFound done) old new
+abbrev pub CountedBind : ℕ → (Refusal → Type 0) → Type 0 → Bool → Option SeatLedger → Option SeatLedger → Type 0
+CountedBind slabs IsFound Cause done old new = OnBoth (BindCounts slabs IsFound Cause done) old new
 
 -- what an unbind counts
 abbrev pub CountedUnbind : Bool → Option SeatLedger → Option SeatLedger → Type 0

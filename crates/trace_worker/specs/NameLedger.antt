@@ -31,8 +31,9 @@ pub record CountsBind (old new : SeatLedger) : Type 0 where
   pub alloc : CountsAlloc old between
   pub evicts : MayCountFree between new
 
--- A bind got an entry that the row didn't take, and freed it again.
-pub record CountsGivenBack (old new : SeatLedger) : Type 0 where
+-- A bind got an entry that the row didn't take, for such a cause, and freed it again.
+pub record CountsGivenBack (Cause : Type 0) (old new : SeatLedger) : Type 0 where
+  pub cause : Cause
   pub between : SeatLedger
   pub alloc : CountsAlloc old between
   pub back : CountsOneFree between new
@@ -45,9 +46,9 @@ pub record CountsRefused (slabs : ℕ) (IsFound : Refusal → Type 0) (old new :
   pub found : IsFound refusal
 
 -- what a bind counts, by whether it bound
-abbrev pub BindCounts : ℕ → (Refusal → Type 0) → Bool → SeatLedger → SeatLedger → Type 0
-BindCounts slabs IsFound true old new = CountsBind old new
-BindCounts slabs IsFound false old new = CountsRefused slabs IsFound old new ⊎ CountsGivenBack old new
+abbrev pub BindCounts : ℕ → (Refusal → Type 0) → Type 0 → Bool → SeatLedger → SeatLedger → Type 0
+BindCounts slabs IsFound Cause true old new = CountsBind old new
+BindCounts slabs IsFound Cause false old new = CountsRefused slabs IsFound old new ⊎ CountsGivenBack Cause old new
 
 -- what an unbind counts, by whether it took the key out
 abbrev pub UnbindCounts : Bool → SeatLedger → SeatLedger → Type 0

@@ -27,21 +27,21 @@ use Rattle.trace_worker.specs.Worker.{AreOfClock, FitsZones, HasRooms, phase_of,
 -- what a worker's lines change: itself, what it has of the names, and whether it is away; then the worker is that as which it comes back
 pub record Doing (N H C S P : Type 0) (h : Ghosts H P) : Type 0 where
   pub worker : Worker H P h
-  pub naming : NameWork N H C S P
+  pub name_work : NameWork N H C S P
   pub out : Bool
 
 module _ {N H C S P : Type 0} {h : Ghosts H P} where
   abbrev pub doing : WorkerRun N H C S P h → Doing N H C S P h
-  doing r = record { worker = worker_in r; naming = r.naming; out = is_out r.attendance }
+  doing r = record { worker = worker_in r; name_work = r.name_work; out = is_out r.attendance }
 
   -- the same of a worker that is there
   abbrev pub doing_there : Worker H P h → NameWork N H C S P → Doing N H C S P h
-  doing_there w naming = record { worker = w; naming = naming; out = false }
+  doing_there w name_work = record { worker = w; name_work = name_work; out = false }
 
   -- An `away` or a `back` line: the pass leaves, or comes, and nothing is counted.
   pub record GoesOrComes (old new : Doing N H C S P h) : Type 0 where
     pub keeps : KeepsAll old.worker new.worker
-    pub naming : new.naming ≡ old.naming
+    pub name_work : new.name_work ≡ old.name_work
 
   -- what it counted of its gate, and how its last turn ended, stay
   pub record KeepsGate (old new : WorkerRun N H C S P h) : Type 0 where
@@ -50,59 +50,59 @@ module _ {N H C S P : Type 0} {h : Ghosts H P} where
 
 module _ {N H C S P : Type 0} (names : NameGhosts N H C S P) where
   -- each of its counts of names can be one more, and so can its ledger of them, also by a free
-  pub record HasNameRooms (naming : NameWork N H C S P) : Type 0 where
-    pub counts : CountsFew naming.counts
-    pub ledger : IfSome (names.counted naming.seat) HasRoomToBind
+  pub record HasNameRooms (name_work : NameWork N H C S P) : Type 0 where
+    pub counts : CountsFew name_work.counts
+    pub ledger : IfSome (names.counted name_work.seat) HasRoomToBind
 
 module _ {N H C S P : Type 0} {h : Ghosts H P} (names : NameGhosts N H C S P) (cache : C) where
   -- what a line of names needs: they are served, clock, pass and seat go with the cache, and each of the counts can be one more
-  pub record CanName (by : Clock H P) (w : Worker H P h) (naming : NameWork N H C S P) : Type 0 where
+  pub record CanName (by : Clock H P) (w : Worker H P h) (name_work : NameWork N H C S P) : Type 0 where
     pub serves : IsTrue names.serves
     pub clock : clock_id by ≡ names.clock_of cache
     pub pass : IsPassOf by w.pass
-    pub seat : names.IsSeat cache naming.seat
-    pub rooms : HasNameRooms names naming
+    pub seat : names.IsSeat cache name_work.seat
+    pub rooms : HasNameRooms names name_work
 
   -- what a `look` line needs: there is no section, or an open one, and each count of sections can be one more
-  pub record CanLook (by : Clock H P) (w : Worker H P h) (naming : NameWork N H C S P) : Type 0 where
-    pub can : CanName by w naming
+  pub record CanLook (by : Clock H P) (w : Worker H P h) (name_work : NameWork N H C S P) : Type 0 where
+    pub can : CanName by w name_work
     pub between : IsBetween w
     pub rooms : HasRooms w
 
   -- the same outside a section
-  pub record CanLookOutside (by : Clock H P) (w : Worker H P h) (naming : NameWork N H C S P) : Type 0 where
-    pub can : CanName by w naming
+  pub record CanLookOutside (by : Clock H P) (w : Worker H P h) (name_work : NameWork N H C S P) : Type 0 where
+    pub can : CanName by w name_work
     pub outside : phase_of w ≡ Outside
     pub rooms : HasRooms w
 
   -- what it leaves: the pass is the clock's, and the seat the cache's
-  pub record StaysNamed (by : Clock H P) (w : Worker H P h) (naming : NameWork N H C S P) : Type 0 where
+  pub record StaysNamed (by : Clock H P) (w : Worker H P h) (name_work : NameWork N H C S P) : Type 0 where
     pub pass : IsPassOf by w.pass
-    pub seat : names.IsSeat cache naming.seat
+    pub seat : names.IsSeat cache name_work.seat
 
   -- what each line needs: the zones and the cache go by this clock, the worker fits the zones and its seat of the names the cache, and each of its counts can be one more
-  pub record CanGoOn (zones : List (CountedZone H P h)) (by : Clock H P) (w : Worker H P h) (naming : NameWork N H C S P) : Type 0 where
+  pub record CanGoOn (zones : List (CountedZone H P h)) (by : Clock H P) (w : Worker H P h) (name_work : NameWork N H C S P) : Type 0 where
     pub clock : AreOfClock by zones
     pub of_clock : NamesOfClock names cache by
     pub fits : FitsZones zones by w
-    pub seat : names.IsSeat cache naming.seat
+    pub seat : names.IsSeat cache name_work.seat
     pub rooms : HasRooms w
-    pub name_rooms : HasNameRooms names naming
+    pub name_rooms : HasNameRooms names name_work
 
   -- what it leaves: the worker fits the zones, and its seat of the names the cache
-  pub record StaysFit (zones : List (CountedZone H P h)) (by : Clock H P) (w : Worker H P h) (naming : NameWork N H C S P) : Type 0 where
+  pub record StaysFit (zones : List (CountedZone H P h)) (by : Clock H P) (w : Worker H P h) (name_work : NameWork N H C S P) : Type 0 where
     pub fits : FitsZones zones by w
-    pub seat : names.IsSeat cache naming.seat
+    pub seat : names.IsSeat cache name_work.seat
 
   -- a `bind` line: one call, which bound the key or didn't; the seat stays in its memory domain, and what leaves it was usable there or came by this call
   pub record BindsLine (old : Doing N H C S P h) (key value : ℕ) (new : Doing N H C S P h) : Type 0 where
     pub done : Bool
     pub still : StillKnows names.knows (view old.worker.pass) (view new.worker.pass)
     pub bound : Bound names.knows (names.sizes_of cache).rows key value (view old.worker.pass) done (view new.worker.pass)
-    pub ledger : CountedBind (names.sizes_of cache).slabs (names.IsFound cache) done (names.counted old.naming.seat) (names.counted new.naming.seat)
-    pub moves : MovesEntries (names.Came cache) (names.usable old.naming.seat) (names.usable new.naming.seat)
-    pub domain : names.domain_of new.naming.seat ≡ names.domain_of old.naming.seat
-    pub counts : CountsBind done old.naming.counts new.naming.counts
+    pub ledger : CountedBind (names.sizes_of cache).slabs (names.IsFound cache) (names.TurnsBack cache key (view old.worker.pass) old.name_work.seat (view new.worker.pass) new.name_work.seat) done (names.counted old.name_work.seat) (names.counted new.name_work.seat)
+    pub moves : MovesEntries (names.Came cache) (names.usable old.name_work.seat) (names.usable new.name_work.seat)
+    pub domain : names.domain_of new.name_work.seat ≡ names.domain_of old.name_work.seat
+    pub counts : CountsBind done old.name_work.counts new.name_work.counts
     pub holds : KeepsHolds old.worker new.worker
     pub section : KeepsSection old.worker new.worker
 
@@ -111,10 +111,10 @@ module _ {N H C S P : Type 0} {h : Ghosts H P} (names : NameGhosts N H C S P) (c
     pub done : Bool
     pub still : StillKnows names.knows (view old.worker.pass) (view new.worker.pass)
     pub unbound : Unbound names.knows (names.sizes_of cache).rows key (view old.worker.pass) done (view new.worker.pass)
-    pub ledger : CountedUnbind done (names.counted old.naming.seat) (names.counted new.naming.seat)
-    pub usable : names.usable new.naming.seat ≡ names.usable old.naming.seat
-    pub domain : names.domain_of new.naming.seat ≡ names.domain_of old.naming.seat
-    pub counts : CountsUnbind done old.naming.counts new.naming.counts
+    pub ledger : CountedUnbind done (names.counted old.name_work.seat) (names.counted new.name_work.seat)
+    pub usable : names.usable new.name_work.seat ≡ names.usable old.name_work.seat
+    pub domain : names.domain_of new.name_work.seat ≡ names.domain_of old.name_work.seat
+    pub counts : CountsUnbind done old.name_work.counts new.name_work.counts
     pub holds : KeepsHolds old.worker new.worker
     pub section : KeepsSection old.worker new.worker
 
@@ -125,8 +125,8 @@ module _ {N H C S P : Type 0} {h : Ghosts H P} (names : NameGhosts N H C S P) (c
     pub still : StillKnows names.knows (view old.worker.pass) (view new.worker.pass)
     pub finds : Finds names.knows (names.sizes_of cache).rows key (view old.worker.pass) found (view new.worker.pass)
     pub loads : Loads names.knows names.told (names.sizes_of cache).rows key (view old.worker.pass) found (view new.worker.pass)
-    pub counts : CountsAnswer found old.naming.counts new.naming.counts
-    pub seat : new.naming.seat ≡ old.naming.seat
+    pub counts : CountsAnswer found old.name_work.counts new.name_work.counts
+    pub seat : new.name_work.seat ≡ old.name_work.seat
     pub holds : KeepsHolds old.worker new.worker
     pub section : KeepsSection old.worker new.worker
 
@@ -137,8 +137,8 @@ module _ {N H C S P : Type 0} {h : Ghosts H P} (names : NameGhosts N H C S P) (c
     pub still : StillKnows names.knows (view old.worker.pass) (view new.worker.pass)
     pub finds : Finds names.knows (names.sizes_of cache).rows key (view old.worker.pass) found (view new.worker.pass)
     pub loads : Loads names.knows names.told (names.sizes_of cache).rows key (view old.worker.pass) found (view new.worker.pass)
-    pub counts : CountsAnswer found old.naming.counts new.naming.counts
-    pub seat : new.naming.seat ≡ old.naming.seat
+    pub counts : CountsAnswer found old.name_work.counts new.name_work.counts
+    pub seat : new.name_work.seat ≡ old.name_work.seat
     pub phase : phase_of new.worker ≡ Outside
     pub seen : seen_of old.worker ≤ seen_of new.worker
     pub entered : new.worker.entered ≡ old.worker.entered + 1
@@ -151,8 +151,8 @@ module _ {N H C S P : Type 0} {h : Ghosts H P} (names : NameGhosts N H C S P) (c
     pub outside : phase_of old.worker ≡ Outside
     pub misses : Misses (view old.worker.pass) overtaken (view new.worker.pass)
     pub still : StillKnows names.knows (view old.worker.pass) (view new.worker.pass)
-    pub counts : CountsLate old.naming.counts new.naming.counts
-    pub seat : new.naming.seat ≡ old.naming.seat
+    pub counts : CountsLate old.name_work.counts new.name_work.counts
+    pub seat : new.name_work.seat ≡ old.name_work.seat
     pub phase : phase_of new.worker ≡ Outside
     pub seen : seen_of old.worker ≤ seen_of new.worker
     pub entered : new.worker.entered ≡ old.worker.entered
@@ -172,7 +172,7 @@ module _ {N H C S P : Type 0} {h : Ghosts H P} (names : NameGhosts N H C S P) (c
   Acts zones old (Bind key value) new = BindsLine old key value new
   Acts zones old (Unbind key) new = UnbindsLine old key new
   Acts zones old (Look key) new = LooksLine old key new
-  Acts zones old op new = Performs zones old.worker op new.worker × (new.naming ≡ old.naming)
+  Acts zones old op new = Performs zones old.worker op new.worker × (new.name_work ≡ old.name_work)
 
   abbrev pub Changes : List (CountedZone H P h) → Doing N H C S P h → Op → Doing N H C S P h → Type 0
   Changes zones old Away new = GoesOrComes old new

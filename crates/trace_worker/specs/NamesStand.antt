@@ -35,7 +35,7 @@ module _ {N H C S P : Type 0} (names : NameGhosts N H C S P) (cache : C) where
   NamesOfClock clock = IsTrue names.serves → clock_id clock ≡ names.clock_of cache
 
   -- What worker `n` has of the names: the seat is the cache's, and what it counted stands for the lines. So many of its sections were late.
-  pub record NamesStand (n : ℕ) (lines : List Line) (late : ℕ) (naming : NameWork N H C S P) : Type 0 where
-    pub seat : names.IsSeat cache naming.seat
-    pub counts : NameCountsStand n lines late naming.counts
-    pub ledger : IfSome (names.counted naming.seat) (NameLedgerStands (names.sizes_of cache).slabs n lines naming.counts.refused)
+  pub record NamesStand (n : ℕ) (lines : List Line) (late : ℕ) (name_work : NameWork N H C S P) : Type 0 where
+    pub seat : names.IsSeat cache name_work.seat
+    pub counts : NameCountsStand n lines late name_work.counts
+    pub ledger : IfSome (names.counted name_work.seat) (NameLedgerStands (names.sizes_of cache).slabs n lines name_work.counts.refused)

@@ -21,7 +21,7 @@ use Rattle.trace_worker.specs.Worker.{FitsZones}
 module _ {N H C S P : Type 0} {h : Ghosts H P} where
   -- the workers of these turns; those that are away, as which they come back
   abbrev pub crew : List (WorkerRun N H C S P h) → List (Worker H P h)
-  crew runnings = map worker_in runnings
+  crew runs = map worker_in runs
 
   -- it is away where the reading of the lines says so
   abbrev pub IsAbsent : ℕ → List Line → WorkerRun N H C S P h → Type 0
@@ -60,4 +60,4 @@ module _ {H P : Type 0} {h : Ghosts H P} where
 module _ {N H C S P : Type 0} {h : Ghosts H P} (names : NameGhosts N H C S P) (cache : C) where
   -- what each of them has of the names stands for these lines
   abbrev pub AllNamed : List Line → List (WorkerRun N H C S P h) → Type 0
-  AllNamed lines workers = (n : ℕ) (r : WorkerRun N H C S P h) → slice_get workers n ≡ Some r → NamesStand names cache n lines (worker_in r).late r.naming
+  AllNamed lines workers = (n : ℕ) (r : WorkerRun N H C S P h) → slice_get workers n ≡ Some r → NamesStand names cache n lines (worker_in r).late r.name_work

@@ -44,14 +44,14 @@ module _ {N H C S P : Type 0} {h : Ghosts H P} (names : NameGhosts N H C S P) (c
     pub gave_up : r.gave_up + length (own_ops t.rounds k n) < 2 ^ 64
     pub fits : FitsZones zones clock (worker_in r)
     pub stands : Stands zones clock n (lines_before t.rounds k) (worker_in r)
-    pub named : NamesStand names cache n (lines_before t.rounds k) (worker_in r).late r.naming
+    pub named : NamesStand names cache n (lines_before t.rounds k) (worker_in r).late r.name_work
     pub absent : IsAbsent n (lines_before t.rounds k) r
 
   -- What its turn leaves: its own list on top of the lines before, and items and ledgers that go together. Line after line it did what each says.
   pub record HasWorked (t : Trace) (zones : List (CountedZone H P h)) (clock : Clock H P) (k n : ℕ) (old new : WorkerRun N H C S P h) : Type 0 where
     pub fits : FitsZones zones clock (worker_in new)
     pub stands : Stands zones clock n (worked n (own_ops t.rounds k n) (lines_before t.rounds k)) (worker_in new)
-    pub named : NamesStand names cache n (worked n (own_ops t.rounds k n) (lines_before t.rounds k)) (worker_in new).late new.naming
+    pub named : NamesStand names cache n (worked n (own_ops t.rounds k n) (lines_before t.rounds k)) (worker_in new).late new.name_work
     pub absent : IsAbsent n (worked n (own_ops t.rounds k n) (lines_before t.rounds k)) new
     pub plays : DoesAll names cache zones (doing old) (own_ops t.rounds k n) (doing new)
     pub balances : (z : ℕ) → Balances z (worker_in old) (worker_in new)

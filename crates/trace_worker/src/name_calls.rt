@@ -75,6 +75,10 @@ pub trait NameCalls {
     // One fetch from the keg was refused so, by the numbers that it found under the keg's lock.
     ghost IsFound: { Self.Cache → Refusal → Type 0 };
 
+    // A bind of the key got an entry that the key's row didn't take: a section may still read the entry, or the row has had
+    // as many names as it can have.
+    ghost TurnsBack: { Self.Cache → ℕ → View Self.H.Part → Self.Seat → View Self.H.Part → Self.Seat → Type 0 };
+
     // The census is of the cache's keg.
     ghost IsCensus: { Self.Cache → Census → Type 0 };
 
@@ -122,8 +126,8 @@ pub trait NameCalls {
         ensures fresh { IfOk result (λ seat. IfSome (counted seat) IsNew) }
         ensures unused { IfOk result (λ seat. usable seat ≡ []) };
 
-    /// Binds a key to a value. False where its one fetch was refused an entry, or the row didn't take the one that it got. Waits for the locks of the
-    /// key's row and of the zone.
+    /// Binds a key to a value. False where its one fetch was refused an entry, or the row didn't take the one that it got,
+    /// each with its cause. Waits for the locks of the key's row and of the zone.
     ///
     /// After `Memory` the replay is over.
     fn bind<R: Wait>(
@@ -144,7 +148,7 @@ pub trait NameCalls {
         ensures domain { domain_of seat.new ≡ domain_of seat.old }
         ensures passes { KnowsOn knows clock.now pass.old pass.new }
         ensures binds { IfOk result (λ done. Bound knows (sizes_of cache.now).rows key value (view pass.old) done (view pass.new)) }
-        ensures counts { IfOk result (λ done. CountedBind (sizes_of cache.now).slabs (IsFound cache.now) done (counted seat.old) (counted seat.new)) }
+        ensures counts { IfOk result (λ done. CountedBind (sizes_of cache.now).slabs (IsFound cache.now) (TurnsBack cache.now key (view pass.old) seat.old (view pass.new) seat.new) done (counted seat.old) (counted seat.new)) }
         ensures moves { OnOk result (MovesEntries (Came cache.now) (usable seat.old) (usable seat.new)) };
 
     /// Takes a key out. True where its row bound it. Waits for the locks of the key's row and of the zone.

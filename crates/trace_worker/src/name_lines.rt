@@ -9,6 +9,7 @@ use crate::items::CountedZone;
 use crate::name_calls::NameCalls;
 use crate::name_work::{NameCounts, NameWork};
 use crate::reclaim_calls::ReclaimCalls;
+use crate::shared::Shared;
 use crate::worker::Worker;
 use smr_clock::Clock;
 use smr_core::Phase;
@@ -20,30 +21,34 @@ impl<N: NameCalls> NameWork<N> {
     /// Does a line of a worker that is there and stays, by its kind. Waits where the zones' calls do, and those of the names.
     ///
     /// After the Err, which is want of memory, the replay is over.
-    pub(crate) fn act<R: Wait, C: ReclaimCalls>(
+    pub(crate) fn act<R: Wait, G, C: ReclaimCalls>(
         &mut self,
         worker: &mut Worker<N::H>,
         rt: &R,
         alloc: Global,
-        zones: &[CountedZone<N::H>],
-        clock: &Clock<N::H>,
-        names: &N,
-        cache: &N::Cache,
-        reclaim: &C,
+        shared: &Shared<'_, N, G, C>,
         op: Op,
     ) -> Result<(), Memory>
-        requires can { CanAct N.NameCalls zones.now worker.old op }
-        requires able { CanGoOn N.NameCalls cache.now zones.now clock.now worker.old self.old }
-        ensures stays { OnOk result (StaysFit N.NameCalls cache.now zones.now clock.now worker.new self.new) }
-        ensures acts { OnOk result (Acts N.NameCalls cache.now zones.now (doing_there worker.old self.old) op (doing_there worker.new self.new)) }
+        requires can { CanAct N.NameCalls shared.now.zones.now worker.old op }
+        requires able { CanGoOn N.NameCalls shared.now.cache.now shared.now.zones.now shared.now.clock.now worker.old self.old }
+        ensures stays { OnOk result (StaysFit N.NameCalls shared.now.cache.now shared.now.zones.now shared.now.clock.now worker.new self.new) }
+        ensures acts { OnOk result (Acts N.NameCalls shared.now.cache.now shared.now.zones.now (doing_there worker.old self.old) op (doing_there worker.new self.new)) }
     {
+        let Shared {
+            zones,
+            clock,
+            names,
+            cache,
+            reclaim,
+            ..
+        } = *shared;
         match op {
             Op::Bind { key, value } => {
-                self.bind(worker, rt, alloc, names, cache, clock, key, value)?;
+                self.bind(worker, rt, alloc, shared, key, value)?;
                 Ok(())
             }
             Op::Unbind { key } => {
-                self.unbind(worker, rt, alloc, names, cache, clock, key)?;
+                self.unbind(worker, rt, alloc, shared, key)?;
                 Ok(())
             }
             Op::Look { key } => {
@@ -60,21 +65,25 @@ impl<N: NameCalls> NameWork<N> {
     /// A `bind` line, by the worker's seat of the names. It counts a bind, or a refused one. Waits as the call does.
     ///
     /// After `Memory` the replay is over.
-    pub(crate) fn bind<R: Wait>(
+    pub(crate) fn bind<R: Wait, G, C>(
         &mut self,
         worker: &mut Worker<N::H>,
         rt: &R,
         alloc: Global,
-        names: &N,
-        cache: &N::Cache,
-        clock: &Clock<N::H>,
+        shared: &Shared<'_, N, G, C>,
         key: u64,
         value: u64,
     ) -> Result<(), Memory>
-        requires { CanName N.NameCalls cache.now clock.now worker.old self.old }
-        ensures stays { StaysNamed N.NameCalls cache.now clock.now worker.new self.new }
-        ensures binds { OnOk result (BindsLine N.NameCalls cache.now (doing_there worker.old self.old) key value (doing_there worker.new self.new)) }
+        requires { CanName N.NameCalls shared.now.cache.now shared.now.clock.now worker.old self.old }
+        ensures stays { StaysNamed N.NameCalls shared.now.cache.now shared.now.clock.now worker.new self.new }
+        ensures binds { OnOk result (BindsLine N.NameCalls shared.now.cache.now (doing_there worker.old self.old) key value (doing_there worker.new self.new)) }
     {
+        let Shared {
+            names,
+            cache,
+            clock,
+            ..
+        } = *shared;
         let pass = &mut worker.pass;
         let done = names.bind(cache, rt, alloc, clock, pass, &mut self.seat, key, value)?;
         self.counts = counted_bind(self.counts, done);
@@ -84,20 +93,24 @@ impl<N: NameCalls> NameWork<N> {
     /// An `unbind` line, which counts one where it took the key out. Waits as the call does.
     ///
     /// After `Memory` the replay is over.
-    pub(crate) fn unbind<R: Wait>(
+    pub(crate) fn unbind<R: Wait, G, C>(
         &mut self,
         worker: &mut Worker<N::H>,
         rt: &R,
         alloc: Global,
-        names: &N,
-        cache: &N::Cache,
-        clock: &Clock<N::H>,
+        shared: &Shared<'_, N, G, C>,
         key: u64,
     ) -> Result<(), Memory>
-        requires { CanName N.NameCalls cache.now clock.now worker.old self.old }
-        ensures stays { StaysNamed N.NameCalls cache.now clock.now worker.new self.new }
-        ensures unbinds { OnOk result (UnbindsLine N.NameCalls cache.now (doing_there worker.old self.old) key (doing_there worker.new self.new)) }
+        requires { CanName N.NameCalls shared.now.cache.now shared.now.clock.now worker.old self.old }
+        ensures stays { StaysNamed N.NameCalls shared.now.cache.now shared.now.clock.now worker.new self.new }
+        ensures unbinds { OnOk result (UnbindsLine N.NameCalls shared.now.cache.now (doing_there worker.old self.old) key (doing_there worker.new self.new)) }
     {
+        let Shared {
+            names,
+            cache,
+            clock,
+            ..
+        } = *shared;
         let pass = &mut worker.pass;
         let done = names.unbind(cache, rt, alloc, clock, pass, &mut self.seat, key)?;
         self.counts = counted_unbind(self.counts, done);

@@ -9,13 +9,12 @@ ghost use Rattle.trace_worker.specs.Turn.{IsReady, HasWorked, most_asks};
 use crate::Memory;
 use crate::attendance::Attendance;
 use crate::gate::{Gate, Go};
-use crate::items::CountedZone;
 use crate::name_calls::NameCalls;
 use crate::name_work::NameWork;
 use crate::reclaim_calls::ReclaimCalls;
+use crate::shared::Shared;
 use crate::worker::Worker;
 use crossbeam_utils::CachePadded;
-use smr_clock::Clock;
 use std::alloc::Global;
 use std::sync::Wait;
 use trace_text::{Op, Trace};
@@ -27,7 +26,7 @@ const MOST_ASKS: u64 = 100_000_000;
 #[derive(Drop)]
 pub struct WorkerRun<N: NameCalls> {
     pub attendance: Attendance<N::H>,
-    pub naming: NameWork<N>,
+    pub name_work: NameWork<N>,
     /// How often the gate was asked.
     pub asked: u64,
     /// Operations that were done though the gate held to the last.
@@ -55,7 +54,7 @@ impl<N: NameCalls> WorkerRun<N> {
     {
         WorkerRun {
             attendance: Attendance::There(worker),
-            naming: NameWork::new(seat),
+            name_work: NameWork::new(seat),
             asked: 0,
             gave_up: 0,
             ended: Ok(()),
@@ -65,65 +64,33 @@ impl<N: NameCalls> WorkerRun<N> {
 
     /// The turn of worker `number` in a round: it does its own list of operations, and asks the gate before each of them.
     /// A gate that holds is asked again, at most 100,000,000 times; then the worker goes on, and counts that it gave up.
-    /// Want of memory ends the turn. Waits where the worker's lines do.
+    /// After the Err, which is want of memory, the replay is over. Waits where the worker's lines do.
     pub fn turn<R: Wait, G: Gate, C: ReclaimCalls>(
         &mut self,
         rt: &R,
         alloc: Global,
-        trace: &Trace,
-        zones: &[CountedZone<N::H>],
-        clock: &Clock<N::H>,
-        names: &N,
-        cache: &N::Cache,
-        gate: &G,
-        reclaim: &C,
-        round: usize,
-        number: usize,
-    )
-        requires ready { IsReady N.NameCalls cache.now trace.now zones.now clock.now round number self.old }
-        ensures worked { OnOk self.new.ended (HasWorked N.NameCalls cache.now trace.now zones.now clock.now round number self.old self.new) }
-        ensures free { G.is_free gate.now → self.new.gave_up ≡ self.old.gave_up }
-        ensures asks { OnOk self.new.ended (AsksGate G.Gate gate.now number (length (ops_at trace.now.rounds round number)) self.old self.new) }
-    {
-        self.ended = self.work(
-            rt, alloc, trace, zones, clock, names, cache, gate, reclaim, round, number,
-        );
-    }
-
-    fn work<R: Wait, G: Gate, C: ReclaimCalls>(
-        &mut self,
-        rt: &R,
-        alloc: Global,
-        trace: &Trace,
-        zones: &[CountedZone<N::H>],
-        clock: &Clock<N::H>,
-        names: &N,
-        cache: &N::Cache,
-        gate: &G,
-        reclaim: &C,
+        shared: &Shared<'_, N, G, C>,
         round: usize,
         number: usize,
     ) -> Result<(), Memory>
-        requires ready { IsReady N.NameCalls cache.now trace.now zones.now clock.now round number self.old }
-        ensures worked { OnOk result (HasWorked N.NameCalls cache.now trace.now zones.now clock.now round number self.old self.new) }
-        ensures free { G.is_free gate.now → self.new.gave_up ≡ self.old.gave_up }
-        ensures asks { OnOk result (AsksGate G.Gate gate.now number (length (ops_at trace.now.rounds round number)) self.old self.new) }
+        requires ready { IsReady N.NameCalls shared.now.cache.now shared.now.trace.now shared.now.zones.now shared.now.clock.now round number self.old }
+        ensures worked { OnOk result (HasWorked N.NameCalls shared.now.cache.now shared.now.trace.now shared.now.zones.now shared.now.clock.now round number self.old self.new) }
+        ensures free { G.is_free shared.now.gate.now → self.new.gave_up ≡ self.old.gave_up }
+        ensures asks { OnOk result (AsksGate G.Gate shared.now.gate.now number (length (ops_at shared.now.trace.now.rounds round number)) self.old self.new) }
     {
-        let ops = own_list(trace, round, number);
+        let ops = own_list(shared.trace, round, number);
         let worker = number as u32;
-        let mut visit = gate.open();
+        let mut visit = shared.gate.open();
         for place in 0..ops.len() {
             let op = place as u64 + 1;
-            self.await_gate(gate, &mut visit, worker, op);
+            self.await_gate(shared.gate, &mut visit, worker, op);
             let go: LastAsked<'_, G> = LastAsked {
                 visit: &visit,
                 worker,
                 number: op,
             };
-            self.perform(
-                rt, alloc, zones, clock, names, cache, reclaim, go, ops[place],
-            )?;
-            gate.done(&mut visit, worker, op);
+            self.perform(rt, alloc, shared, go, ops[place])?;
+            shared.gate.done(&mut visit, worker, op);
         }
         Ok(())
     }
@@ -135,35 +102,31 @@ impl<N: NameCalls> WorkerRun<N> {
         &mut self,
         rt: &R,
         alloc: Global,
-        zones: &[CountedZone<N::H>],
-        clock: &Clock<N::H>,
-        names: &N,
-        cache: &N::Cache,
-        reclaim: &C,
+        shared: &Shared<'_, N, G, C>,
         _go: LastAsked<'_, G>,
         op: Op,
     ) -> Result<(), Memory>
-        requires turn { CanTurn N.NameCalls zones.now self.old op }
-        requires able { CanGoOn N.NameCalls cache.now zones.now clock.now (worker_in self.old) self.old.naming }
-        ensures stays { OnOk result (StaysFit N.NameCalls cache.now zones.now clock.now (worker_in self.new) self.new.naming) }
-        ensures does { OnOk result (DoesLine N.NameCalls cache.now zones.now (doing self.old) op (doing self.new)) }
+        requires turn { CanTurn N.NameCalls shared.now.zones.now self.old op }
+        requires able { CanGoOn N.NameCalls shared.now.cache.now shared.now.zones.now shared.now.clock.now (worker_in self.old) self.old.name_work }
+        ensures stays { OnOk result (StaysFit N.NameCalls shared.now.cache.now shared.now.zones.now shared.now.clock.now (worker_in self.new) self.new.name_work) }
+        ensures does { OnOk result (DoesLine N.NameCalls shared.now.cache.now shared.now.zones.now (doing self.old) op (doing self.new)) }
         ensures gate { KeepsGate self.old self.new }
     {
         match op {
             Op::Away => {
-                self.attendance.leave(clock);
+                self.attendance.leave(shared.clock);
                 Ok(())
             }
             Op::Back => {
-                self.attendance.come(clock);
+                self.attendance.come(shared.clock);
                 Ok(())
             }
             _ => {
                 let Attendance::There(worker) = &mut self.attendance else {
                     unreachable!()
                 };
-                let naming = &mut self.naming;
-                naming.act(worker, rt, alloc, zones, clock, names, cache, reclaim, op)?;
+                let name_work = &mut self.name_work;
+                name_work.act(worker, rt, alloc, shared, op)?;
                 Ok(())
             }
         }

@@ -13,12 +13,12 @@ use Rattle.uma_replay.specs.Playing.{gave_ups_of}
 
 module _ {N H C S Part : Type 0} {h : Ghosts H Part} {G V : Type 0} (gates : GateGhosts G V) (gate : G) where
   -- the worker of a count
-  record Of (runnings : List (WorkerRun N H C S Part h)) (n count : ℕ) : Type 0 where
+  record Of (runs : List (WorkerRun N H C S Part h)) (n count : ℕ) : Type 0 where
     r : WorkerRun N H C S Part h
-    at : slice_get runnings n ≡ Some r
+    at : slice_get runs n ≡ Some r
     is : r.gave_up ≡ count
 
-  of_count : (runnings : List (WorkerRun N H C S Part h)) (n count : ℕ) → slice_get (gave_ups_of runnings) n ≡ Some count → Of runnings n count
+  of_count : (runs : List (WorkerRun N H C S Part h)) (n count : ℕ) → slice_get (gave_ups_of runs) n ≡ Some count → Of runs n count
   of_count [] n count at = absurd (none-some count at)
   of_count (r ∷ rest) zero count at = record { r = r; at = refl; is = same_Some r.gave_up count at }
   of_count (r ∷ rest) (suc n) count at =

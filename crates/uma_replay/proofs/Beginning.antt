@@ -27,7 +27,7 @@ use Rattle.trace_play.specs.Betweens.{DoRounds}
 use Rattle.trace_play.specs.Plays.{AllPlay}
 use Rattle.trace_play.specs.Rounds.{GaveUpAsBefore, IsBegun, FitsTrace}
 use Rattle.uma_replay.specs.Hall.{AreDone, NamesDone}
-use Rattle.uma_replay.specs.Playing.{AllBack, AreFirst, HaveEnded, gave_ups_of, namings_of}
+use Rattle.uma_replay.specs.Playing.{AllBack, AreFirst, HaveEnded, gave_ups_of, name_works_of}
 use Rattle.uma_replay.proofs.ComingBack.{back_stay}
 use Rattle.uma_replay.proofs.Playing.{played_of, played_stay, together_of}
 use Rattle.uma_replay.proofs.WorkerRuns.{named_first, of_both}
@@ -78,25 +78,25 @@ module _ {N H C S Part : Type 0} {h : Ghosts H Part} (names : NameGhosts N H C S
   }
 
   -- and what each has of the names
-  pub named_of : (t : Trace) (s : Setting H Part h) (begun ended : List (WorkerRun N H C S Part h)) (back : List (Worker H Part h)) (namings : List (NameWork N H C S Part)) → IsSetUp t s → AreFirst names cache t.head.domains s.workers.items begun
+  pub named_of : (t : Trace) (s : Setting H Part h) (begun ended : List (WorkerRun N H C S Part h)) (back : List (Worker H Part h)) (name_works : List (NameWork N H C S Part)) → IsSetUp t s → AreFirst names cache t.head.domains s.workers.items begun
       → length ended ≡ length begun → names.serves ≡ is_some t.head.names → (IsTrue names.serves → names.clock_of cache ≡ clock_id s.clock) → IfSome t.head.names (λ line. names.sizes_of cache ≡ sizes_for t.head line)
       → AllStand s.zones.items s.clock (reverse (lines_of t.rounds)) (crew ended) → AllNamed names cache (reverse (lines_of t.rounds)) ended → AllPlay names cache s.zones.items t.rounds begun ended
-      → DoRounds names cache s.zones.items t.rounds begun ended → AllBack s.clock (crew ended) back → namings ≡ namings_of ended → NamesDone names t cache s.zones.items s.clock back namings
-  named_of t s begun ended back namings is first count served of_clock sizes stand named plays did comes same_namings =
+      → DoRounds names cache s.zones.items t.rounds begun ended → AllBack s.clock (crew ended) back → name_works ≡ name_works_of ended → NamesDone names t cache s.zones.items s.clock back name_works
+  named_of t s begun ended back name_works is first count served of_clock sizes stand named plays did comes same_name_works =
       let Q : List (NameWork N H C S Part) → Type 0 = λ gs. NamesDone names t cache s.zones.items s.clock back gs in
       let stay = back_stay s.clock (crew ended) back comes in
-      subst Q (sym same_namings) (record {
+      subst Q (sym same_name_works) (record {
         served = served;
         of_clock = λ serves. sym (of_clock serves);
         sizes = sizes;
-        naming_count = length-map ended (λ r. r.naming) ∙ worker_count t s begun ended is first count;
-        stand = λ n w naming at at_naming.
+        name_work_count = length-map ended (λ r. r.name_work) ∙ worker_count t s begun ended is first count;
+        stand = λ n w name_work at at_name_work.
             let was = found_before (crew ended) back n w comes.count at in
-            let both = of_both ended n was.0 naming was.1 at_naming in
-            let A : ℕ → Type 0 = λ late. NamesStand names cache n (reverse (lines_of t.rounds)) late naming in
-            let B : NameWork N H C S Part → Type 0 = λ g. NamesStand names cache n (reverse (lines_of t.rounds)) (worker_in both.running).late g in
-            subst A (sym (comes.each n was.0 w was.1 at).keeps.late) (subst A (ap (λ (x : Worker H Part h). x.late) both.is_worker) (subst B both.is_naming (named n both.running both.at)));
-        played = played_stay names cache t s.zones.items s.clock (crew ended) back (namings_of ended) stay
+            let both = of_both ended n was.0 name_work was.1 at_name_work in
+            let A : ℕ → Type 0 = λ late. NamesStand names cache n (reverse (lines_of t.rounds)) late name_work in
+            let B : NameWork N H C S Part → Type 0 = λ g. NamesStand names cache n (reverse (lines_of t.rounds)) (worker_in both.run).late g in
+            subst A (sym (comes.each n was.0 w was.1 at).keeps.late) (subst A (ap (λ (x : Worker H Part h). x.late) both.is_worker) (subst B both.is_name_work (named n both.run both.at)));
+        played = played_stay names cache t s.zones.items s.clock (crew ended) back (name_works_of ended) stay
             (played_of names cache t s begun ended is first count (λ n w at. (stand.fits n w at).pass) plays);
         together = together_of names cache t s begun ended back is first comes did;
       })
@@ -143,10 +143,10 @@ few_sum : (all sum count workers : ℕ) → all ≡ sum → sum ≤ count * 1677
 few_sum all sum count workers same_sum most same few = omega arith
 
 module _ {N H C S Part : Type 0} {h : Ghosts H Part} where
-  pub gave_ups_few : (t : Trace) (clock : Clock H Part) (workers : List (Worker H Part h)) (namings : List (NameWork N H C S Part)) (gave_ups : List ℕ) → IsValid t → length (lines_of t.rounds) ≤ 16777216
-      → length workers ≡ t.head.workers → HaveEnded t clock workers namings gave_ups → sum gave_ups < 2 ^ 64
+  pub gave_ups_few : (t : Trace) (clock : Clock H Part) (workers : List (Worker H Part h)) (name_works : List (NameWork N H C S Part)) (gave_ups : List ℕ) → IsValid t → length (lines_of t.rounds) ≤ 16777216
+      → length workers ≡ t.head.workers → HaveEnded t clock workers name_works gave_ups → sum gave_ups < 2 ^ 64
   unfolding done_by
-  gave_ups_few t clock workers namings gave_ups valid few count e =
+  gave_ups_few t clock workers name_works gave_ups valid few count e =
       let lines = reverse (lines_of t.rounds) in
       let own : WorkerRun N H C S Part h → ℕ = λ r. r.gave_up in
       few_sum (sum gave_ups) (sum_by own e.ended) (length e.ended) t.head.workers (ap sum e.gave_ups_are ∙ sum-map own e.ended)

@@ -63,9 +63,9 @@ pushed_map f xs x ys all is pushed = pushed ∙ (ap (λ list. list ++ f x ∷ []
 
 module _ {N H C S Part : Type 0} {h : Ghosts H Part} where
   -- one more
-  pub back_more : (clock : Clock H Part) (runnings : List (WorkerRun N H C S Part h)) (workers all : List (Worker H Part h)) (r : WorkerRun N H C S Part h) (w : Worker H Part h) → AllBack clock (crew runnings) workers
-      → IsPassOf clock w.pass → KeepsAll (worker_in r) w → all ≡ workers ++ w ∷ [] → AllBack clock (crew (runnings ++ r ∷ [])) all
-  back_more clock runnings workers all r w back here keeps pushed =
+  pub back_more : (clock : Clock H Part) (runs : List (WorkerRun N H C S Part h)) (workers all : List (Worker H Part h)) (r : WorkerRun N H C S Part h) (w : Worker H Part h) → AllBack clock (crew runs) workers
+      → IsPassOf clock w.pass → KeepsAll (worker_in r) w → all ≡ workers ++ w ∷ [] → AllBack clock (crew (runs ++ r ∷ [])) all
+  back_more clock runs workers all r w back here keeps pushed =
       let P : List (Worker H Part h) → Type 0 = λ list. AllBack clock list (workers ++ w ∷ []) in
-      let Q : List (Worker H Part h) → Type 0 = λ list. AllBack clock (crew (runnings ++ r ∷ [])) list in
-      subst Q (sym pushed) (subst P (sym (map-append worker_in runnings (r ∷ []))) (one_back clock (crew runnings) workers (worker_in r) w back (record { here = here; keeps = keeps })))
+      let Q : List (Worker H Part h) → Type 0 = λ list. AllBack clock (crew (runs ++ r ∷ [])) list in
+      subst Q (sym pushed) (subst P (sym (map-append worker_in runs (r ∷ []))) (one_back clock (crew runs) workers (worker_in r) w back (record { here = here; keeps = keeps })))

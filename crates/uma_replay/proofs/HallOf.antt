@@ -166,45 +166,45 @@ have_kegs h fits z head at =
 -- ---- what is of the names
 
 module _ {N H C S Part : Type 0} {h : Ghosts H Part} (names : NameGhosts N H C S Part) where
-  pub names_stay : (t : Trace) (cache : C) (zones : List (CountedZone H Part h)) (clock : Clock H Part) (old new : List (Worker H Part h)) (namings : List (NameWork N H C S Part)) → AllStay clock old new
-      → NamesDone names t cache zones clock old namings → NamesDone names t cache zones clock new namings
-  names_stay t cache zones clock old new namings s d = record {
+  pub names_stay : (t : Trace) (cache : C) (zones : List (CountedZone H Part h)) (clock : Clock H Part) (old new : List (Worker H Part h)) (name_works : List (NameWork N H C S Part)) → AllStay clock old new
+      → NamesDone names t cache zones clock old name_works → NamesDone names t cache zones clock new name_works
+  names_stay t cache zones clock old new name_works s d = record {
     served = d.served;
     of_clock = d.of_clock;
     sizes = d.sizes;
-    naming_count = d.naming_count;
-    stand = λ n w naming at at_naming.
+    name_work_count = d.name_work_count;
+    stand = λ n w name_work at at_name_work.
         let was = found_before old new n w s.count at in
-        let P : ℕ → Type 0 = λ late. NamesStand names cache n (reverse (lines_of t.rounds)) late naming in
-        subst P (sym (s.each n was.0 w was.1 at).late) (d.stand n was.0 naming was.1 at_naming);
-    played = played_stay names cache t zones clock old new namings s d.played;
-    together = together_stay names cache t zones clock old new namings s d.together;
+        let P : ℕ → Type 0 = λ late. NamesStand names cache n (reverse (lines_of t.rounds)) late name_work in
+        subst P (sym (s.each n was.0 w was.1 at).late) (d.stand n was.0 name_work was.1 at_name_work);
+    played = played_stay names cache t zones clock old new name_works s d.played;
+    together = together_stay names cache t zones clock old new name_works s d.together;
   }
 
-  worker_at : (t : Trace) (workers : List (Worker H Part h)) (namings : List (NameWork N H C S Part)) (n : ℕ) (naming : NameWork N H C S Part) → length workers ≡ t.head.workers → length namings ≡ t.head.workers
-      → slice_get namings n ≡ Some naming → (w : Worker H Part h) × (slice_get workers n ≡ Some w)
-  worker_at t workers namings n naming count own at = some_at workers n (below_both n (length namings) (length workers) t.head.workers (slice_get_within namings n naming at) own count)
+  worker_at : (t : Trace) (workers : List (Worker H Part h)) (name_works : List (NameWork N H C S Part)) (n : ℕ) (name_work : NameWork N H C S Part) → length workers ≡ t.head.workers → length name_works ≡ t.head.workers
+      → slice_get name_works n ≡ Some name_work → (w : Worker H Part h) × (slice_get workers n ≡ Some w)
+  worker_at t workers name_works n name_work count own at = some_at workers n (below_both n (length name_works) (length workers) t.head.workers (slice_get_within name_works n name_work at) own count)
 
-  pub are_seats : (t : Trace) (cache : C) (zones : List (CountedZone H Part h)) (clock : Clock H Part) (workers : List (Worker H Part h)) (namings : List (NameWork N H C S Part)) → AreDone t zones clock workers
-      → NamesDone names t cache zones clock workers namings → AreSeats names cache namings
-  are_seats t cache zones clock workers namings done d =
-      All_there (λ (naming : NameWork N H C S Part). names.IsSeat cache naming.seat) namings (λ n naming at.
-      let found = worker_at t workers namings n naming done.worker_count d.naming_count at in
-      (d.stand n found.0 naming found.1 at).seat)
+  pub are_seats : (t : Trace) (cache : C) (zones : List (CountedZone H Part h)) (clock : Clock H Part) (workers : List (Worker H Part h)) (name_works : List (NameWork N H C S Part)) → AreDone t zones clock workers
+      → NamesDone names t cache zones clock workers name_works → AreSeats names cache name_works
+  are_seats t cache zones clock workers name_works done d =
+      All_there (λ (name_work : NameWork N H C S Part). names.IsSeat cache name_work.seat) name_works (λ n name_work at.
+      let found = worker_at t workers name_works n name_work done.worker_count d.name_work_count at in
+      (d.stand n found.0 name_work found.1 at).seat)
 
-  pub few_namings : (t : Trace) (cache : C) (zones : List (CountedZone H Part h)) (clock : Clock H Part) (workers : List (Worker H Part h)) (namings : List (NameWork N H C S Part)) → IsValid t
-      → NamesDone names t cache zones clock workers namings → length namings ≤ 16
-  few_namings t cache zones clock workers namings valid d = same_most (length namings) t.head.workers 16 d.naming_count valid.head.workers.1
+  pub few_name_works : (t : Trace) (cache : C) (zones : List (CountedZone H Part h)) (clock : Clock H Part) (workers : List (Worker H Part h)) (name_works : List (NameWork N H C S Part)) → IsValid t
+      → NamesDone names t cache zones clock workers name_works → length name_works ≤ 16
+  few_name_works t cache zones clock workers name_works valid d = same_most (length name_works) t.head.workers 16 d.name_work_count valid.head.workers.1
 
-  pub fit_counts : (t : Trace) (cache : C) (zones : List (CountedZone H Part h)) (clock : Clock H Part) (workers : List (Worker H Part h)) (namings : List (NameWork N H C S Part)) → IsValid t → length (lines_of t.rounds) ≤ 16777216
-      → AreDone t zones clock workers → NamesDone names t cache zones clock workers namings → CountsFit namings
-  fit_counts t cache zones clock workers namings valid few done d = counts_fit names t cache zones clock workers namings done.worker_count d valid few
+  pub fit_counts : (t : Trace) (cache : C) (zones : List (CountedZone H Part h)) (clock : Clock H Part) (workers : List (Worker H Part h)) (name_works : List (NameWork N H C S Part)) → IsValid t → length (lines_of t.rounds) ≤ 16777216
+      → AreDone t zones clock workers → NamesDone names t cache zones clock workers name_works → CountsFit name_works
+  fit_counts t cache zones clock workers name_works valid few done d = counts_fit names t cache zones clock workers name_works done.worker_count d valid few
 
 module _ {N H C S Part : Type 0} (names : NameGhosts N H C S Part) where
   -- the whole report tells of as many waits as that of the zone lines
-  pub whole_waits : (cache : C) (namings : List (NameWork N H C S Part)) (first report : Report) (o : Option NamesHead) → IsWhole names cache o namings first report → report.gave_up ≡ first.gave_up
-  whole_waits cache namings first report None whole = ap (λ (r : Report). r.gave_up) whole
-  whole_waits cache namings first report (Some line) whole = ap (λ (r : Report). r.gave_up) whole.whole
+  pub whole_waits : (cache : C) (name_works : List (NameWork N H C S Part)) (first report : Report) (o : Option NamesHead) → IsWhole names cache o name_works first report → report.gave_up ≡ first.gave_up
+  whole_waits cache name_works first report None whole = ap (λ (r : Report). r.gave_up) whole
+  whole_waits cache name_works first report (Some line) whole = ap (λ (r : Report). r.gave_up) whole.whole
 
 -- ---- the report stands for the trace
 
@@ -224,13 +224,13 @@ module _ {N H C S Part : Type 0} {h : Ghosts H Part} (names : NameGhosts N H C S
         is = stands.made_of;
       })
 
-  by_line : (o : Option NamesHead) → t.head.names ≡ o → IsWhole names hall.names o hall.namings stands.first report → StandsFor t report
+  by_line : (o : Option NamesHead) → t.head.names ≡ o → IsWhole names hall.names o hall.name_works stands.first report → StandsFor t report
   by_line None is whole =
       let P : Report → Type 0 = λ r. StandsFor t r in
       subst P (sym whole) (stands_unnamed t stands.first plain is stands.made_of.names)
   by_line (Some line) is whole =
       let P : Report → Type 0 = λ r. StandsFor t r in
-      let ends = names_ends names t hall.names hall.zones hall.clock hall.workers hall.namings stands.done.worker_count stands.named valid line is whole.census whole.tally whole.deferred whole.closes whole.part whole.is_part
+      let ends = names_ends names t hall.names hall.zones hall.clock hall.workers hall.name_works stands.done.worker_count stands.named valid line is whole.census whole.tally whole.deferred whole.closes whole.part whole.is_part
       stands.read stands.write stands.first.clock stands.made_of.clock in
       subst P (sym whole.whole) (stands_named t stands.first plain line whole.part is ends)
 

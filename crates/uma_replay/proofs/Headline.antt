@@ -215,13 +215,13 @@ none_failed (Some ledger) new = new.fails
 module _ {N H C S Part : Type 0} {h : Ghosts H Part} (names : NameGhosts N H C S Part) (t : Trace) (report : Report) (hall : Hall N H C S Part h) (stands : StandsFor t report) (has : HallStands names t report hall) where
   -- ---- the lines of a worker's seats
 
-  naming_of : (n : ℕ) (w : Worker H Part h) → slice_get hall.workers n ≡ Some w → (naming : NameWork N H C S Part) × (slice_get hall.namings n ≡ Some naming)
-  naming_of n w at = some_at hall.namings n (below_by n (length hall.workers) (length hall.namings) t.head.workers (slice_get_within hall.workers n w at) has.done.worker_count has.named.naming_count)
+  name_work_of : (n : ℕ) (w : Worker H Part h) → slice_get hall.workers n ≡ Some w → (name_work : NameWork N H C S Part) × (slice_get hall.name_works n ≡ Some name_work)
+  name_work_of n w at = some_at hall.name_works n (below_by n (length hall.workers) (length hall.name_works) t.head.workers (slice_get_within hall.workers n w at) has.done.worker_count has.named.name_work_count)
 
   seat_lines : (n : ℕ) (w : Worker H Part h) → slice_get hall.workers n ≡ Some w → (befores : List (Worker H Part h)) × AreKept names t hall n w befores
   seat_lines n w at =
-      let naming = naming_of n w at in
-      let p = has.named.played n w naming.0 at naming.1 in
+      let name_work = name_work_of n w at in
+      let p = has.named.played n w name_work.0 at name_work.1 in
       let all = stories_of_rounds names hall.names hall.zones t.rounds n (doing p.begin) p.end p.plays in (
         all.befores,
         λ z zone seat at_zone at_seat.
@@ -258,7 +258,7 @@ module _ {N H C S Part : Type 0} {h : Ghosts H Part} (names : NameGhosts N H C S
 
   -- ---- totals
 
-  front_of : (o : Option NamesHead) → IsWhole names hall.names o hall.namings has.first report → (z : ℕ) (own : List SeatLedger) → slice_get has.first.ledgers z ≡ Some own → ledgers_at report z ≡ own
+  front_of : (o : Option NamesHead) → IsWhole names hall.names o hall.name_works has.first report → (z : ℕ) (own : List SeatLedger) → slice_get has.first.ledgers z ≡ Some own → ledgers_at report z ≡ own
   front_of None whole z own at = ap (λ (r : Report). ledgers_at r z) whole ∙ get_or_from_slice_get has.first.ledgers z own [] at
   front_of (Some line) whole z own at =
       ap (λ (r : Report). ledgers_at r z) whole.whole ∙ get_or_from_slice_get (has.first.ledgers ++ whole.part.ledgers ∷ []) z own [] (get_front has.first.ledgers (whole.part.ledgers ∷ []) z own at)
@@ -275,8 +275,8 @@ module _ {N H C S Part : Type 0} {h : Ghosts H Part} (names : NameGhosts N H C S
       let is = subst Q at (subst P is_head (stands.lines z)) in
       (own.0, has.made_of.ledgers.each z own.0 own.1, subst R (front_of t.head.names has.whole z own.0 own.1) (totals_of limit head.0 (ledgers_at report z) line is))
 
-  name_totals_by : (o : Option NamesHead) → IsWhole names hall.names o hall.namings has.first report → (n : NamesHead) → o ≡ Some n → (line : ZoneLine) → slice_get report.lines (length t.head.zones) ≡ Some line
-      → (ledgers : List SeatLedger) × AreNameLedgers names hall.namings ledgers × AreTotals ledgers line
+  name_totals_by : (o : Option NamesHead) → IsWhole names hall.names o hall.name_works has.first report → (n : NamesHead) → o ≡ Some n → (line : ZoneLine) → slice_get report.lines (length t.head.zones) ≡ Some line
+      → (ledgers : List SeatLedger) × AreNameLedgers names hall.name_works ledgers × AreTotals ledgers line
   name_totals_by None whole n is line at = absurd (none-some n is)
   name_totals_by (Some m) whole n is line at =
       let part = whole.part in
@@ -293,28 +293,28 @@ module _ {N H C S Part : Type 0} {h : Ghosts H Part} (names : NameGhosts N H C S
 
   -- ---- names
 
-  names_at : (n : ℕ) (naming : NameWork N H C S Part) → slice_get hall.namings n ≡ Some naming → (lines : List (NameLine Part)) × AreNameLines names hall.names (worker_ops t n) lines naming
-  names_at n naming at =
-      let w = some_at hall.workers n (below_by n (length hall.namings) (length hall.workers) t.head.workers (slice_get_within hall.namings n naming at) has.named.naming_count has.done.worker_count) in
-      let p = has.named.played n w.0 naming w.1 at in
+  names_at : (n : ℕ) (name_work : NameWork N H C S Part) → slice_get hall.name_works n ≡ Some name_work → (lines : List (NameLine Part)) × AreNameLines names hall.names (worker_ops t n) lines name_work
+  names_at n name_work at =
+      let w = some_at hall.workers n (below_by n (length hall.name_works) (length hall.workers) t.head.workers (slice_get_within hall.name_works n name_work at) has.named.name_work_count has.done.worker_count) in
+      let p = has.named.played n w.0 name_work w.1 at in
       let s = name_story.story_of_rounds names hall.names hall.zones t.rounds n (doing p.begin) p.end p.plays in
       let hits = from_none _ _ _ (ap (λ (c : NameCounts). c.hits) p.is_first.counts) s.hits in
-      let fails = from_none _ _ _ (none_failed (names.counted p.begin.naming.seat) p.is_first.fresh) s.fails in
+      let fails = from_none _ _ _ (none_failed (names.counted p.begin.name_work.seat) p.is_first.fresh) s.fails in
       let Fine : NameLine Part → Type 0 = name_story.IsFine names hall.names in
-      let from_first = subst (λ (from : List Ticket). Follow before after from s.lines (names.usable p.end.naming.seat)) p.is_first.unused s.follow in
-      let follow = subst (λ (to : List Ticket). Follow before after [] s.lines to) (ap (λ (g : NameWork N H C S Part). names.usable g.seat) (sym p.naming_stays)) from_first in (
+      let from_first = subst (λ (from : List Ticket). Follow before after from s.lines (names.usable p.end.name_work.seat)) p.is_first.unused s.follow in
+      let follow = subst (λ (to : List Ticket). Follow before after [] s.lines to) (ap (λ (g : NameWork N H C S Part). names.usable g.seat) (sym p.name_work_stays)) from_first in (
         s.lines,
         record {
           all = s.all;
           looked = All-weaker Fine (λ (line : NameLine Part). IfSome line.found (FindsBound names hall.names line)) (λ line fine. fine.looked) s.lines s.fine;
-          hits = ap (λ (g : NameWork N H C S Part). g.counts.hits) p.naming_stays ∙ hits;
+          hits = ap (λ (g : NameWork N H C S Part). g.counts.hits) p.name_work_stays ∙ hits;
           bound = All-weaker Fine (λ (line : NameLine Part). IfSome line.refused (RefusesEntry names hall.names line)) (λ line fine. fine.bound) s.lines s.fine;
           waits = All-weaker Fine (WaitsForReaders names hall.names) (λ line fine. fine.waits) s.lines s.fine;
           follow = follow;
           among =
               (let Even : NameLine Part → Type 0 = λ line. line.after ++ line.handed ≡ line.before ++ line.brought in
-              among before after (λ items. items) handed came s.lines [] (names.usable naming.seat) (All-weaker Fine Even (λ line fine. fine.waits.balance) s.lines s.fine) follow refl);
-          fails = if_fails (names.counted naming.seat) (count_by name_story.has_refused s.lines) (ap (λ (g : NameWork N H C S Part). option_map_or (λ (l : SeatLedger). l.fails) (names.counted g.seat) 0) p.naming_stays ∙ fails);
+              among before after (λ items. items) handed came s.lines [] (names.usable name_work.seat) (All-weaker Fine Even (λ line fine. fine.waits.balance) s.lines s.fine) follow refl);
+          fails = if_fails (names.counted name_work.seat) (count_by name_story.has_refused s.lines) (ap (λ (g : NameWork N H C S Part). option_map_or (λ (l : SeatLedger). l.fails) (names.counted g.seat) 0) p.name_work_stays ∙ fails);
         },
       )
 

@@ -66,16 +66,16 @@ may_free between new may = elim may [
   | inr one ↦ one.1.fails
 ]
 
-bind_ends : (slabs : ℕ) (IsFound : Refusal → Type 0) (done : Bool) (old new : Option SeatLedger) → OnBoth (BindCounts slabs IsFound done) old new → Ends IsFound old new
-bind_ends slabs IsFound done None None counts = record { refused = None; found = tt; fails = refl }
-bind_ends slabs IsFound done None (Some new) counts = absurd counts
-bind_ends slabs IsFound done (Some old) None counts = absurd counts
-bind_ends slabs IsFound true (Some old) (Some new) counts = record {
+bind_ends : (slabs : ℕ) (IsFound : Refusal → Type 0) (Cause : Type 0) (done : Bool) (old new : Option SeatLedger) → OnBoth (BindCounts slabs IsFound Cause done) old new → Ends IsFound old new
+bind_ends slabs IsFound Cause done None None counts = record { refused = None; found = tt; fails = refl }
+bind_ends slabs IsFound Cause done None (Some new) counts = absurd counts
+bind_ends slabs IsFound Cause done (Some old) None counts = absurd counts
+bind_ends slabs IsFound Cause true (Some old) (Some new) counts = record {
   refused = None;
   found = tt;
   fails = three_same old.fails counts.between.fails new.fails counts.alloc.fails (may_free counts.between new counts.evicts);
 }
-bind_ends slabs IsFound false (Some old) (Some new) counts = elim counts [
+bind_ends slabs IsFound Cause false (Some old) (Some new) counts = elim counts [
   | inl turned ↦ record { refused = Some turned.refusal; found = turned.found; fails = turned.turned.fails }
   | inr back ↦ record { refused = None; found = tt; fails = three_same old.fails back.between.fails new.fails back.alloc.fails back.back.1.fails }
 ]
@@ -215,14 +215,14 @@ module _ {N H C S Part : Type 0} (names : NameGhosts N H C S Part) (cache : C) w
 
 module _ {N H C S Part : Type 0} {h : Ghosts H Part} (names : NameGhosts N H C S Part) (cache : C) where
   abbrev usable_by : Doing N H C S Part h → List Ticket
-  usable_by d = names.usable d.naming.seat
+  usable_by d = names.usable d.name_work.seat
 
   -- the seat's usable entries stay
   quiet_waits : (op : Op) (old new : Doing N H C S Part h) (found : Option ℕ) → usable_by new ≡ usable_by old → WaitsForReaders names cache (quiet names cache op (view old.worker.pass) (view new.worker.pass) found (usable_by old) (usable_by new))
   quiet_waits op old new found same = record { balance = ap (λ (l : List Ticket). l ++ []) same; come = inl refl }
 
   -- it isn't of names
-  passes : (op : Op) (old new : Doing N H C S Part h) → new.naming ≡ old.naming → IsNext names cache op old.naming new.naming
+  passes : (op : Op) (old new : Doing N H C S Part h) → new.name_work ≡ old.name_work → IsNext names cache op old.name_work new.name_work
   passes op old new same = record {
     line = quiet names cache op (view old.worker.pass) (view new.worker.pass) None (usable_by old) (usable_by new);
     is_op = refl;
@@ -234,8 +234,8 @@ module _ {N H C S Part : Type 0} {h : Ghosts H Part} (names : NameGhosts N H C S
   }
 
   -- a look that ended so
-  looks : (key : ℕ) (old new : Doing N H C S Part h) (found : Option ℕ) → Loads names.knows names.told (names.sizes_of cache).rows key (view old.worker.pass) found (view new.worker.pass) → CountsAnswer found old.naming.counts new.naming.counts
-      → new.naming.seat ≡ old.naming.seat → IsNext names cache (Look key) old.naming new.naming
+  looks : (key : ℕ) (old new : Doing N H C S Part h) (found : Option ℕ) → Loads names.knows names.told (names.sizes_of cache).rows key (view old.worker.pass) found (view new.worker.pass) → CountsAnswer found old.name_work.counts new.name_work.counts
+      → new.name_work.seat ≡ old.name_work.seat → IsNext names cache (Look key) old.name_work new.name_work
   looks key old new found loads counts seat = record {
     line = quiet names cache (Look key) (view old.worker.pass) (view new.worker.pass) found (usable_by old) (usable_by new);
     is_op = refl;
@@ -244,15 +244,15 @@ module _ {N H C S Part : Type 0} {h : Ghosts H Part} (names : NameGhosts N H C S
       bound = tt;
       waits = quiet_waits (Look key) old new found (ap names.usable seat);
     };
-    hits = answer_hits found old.naming.counts new.naming.counts counts;
+    hits = answer_hits found old.name_work.counts new.name_work.counts counts;
     fails = as_before _ _ (ap (λ s. fails_in (names.counted s)) seat);
     from = refl;
     to = refl;
   }
 
-  next : (zones : List (CountedZone H Part h)) (op : Op) (old new : Doing N H C S Part h) → Changes names cache zones old op new → IsNext names cache op old.naming new.naming
+  next : (zones : List (CountedZone H Part h)) (op : Op) (old new : Doing N H C S Part h) → Changes names cache zones old op new → IsNext names cache op old.name_work new.name_work
   next zones (Bind key value) old new did =
-      let ends = bind_ends (names.sizes_of cache).slabs (names.IsFound cache) did.done (names.counted old.naming.seat) (names.counted new.naming.seat) did.ledger in
+      let ends = bind_ends (names.sizes_of cache).slabs (names.IsFound cache) _ did.done (names.counted old.name_work.seat) (names.counted new.name_work.seat) did.ledger in
       let moves = did.moves in
       let line : NameLine Part = record {
         op = Bind key value;
@@ -269,7 +269,7 @@ module _ {N H C S Part : Type 0} {h : Ghosts H Part} (names : NameGhosts N H C S
         line = line;
         is_op = refl;
         fine = record { looked = tt; bound = entry_refused names cache line key value refl ends.found; waits = record { balance = moves.balance; come = moves.come } };
-        hits = bind_hits did.done old.naming.counts new.naming.counts did.counts;
+        hits = bind_hits did.done old.name_work.counts new.name_work.counts did.counts;
         fails = ends.fails;
         from = refl;
         to = refl;
@@ -278,8 +278,8 @@ module _ {N H C S Part : Type 0} {h : Ghosts H Part} (names : NameGhosts N H C S
     line = quiet names cache (Unbind key) (view old.worker.pass) (view new.worker.pass) None (usable_by old) (usable_by new);
     is_op = refl;
     fine = record { looked = tt; bound = tt; waits = quiet_waits (Unbind key) old new None did.usable };
-    hits = unbind_hits did.done old.naming.counts new.naming.counts did.counts;
-    fails = unbind_ends (names.sizes_of cache).slabs did.done (names.counted old.naming.seat) (names.counted new.naming.seat) did.ledger;
+    hits = unbind_hits did.done old.name_work.counts new.name_work.counts did.counts;
+    fails = unbind_ends (names.sizes_of cache).slabs did.done (names.counted old.name_work.seat) (names.counted new.name_work.seat) did.ledger;
     from = refl;
     to = refl;
   }
@@ -304,20 +304,20 @@ module _ {N H C S Part : Type 0} {h : Ghosts H Part} (names : NameGhosts N H C S
   next zones (Drain place) old new did = passes (Drain place) old new did.1
   next zones (DrainSeat place) old new did = passes (DrainSeat place) old new did.1
   next zones (Prealloc place items) old new did = passes (Prealloc place items) old new did.1
-  next zones Away old new did = passes Away old new did.naming
-  next zones Back old new did = passes Back old new did.naming
+  next zones Away old new did = passes Away old new did.name_work
+  next zones Back old new did = passes Back old new did.name_work
 
 module _ {N H C S Part : Type 0} {h : Ghosts H Part} (names : NameGhosts N H C S Part) (cache : C) where
-  story_of : (zones : List (CountedZone H Part h)) (ops : List Op) (old new : Doing N H C S Part h) → DoesAll names cache zones old ops new → Story names cache ops old.naming new.naming
+  story_of : (zones : List (CountedZone H Part h)) (ops : List Op) (old new : Doing N H C S Part h) → DoesAll names cache zones old ops new → Story names cache ops old.name_work new.name_work
   unfolding DoesAll
-  story_of zones [] old new same = story-none names cache old.naming new.naming (ap (λ (d : Doing N H C S Part h). d.naming) same)
-  story_of zones (op ∷ ops) old new did = story-cons names cache op ops old.naming did.0.naming new.naming (next names cache zones op old did.0 did.1.changes) (story_of zones ops did.0 new did.2)
+  story_of zones [] old new same = story-none names cache old.name_work new.name_work (ap (λ (d : Doing N H C S Part h). d.name_work) same)
+  story_of zones (op ∷ ops) old new did = story-cons names cache op ops old.name_work did.0.name_work new.name_work (next names cache zones op old did.0 did.1.changes) (story_of zones ops did.0 new did.2)
 
-  pub story_of_rounds : (zones : List (CountedZone H Part h)) (rounds : List Round) (k : ℕ) (old new : Doing N H C S Part h) → PlaysRounds names cache zones k old rounds new → Story names cache (flat_map (λ (r : Round). ops_in r k) rounds) old.naming new.naming
+  pub story_of_rounds : (zones : List (CountedZone H Part h)) (rounds : List Round) (k : ℕ) (old new : Doing N H C S Part h) → PlaysRounds names cache zones k old rounds new → Story names cache (flat_map (λ (r : Round). ops_in r k) rounds) old.name_work new.name_work
   unfolding PlaysRounds
-  story_of_rounds zones [] k old new same = story-none names cache old.naming new.naming (ap (λ (d : Doing N H C S Part h). d.naming) same)
+  story_of_rounds zones [] k old new same = story-none names cache old.name_work new.name_work (ap (λ (d : Doing N H C S Part h). d.name_work) same)
   story_of_rounds zones (r ∷ rounds) k old new played =
       let mid = played.1.worked in
-      let P : NameWork N H C S Part → Type 0 = λ n. Story names cache (ops_in r k) old.naming n in
-      let s = subst P (sym played.1.given.naming) (story_of zones (ops_in r k) old mid played.1.does) in
-      story-append names cache (ops_in r k) (flat_map (λ (r : Round). ops_in r k) rounds) old.naming played.0.naming new.naming s (story_of_rounds zones rounds k played.0 new played.2)
+      let P : NameWork N H C S Part → Type 0 = λ n. Story names cache (ops_in r k) old.name_work n in
+      let s = subst P (sym played.1.given.name_work) (story_of zones (ops_in r k) old mid played.1.does) in
+      story-append names cache (ops_in r k) (flat_map (λ (r : Round). ops_in r k) rounds) old.name_work played.0.name_work new.name_work s (story_of_rounds zones rounds k played.0 new played.2)

@@ -49,8 +49,8 @@ both_le a b c all most is = omega arith
 
 -- ---- one seat after another
 
-module _ {N H C S Part : Type 0} (names : NameGhosts N H C S Part) (namings : List (NameWork N H C S Part)) where
-  pub no_seat : (sums : Sums) → ((count : ℕ) → AreOfAtMost count sums) → ((zone : ℕ) → Balance zone sums) → sums ≡ nothing_held → AreSeatSums names 0 namings sums
+module _ {N H C S Part : Type 0} (names : NameGhosts N H C S Part) (name_works : List (NameWork N H C S Part)) where
+  pub no_seat : (sums : Sums) → ((count : ℕ) → AreOfAtMost count sums) → ((zone : ℕ) → Balance zone sums) → sums ≡ nothing_held → AreSeatSums names 0 name_works sums
   no_seat sums few balance none = record {
     few = few (704 * 0);
     passed = λ hook. ap (λ (s : Sums). sum_of s.tally hook) none ∙ none_passed hook;
@@ -58,38 +58,38 @@ module _ {N H C S Part : Type 0} (names : NameGhosts N H C S Part) (namings : Li
     balance = λ cache are. balance 0;
   }
 
-  pub seat_room_left : (i : ℕ) (sums : Sums) → i < length namings → length namings ≤ 16 → AreSeatSums names i namings sums → AreOfAtMost (2 ^ 62) sums
-  seat_room_left i sums below few so = fewer sums (704 * i) (2 ^ 62) (seat_room i (length namings) below few) so.few
+  pub seat_room_left : (i : ℕ) (sums : Sums) → i < length name_works → length name_works ≤ 16 → AreSeatSums names i name_works sums → AreOfAtMost (2 ^ 62) sums
+  seat_room_left i sums below few so = fewer sums (704 * i) (2 ^ 62) (seat_room i (length name_works) below few) so.few
 
-  pub one_seat_more : (i : ℕ) (naming : NameWork N H C S Part) (sums others next : Sums) → i < length namings → naming ≡ get_or namings i naming → AreSeatSums names i namings sums
-      → Adds (names.passed naming.seat) (names.deferred naming.seat) nothing_held others → AreOfAtMost 704 others → ((cache : C) → names.IsSeat cache naming.seat → Balance 0 others)
+  pub one_seat_more : (i : ℕ) (name_work : NameWork N H C S Part) (sums others next : Sums) → i < length name_works → name_work ≡ get_or name_works i name_work → AreSeatSums names i name_works sums
+      → Adds (names.passed name_work.seat) (names.deferred name_work.seat) nothing_held others → AreOfAtMost 704 others → ((cache : C) → names.IsSeat cache name_work.seat → Balance 0 others)
       → Adds (sum_of others.tally) others.deferred sums next
       → ((count more : ℕ) → AreOfAtMost count sums → AreOfAtMost more others → AreOfAtMost (count + more) next)
       → ((n : ℕ) → Balance n sums → Balance n others → Balance n next)
-      → AreSeatSums names (i + 1) namings next
-  one_seat_more i naming sums others next below is so own few_own balance_own adds few balance = record {
+      → AreSeatSums names (i + 1) name_works next
+  one_seat_more i name_work sums others next below is so own few_own balance_own adds few balance = record {
     few = (let P : ℕ → Type 0 = λ n. AreOfAtMost n next in subst P (one_more i) (few (704 * i) 704 so.few few_own));
     passed = λ hook.
         let f = λ (g : NameWork N H C S Part). names.passed g.seat hook in
-        let here : sum_of others.tally hook ≡ f (get_or namings i naming) = own.tally hook ∙ (zero_more (sum_of nothing_held.tally hook) (f naming) (none_passed hook) ∙ ap f is) in
-        next_sum (seats_passed names hook (take i namings)) (sum_of sums.tally hook) (sum_of next.tally hook) (sum_of others.tally hook) (f (get_or namings i naming)) _ (so.passed hook) (adds.tally hook) here (sum_by_more f namings i naming below);
+        let here : sum_of others.tally hook ≡ f (get_or name_works i name_work) = own.tally hook ∙ (zero_more (sum_of nothing_held.tally hook) (f name_work) (none_passed hook) ∙ ap f is) in
+        next_sum (seats_passed names hook (take i name_works)) (sum_of sums.tally hook) (sum_of next.tally hook) (sum_of others.tally hook) (f (get_or name_works i name_work)) _ (so.passed hook) (adds.tally hook) here (sum_by_more f name_works i name_work below);
     waiting =
         let f = λ (g : NameWork N H C S Part). names.deferred g.seat in
-        let here : others.deferred ≡ f (get_or namings i naming) = own.deferred_too ∙ (zero_more 0 (f naming) refl ∙ ap f is) in
-        next_sum (seats_waiting names (take i namings)) sums.deferred next.deferred others.deferred (f (get_or namings i naming)) _ so.waiting adds.deferred_too here (sum_by_more f namings i naming below);
+        let here : others.deferred ≡ f (get_or name_works i name_work) = own.deferred_too ∙ (zero_more 0 (f name_work) refl ∙ ap f is) in
+        next_sum (seats_waiting names (take i name_works)) sums.deferred next.deferred others.deferred (f (get_or name_works i name_work)) _ so.waiting adds.deferred_too here (sum_by_more f name_works i name_work below);
     balance = λ cache are.
         let P : NameWork N H C S Part → Type 0 = λ g. names.IsSeat cache g.seat in
-        balance 0 (so.balance cache are) (balance_own cache (subst P (sym is) (All-get_or P namings i naming below are)));
+        balance 0 (so.balance cache are) (balance_own cache (subst P (sym is) (All-get_or P name_works i name_work below are)));
   }
 
-  pub all_seats : (i : ℕ) (sums : Sums) → i ≡ length namings → AreSeatSums names i namings sums → AreSeatSums names (length namings) namings sums
-  all_seats i sums all so = let P : ℕ → Type 0 = λ n. AreSeatSums names n namings sums in subst P all so
+  pub all_seats : (i : ℕ) (sums : Sums) → i ≡ length name_works → AreSeatSums names i name_works sums → AreSeatSums names (length name_works) name_works sums
+  all_seats i sums all so = let P : ℕ → Type 0 = λ n. AreSeatSums names n name_works sums in subst P all so
 
-  whole : take (length namings) namings ≡ namings
-  whole = take_all (length namings) namings (le_refl (length namings))
+  whole : take (length name_works) name_works ≡ name_works
+  whole = take_all (length name_works) name_works (le_refl (length name_works))
 
-  pub of_seats : (sums : Sums) → length namings ≤ 16 → AreSeatSums names (length namings) namings sums → AreOfAtMost (2 ^ 35) sums
-  of_seats sums few so = fewer sums (704 * length namings) (2 ^ 35) (seats_fit (length namings) few) so.few
+  pub of_seats : (sums : Sums) → length name_works ≤ 16 → AreSeatSums names (length name_works) name_works sums → AreOfAtMost (2 ^ 35) sums
+  of_seats sums few so = fewer sums (704 * length name_works) (2 ^ 35) (seats_fit (length name_works) few) so.few
 
 -- ---- with what the domains list and the rows link
 
@@ -119,18 +119,18 @@ twice pairs deferred linked dtors sum is = omega arith
 zero_below : 0 < 8
 zero_below = omega arith
 
-module _ {N H C S Part : Type 0} (names : NameGhosts N H C S Part) (cache : C) (namings : List (NameWork N H C S Part)) where
-  pub name_sums_of : (rest seats sums : Sums) → length namings ≤ 16 → AreSeats names cache namings → AreSeatSums names (length namings) namings seats → AreOfAtMost (2 ^ 35) rest → HasLinked (names.sizes_of cache).rows rest
-      → Adds (sum_of seats.tally) seats.deferred rest sums → ((count more : ℕ) → AreOfAtMost count rest → AreOfAtMost more seats → AreOfAtMost (count + more) sums) → AreNameSums names cache namings sums
+module _ {N H C S Part : Type 0} (names : NameGhosts N H C S Part) (cache : C) (name_works : List (NameWork N H C S Part)) where
+  pub name_sums_of : (rest seats sums : Sums) → length name_works ≤ 16 → AreSeats names cache name_works → AreSeatSums names (length name_works) name_works seats → AreOfAtMost (2 ^ 35) rest → HasLinked (names.sizes_of cache).rows rest
+      → Adds (sum_of seats.tally) seats.deferred rest sums → ((count more : ℕ) → AreOfAtMost count rest → AreOfAtMost more seats → AreOfAtMost (count + more) sums) → AreNameSums names cache name_works sums
   name_sums_of rest seats sums few are so few_rest has adds few_sums = record {
-    few = (let P : ℕ → Type 0 = λ n. AreOfAtMost n sums in subst P same_sum (few_sums (2 ^ 35) (2 ^ 35) few_rest (of_seats names namings seats few so)));
-    passed = λ hook. add_le (sum_of seats.tally hook) (seats_passed names hook namings) (sum_of sums.tally hook) (sum_of rest.tally hook) (so.passed hook ∙ ap (seats_passed names hook) (whole names namings)) (adds.tally hook);
-    waiting = add_le seats.deferred (seats_waiting names namings) sums.deferred rest.deferred (so.waiting ∙ ap (seats_waiting names) (whole names namings)) adds.deferred_too;
+    few = (let P : ℕ → Type 0 = λ n. AreOfAtMost n sums in subst P same_sum (few_sums (2 ^ 35) (2 ^ 35) few_rest (of_seats names name_works seats few so)));
+    passed = λ hook. add_le (sum_of seats.tally hook) (seats_passed names hook name_works) (sum_of sums.tally hook) (sum_of rest.tally hook) (so.passed hook ∙ ap (seats_passed names hook) (whole names name_works)) (adds.tally hook);
+    waiting = add_le seats.deferred (seats_waiting names name_works) sums.deferred rest.deferred (so.waiting ∙ ap (seats_waiting names) (whole names name_works)) adds.deferred_too;
     links = linked_more (names.sizes_of cache).rows rest seats sums has (so.balance cache are) adds;
   }
 
-  pub names_close : (census : Census) (tally : TallySum) (sums : Sums) → names.IsCensus cache census → (census_counts census).per_slab ≡ 64 → (census_counts census).cap ≡ (names.sizes_of cache).slabs → (census_counts census).reserve ≡ 0 → AreNameSums names cache namings sums
-      → ((hook : Hook) → sum_of tally hook ≡ sum_of (census_tally census) hook + sum_of sums.tally hook) → NamesClose names cache namings census tally sums.deferred
+  pub names_close : (census : Census) (tally : TallySum) (sums : Sums) → names.IsCensus cache census → (census_counts census).per_slab ≡ 64 → (census_counts census).cap ≡ (names.sizes_of cache).slabs → (census_counts census).reserve ≡ 0 → AreNameSums names cache name_works sums
+      → ((hook : Hook) → sum_of tally hook ≡ sum_of (census_tally census) hook + sum_of sums.tally hook) → NamesClose names cache name_works census tally sums.deferred
   names_close census tally sums own per_slab cap reserve are adds =
       let has = are.links in
       record {
@@ -138,7 +138,7 @@ module _ {N H C S Part : Type 0} (names : NameGhosts N H C S Part) (cache : C) (
         cap = cap;
         reserve = reserve;
         per_slab = per_slab;
-        hooks = λ hook. both_le (sum_of (census_tally census) hook) (seats_passed names hook namings) (sum_of sums.tally hook) (sum_of tally hook) (are.passed hook) (adds hook);
+        hooks = λ hook. both_le (sum_of (census_tally census) hook) (seats_passed names hook name_works) (sum_of sums.tally hook) (sum_of tally hook) (are.passed hook) (adds hook);
         waiting = are.waiting;
         linked = has.linked;
         few = has.few;

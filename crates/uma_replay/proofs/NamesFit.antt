@@ -121,39 +121,39 @@ below_count n a b count below e1 e2 = omega arith
 at_some : {A : Type 0} (o : Option A) (P : A → Type 0) (a : A) → o ≡ Some a → IfSome o P → P a
 at_some o P a is holds = let Q : Option _ → Type 0 = λ o. IfSome o P in subst Q is holds
 
-module _ {N H C S Part : Type 0} {h : Ghosts H Part} (names : NameGhosts N H C S Part) (t : Trace) (cache : C) (zones : List (CountedZone H Part h)) (clock : Clock H Part) (workers : List (Worker H Part h)) (namings : List (NameWork N H C S Part))
-    (worker_count : length workers ≡ t.head.workers) (d : NamesDone names t cache zones clock workers namings) (valid : IsValid t) where
+module _ {N H C S Part : Type 0} {h : Ghosts H Part} (names : NameGhosts N H C S Part) (t : Trace) (cache : C) (zones : List (CountedZone H Part h)) (clock : Clock H Part) (workers : List (Worker H Part h)) (name_works : List (NameWork N H C S Part))
+    (worker_count : length workers ≡ t.head.workers) (d : NamesDone names t cache zones clock workers name_works) (valid : IsValid t) where
   -- the worker of the same number
-  worker_of : (n : ℕ) (g : NameWork N H C S Part) → slice_get namings n ≡ Some g → (w : Worker H Part h) × (slice_get workers n ≡ Some w)
-  worker_of n g at = some_at workers n (below_count n (length namings) (length workers) t.head.workers (slice_get_within namings n g at) d.naming_count worker_count)
+  worker_of : (n : ℕ) (g : NameWork N H C S Part) → slice_get name_works n ≡ Some g → (w : Worker H Part h) × (slice_get workers n ≡ Some w)
+  worker_of n g at = some_at workers n (below_count n (length name_works) (length workers) t.head.workers (slice_get_within name_works n g at) d.name_work_count worker_count)
 
-  stand_of : (n : ℕ) (g : NameWork N H C S Part) → slice_get namings n ≡ Some g → (late : ℕ) × NamesStand names cache n (all_lines t) late g
+  stand_of : (n : ℕ) (g : NameWork N H C S Part) → slice_get name_works n ≡ Some g → (late : ℕ) × NamesStand names cache n (all_lines t) late g
   stand_of n g at = let found = worker_of n g at in (found.0.late, d.stand n found.0 g found.1 at)
 
-  pub looks_are_all : total_of Hits namings + total_of Misses namings + total_of Late namings ≡ kind_count is_look t
+  pub looks_are_all : total_of Hits name_works + total_of Misses name_works + total_of Late name_works ≡ kind_count is_look t
   looks_are_all =
       let hits = λ (g : NameWork N H C S Part). g.counts.hits in
       let misses = λ (g : NameWork N H C S Part). g.counts.misses in
       let late = λ (g : NameWork N H C S Part). g.counts.late in
-      three_are _ _ _ _ _ _ (sum-both (λ g. hits g + misses g) late namings) (sum-both hits misses namings)
-      (sum-workers (λ g. hits g + misses g + late g) namings (λ n. looks n (all_lines t)) t.head.workers d.naming_count (λ n g at. (stand_of n g at).1.counts.looks_add_up) ∙ looks_are t valid)
+      three_are _ _ _ _ _ _ (sum-both (λ g. hits g + misses g) late name_works) (sum-both hits misses name_works)
+      (sum-workers (λ g. hits g + misses g + late g) name_works (λ n. looks n (all_lines t)) t.head.workers d.name_work_count (λ n g at. (stand_of n g at).1.counts.looks_add_up) ∙ looks_are t valid)
 
-  pub binds_are_all : total_of Binds namings + total_of Refused namings ≡ kind_count is_bind t
+  pub binds_are_all : total_of Binds name_works + total_of Refused name_works ≡ kind_count is_bind t
   binds_are_all =
       let bound = λ (g : NameWork N H C S Part). g.counts.binds in
       let refused = λ (g : NameWork N H C S Part). g.counts.refused in
-      two_are _ _ _ _ (sum-both bound refused namings)
-      (sum-workers (λ g. bound g + refused g) namings (λ n. binds n (all_lines t)) t.head.workers d.naming_count (λ n g at. (stand_of n g at).1.counts.binds_add_up) ∙ all_binds_are t valid)
+      two_are _ _ _ _ (sum-both bound refused name_works)
+      (sum-workers (λ g. bound g + refused g) name_works (λ n. binds n (all_lines t)) t.head.workers d.name_work_count (λ n g at. (stand_of n g at).1.counts.binds_add_up) ∙ all_binds_are t valid)
 
-  pub unbound_few : total_of Unbound namings ≤ kind_count is_unbind t
+  pub unbound_few : total_of Unbound name_works ≤ kind_count is_unbind t
   unbound_few =
-      le_same _ _ _ (sum-workers-le (λ (g : NameWork N H C S Part). g.counts.unbound) namings (λ n. unbinds n (all_lines t)) t.head.workers d.naming_count (λ n g at. (stand_of n g at).1.counts.unbound)) (unbinds_are t valid)
+      le_same _ _ _ (sum-workers-le (λ (g : NameWork N H C S Part). g.counts.unbound) name_works (λ n. unbinds n (all_lines t)) t.head.workers d.name_work_count (λ n g at. (stand_of n g at).1.counts.unbound)) (unbinds_are t valid)
 
-  pub late_few : total_of Late namings ≤ sum_by (λ (w : Worker H Part h). w.late) workers
+  pub late_few : total_of Late name_works ≤ sum_by (λ (w : Worker H Part h). w.late) workers
   late_few =
-      sums_le (λ (g : NameWork N H C S Part). g.counts.late) (λ (w : Worker H Part h). w.late) namings workers (d.naming_count ∙ sym worker_count) (λ n g w at_g at_w. (d.stand n w g at_w at_g).counts.late_few)
+      sums_le (λ (g : NameWork N H C S Part). g.counts.late) (λ (w : Worker H Part h). w.late) name_works workers (d.name_work_count ∙ sym worker_count) (λ n g w at_g at_w. (d.stand n w g at_w at_g).counts.late_few)
 
-  pub counts_fit : length (lines_of t.rounds) ≤ 16777216 → CountsFit namings
+  pub counts_fit : length (lines_of t.rounds) ≤ 16777216 → CountsFit name_works
   counts_fit few =
       let lines = lines_of t.rounds in
       let all = counts_few (kind_count is_look t) (kind_count is_bind t) (kind_count is_unbind t) (length lines)
@@ -166,40 +166,40 @@ module _ {N H C S Part : Type 0} {h : Ghosts H Part} (names : NameGhosts N H C S
 
 -- ---- what a report has of the zone of the names
 
-module _ {N H C S Part : Type 0} {h : Ghosts H Part} (names : NameGhosts N H C S Part) (t : Trace) (cache : C) (zones : List (CountedZone H Part h)) (clock : Clock H Part) (workers : List (Worker H Part h)) (namings : List (NameWork N H C S Part))
-    (worker_count : length workers ≡ t.head.workers) (d : NamesDone names t cache zones clock workers namings) (valid : IsValid t) (line : NamesHead) (is : t.head.names ≡ Some line)
-    (census : Census) (tally : TallySum) (deferred : ℕ) (closes : NamesClose names cache namings census tally deferred) (part : NamesPart) (p : IsNamesPart names line namings census tally deferred part) where
+module _ {N H C S Part : Type 0} {h : Ghosts H Part} (names : NameGhosts N H C S Part) (t : Trace) (cache : C) (zones : List (CountedZone H Part h)) (clock : Clock H Part) (workers : List (Worker H Part h)) (name_works : List (NameWork N H C S Part))
+    (worker_count : length workers ≡ t.head.workers) (d : NamesDone names t cache zones clock workers name_works) (valid : IsValid t) (line : NamesHead) (is : t.head.names ≡ Some line)
+    (census : Census) (tally : TallySum) (deferred : ℕ) (closes : NamesClose names cache name_works census tally deferred) (part : NamesPart) (p : IsNamesPart names line name_works census tally deferred part) where
   sizes : names.sizes_of cache ≡ sizes_for t.head line
   sizes = at_some t.head.names (λ line. names.sizes_of cache ≡ sizes_for t.head line) line is d.sizes
 
   abbrev counts_of_seat : NameWork N H C S Part → Option SeatLedger
-  counts_of_seat naming = names.counted naming.seat
+  counts_of_seat name_work = names.counted name_work.seat
 
   -- the ledger of a worker's seat
-  of_naming : (n : ℕ) (l : SeatLedger) (g : NameWork N H C S Part) → slice_get part.ledgers n ≡ Some l → slice_get namings n ≡ Some g → names.counted g.seat ≡ Some l
-  of_naming n l g at_l at_g =
-      let found = ledger_found counts_of_seat namings part.ledgers n l p.of_seats at_l in
-      let P : NameWork N H C S Part → Type 0 = λ naming. names.counted naming.seat ≡ Some l in
+  of_name_work : (n : ℕ) (l : SeatLedger) (g : NameWork N H C S Part) → slice_get part.ledgers n ≡ Some l → slice_get name_works n ≡ Some g → names.counted g.seat ≡ Some l
+  of_name_work n l g at_l at_g =
+      let found = ledger_found counts_of_seat name_works part.ledgers n l p.of_seats at_l in
+      let P : NameWork N H C S Part → Type 0 = λ name_work. names.counted name_work.seat ≡ Some l in
       subst P (same_Some found.0 g (sym found.1 ∙ at_g)) found.2
 
-  ledger_stands : (n : ℕ) (l : SeatLedger) (g : NameWork N H C S Part) → slice_get part.ledgers n ≡ Some l → slice_get namings n ≡ Some g → NameLedgerStands (names.sizes_of cache).slabs n (all_lines t) g.counts.refused l
+  ledger_stands : (n : ℕ) (l : SeatLedger) (g : NameWork N H C S Part) → slice_get part.ledgers n ≡ Some l → slice_get name_works n ≡ Some g → NameLedgerStands (names.sizes_of cache).slabs n (all_lines t) g.counts.refused l
   ledger_stands n l g at_l at_g =
-      let stand = stand_of names t cache zones clock workers namings worker_count d valid n g at_g in
-      at_some (names.counted g.seat) (NameLedgerStands (names.sizes_of cache).slabs n (all_lines t) g.counts.refused) l (of_naming n l g at_l at_g) stand.1.ledger
+      let stand = stand_of names t cache zones clock workers name_works worker_count d valid n g at_g in
+      at_some (names.counted g.seat) (NameLedgerStands (names.sizes_of cache).slabs n (all_lines t) g.counts.refused) l (of_name_work n l g at_l at_g) stand.1.ledger
 
-  one_each : length part.ledgers ≡ length namings
-  one_each = sym (length-map part.ledgers Some) ∙ (sym (ap length p.of_seats) ∙ length-map namings counts_of_seat)
+  one_each : length part.ledgers ≡ length name_works
+  one_each = sym (length-map part.ledgers Some) ∙ (sym (ap length p.of_seats) ∙ length-map name_works counts_of_seat)
 
   fits : (n : ℕ) (l : SeatLedger) → slice_get part.ledgers n ≡ Some l → LedgerFits t n (length t.head.zones) (entry_zone line) l
   fits n l at =
-      let found = ledger_found counts_of_seat namings part.ledgers n l p.of_seats at in
+      let found = ledger_found counts_of_seat name_works part.ledgers n l p.of_seats at in
       ledger_fits t n (names.sizes_of cache).slabs found.0.counts.refused line l valid (p.limits n l at) (ap (λ (s : NameSizes). s.slabs) sizes) (ledger_stands n l found.0 at found.1)
 
   in_time : (read write : ℕ) (o : Option ClockHead) → IfSome (option_map (λ (c : ClockHead). clock_line read write workers) o) (λ clock. part.counts.late ≤ clock.late)
   in_time read write None = tt
   in_time read write (Some c) =
       let P : NamesLine → Type 0 = λ counts. counts.late ≤ sum_by (λ (w : Worker H Part h). w.late) workers in
-      subst P (sym p.of_counts) (late_few names t cache zones clock workers namings worker_count d valid)
+      subst P (sym p.of_counts) (late_few names t cache zones clock workers name_works worker_count d valid)
 
   pub names_ends : (read write : ℕ) (shown : Option ClockLine) → shown ≡ option_map (λ (c : ClockHead). clock_line read write workers) t.head.clock → NamesEnds t line part shown
   names_ends read write shown same =
@@ -212,20 +212,20 @@ module _ {N H C S Part : Type 0} {h : Ghosts H Part} (names : NameGhosts N H C S
       let G : NamesLine → Type 0 = λ counts. total_fails part.ledgers ≤ counts.refused in
       let I : NamesLine → Type 0 = λ counts. counts.binds ≤ total_allocs part.ledgers in
       record {
-        fit = record { workers = one_each ∙ d.naming_count; each = λ n. if_some (slice_get part.ledgers n) (LedgerFits t n (length t.head.zones) (entry_zone line)) (fits n) };
+        fit = record { workers = one_each ∙ d.name_work_count; each = λ n. if_some (slice_get part.ledgers n) (LedgerFits t n (length t.head.zones) (entry_zone line)) (fits n) };
         line = subst L (sym (unnamed_last t (entry_zone line) valid)) (census_out census 0, (census_counts census).free, (λ over. absurd (false≢true over)), p.of_zone);
         titled = ap line_title p.of_zone;
         hooks_named = ap (λ (l : HookLine). l.name) p.of_hooks;
         keg_named = ap (λ (l : KegLine). l.name) p.of_keg;
         linked = record { linked = closes.linked; few = le_same closes.linked _ line.rows closes.few (ap (λ (s : NameSizes). s.rows) sizes); built = subst A (sym p.of_hooks) closes.pairs };
-        looks = ap (λ (l : NamesLine). l.looks) p.of_counts ∙ looks_are_all names t cache zones clock workers namings worker_count d valid;
+        looks = ap (λ (l : NamesLine). l.looks) p.of_counts ∙ looks_are_all names t cache zones clock workers name_works worker_count d valid;
         answered = subst B (sym p.of_counts) refl;
         late = subst D (sym same) (in_time read write t.head.clock);
-        binds = subst E (sym p.of_counts) (binds_are_all names t cache zones clock workers namings worker_count d valid);
-        unbound = subst F (sym p.of_counts) (unbound_few names t cache zones clock workers namings worker_count d valid);
-        refused = subst G (sym p.of_counts) (sums_le (λ (l : SeatLedger). l.fails) (λ (g : NameWork N H C S Part). g.counts.refused) part.ledgers namings one_each (λ n l g at_l at_g. (ledger_stands n l g at_l at_g).fails));
-        by_entries = subst I (sym p.of_counts) (sums_le (λ (g : NameWork N H C S Part). g.counts.binds) (λ (l : SeatLedger). l.allocs) namings part.ledgers (sym one_each) (λ n g l at_g at_l.
-            let stand = stand_of names t cache zones clock workers namings worker_count d valid n g at_g in
+        binds = subst E (sym p.of_counts) (binds_are_all names t cache zones clock workers name_works worker_count d valid);
+        unbound = subst F (sym p.of_counts) (unbound_few names t cache zones clock workers name_works worker_count d valid);
+        refused = subst G (sym p.of_counts) (sums_le (λ (l : SeatLedger). l.fails) (λ (g : NameWork N H C S Part). g.counts.refused) part.ledgers name_works one_each (λ n l g at_l at_g. (ledger_stands n l g at_l at_g).fails));
+        by_entries = subst I (sym p.of_counts) (sums_le (λ (g : NameWork N H C S Part). g.counts.binds) (λ (l : SeatLedger). l.allocs) name_works part.ledgers (sym one_each) (λ n g l at_g at_l.
+            let stand = stand_of names t cache zones clock workers name_works worker_count d valid n g at_g in
             let own = ledger_stands n l g at_l at_g in
             bound_few g.counts.binds g.counts.refused (binds n (all_lines t)) l.requests l.allocs l.fails stand.1.counts.binds_add_up own.requests l.law.answered own.fails));
       }

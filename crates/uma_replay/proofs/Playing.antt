@@ -5,9 +5,9 @@ use Rattle.std.specs.Prelude.{reverse, slice_get}
 use Rattle.smr_clock.specs.declared.clock.Clock.{Clock}
 use Rattle.smr_clock.specs.declared.host.Host.{Ghosts}
 use Rattle.smr_clock.specs.Belongs.{IsPassOf}
-use Rattle.trace_text.specs.declared.round.Round.{Round}
 use Rattle.trace_text.specs.declared.trace.Trace.{Trace}
 use Rattle.trace_text.specs.Lines.{lines_of}
+use Rattle.trace_worker.specs.declared.gate.Gate.{Ghosts as GateGhosts}
 use Rattle.trace_worker.specs.declared.name_calls.NameCalls.{Ghosts as NameGhosts}
 use Rattle.trace_worker.specs.declared.name_work.NameWork.{NameWork}
 use Rattle.trace_worker.specs.declared.worker_run.WorkerRun.{WorkerRun}
@@ -23,9 +23,10 @@ use Rattle.trace_play.specs.Clock.{floor_of}
 use Rattle.trace_play.specs.Betweens.{DoRounds}
 use Rattle.trace_play.specs.Plays.{AllPlay}
 use Rattle.trace_play.specs.Rounds.{AllAsked}
+use Rattle.trace_play.specs.RoundsPlayed.{IsPlayed}
 use Rattle.trace_play.proofs.AfterRound.{in_crew}
 use Rattle.trace_play.proofs.RoundLists.{at_other}
-use Rattle.uma_replay.specs.Playing.{AllBack, AllPlayed, AllStay, AreFirst, HaveEnded, HavePlayed, Stays, gave_ups_of, namings_of}
+use Rattle.uma_replay.specs.Playing.{AllBack, AllPlayed, AllStay, AreFirst, HaveEnded, HavePlayed, Stays, gave_ups_of, name_works_of}
 use Rattle.uma_replay.proofs.ComingBack.{back_stay}
 use Rattle.uma_replay.proofs.WorkerRuns.{of_both}
 use Rattle.uma_replay.proofs.Staying.{all_chain, found_before, stays_chain}
@@ -47,41 +48,37 @@ module _ {H Part : Type 0} {h : Ghosts H Part} where
   backs_here clock old back comes n w at = let was = found_before old back n w comes.count at in (comes.each n was.0 w was.1 at).here
 
 module _ {N H C S Part : Type 0} {h : Ghosts H Part} (names : NameGhosts N H C S Part) (cache : C) where
-  -- of other zones and workers that are the same
-  pub play_as : (rounds : List Round) (zones zones' : List (CountedZone H Part h)) (old old' new : List (WorkerRun N H C S Part h)) → zones' ≡ zones → old' ≡ old → AllPlay names cache zones' rounds old' new → AllPlay names cache zones rounds old new
-  play_as rounds zones zones' old old' new same_zones same_old plays =
-      let P : List (CountedZone H Part h) → Type 0 = λ list. AllPlay names cache list rounds old new in
-      let Q : List (WorkerRun N H C S Part h) → Type 0 = λ list. AllPlay names cache zones' rounds list new in
-      subst P same_zones (subst Q same_old plays)
-
-  -- the same of all together
-  pub rounds_as : (rounds : List Round) (zones : List (CountedZone H Part h)) (old old' new : List (WorkerRun N H C S Part h)) → old' ≡ old → DoRounds names cache zones rounds old' new → DoRounds names cache zones rounds old new
-  rounds_as rounds zones old old' new same did =
-      let P : List (WorkerRun N H C S Part h) → Type 0 = λ list. DoRounds names cache zones rounds list new in
-      subst P same did
+  -- the workers that played as a slice of a vector lie in it again
+  pub played_back : {G V : Type 0} (gates : GateGhosts G V) (gate : G) (t : Trace) (clock : Clock H Part) (slice zones : List (CountedZone H Part h)) (lent old new back : List (WorkerRun N H C S Part h)) → slice ≡ zones → lent ≡ old → back ≡ new
+      → IsPlayed names cache gates gate t slice clock lent new → IsPlayed names cache gates gate t zones clock old back
+  played_back gates gate t clock slice zones lent old new back same_zones same_old same_new played =
+      let P : List (CountedZone H Part h) → Type 0 = λ list. IsPlayed names cache gates gate t list clock old back in
+      let Q : List (WorkerRun N H C S Part h) → Type 0 = λ list. IsPlayed names cache gates gate t slice clock list back in
+      let R : List (WorkerRun N H C S Part h) → Type 0 = λ list. IsPlayed names cache gates gate t slice clock lent list in
+      subst P same_zones (subst Q same_old (subst R (sym same_new) played))
 
   -- when all rounds are done
   pub played_of : (t : Trace) (s : Setting H Part h) (begun ended : List (WorkerRun N H C S Part h)) → IsSetUp t s → AreFirst names cache t.head.domains s.workers.items begun → length ended ≡ length begun
       → ((n : ℕ) (w : Worker H Part h) → slice_get (crew ended) n ≡ Some w → IsPassOf s.clock w.pass) → AllPlay names cache s.zones.items t.rounds begun ended
-      → AllPlayed names cache t s.zones.items s.clock (crew ended) (namings_of ended)
-  played_of t s begun ended is first count here plays n w naming at at_naming =
-      let both = of_both ended n w naming at at_naming in
-      let began = get_or begun n both.running in
-      let there = at_other begun ended n both.running count both.at in
+      → AllPlayed names cache t s.zones.items s.clock (crew ended) (name_works_of ended)
+  played_of t s begun ended is first count here plays n w name_work at at_name_work =
+      let both = of_both ended n w name_work at at_name_work in
+      let began = get_or begun n both.run in
+      let there = at_other begun ended n both.run count both.at in
       let in_list : slice_get s.workers.items n ≡ Some (worker_in began) = sym (ap (λ list. slice_get list n) first.are) ∙ in_crew n begun began there in
       record {
         begin = began;
         is_new = is.begin.each n (worker_in began) in_list;
         is_first = first.each n began there;
-        end = doing both.running;
-        plays = plays n began both.running there both.at;
+        end = doing both.run;
+        plays = plays n began both.run there both.at;
         stays = let P : Worker H Part h → Type 0 = λ v. Stays s.clock v w in subst P (sym both.is_worker) (stays_self s.clock w (here n w at));
-        naming_stays = sym both.is_naming;
+        name_work_stays = sym both.is_name_work;
       }
 
   -- all together when all rounds are done, and each is back
   pub together_of : (t : Trace) (s : Setting H Part h) (begun ended : List (WorkerRun N H C S Part h)) (back : List (Worker H Part h)) → IsSetUp t s → AreFirst names cache t.head.domains s.workers.items begun
-      → AllBack s.clock (crew ended) back → DoRounds names cache s.zones.items t.rounds begun ended → HavePlayed names cache t s.zones.items s.clock back (namings_of ended)
+      → AllBack s.clock (crew ended) back → DoRounds names cache s.zones.items t.rounds begun ended → HavePlayed names cache t s.zones.items s.clock back (name_works_of ended)
   together_of t s begun ended back is first comes did = record {
     begun = begun;
     are_new = λ n r at. (is.begin.each n (worker_in r) (sym (ap (λ list. slice_get list n) first.are) ∙ in_crew n begun r at), first.each n r at);
@@ -90,13 +87,13 @@ module _ {N H C S Part : Type 0} {h : Ghosts H Part} (names : NameGhosts N H C S
     back = back;
     comes = comes;
     stay = all_stay_self s.clock back (backs_here s.clock (crew ended) back comes);
-    namings_are = refl;
+    name_works_are = refl;
   }
 
   -- and since then
-  pub together_stay : (t : Trace) (zones : List (CountedZone H Part h)) (clock : Clock H Part) (old new : List (Worker H Part h)) (namings : List (NameWork N H C S Part)) → AllStay clock old new → HavePlayed names cache t zones clock old namings
-      → HavePlayed names cache t zones clock new namings
-  together_stay t zones clock old new namings stay played = record {
+  pub together_stay : (t : Trace) (zones : List (CountedZone H Part h)) (clock : Clock H Part) (old new : List (Worker H Part h)) (name_works : List (NameWork N H C S Part)) → AllStay clock old new → HavePlayed names cache t zones clock old name_works
+      → HavePlayed names cache t zones clock new name_works
+  together_stay t zones clock old new name_works stay played = record {
     begun = played.begun;
     are_new = played.are_new;
     ended = played.ended;
@@ -104,15 +101,15 @@ module _ {N H C S Part : Type 0} {h : Ghosts H Part} (names : NameGhosts N H C S
     back = played.back;
     comes = played.comes;
     stay = all_chain clock played.back old new played.stay stay;
-    namings_are = played.namings_are;
+    name_works_are = played.name_works_are;
   }
 
   -- and since then
-  pub played_stay : (t : Trace) (zones : List (CountedZone H Part h)) (clock : Clock H Part) (old new : List (Worker H Part h)) (namings : List (NameWork N H C S Part)) → AllStay clock old new → AllPlayed names cache t zones clock old namings
-      → AllPlayed names cache t zones clock new namings
-  played_stay t zones clock old new namings stay played n w naming at at_naming =
+  pub played_stay : (t : Trace) (zones : List (CountedZone H Part h)) (clock : Clock H Part) (old new : List (Worker H Part h)) (name_works : List (NameWork N H C S Part)) → AllStay clock old new → AllPlayed names cache t zones clock old name_works
+      → AllPlayed names cache t zones clock new name_works
+  played_stay t zones clock old new name_works stay played n w name_work at at_name_work =
       let was = found_before old new n w stay.count at in
-      let p = played n was.0 naming was.1 at_naming in
+      let p = played n was.0 name_work was.1 at_name_work in
       record {
         begin = p.begin;
         is_new = p.is_new;
@@ -120,32 +117,32 @@ module _ {N H C S Part : Type 0} {h : Ghosts H Part} (names : NameGhosts N H C S
         end = p.end;
         plays = p.plays;
         stays = stays_chain clock p.end.worker was.0 w p.stays (stay.each n was.0 w was.1 at);
-        naming_stays = p.naming_stays;
+        name_work_stays = p.name_work_stays;
       }
 
 -- ---- how often they gave up
 
 module _ {N H C S Part : Type 0} {h : Ghosts H Part} where
   -- when all rounds are done, and each is back
-  pub ended_of : (t : Trace) (clock : Clock H Part) (ended : List (WorkerRun N H C S Part h)) (back : List (Worker H Part h)) (namings : List (NameWork N H C S Part)) (gave_ups : List ℕ)
-      → AllAsked (reverse (lines_of t.rounds)) ended → AllBack clock (crew ended) back → namings ≡ namings_of ended → gave_ups ≡ gave_ups_of ended → HaveEnded t clock back namings gave_ups
-  ended_of t clock ended back namings gave_ups asked comes same_namings same_gave_ups = record {
+  pub ended_of : (t : Trace) (clock : Clock H Part) (ended : List (WorkerRun N H C S Part h)) (back : List (Worker H Part h)) (name_works : List (NameWork N H C S Part)) (gave_ups : List ℕ)
+      → AllAsked (reverse (lines_of t.rounds)) ended → AllBack clock (crew ended) back → name_works ≡ name_works_of ended → gave_ups ≡ gave_ups_of ended → HaveEnded t clock back name_works gave_ups
+  ended_of t clock ended back name_works gave_ups asked comes same_name_works same_gave_ups = record {
     ended = ended;
     asked = asked;
     stay = back_stay clock (crew ended) back comes;
-    namings_are = same_namings;
+    name_works_are = same_name_works;
     gave_ups_are = same_gave_ups;
   }
 
   -- and since then
-  pub ended_stay : (t : Trace) (clock : Clock H Part) (old new workers : List (Worker H Part h)) (before namings : List (NameWork N H C S Part)) (counts gave_ups : List ℕ) → AllStay clock old new → workers ≡ new
-      → namings ≡ before → gave_ups ≡ counts → HaveEnded t clock old before counts → HaveEnded t clock workers namings gave_ups
-  ended_stay t clock old new workers before namings counts gave_ups stay same same_namings same_gave_ups e =
+  pub ended_stay : (t : Trace) (clock : Clock H Part) (old new workers : List (Worker H Part h)) (before name_works : List (NameWork N H C S Part)) (counts gave_ups : List ℕ) → AllStay clock old new → workers ≡ new
+      → name_works ≡ before → gave_ups ≡ counts → HaveEnded t clock old before counts → HaveEnded t clock workers name_works gave_ups
+  ended_stay t clock old new workers before name_works counts gave_ups stay same same_name_works same_gave_ups e =
       let All : List (Worker H Part h) → Type 0 = λ ws. AllStay clock (crew e.ended) ws in
       record {
         ended = e.ended;
         asked = e.asked;
         stay = subst All (sym same) (all_chain clock (crew e.ended) old new e.stay stay);
-        namings_are = same_namings ∙ e.namings_are;
+        name_works_are = same_name_works ∙ e.name_works_are;
         gave_ups_are = same_gave_ups ∙ e.gave_ups_are;
       }

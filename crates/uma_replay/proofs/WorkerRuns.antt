@@ -19,23 +19,23 @@ use Rattle.trace_worker.specs.NamesStand.{NameCountsStand, NameLedgerStands, Nam
 use Rattle.trace_worker.specs.Together.{crew}
 use Rattle.trace_worker.proofs.LineCounts.{binds-none, looks-none}
 use Rattle.uma_replay.specs.Names.{first_counts}
-use Rattle.uma_replay.specs.Playing.{AreFirst, IsFirst, namings_of}
+use Rattle.uma_replay.specs.Playing.{AreFirst, IsFirst, name_works_of}
 use Rattle.uma_replay.proofs.Pushed.{at_end}
 
 module _ {N H C S Part : Type 0} {h : Ghosts H Part} where
   -- who has this worker, and this of the names
-  pub record OfBoth (runnings : List (WorkerRun N H C S Part h)) (n : ℕ) (w : Worker H Part h) (naming : NameWork N H C S Part) : Type 0 where
-    pub running : WorkerRun N H C S Part h
-    pub at : slice_get runnings n ≡ Some running
-    pub is_worker : worker_in running ≡ w
-    pub is_naming : running.naming ≡ naming
+  pub record OfBoth (runs : List (WorkerRun N H C S Part h)) (n : ℕ) (w : Worker H Part h) (name_work : NameWork N H C S Part) : Type 0 where
+    pub run : WorkerRun N H C S Part h
+    pub at : slice_get runs n ≡ Some run
+    pub is_worker : worker_in run ≡ w
+    pub is_name_work : run.name_work ≡ name_work
 
-  pub of_both : (runnings : List (WorkerRun N H C S Part h)) (n : ℕ) (w : Worker H Part h) (naming : NameWork N H C S Part) → slice_get (crew runnings) n ≡ Some w → slice_get (namings_of runnings) n ≡ Some naming → OfBoth runnings n w naming
-  of_both [] n w naming at at_naming = absurd (none-some w at)
-  of_both (r ∷ runnings) zero w naming at at_naming = record { running = r; at = refl; is_worker = same_Some (worker_in r) w at; is_naming = same_Some r.naming naming at_naming }
-  of_both (r ∷ runnings) (suc n) w naming at at_naming =
-      let later = of_both runnings n w naming at at_naming in
-      record { running = later.running; at = later.at; is_worker = later.is_worker; is_naming = later.is_naming }
+  pub of_both : (runs : List (WorkerRun N H C S Part h)) (n : ℕ) (w : Worker H Part h) (name_work : NameWork N H C S Part) → slice_get (crew runs) n ≡ Some w → slice_get (name_works_of runs) n ≡ Some name_work → OfBoth runs n w name_work
+  of_both [] n w name_work at at_name_work = absurd (none-some w at)
+  of_both (r ∷ runs) zero w name_work at at_name_work = record { run = r; at = refl; is_worker = same_Some (worker_in r) w at; is_name_work = same_Some r.name_work name_work at_name_work }
+  of_both (r ∷ runs) (suc n) w name_work at at_name_work =
+      let later = of_both runs n w name_work at at_name_work in
+      record { run = later.run; at = later.at; is_worker = later.is_worker; is_name_work = later.is_name_work }
 
 -- ---- before the first line
 
@@ -70,29 +70,29 @@ if_first slabs n refused None new = tt
 if_first slabs n refused (Some ledger) new = ledger_first slabs n refused ledger new
 
 module _ {N H C S Part : Type 0} {h : Ghosts H Part} (names : NameGhosts N H C S Part) (cache : C) where
-  pub named_first : (n late domain : ℕ) (r : WorkerRun N H C S Part h) → IsFirst names cache domain r → NamesStand names cache n [] late r.naming
+  pub named_first : (n late domain : ℕ) (r : WorkerRun N H C S Part h) → IsFirst names cache domain r → NamesStand names cache n [] late r.name_work
   named_first n late domain r is = record {
     seat = is.seat;
-    counts = counts_first n late r.naming.counts is.counts;
-    ledger = if_first (names.sizes_of cache).slabs n r.naming.counts.refused (names.counted r.naming.seat) is.fresh;
+    counts = counts_first n late r.name_work.counts is.counts;
+    ledger = if_first (names.sizes_of cache).slabs n r.name_work.counts.refused (names.counted r.name_work.seat) is.fresh;
   }
 
   -- a worker before its first turn
-  pub first_of : (seat : S) (domain : ℕ) (r : WorkerRun N H C S Part h) → names.IsSeat cache seat → (IsTrue names.serves → names.domain_of seat ≡ domain) → IfSome (names.counted seat) IsNew → names.usable seat ≡ [] → r.naming.seat ≡ seat
-      → r.naming.counts ≡ no_counts → r.asked ≡ 0 → r.gave_up ≡ 0 → is_out r.attendance ≡ false → IsFirst names cache domain r
+  pub first_of : (seat : S) (domain : ℕ) (r : WorkerRun N H C S Part h) → names.IsSeat cache seat → (IsTrue names.serves → names.domain_of seat ≡ domain) → IfSome (names.counted seat) IsNew → names.usable seat ≡ [] → r.name_work.seat ≡ seat
+      → r.name_work.counts ≡ no_counts → r.asked ≡ 0 → r.gave_up ≡ 0 → is_out r.attendance ≡ false → IsFirst names cache domain r
   first_of seat domain r of_cache own new unused same counts asked gave_up there =
       let P : S → Type 0 = λ s. names.IsSeat cache s in
       let Q : S → Type 0 = λ s. IfSome (names.counted s) IsNew in
       record { seat = subst P (sym same) of_cache; own = λ serves. ap names.domain_of same ∙ own serves; fresh = subst Q (sym same) new; unused = ap names.usable same ∙ unused; counts = counts; asked = asked; gave_up = gave_up; there = there }
 
   -- one more
-  pub first_more : (domains : ℕ) (workers : List (Worker H Part h)) (runnings all : List (WorkerRun N H C S Part h)) (w : Worker H Part h) (r : WorkerRun N H C S Part h) → AreFirst names cache domains workers runnings
-      → IsFirst names cache (length runnings % domains) r → worker_in r ≡ w → all ≡ runnings ++ r ∷ [] → AreFirst names cache domains (workers ++ w ∷ []) all
-  first_more domains workers runnings all w r are first same pushed =
+  pub first_more : (domains : ℕ) (workers : List (Worker H Part h)) (runs all : List (WorkerRun N H C S Part h)) (w : Worker H Part h) (r : WorkerRun N H C S Part h) → AreFirst names cache domains workers runs
+      → IsFirst names cache (length runs % domains) r → worker_in r ≡ w → all ≡ runs ++ r ∷ [] → AreFirst names cache domains (workers ++ w ∷ []) all
+  first_more domains workers runs all w r are first same pushed =
       let All : List (WorkerRun N H C S Part h) → Type 0 = λ list. AreFirst names cache domains (workers ++ w ∷ []) list in
       subst All (sym pushed) (record {
-        are = map-append worker_in runnings (r ∷ []) ∙ (ap (λ list. list ++ worker_in r ∷ []) are.are ∙ ap (λ x. workers ++ x ∷ []) same);
-        each = λ n x at. elim (at_end runnings r n x at) [
+        are = map-append worker_in runs (r ∷ []) ∙ (ap (λ list. list ++ worker_in r ∷ []) are.are ∙ ap (λ x. workers ++ x ∷ []) same);
+        each = λ n x at. elim (at_end runs r n x at) [
           | inl before ↦ are.each n x before
           | inr last ↦
               let P : ℕ → Type 0 = λ i. IsFirst names cache (i % domains) r in
@@ -103,6 +103,6 @@ module _ {N H C S Part : Type 0} {h : Ghosts H Part} (names : NameGhosts N H C S
 
 module _ {N H C S Part : Type 0} (names : NameGhosts N H C S Part) where
   -- names are served where the first seat counts
-  pub serve_where_counted : (namings : List (NameWork N H C S Part)) → first_counts names namings ≡ true → IsTrue names.serves
+  pub serve_where_counted : (name_works : List (NameWork N H C S Part)) → first_counts names name_works ≡ true → IsTrue names.serves
   serve_where_counted [] counts = absurd (false≢true counts)
-  serve_where_counted (naming ∷ namings) counts = sym (names.counts_where_served naming.seat) ∙ counts
+  serve_where_counted (name_work ∷ name_works) counts = sym (names.counts_where_served name_work.seat) ∙ counts

@@ -5,19 +5,16 @@ use Rattle.smr_clock.specs.declared.host.Host.{Ghosts}
 use Rattle.trace_text.specs.declared.trace.Trace.{Trace}
 use Rattle.trace_text.specs.Lines.{lines_of}
 use Rattle.trace_text.specs.Valid.{IsValid}
-use Rattle.trace_worker.specs.declared.gate.Gate.{Ghosts as GateGhosts}
 use Rattle.trace_worker.specs.declared.name_calls.NameCalls.{Ghosts as NameGhosts}
-use Rattle.trace_worker.specs.declared.name_work.NameWork.{NameWork}
 use Rattle.trace_worker.specs.declared.worker.Worker.{Worker}
 use Rattle.trace_worker.specs.Items.{CountedZone}
 use Rattle.trace_play.specs.Clock.{ReadsHands}
 use Rattle.trace_play.specs.Closes.{AllClose}
-use Rattle.uma_replay.specs.declared.ending.Stock.{Stock}
+use Rattle.uma_replay.specs.declared.hall.Hall.{Hall}
 use Rattle.uma_replay.specs.declared.hall.Played.{Played}
-use Rattle.uma_replay.specs.Asked.{AreGivenUp}
+use Rattle.uma_replay.specs.declared.stock.Stock.{Stock}
 use Rattle.uma_replay.specs.Hall.{AreDone, HallStands, NamesDone}
 use Rattle.uma_replay.specs.Playing.{AllStay, HaveEnded}
-use Rattle.uma_replay.specs.Report.{StandsFor}
 
 module _ {H P : Type 0} {h : Ghosts H P} where
   -- the hands were read, by which the workers stay done
@@ -34,21 +31,13 @@ module _ {H P : Type 0} {h : Ghosts H P} where
     pub closes : AllClose t.head zones new end.totals.censuses.items end.totals.tallies.items end.totals.deferred.items
 
 module _ {N H C S P : Type 0} {h : Ghosts H P} (names : NameGhosts N H C S P) where
-  -- What a replay by this clock made: a report that stands for the trace, and its hall. In the rounds each worker gave up waiting as the gate's visits say, and under a free gate none did.
-  pub record IsReplayOf {G V : Type 0} (gates : GateGhosts G V) (gate : G) (t : Trace) (by : Clock H P) (played : Played N H C S P h) : Type 0 where
-    pub stands : StandsFor t played.report
-    pub hall : HallStands names t played.report played.hall
-    pub clock : played.hall.clock ≡ by
-    pub free : gates.is_free gate → played.report.gave_up ≡ 0
-    pub asks : AreGivenUp gates gate t.rounds played.hall.gave_ups
-
-  -- All lines of a valid trace of few lines are done, by these zones and workers, with this of the names. So often each worker gave up waiting.
-  pub record CanEnd (t : Trace) (cache : C) (zones : List (CountedZone H P h)) (clock : Clock H P) (workers : List (Worker H P h)) (namings : List (NameWork N H C S P)) (gave_ups : List ℕ) : Type 0 where
+  -- All lines of a valid trace of few lines are done, by what the hall has. So often each worker gave up waiting.
+  pub record CanEnd (t : Trace) (hall : Hall N H C S P h) : Type 0 where
     pub valid : IsValid t
     pub few : length (lines_of t.rounds) ≤ 16777216
-    pub done : AreDone t zones clock workers
-    pub named : NamesDone names t cache zones clock workers namings
-    pub ended : HaveEnded t clock workers namings gave_ups
+    pub done : AreDone t hall.zones hall.clock hall.workers
+    pub named : NamesDone names t hall.names hall.zones hall.clock hall.workers hall.name_works
+    pub ended : HaveEnded t hall.clock hall.workers hall.name_works hall.gave_ups
 
   -- The hall and the report of a replay by this clock, in which each worker gave up so often.
   pub record IsEndOf (t : Trace) (by : Clock H P) (counts : List ℕ) (played : Played N H C S P h) : Type 0 where

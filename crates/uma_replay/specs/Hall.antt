@@ -36,26 +36,26 @@ module _ {H P : Type 0} {h : Ghosts H P} where
 
 module _ {N H C S P : Type 0} {h : Ghosts H P} (names : NameGhosts N H C S P) where
   -- All that is of the names when all lines are done.
-  pub record NamesDone (t : Trace) (cache : C) (zones : List (CountedZone H P h)) (clock : Clock H P) (workers : List (Worker H P h)) (namings : List (NameWork N H C S P)) : Type 0 where
+  pub record NamesDone (t : Trace) (cache : C) (zones : List (CountedZone H P h)) (clock : Clock H P) (workers : List (Worker H P h)) (name_works : List (NameWork N H C S P)) : Type 0 where
     -- they are served where the trace has a names line, by this clock and with that line's sizes
     pub served : names.serves ≡ is_some t.head.names
     pub of_clock : NamesOfClock names cache clock
     pub sizes : IfSome t.head.names (λ line. names.sizes_of cache ≡ sizes_for t.head line)
     -- each worker has a seat of them, and its counts stand for all lines
-    pub naming_count : length namings ≡ t.head.workers
-    pub stand : (n : ℕ) (w : Worker H P h) (naming : NameWork N H C S P) → slice_get workers n ≡ Some w → slice_get namings n ≡ Some naming → NamesStand names cache n (reverse (lines_of t.rounds)) w.late naming
+    pub name_work_count : length name_works ≡ t.head.workers
+    pub stand : (n : ℕ) (w : Worker H P h) (name_work : NameWork N H C S P) → slice_get workers n ≡ Some w → slice_get name_works n ≡ Some name_work → NamesStand names cache n (reverse (lines_of t.rounds)) w.late name_work
     -- it began new and did its own lists, line after line, with the `give` lines between them
-    pub played : AllPlayed names cache t zones clock workers namings
+    pub played : AllPlayed names cache t zones clock workers name_works
     -- all together did the rounds, and between two of them the `give` lines moved what slots held, and each `setmax` line set the limit of its zone
-    pub together : HavePlayed names cache t zones clock workers namings
+    pub together : HavePlayed names cache t zones clock workers name_works
 
   -- The hall of a trace, and its report, which is made of what the hall has: of the workers' ledgers and counts, of the kegs' censuses, and of
   -- these sums of hooks, counts of deferred items and hands.
   pub record HallStands (t : Trace) (report : Report) (hall : Hall N H C S P h) : Type 0 where
     pub done : AreDone t hall.zones hall.clock hall.workers
-    pub named : NamesDone t hall.names hall.zones hall.clock hall.workers hall.namings
+    pub named : NamesDone t hall.names hall.zones hall.clock hall.workers hall.name_works
     -- each worker ended with its count of how often it gave up waiting, and the report has the sum of these counts
-    pub ended : HaveEnded t hall.clock hall.workers hall.namings hall.gave_ups
+    pub ended : HaveEnded t hall.clock hall.workers hall.name_works hall.gave_ups
     pub gave_up : report.gave_up ≡ sum hall.gave_ups
     pub tallies : List TallySum
     pub deferred : List ℕ
@@ -69,4 +69,4 @@ module _ {N H C S P : Type 0} {h : Ghosts H P} (names : NameGhosts N H C S P) wh
     pub first : Report
     pub made_of : IsReportOf t hall.workers hall.censuses tallies deferred read write first.gave_up first
     -- behind it the zone of the names, where the trace has one
-    pub whole : IsWhole names hall.names t.head.names hall.namings first report
+    pub whole : IsWhole names hall.names t.head.names hall.name_works first report

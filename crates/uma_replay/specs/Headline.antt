@@ -242,14 +242,14 @@ module _ {N H C S P : Type 0} (names : NameGhosts N H C S P) (cache : C) where
     pub come : (line.brought ≡ []) ⊎ names.Came cache line.brought
 
   -- These are all lines of the worker. Its hits are the looks that found a value, and the fails of its seat of the names the binds that got no entry. Its seat began empty, and what it handed out is among what was brought to it, each entry as often at most.
-  pub record AreNameLines (ops : List Op) (lines : List (NameLine P)) (naming : NameWork N H C S P) : Type 0 where
+  pub record AreNameLines (ops : List Op) (lines : List (NameLine P)) (name_work : NameWork N H C S P) : Type 0 where
     pub all : map (λ (line : NameLine P). line.op) lines ≡ ops
     pub looked : All (λ (line : NameLine P). IfSome line.found (FindsBound line)) lines
-    pub hits : naming.counts.hits ≡ count_by (λ (line : NameLine P). is_some line.found) lines
+    pub hits : name_work.counts.hits ≡ count_by (λ (line : NameLine P). is_some line.found) lines
     pub bound : All (λ (line : NameLine P). IfSome line.refused (RefusesEntry line)) lines
-    pub fails : IfSome (names.counted naming.seat) (λ ledger. ledger.fails ≡ count_by (λ (line : NameLine P). is_some line.refused) lines)
+    pub fails : IfSome (names.counted name_work.seat) (λ ledger. ledger.fails ≡ count_by (λ (line : NameLine P). is_some line.refused) lines)
     pub waits : All WaitsForReaders lines
-    pub follow : Follow (λ (line : NameLine P). line.before) (λ (line : NameLine P). line.after) [] lines (names.usable naming.seat)
+    pub follow : Follow (λ (line : NameLine P). line.before) (λ (line : NameLine P). line.after) [] lines (names.usable name_work.seat)
     pub among : AreAmong (λ (line : NameLine P). line.handed) (λ (line : NameLine P). line.brought) lines
 
 -- ---- the headline
@@ -267,6 +267,6 @@ module _ {N H C S P : Type 0} {h : Ghosts H P} (names : NameGhosts N H C S P) wh
     pub trails : (n : ℕ) (w : Worker H P h) → slice_get hall.workers n ≡ Some w → AreOnTrail w
     -- "the printed totals are the sums of the seats' ledgers": of the zones of the zone lines, and of the zone of the names
     pub totals : (z : ℕ) (line : ZoneLine) → z < length t.head.zones → slice_get report.lines z ≡ Some line → IsSumOf hall.workers z line
-    pub name_totals : (line : ZoneLine) → is_some t.head.names ≡ true → slice_get report.lines (length t.head.zones) ≡ Some line → (ledgers : List SeatLedger) × AreNameLedgers names hall.namings ledgers × AreTotals ledgers line
+    pub name_totals : (line : ZoneLine) → is_some t.head.names ≡ true → slice_get report.lines (length t.head.zones) ≡ Some line → (ledgers : List SeatLedger) × AreNameLedgers names hall.name_works ledgers × AreTotals ledgers line
     -- of names: a look that found a value loaded a record in that line that binds it to its key, a bind is refused an entry only for cause, and entries wait for readers as items do
-    pub lookups : (n : ℕ) (naming : NameWork N H C S P) → slice_get hall.namings n ≡ Some naming → (lines : List (NameLine P)) × AreNameLines names hall.names (worker_ops t n) lines naming
+    pub lookups : (n : ℕ) (name_work : NameWork N H C S P) → slice_get hall.name_works n ≡ Some name_work → (lines : List (NameLine P)) × AreNameLines names hall.names (worker_ops t n) lines name_work

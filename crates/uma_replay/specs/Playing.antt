@@ -15,51 +15,40 @@ use Rattle.trace_worker.specs.Items.{CountedZone}
 use Rattle.trace_worker.specs.NameLines.{Doing, doing}
 use Rattle.trace_worker.specs.NameWork.{no_counts}
 use Rattle.trace_worker.specs.Performs.{KeepsAll}
-use Rattle.trace_worker.specs.Together.{AddsUp, AllNamed, AllStand, crew}
+use Rattle.trace_worker.specs.Together.{crew}
 use Rattle.trace_worker.specs.Worker.{phase_of, seen_of}
 use Rattle.trace_play.specs.Beginners.{IsBeginner}
 use Rattle.trace_play.specs.Betweens.{DoRounds}
-use Rattle.trace_play.specs.Plays.{AllPlay, PlaysRounds}
+use Rattle.trace_play.specs.Plays.{PlaysRounds}
 use Rattle.trace_play.specs.Rounds.{AllAsked}
 use Rattle.trace_play.specs.Clock.{floor_of}
 use Rattle.trace_play.specs.Lending.{seen_slot}
 
 module _ {N H C S P : Type 0} {h : Ghosts H P} where
   -- what these workers have of the names
-  abbrev pub namings_of : List (WorkerRun N H C S P h) → List (NameWork N H C S P)
-  namings_of runnings = map (λ (r : WorkerRun N H C S P h). r.naming) runnings
+  abbrev pub name_works_of : List (WorkerRun N H C S P h) → List (NameWork N H C S P)
+  name_works_of runs = map (λ (r : WorkerRun N H C S P h). r.name_work) runs
 
   -- how often each of them gave up waiting for its gate
   abbrev pub gave_ups_of : List (WorkerRun N H C S P h) → List ℕ
-  gave_ups_of runnings = map (λ (r : WorkerRun N H C S P h). r.gave_up) runnings
+  gave_ups_of runs = map (λ (r : WorkerRun N H C S P h). r.gave_up) runs
 
 module _ {N H C S P : Type 0} {h : Ghosts H P} (names : NameGhosts N H C S P) (cache : C) where
   -- It has a seat of the names in this memory domain, counted nothing there, and took no turn.
   pub record IsFirst (domain : ℕ) (r : WorkerRun N H C S P h) : Type 0 where
-    pub seat : names.IsSeat cache r.naming.seat
-    pub own : IsTrue names.serves → names.domain_of r.naming.seat ≡ domain
-    pub fresh : IfSome (names.counted r.naming.seat) IsNew
-    pub unused : names.usable r.naming.seat ≡ []
-    pub counts : r.naming.counts ≡ no_counts
+    pub seat : names.IsSeat cache r.name_work.seat
+    pub own : IsTrue names.serves → names.domain_of r.name_work.seat ≡ domain
+    pub fresh : IfSome (names.counted r.name_work.seat) IsNew
+    pub unused : names.usable r.name_work.seat ≡ []
+    pub counts : r.name_work.counts ≡ no_counts
     pub asked : r.asked ≡ 0
     pub gave_up : r.gave_up ≡ 0
     pub there : is_out r.attendance ≡ false
 
   -- These workers, each before its first turn. Worker n is in domain n mod `domains`.
-  pub record AreFirst (domains : ℕ) (workers : List (Worker H P h)) (runnings : List (WorkerRun N H C S P h)) : Type 0 where
-    pub are : crew runnings ≡ workers
-    pub each : (n : ℕ) (r : WorkerRun N H C S P h) → slice_get runnings n ≡ Some r → IsFirst (n % domains) r
-
-module _ {N H C S P : Type 0} {h : Ghosts H P} (names : NameGhosts N H C S P) (cache : C) where
-  -- The workers when all rounds of the trace are done, as they came to be from those before.
-  pub record AreEnded (t : Trace) (zones : List (CountedZone H P h)) (clock : Clock H P) (old new : List (WorkerRun N H C S P h)) : Type 0 where
-    pub count : length new ≡ length old
-    pub stand : AllStand zones clock (reverse (lines_of t.rounds)) (crew new)
-    pub adds_up : (z : ℕ) → AddsUp z (crew new)
-    pub named : AllNamed names cache (reverse (lines_of t.rounds)) new
-    pub plays : AllPlay names cache zones t.rounds old new
-    pub rounds : DoRounds names cache zones t.rounds old new
-    pub asked : AllAsked (reverse (lines_of t.rounds)) new
+  pub record AreFirst (domains : ℕ) (workers : List (Worker H P h)) (runs : List (WorkerRun N H C S P h)) : Type 0 where
+    pub are : crew runs ≡ workers
+    pub each : (n : ℕ) (r : WorkerRun N H C S P h) → slice_get runs n ≡ Some r → IsFirst (n % domains) r
 
 module _ {H P : Type 0} {h : Ghosts H P} where
   -- The worker stays as it was, but for what its pass learns and for the tokens of its items.
@@ -91,31 +80,31 @@ module _ {H P : Type 0} {h : Ghosts H P} where
 
 module _ {N H C S P : Type 0} {h : Ghosts H P} where
   -- The workers that ended, back where they were away, stay since then as these, with this of the names. So often each of them gave up waiting for its gate, by its own count: at most once before each of its operations.
-  pub record HaveEnded (t : Trace) (clock : Clock H P) (workers : List (Worker H P h)) (namings : List (NameWork N H C S P)) (gave_ups : List ℕ) : Type 0 where
+  pub record HaveEnded (t : Trace) (clock : Clock H P) (workers : List (Worker H P h)) (name_works : List (NameWork N H C S P)) (gave_ups : List ℕ) : Type 0 where
     pub ended : List (WorkerRun N H C S P h)
     pub asked : AllAsked (reverse (lines_of t.rounds)) ended
     pub stay : AllStay clock (crew ended) workers
-    pub namings_are : namings ≡ namings_of ended
+    pub name_works_are : name_works ≡ name_works_of ended
     pub gave_ups_are : gave_ups ≡ gave_ups_of ended
 
 module _ {N H C S P : Type 0} {h : Ghosts H P} (names : NameGhosts N H C S P) (cache : C) where
   -- Worker `n` and what it has of the names when all lines are done: it began new, with its seats in its domain, that of the names too, it did the rounds one after another, and since then it stays.
-  pub record HasPlayed (t : Trace) (zones : List (CountedZone H P h)) (clock : Clock H P) (n : ℕ) (w : Worker H P h) (naming : NameWork N H C S P) : Type 0 where
+  pub record HasPlayed (t : Trace) (zones : List (CountedZone H P h)) (clock : Clock H P) (n : ℕ) (w : Worker H P h) (name_work : NameWork N H C S P) : Type 0 where
     pub begin : WorkerRun N H C S P h
     pub is_new : IsBeginner zones clock (n % t.head.domains) (worker_in begin)
     pub is_first : IsFirst names cache (n % t.head.domains) begin
     pub end : Doing N H C S P h
     pub plays : PlaysRounds names cache zones n (doing begin) t.rounds end
     pub stays : Stays clock end.worker w
-    pub naming_stays : naming ≡ end.naming
+    pub name_work_stays : name_work ≡ end.name_work
 
   -- each worker has
   abbrev pub AllPlayed : Trace → List (CountedZone H P h) → Clock H P → List (Worker H P h) → List (NameWork N H C S P) → Type 0
-  AllPlayed t zones clock workers namings = (n : ℕ) (w : Worker H P h) (naming : NameWork N H C S P) → slice_get workers n ≡ Some w → slice_get namings n ≡ Some naming → HasPlayed t zones clock n w naming
+  AllPlayed t zones clock workers name_works = (n : ℕ) (w : Worker H P h) (name_work : NameWork N H C S P) → slice_get workers n ≡ Some w → slice_get name_works n ≡ Some name_work → HasPlayed t zones clock n w name_work
 
 module _ {N H C S P : Type 0} {h : Ghosts H P} (names : NameGhosts N H C S P) (cache : C) where
   -- All workers together: those that began new, each with its seats in its domain, did the rounds of the trace one after another, with the `give` and `setmax` lines between two rounds in their order, and stay since then as these.
-  pub record HavePlayed (t : Trace) (zones : List (CountedZone H P h)) (clock : Clock H P) (workers : List (Worker H P h)) (namings : List (NameWork N H C S P)) : Type 0 where
+  pub record HavePlayed (t : Trace) (zones : List (CountedZone H P h)) (clock : Clock H P) (workers : List (Worker H P h)) (name_works : List (NameWork N H C S P)) : Type 0 where
     pub begun : List (WorkerRun N H C S P h)
     pub are_new : (n : ℕ) (r : WorkerRun N H C S P h) → slice_get begun n ≡ Some r → IsBeginner zones clock (n % t.head.domains) (worker_in r) × IsFirst names cache (n % t.head.domains) r
     pub ended : List (WorkerRun N H C S P h)
@@ -124,4 +113,4 @@ module _ {N H C S P : Type 0} {h : Ghosts H P} (names : NameGhosts N H C S P) (c
     pub back : List (Worker H P h)
     pub comes : AllBack clock (crew ended) back
     pub stay : AllStay clock back workers
-    pub namings_are : namings ≡ namings_of ended
+    pub name_works_are : name_works ≡ name_works_of ended

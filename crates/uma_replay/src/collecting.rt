@@ -19,14 +19,14 @@ use zone_stats::{Ledgers, SeatLedger, ZoneLedgers};
 pub fn collect<N: NameCalls>(
     alloc: Global,
     workers: &Workers<N::H>,
-    namings: &NameWorks<N>,
+    name_works: &NameWorks<N>,
 ) -> Result<Ledgers, Memory>
     requires { (n : ℕ) (w : Worker N.H N.H.Part N.H.Host) → slice_get workers.now n ≡ Some w → length w.seats.items ≡ zone_count workers.now }
-    ensures { IfOk result (AreAllLedgers N.NameCalls (first_counts N.NameCalls namings.now) (zone_count workers.now) workers.now namings.now) }
+    ensures { IfOk result (AreAllLedgers N.NameCalls (first_counts N.NameCalls name_works.now) (zone_count workers.now) workers.now name_works.now) }
 {
     let ledgers = collect_zones(alloc, seat_count(workers.as_slice()), workers)?;
-    if do_count(namings.as_slice()) {
-        let names = name_ledgers(alloc, namings.as_slice())?;
+    if do_count(name_works.as_slice()) {
+        let names = name_ledgers(alloc, name_works.as_slice())?;
         return with_last(ledgers, names);
     }
     Ok(ledgers)

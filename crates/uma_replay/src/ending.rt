@@ -1,7 +1,7 @@
 //! The end of a replay, when all lines are done.
 ghost use Rattle.std.specs.Prelude.{◌≡◌, ◌<◌, ◌^◌, ℕ, IfOk, Some, slice_get, sum};
 ghost use Rattle.smr_clock.specs.Belongs.{IsPassOf};
-ghost use Rattle.trace_worker.specs.Clocks.{window_of as window_for, KnowsBeginning};
+ghost use Rattle.trace_worker.specs.Clocks.{KnowsBeginning};
 ghost use Rattle.trace_text.specs.Valid.{IsValid};
 ghost use Rattle.trace_worker.specs.declared.worker_run.WorkerRun.{WorkerRun};
 ghost use Rattle.trace_worker.specs.Attendance.{worker_in};
@@ -10,62 +10,49 @@ ghost use Rattle.trace_play.specs.Clock.{ReadsHands};
 ghost use Rattle.trace_play.specs.Closes.{AllClose};
 ghost use Rattle.uma_replay.specs.Ending.{CanEnd, HasLooked, IsEndOf, TakesStock};
 ghost use Rattle.uma_replay.specs.Hall.{AreDone};
-ghost use Rattle.uma_replay.specs.Playing.{AllBack, gave_ups_of, namings_of};
+ghost use Rattle.uma_replay.specs.Playing.{AllBack, gave_ups_of, name_works_of};
 
 use crate::Memory;
-use crate::hall::{GaveUps, Hall, NameWorks, Played, Workers, ZoneList};
+use crate::hall::{GaveUps, Hall, NameWorks, Played, Workers};
+use crate::stock::Stock;
 use crate::summing_up::report_of;
 use crate::whole::whole_report;
 use listed::Listed;
 use smr_clock::{Clock, Host, Note};
 use std::alloc::Global;
 use std::sync::Wait;
-use trace_play::{Totals, read_hands, take_totals};
-use trace_text::{ClockHead, Trace};
+use trace_play::{clock_head, read_hands, take_totals};
+use trace_text::Trace;
 use trace_worker::{CountedZone, NameCalls, NameWork, Worker, WorkerRun};
 
-/// What the clock, the zones and the workers come to.
-#[derive(Drop)]
-pub(crate) struct Stock {
-    pub(crate) read: u64,
-    pub(crate) write: u64,
-    pub(crate) totals: Totals,
-}
-
-/// Ends a replay: reads the clock's hands, takes a census of each keg, and makes the report.
+/// Ends a replay whose hall has no censuses yet: reads the clock's hands, takes a census of each keg, and makes the report.
 pub(crate) fn close<N: NameCalls, R: Wait>(
     rt: &R,
     alloc: Global,
     trace: &Trace,
     names: &N,
-    cache: N::Cache,
-    clock: Clock<N::H>,
-    zones: Vec<CountedZone<N::H>>,
-    mut workers: Vec<Worker<N::H>>,
-    namings: Vec<NameWork<N>>,
-    gave_ups: Vec<u64>,
     begun: Note<N::H>,
+    hall: Hall<N>,
 ) -> Result<Played<N>, Memory>
-    requires can { CanEnd N.NameCalls trace.now cache zones.items clock workers.items namings.items gave_ups.items }
-    requires begun { KnowsBeginning clock begun }
-    ensures { IfOk result (IsEndOf N.NameCalls trace.now clock gave_ups.items) }
+    requires can { CanEnd N.NameCalls trace.now hall }
+    requires begun { KnowsBeginning hall.clock begun }
+    ensures { IfOk result (IsEndOf N.NameCalls trace.now hall.clock hall.gave_ups) }
 {
-    let ended = take_stock(
+    let mut workers = hall.workers.into_vec();
+    let stock = take_stock(
         rt,
         alloc,
         trace,
-        &clock,
-        zones.as_slice(),
+        &hall.clock,
+        hall.zones.as_slice(),
         workers.as_mut_slice(),
         begun,
     )?;
-    let zones = Listed::from_vec(zones);
-    let workers = Listed::from_vec(workers);
-    let namings = Listed::from_vec(namings);
-    let gave_ups = Listed::from_vec(gave_ups);
-    reported(
-        rt, alloc, trace, names, cache, clock, zones, workers, namings, gave_ups, ended,
-    )
+    let hall = Hall {
+        workers: Listed::from_vec(workers),
+        ..hall
+    };
+    reported(rt, alloc, trace, names, hall, stock)
 }
 
 /// Reads the clock's hands, and takes a census of each keg.
@@ -105,68 +92,31 @@ fn closing_hands<H: Host>(
     requires begun { KnowsBeginning clock.now begun }
     ensures { HasLooked trace.now zones.now clock.now workers.old workers.new result.0 result.1 }
 {
-    let window = window_of(trace.head.clock);
+    let window = clock_head(&trace.head.clock).window;
     read_hands(clock, workers, begun, window)
 }
 
-/// The report of what the replay came to, with all that it leaves behind.
+/// The report of what the replay came to, with its hall.
 fn reported<N: NameCalls, R: Wait>(
     rt: &R,
     alloc: Global,
     trace: &Trace,
     names: &N,
-    cache: N::Cache,
-    clock: Clock<N::H>,
-    zones: ZoneList<N::H>,
-    workers: Workers<N::H>,
-    namings: NameWorks<N>,
-    gave_ups: GaveUps,
-    ended: Stock,
+    mut hall: Hall<N>,
+    stock: Stock,
 ) -> Result<Played<N>, Memory>
-    requires can { CanEnd N.NameCalls trace.now cache zones clock workers namings gave_ups }
-    requires hands { ReadsHands clock workers ended.read ended.write }
-    requires closes { AllClose trace.now.head zones workers ended.totals.censuses.items ended.totals.tallies.items ended.totals.deferred.items }
-    ensures { IfOk result (IsEndOf N.NameCalls trace.now clock gave_ups) }
+    requires can { CanEnd N.NameCalls trace.now hall }
+    requires hands { ReadsHands hall.clock hall.workers stock.read stock.write }
+    requires closes { AllClose trace.now.head hall.zones hall.workers stock.totals.censuses.items stock.totals.tallies.items stock.totals.deferred.items }
+    ensures { IfOk result (IsEndOf N.NameCalls trace.now hall.clock hall.gave_ups) }
 {
-    let Stock {
-        read,
-        write,
-        totals,
-    } = ended;
-    let gave_up = all_gave_up(gave_ups.as_slice());
-    let first = report_of(
-        alloc,
-        trace,
-        &workers,
-        totals.censuses.as_slice(),
-        totals.tallies.as_slice(),
-        totals.deferred.as_slice(),
-        read,
-        write,
-        gave_up,
-    )?;
+    let gave_up = all_gave_up(hall.gave_ups.as_slice());
+    let first = report_of(alloc, trace, &hall.workers, &stock, gave_up)?;
     let line = &trace.head.names;
-    let report = whole_report(rt, alloc, line, names, &cache, namings.as_slice(), first)?;
-    let hall = Hall {
-        zones,
-        clock,
-        names: cache,
-        workers,
-        namings,
-        gave_ups,
-        censuses: Listed::from_vec(totals.censuses),
-    };
+    let name_works = hall.name_works.as_slice();
+    let report = whole_report(rt, alloc, line, names, &hall.names, name_works, first)?;
+    hall.censuses = Listed::from_vec(stock.totals.censuses);
     Ok(Played { report, hall })
-}
-
-/// How far the write hand of a trace's clock may be above its read hand.
-fn window_of(head: Option<ClockHead>) -> u64
-    ensures { result ≡ window_for head }
-{
-    match head {
-        Some(clock) => clock.window,
-        None => 1024,
-    }
 }
 
 /// How often all workers gave up waiting for their gate.
@@ -181,26 +131,30 @@ fn all_gave_up(gave_ups: &[u64]) -> u64
 pub(crate) fn dismiss<N: NameCalls>(
     alloc: Global,
     clock: &Clock<N::H>,
-    runnings: Vec<WorkerRun<N>>,
-) -> Result<(Vec<Worker<N::H>>, Vec<NameWork<N>>, Vec<u64>), Memory>
-    requires here { (n : ℕ) (r : WorkerRun N N.H N.Cache N.Seat N.H.Part N.H.Host) → slice_get runnings.items n ≡ Some r → IsPassOf clock.now (worker_in r).pass }
-    ensures workers { IfOk result (λ (workers, namings, gave_ups). AllBack clock.now (crew runnings.items) workers.items) }
-    ensures namings { IfOk result (λ (workers, namings, gave_ups). namings.items ≡ namings_of runnings.items) }
-    ensures gave_ups { IfOk result (λ (workers, namings, gave_ups). gave_ups.items ≡ gave_ups_of runnings.items) }
+    runs: Vec<WorkerRun<N>>,
+) -> Result<(Workers<N::H>, NameWorks<N>, GaveUps), Memory>
+    requires here { (n : ℕ) (r : WorkerRun N N.H N.Cache N.Seat N.H.Part N.H.Host) → slice_get runs.items n ≡ Some r → IsPassOf clock.now (worker_in r).pass }
+    ensures workers { IfOk result (λ (workers, name_works, gave_ups). AllBack clock.now (crew runs.items) workers) }
+    ensures name_works { IfOk result (λ (workers, name_works, gave_ups). name_works ≡ name_works_of runs.items) }
+    ensures gave_ups { IfOk result (λ (workers, name_works, gave_ups). gave_ups ≡ gave_ups_of runs.items) }
 {
-    let mut workers = Vec::with_capacity(alloc, runnings.len())?;
-    let mut namings = Vec::with_capacity(alloc, runnings.len())?;
-    let mut gave_ups = Vec::with_capacity(alloc, runnings.len())?;
-    for running in runnings {
+    let mut workers = Vec::with_capacity(alloc, runs.len())?;
+    let mut name_works = Vec::with_capacity(alloc, runs.len())?;
+    let mut gave_ups = Vec::with_capacity(alloc, runs.len())?;
+    for worker_run in runs {
         let WorkerRun {
             attendance,
-            naming,
+            name_work,
             gave_up,
             ..
-        } = running;
+        } = worker_run;
         workers.push(attendance.into_worker(clock))?;
-        namings.push(naming)?;
+        name_works.push(name_work)?;
         gave_ups.push(gave_up)?;
     }
-    Ok((workers, namings, gave_ups))
+    Ok((
+        Listed::from_vec(workers),
+        Listed::from_vec(name_works),
+        Listed::from_vec(gave_ups),
+    ))
 }

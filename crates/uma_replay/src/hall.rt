@@ -28,7 +28,7 @@ pub struct Hall<N: NameCalls> {
     pub clock: Clock<N::H>,
     pub names: N::Cache,
     pub workers: Workers<N::H>,
-    pub namings: NameWorks<N>,
+    pub name_works: NameWorks<N>,
     pub gave_ups: GaveUps,
     pub censuses: CensusList,
 }

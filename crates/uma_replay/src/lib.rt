@@ -1,9 +1,9 @@
 //! The replay of a trace, and what its report has to do with the trace.
 //!
-//! One crate a part: trace_worker knows one worker, trace_play how all begins and each round's threads, trace_totals what
-//! it comes to, and this one puts them together and proves the report.
+//! One crate a part: trace_worker knows one worker, trace_play how all begins, each round's threads and what it comes to,
+//! and this one puts them together and proves the report.
 //!
-//! - What a worker has of the names stands in a list beside the workers (`Hall::namings`), so what is said of workers over
+//! - What a worker has of the names stands in a list beside the workers (`Hall::name_works`), so what is said of workers over
 //!   zones speaks of no names. Where names are served its seat of them is of the worker's memory domain when it begins
 //!   (`IsFirst`), and each line leaves it there. The report is that of the zone lines, as without names, and the zone of
 //!   names behind it (`with_names`).
@@ -28,6 +28,7 @@ mod numbering;
 mod replaying;
 mod reporting;
 mod starting;
+mod stock;
 mod summing_up;
 mod whole;
 

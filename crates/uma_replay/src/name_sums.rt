@@ -36,68 +36,68 @@ impl NameCount {
 }
 
 /// What all workers counted of it together.
-fn total<N: NameCalls>(count: NameCount, namings: &[NameWork<N>]) -> u64
-    requires { total_of count namings.now < 2 ^ 64 }
-    ensures { result ≡ total_of count namings.now }
+fn total<N: NameCalls>(count: NameCount, name_works: &[NameWork<N>]) -> u64
+    requires { total_of count name_works.now < 2 ^ 64 }
+    ensures { result ≡ total_of count name_works.now }
 {
     let mut total = 0;
-    for number in 0..namings.len() {
-        total += count.of(namings[number].counts);
+    for number in 0..name_works.len() {
+        total += count.of(name_works[number].counts);
     }
     total
 }
 
 /// The names line of a report.
-pub(crate) fn names_line<N: NameCalls>(namings: &[NameWork<N>]) -> NamesLine
-    requires { CountsFit namings.now }
-    ensures { result ≡ line_of namings.now }
+pub(crate) fn names_line<N: NameCalls>(name_works: &[NameWork<N>]) -> NamesLine
+    requires { CountsFit name_works.now }
+    ensures { result ≡ line_of name_works.now }
 {
-    let hits = total(NameCount::Hits, namings);
-    let misses = total(NameCount::Misses, namings);
-    let late = total(NameCount::Late, namings);
+    let hits = total(NameCount::Hits, name_works);
+    let misses = total(NameCount::Misses, name_works);
+    let late = total(NameCount::Late, name_works);
     NamesLine {
         looks: hits + misses + late,
         hits,
         misses,
         late,
-        binds: total(NameCount::Binds, namings),
-        unbound: total(NameCount::Unbound, namings),
-        refused: total(NameCount::Refused, namings),
+        binds: total(NameCount::Binds, name_works),
+        unbound: total(NameCount::Unbound, name_works),
+        refused: total(NameCount::Refused, name_works),
     }
 }
 
 /// The ledgers of the workers' seats of the names, where names are served.
 pub(crate) fn name_ledgers<N: NameCalls>(
     alloc: Global,
-    namings: &[NameWork<N>],
+    name_works: &[NameWork<N>],
 ) -> Result<ZoneLedgers, Memory>
     requires { IsTrue N.serves }
-    ensures { IfOk result (AreNameLedgers N.NameCalls namings.now) }
+    ensures { IfOk result (AreNameLedgers N.NameCalls name_works.now) }
 {
-    let mut ledgers = Vec::with_capacity(alloc, namings.len())?;
-    for number in 0..namings.len() {
-        ledgers.push(name_ledger(&namings[number]))?;
+    let mut ledgers = Vec::with_capacity(alloc, name_works.len())?;
+    for number in 0..name_works.len() {
+        ledgers.push(name_ledger(&name_works[number]))?;
     }
     Ok(Listed::from_vec(ledgers))
 }
 
 /// The ledger of a worker's seat of the names.
-fn name_ledger<N: NameCalls>(naming: &NameWork<N>) -> SeatLedger
+fn name_ledger<N: NameCalls>(name_work: &NameWork<N>) -> SeatLedger
     requires { IsTrue N.serves }
-    ensures { N.counted naming.now.seat ≡ Some result }
+    ensures { N.counted name_work.now.seat ≡ Some result }
 {
-    match N::ledger(&naming.seat) {
+    match N::ledger(&name_work.seat) {
         Some(ledger) => ledger,
         None => unreachable!(),
     }
 }
 
 /// Whether the first seat counts, as each does where names are served.
-pub(crate) fn do_count<N: NameCalls>(namings: &[NameWork<N>]) -> bool
-    ensures { result ≡ first_counts N.NameCalls namings.now }
+pub(crate) fn do_count<N: NameCalls>(name_works: &[NameWork<N>]) -> bool
+    ensures { result ≡ first_counts N.NameCalls name_works.now }
 {
-    match namings.first() {
-        Some(naming) => N::ledger(&naming.seat).is_some(),
+    match name_works.first() {
+        Some(name_work) => N::ledger(&name_work.seat).is_some(),
         None => false,
     }
 }

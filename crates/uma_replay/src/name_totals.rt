@@ -30,14 +30,14 @@ pub(crate) fn take_names<N: NameCalls, R: Wait>(
     alloc: Global,
     names: &N,
     cache: &N::Cache,
-    namings: &[NameWork<N>],
+    name_works: &[NameWork<N>],
 ) -> Result<NameTotals, Memory>
     requires serves { IsTrue N.serves }
-    requires fit { SeatsFit N.NameCalls cache.now namings.now }
-    ensures { IfOk result (λ t. NamesClose N.NameCalls cache.now namings.now t.census t.tally t.deferred) }
+    requires fit { SeatsFit N.NameCalls cache.now name_works.now }
+    ensures { IfOk result (λ t. NamesClose N.NameCalls cache.now name_works.now t.census t.tally t.deferred) }
 {
     let census = names.census(cache, rt, alloc)?;
-    let sums = name_sums(rt, names, cache, namings)?;
+    let sums = name_sums(rt, names, cache, name_works)?;
     let tally = with_sums(&census, &sums);
     Ok(NameTotals {
         census,
@@ -51,26 +51,26 @@ fn name_sums<N: NameCalls, R: Wait>(
     rt: &R,
     names: &N,
     cache: &N::Cache,
-    namings: &[NameWork<N>],
+    name_works: &[NameWork<N>],
 ) -> Result<Sums, Memory>
     requires serves { IsTrue N.serves }
-    requires fit { SeatsFit N.NameCalls cache.now namings.now }
-    ensures { IfOk result (AreNameSums N.NameCalls cache.now namings.now) }
+    requires fit { SeatsFit N.NameCalls cache.now name_works.now }
+    ensures { IfOk result (AreNameSums N.NameCalls cache.now name_works.now) }
 {
-    let seats = seat_sums(namings);
+    let seats = seat_sums(name_works);
     let mut sums = names.sums(cache, rt)?;
     sums.add_sums(seats);
     Ok(sums)
 }
 
 /// The same of those that the workers' seats hold.
-fn seat_sums<N: NameCalls>(namings: &[NameWork<N>]) -> Sums
-    requires { length namings.now ≤ 16 }
-    ensures { AreSeatSums N.NameCalls (length namings.now) namings.now result }
+fn seat_sums<N: NameCalls>(name_works: &[NameWork<N>]) -> Sums
+    requires { length name_works.now ≤ 16 }
+    ensures { AreSeatSums N.NameCalls (length name_works.now) name_works.now result }
 {
     let mut sums = Sums::none();
-    for naming in namings {
-        sums.add_sums(N::seat_sums(&naming.seat));
+    for name_work in name_works {
+        sums.add_sums(N::seat_sums(&name_work.seat));
     }
     sums
 }

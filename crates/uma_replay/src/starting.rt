@@ -20,13 +20,13 @@ pub(crate) fn begin<N: NameCalls, R: Wait>(
     requires domains { IsWithin 1 4 domains }
     requires few { length workers.items ≤ 16 }
     requires served { IsTrue N.serves → domains ≤ (N.sizes_of cache.now).domains }
-    ensures { IfOk result (λ runnings. AreFirst N.NameCalls cache.now domains workers.items runnings.items) }
+    ensures { IfOk result (λ runs. AreFirst N.NameCalls cache.now domains workers.items runs.items) }
 {
-    let mut runnings = Vec::with_capacity(alloc, workers.len())?;
+    let mut runs = Vec::with_capacity(alloc, workers.len())?;
     for worker in workers {
-        let domain = runnings.len() as u8 % domains;
+        let domain = runs.len() as u8 % domains;
         let seat = names.seat(cache, rt, alloc, domain)?;
-        runnings.push(WorkerRun::new(worker, seat))?;
+        runs.push(WorkerRun::new(worker, seat))?;
     }
-    Ok(runnings)
+    Ok(runs)
 }

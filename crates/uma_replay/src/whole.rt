@@ -15,6 +15,9 @@ use trace_text::{NamesHead, ZoneHead, ZoneKind};
 use trace_worker::{NameCalls, NameWork};
 use zone_stats::Report;
 
+/// The bytes that an entry of names takes in its slab.
+const ENTRY_SIZE: u32 = 64;
+
 /// The whole report, by that of the zones of the zone lines. Waits where a trace with names has to.
 pub(crate) fn whole_report<N: NameCalls, R: Wait>(
     rt: &R,
@@ -22,16 +25,16 @@ pub(crate) fn whole_report<N: NameCalls, R: Wait>(
     line: &Option<NamesHead>,
     names: &N,
     cache: &N::Cache,
-    namings: &[NameWork<N>],
+    name_works: &[NameWork<N>],
     first: Report,
 ) -> Result<Report, Memory>
     requires serves { N.serves ≡ is_some line.now }
-    requires fit { SeatsFit N.NameCalls cache.now namings.now }
-    requires counts { CountsFit namings.now }
-    ensures { IfOk result (IsWhole N.NameCalls cache.now line.now namings.now first) }
+    requires fit { SeatsFit N.NameCalls cache.now name_works.now }
+    requires counts { CountsFit name_works.now }
+    ensures { IfOk result (IsWhole N.NameCalls cache.now line.now name_works.now first) }
 {
     match line {
-        Some(line) => named_report(rt, alloc, line, names, cache, namings, first),
+        Some(line) => named_report(rt, alloc, line, names, cache, name_works, first),
         None => Ok(first),
     }
 }
@@ -44,16 +47,16 @@ fn named_report<N: NameCalls, R: Wait>(
     line: &NamesHead,
     names: &N,
     cache: &N::Cache,
-    namings: &[NameWork<N>],
+    name_works: &[NameWork<N>],
     first: Report,
 ) -> Result<Report, Memory>
     requires serves { IsTrue N.serves }
-    requires fit { SeatsFit N.NameCalls cache.now namings.now }
-    requires counts { CountsFit namings.now }
-    ensures { IfOk result (HasNames N.NameCalls cache.now line.now namings.now first) }
+    requires fit { SeatsFit N.NameCalls cache.now name_works.now }
+    requires counts { CountsFit name_works.now }
+    ensures { IfOk result (HasNames N.NameCalls cache.now line.now name_works.now first) }
 {
-    let totals = take_names(rt, alloc, names, cache, namings)?;
-    let part = names_part(alloc, line, namings, &totals)?;
+    let totals = take_names(rt, alloc, names, cache, name_works)?;
+    let part = names_part(alloc, line, name_works, &totals)?;
     with_names(first, part)
 }
 
@@ -61,21 +64,21 @@ fn named_report<N: NameCalls, R: Wait>(
 fn names_part<N: NameCalls>(
     alloc: Global,
     line: &NamesHead,
-    namings: &[NameWork<N>],
+    name_works: &[NameWork<N>],
     totals: &NameTotals,
 ) -> Result<NamesPart, Memory>
     requires serves { IsTrue N.serves }
-    requires counts { CountsFit namings.now }
-    ensures { IfOk result (IsNamesPart N.NameCalls line.now namings.now totals.now.census totals.now.tally totals.now.deferred) }
+    requires counts { CountsFit name_works.now }
+    ensures { IfOk result (IsNamesPart N.NameCalls line.now name_works.now totals.now.census totals.now.tally totals.now.deferred) }
 {
-    let ledgers = name_ledgers(alloc, namings)?;
+    let ledgers = name_ledgers(alloc, name_works)?;
     let zone = entry_zone(line);
     check_ledgers(&[zone.limit], ledgers.as_slice())?;
     Ok(NamesPart {
         line: zone_line(&zone, zone.limit, 0, &ledgers, &totals.census),
         hooks: hook_line(&zone, 0, &totals.tally, totals.deferred),
         keg: keg_line(&zone, &totals.census, &totals.tally),
-        counts: names_line(namings),
+        counts: names_line(name_works),
         ledgers,
     })
 }
@@ -87,7 +90,7 @@ fn entry_zone(line: &NamesHead) -> ZoneHead
     ZoneHead {
         name: line.name.copied(),
         parent: None,
-        size: 64,
+        size: ENTRY_SIZE,
         slabs: line.slabs,
         bucket: line.bucket,
         limit: 0,

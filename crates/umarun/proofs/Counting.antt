@@ -1,7 +1,7 @@
 -- What a bind and an unbind of a cache count, as the lines of names need it.
 use Rattle.std.proofs.Common.{◌≡◌, ◌≢◌, ℕ, zero, suc, ◌<◌, ◌≤◌, Option, None, Some, Result, Ok, Err, refl, sym, ap, subst, ◌∙◌, inl, inr, arith}
 use Rattle.std.proofs.lemmas.Option.{none-some, same_Some}
-use Rattle.std.specs.Prelude.{Bool, false, IfNone, IfOk, IfSome, OnOk, is_some}
+use Rattle.std.specs.Prelude.{◌⊎◌, Bool, false, IfNone, IfOk, IfSome, OnOk, is_some}
 use Rattle.zone_stats.specs.declared.ledger.SeatLedger.{SeatLedger}
 use Rattle.zone_stats.specs.declared.refusal.Refusal.{Refusal}
 use Rattle.zone_stats.specs.declared.refusal.Refusal.TheVariants.{AtLimit, Reserved, Full, Init, Ctor}
@@ -17,7 +17,7 @@ use Rattle.name_cache.specs.Raised.{refusal_of}
 use Rattle.name_cache.specs.declared.bind_refused.BindRefused.{BindRefused}
 use Rattle.name_cache.specs.declared.bind_refused.BindRefused.TheVariants.{Zone, Worn, Unripe, Memory}
 use Rattle.name_cache.specs.declared.receipt.Receipt.{Receipt}
-use Rattle.name_cache.specs.Bind.{Binds, RefusesToBind, HandsBack, HasRoomToBind as HasRoomInCache}
+use Rattle.name_cache.specs.Bind.{Binds, FindsUnripe, FindsWorn, RefusesToBind, HandsBack, HasRoomToBind as HasRoomInCache}
 use Rattle.name_cache.specs.Deferred.{FreesBound}
 use Rattle.name_cache.specs.Unbind.{Unbinds, FindsUnbound}
 use Rattle.name_cache.specs.Types.{ZoneOfEntries, EntrySeat, LiveEntry}
@@ -53,13 +53,17 @@ module _ (zone : ZoneOfEntries) (no_reserve : zone_reserve zone ≡ 0) where
   fits (Init code) names = code_of names.2 (names.1).entry.words code names.4
   fits (Ctor code) names = absurd names
 
-  given_back : (v' : View Part) (old new : EntrySeat) (handed freed : LiveEntry) → HandsBack zone old handed freed v' new → CountsGivenBack (ledger_of old) (ledger_of new)
-  given_back v' old new handed freed back = record { between = ledger_of back.after; alloc = back.takes.counted; back = (_, back.frees.free) }
+  given_back : (Cause : Type 0) (v' : View Part) (old new : EntrySeat) (handed freed : LiveEntry) → Cause → HandsBack zone old handed freed v' new → CountsGivenBack Cause (ledger_of old) (ledger_of new)
+  given_back Cause v' old new handed freed cause back = record { cause = cause; between = ledger_of back.after; alloc = back.takes.counted; back = (_, back.frees.free) }
 
-  pub refusal_counts : (rows key : ℕ) (v v' : View Part) (old new : EntrySeat) (refused : BindRefused) → RefusesToBind zone rows key v old v' new refused → refused ≢ Memory → BindCounts (zone_cap zone) (λ (refusal : Refusal). IsOneRefusal zone false refusal) false (ledger_of old) (ledger_of new)
+  abbrev IsTurnedBack : ℕ → ℕ → View Part → EntrySeat → View Part → EntrySeat → Type 0
+  IsTurnedBack rows key v old v' new = ((read stamp : ℕ) × FindsUnripe zone rows key v old read stamp v' new) ⊎ ((row version : ℕ) × FindsWorn zone rows key v old row version v' new)
+
+  pub refusal_counts : (rows key : ℕ) (v v' : View Part) (old new : EntrySeat) (refused : BindRefused) → RefusesToBind zone rows key v old v' new refused → refused ≢ Memory
+      → BindCounts (zone_cap zone) (λ (refusal : Refusal). IsOneRefusal zone false refusal) (IsTurnedBack rows key v old v' new) false (ledger_of old) (ledger_of new)
   refusal_counts rows key v v' old new (Zone refusal) turned other = inl (record { refusal = refusal; turned = turned.turned.counted; fits = fits refusal turned.turned.names; found = turned.turned.one })
-  refusal_counts rows key v v' old new (Worn row version) worn other = inr (given_back v' old new worn.handed worn.freed worn.back)
-  refusal_counts rows key v v' old new (Unripe read stamp) unripe other = inr (given_back v' old new unripe.handed unripe.freed unripe.back)
+  refusal_counts rows key v v' old new (Worn row version) worn other = inr (given_back _ v' old new worn.handed worn.freed (inr (row, version, worn)) worn.back)
+  refusal_counts rows key v v' old new (Unripe read stamp) unripe other = inr (given_back _ v' old new unripe.handed unripe.freed (inl (read, stamp, unripe)) unripe.back)
   refusal_counts rows key v v' old new Memory wants other = absurd (other refl)
 
 -- ---- an unbind

@@ -2,6 +2,7 @@
 use Rattle.std.specs.Prelude.{◌≡◌, ◌*◌, ◌⊎◌, ℕ, false, List, map}
 use Rattle.std.specs.Option.{option_map_or}
 use Rattle.smr_clock.specs.declared.setup.Setup.{Setup}
+use Rattle.smr_clock.specs.declared.view.View.{View}
 use Rattle.smr_clock.specs.Belongs.{TableId}
 use Rattle.uma_keg.specs.declared.census.Census.{Census}
 use Rattle.uma_keg.specs.Census.{census_table}
@@ -10,6 +11,8 @@ use Rattle.uma_life.specs.declared.ticket.Ticket.{Ticket}
 use Rattle.uma_life.specs.Cached.{cached_ticket}
 use Rattle.uma_zone.specs.Alloc.{AreReused, IsOneFetch, IsOneRefusal}
 use Rattle.uma_zone.specs.Zone.{zone_bucket, zone_cap}
+use Rattle.name_rows.specs.declared.part.Part.{Part}
+use Rattle.name_cache.specs.Bind.{FindsUnripe, FindsWorn}
 use Rattle.name_cache.specs.Cache.{cache_zone, cache_clock, cache_domains, cache_home, row_count, IsCacheSeat}
 use Rattle.name_cache.specs.contracts.raised_entry.RaisedEntryBody.TheImpl.{ghosts as raised_body}
 use Rattle.name_cache.specs.declared.cache.NameCache.{NameCache}
@@ -54,6 +57,12 @@ pub record CameIn (kept : TraceCache) (tickets : List Ticket) : Type 0 where
 -- one fetch from its keg was refused so, by the numbers that it found
 abbrev pub IsFoundIn : TraceCache → Refusal → Type 0
 IsFoundIn kept refusal = IsOneRefusal (cache_zone kept.cache) false refusal
+
+-- A bind of the key got an entry that isn't ripe, or that its row, which is worn, can't take, and freed it again.
+abbrev pub TurnsBackIn : TraceCache → ℕ → View Part → EntrySeat → View Part → EntrySeat → Type 0
+TurnsBackIn kept key v old v' new =
+    ((read stamp : ℕ) × FindsUnripe (cache_zone kept.cache) (row_count kept.cache) key v old read stamp v' new)
+    ⊎ ((row version : ℕ) × FindsWorn (cache_zone kept.cache) (row_count kept.cache) key v old row version v' new)
 
 -- the census is of its keg
 abbrev pub IsCensusIn : TraceCache → Census → Type 0

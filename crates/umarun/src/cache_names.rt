@@ -40,7 +40,7 @@ impl NameCalls for CacheNames {
     ghost use Rattle.uma_seat.specs.Seat.{ledger_of, seat_domain};
     ghost use Rattle.uma_zone.specs.SafeReuse.{usable_tickets};
     ghost use Rattle.uma_seat.specs.Sums.{deferred_in_seat, times_in_seat};
-    ghost use Rattle.umarun.specs.Caches.{CameIn, IsCensusIn, IsFoundIn, IsSeatIn, clock_in, plan_for, sizes_in};
+    ghost use Rattle.umarun.specs.Caches.{CameIn, IsCensusIn, IsFoundIn, IsSeatIn, TurnsBackIn, clock_in, plan_for, sizes_in};
     ghost use Rattle.umarun.specs.Known.{KnowsRecord, told_in};
 
     ghost serves = { true };
@@ -60,6 +60,8 @@ impl NameCalls for CacheNames {
     ghost Came = { CameIn };
 
     ghost IsFound = { IsFoundIn };
+
+    ghost TurnsBack = { TurnsBackIn };
 
     ghost IsCensus = { IsCensusIn };
 

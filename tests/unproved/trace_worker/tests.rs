@@ -3,19 +3,23 @@ ghost use Rattle.smr_clock.specs.Belongs.{IsPassOf, clock_id};
 ghost use Rattle.uma_zone.specs.Zone.{zone_domains};
 ghost use Rattle.trace_worker.specs.Worker.{AreOfClock};
 
-use crate::{Attendance, CountHooks, CountedZone, NameCounts, NameWork, WorkerRun, Slots, Worker, move_slot};
+use crate::{Attendance, CountHooks, CountedZone, FreeGate, NameCounts, NameWork, Shared, Slots, Worker, WorkerRun, move_slot};
 use no_keys::NoKeys;
 use smr_clock::{Bare, Clock, Pass};
 use std::alloc::Global;
 use std::sync::Wait;
 use std::test::Fail;
+use trace_text::parse;
 use uma_zone::{AllocAsk, Zone, ZoneSet};
+use watching::Watch;
 use zone_stats::SeatLedger;
 
 mod gates;
 mod no_keys;
 mod waiting;
 mod watching;
+
+const NO_LINES: &[u8] = b"uma 1\nworkers 1\ndomains 1\nend\n";
 
 /// A clock of two seats, and its passes.
 fn two_passes(alloc: Global) -> Result<(Clock<Bare>, Vec<Pass<Bare>>), Fail>
@@ -77,8 +81,8 @@ fn after_alloc<R: Wait>(
 }
 
 /// The slots of a worker, which is there or away.
-fn slots_of(running: &mut WorkerRun<NoKeys>) -> &mut Slots {
-    match &mut running.attendance {
+fn slots_of(run: &mut WorkerRun<NoKeys>) -> &mut Slots {
+    match &mut run.attendance {
         Attendance::There(worker) => &mut worker.slots,
         Attendance::Away(absentee) => &mut absentee.slots,
     }
@@ -171,9 +175,19 @@ fn counts_of_bind<R: Wait>(
         entered: 0,
         late: 0,
     };
-    let mut naming: NameWork<NoKeys> = NameWork::new(SeatLedger::new());
-    naming.bind(&mut worker, rt, alloc, &NoKeys, cache, clock, 7, 1)?;
-    Ok(naming.counts)
+    let mut name_work: NameWork<NoKeys> = NameWork::new(SeatLedger::new());
+    let trace = parse(alloc, NO_LINES)?;
+    let shared = Shared {
+        trace: &trace,
+        zones: &[],
+        clock,
+        names: &NoKeys,
+        cache,
+        gate: &FreeGate,
+        reclaim: &Watch::new(),
+    };
+    name_work.bind(&mut worker, rt, alloc, &shared, 7, 1)?;
+    Ok(name_work.counts)
 }
 
 #[test]

@@ -13,7 +13,7 @@ use std::sync::atomic::{AtomicBool, Ordering};
 use std::test::Fail;
 use trace_play::{NoSeat, PlainNames, Setting, set_up};
 use trace_text::{Trace, parse};
-use trace_worker::{CountHooks, Counted, CountedZone, WorkerRun, Worker};
+use trace_worker::{CountHooks, Counted, CountedZone, Shared, Worker, WorkerRun};
 use uma_seat::SeatCache;
 use uma_zone::Zone;
 
@@ -148,21 +148,18 @@ fn first_turn<R: Wait, G: Gate>(
     if !has_turn(trace, number) {
         return Err(Fail::new("no such turn"));
     }
-    let mut running: WorkerRun<PlainNames> = WorkerRun::new(worker, NoSeat);
-    running.turn(
-        rt,
-        alloc,
+    let mut run: WorkerRun<PlainNames> = WorkerRun::new(worker, NoSeat);
+    let shared = Shared {
         trace,
         zones,
         clock,
-        &PlainNames,
-        clock,
+        names: &PlainNames,
+        cache: clock,
         gate,
-        &NoReclaim,
-        0,
-        number,
-    );
-    Ok((running.asked, running.gave_up))
+        reclaim: &NoReclaim,
+    };
+    run.turn(rt, alloc, &shared, 0, number)?;
+    Ok((run.asked, run.gave_up))
 }
 
 /// Takes the last worker.

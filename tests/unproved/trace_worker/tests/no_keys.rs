@@ -40,6 +40,8 @@ impl NameCalls for NoKeys {
 
     ghost IsFound = { λ _ _. Unit {0} };
 
+    ghost TurnsBack = { λ _ _ _ _ _ _. Unit {0} };
+
     ghost IsCensus = { λ _ _. ⊥ };
 
     ghost passed = { λ _ _. 0 };

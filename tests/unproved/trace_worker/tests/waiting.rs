@@ -2,7 +2,7 @@
 use super::no_keys::NoKeys;
 use super::watching::{Seen, Watch};
 use super::{one_zone, take_pass, two_passes};
-use crate::{CountedZone, FreeGate, Gate, WorkerRun, Worker};
+use crate::{CountedZone, FreeGate, Gate, Shared, Worker, WorkerRun};
 use smr_clock::{Bare, Clock};
 use std::alloc::Global;
 use std::sync::Wait;
@@ -27,8 +27,8 @@ fn idle<R: Wait>(rt: &R, alloc: Global) -> Result<(Setting, WorkerRun<NoKeys>), 
     let pass = take_pass(&clock, &mut passes)?;
     let zones = one_zone(alloc, &clock)?;
     let worker = Worker::new(rt, alloc, zones.as_slice(), &clock, pass, 0, 0)?;
-    let running = WorkerRun::new(worker, SeatLedger::new());
-    Ok((Setting { clock, zones }, running))
+    let run = WorkerRun::new(worker, SeatLedger::new());
+    Ok((Setting { clock, zones }, run))
 }
 
 /// Worker 1's turn in a round, where the watch stands for the calls of reclaim.
@@ -36,36 +36,32 @@ fn take_turn<R: Wait, G: Gate>(
     rt: &R,
     alloc: Global,
     setting: &Setting,
-    running: &mut WorkerRun<NoKeys>,
+    run: &mut WorkerRun<NoKeys>,
     gate: &G,
     watch: &Watch,
     round: usize,
 ) -> Result<(), Fail> {
     let trace = parse(alloc, TWO_ROUNDS)?;
     let cache = setting.clock.share(alloc)?;
-    running.turn(
-        rt,
-        alloc,
-        &trace,
-        setting.zones.as_slice(),
-        &setting.clock,
-        &NoKeys,
-        &cache,
+    let shared = Shared {
+        trace: &trace,
+        zones: setting.zones.as_slice(),
+        clock: &setting.clock,
+        names: &NoKeys,
+        cache: &cache,
         gate,
-        watch,
-        round,
-        1,
-    );
-    Ok(running.ended?)
+        reclaim: watch,
+    };
+    Ok(run.turn(rt, alloc, &shared, round, 1)?)
 }
 
 #[test]
 fn a_gate_that_lets_go_is_asked_once(rt: HostRuntime) -> Result<(), Fail> {
     let alloc = rt.alloc();
-    let (setting, mut running) = idle(&rt, alloc)?;
+    let (setting, mut run) = idle(&rt, alloc)?;
     let watch = Watch::new();
-    take_turn(&rt, alloc, &setting, &mut running, &FreeGate, &watch, 1)?;
-    assert!(rt; running.asked == 1 && running.gave_up == 0);
+    take_turn(&rt, alloc, &setting, &mut run, &FreeGate, &watch, 1)?;
+    assert!(rt; run.asked == 1 && run.gave_up == 0);
     Ok(())
 }
 
@@ -73,9 +69,9 @@ fn a_gate_that_lets_go_is_asked_once(rt: HostRuntime) -> Result<(), Fail> {
 #[test]
 fn a_gate_that_holds_to_the_last_is_passed(rt: HostRuntime) -> Result<(), Fail> {
     let alloc = rt.alloc();
-    let (setting, mut running) = idle(&rt, alloc)?;
+    let (setting, mut run) = idle(&rt, alloc)?;
     let watch = Watch::new();
-    take_turn(&rt, alloc, &setting, &mut running, &watch, &watch, 0)?;
+    take_turn(&rt, alloc, &setting, &mut run, &watch, &watch, 0)?;
     let seen = Seen {
         calls: 123,
         holds: 7 + 100_000_000,
@@ -84,8 +80,8 @@ fn a_gate_that_holds_to_the_last_is_passed(rt: HostRuntime) -> Result<(), Fail> 
         strays: 0,
     };
     assert_eq!(rt; watch.seen(), seen);
-    assert!(rt; running.asked == 100_000_009 && running.gave_up == 1);
-    take_turn(&rt, alloc, &setting, &mut running, &FreeGate, &watch, 1)?;
-    assert!(rt; running.asked == 100_000_010 && running.gave_up == 1);
+    assert!(rt; run.asked == 100_000_009 && run.gave_up == 1);
+    take_turn(&rt, alloc, &setting, &mut run, &FreeGate, &watch, 1)?;
+    assert!(rt; run.asked == 100_000_010 && run.gave_up == 1);
     Ok(())
 }

@@ -8,9 +8,9 @@ use Rattle.trace_play.proofs.playing.play.Given as goal
 
 abbrev pub invariant-loop-round : goal.invariant-loop-round
 invariant-loop-round g l = record {
-  after : AreAfter g.N.NameCalls l.cache l.zones l.clock (lines_before l.trace.rounds l.round) l.workers;
-  plays : AllPlay g.N.NameCalls l.cache l.zones (take l.round l.trace.rounds) l.initial.workers l.workers;
-  rounds : DoRounds g.N.NameCalls l.cache l.zones (take l.round l.trace.rounds) l.initial.workers l.workers;
-  asks : AllAsk g.G.Gate l.gate (take l.round l.trace.rounds) l.initial.workers l.workers;
-  free : g.G.Gate.is_free l.gate → GaveUpAsBefore l.initial.workers l.workers;
+  after : AreAfter g.N.NameCalls l.shared.cache.now l.shared.zones.now l.shared.clock.now (lines_before l.shared.trace.now.rounds l.round) l.workers;
+  plays : AllPlay g.N.NameCalls l.shared.cache.now l.shared.zones.now (take l.round l.shared.trace.now.rounds) l.initial.workers l.workers;
+  rounds : DoRounds g.N.NameCalls l.shared.cache.now l.shared.zones.now (take l.round l.shared.trace.now.rounds) l.initial.workers l.workers;
+  asks : AllAsk g.G.Gate l.shared.gate.now (take l.round l.shared.trace.now.rounds) l.initial.workers l.workers;
+  free : g.G.Gate.is_free l.shared.gate.now → GaveUpAsBefore l.initial.workers l.workers;
 }

@@ -10,25 +10,25 @@ use Rattle.trace_play.proofs.Plays.{plays_round}
 use Rattle.trace_play.proofs.playing.play_round.Goals as goal
 
 pub work_round-requires-clause-some : goal.work_round-requires-clause-some
-work_round-requires-clause-some g c κs within = some_workers g.N.NameCalls c.args.cache.now c.args.trace.now c.args.zones.now c.args.clock.now c.args.workers.now c.requires.suits
+work_round-requires-clause-some g c κs within = some_workers g.N.NameCalls c.args.shared.now.cache.now c.args.shared.now.trace.now c.args.shared.now.zones.now c.args.shared.now.clock.now c.args.workers.now c.requires.suits
 
 pub work_round-requires-clause-ready : goal.work_round-requires-clause-ready
 work_round-requires-clause-ready g c κs within =
-    all_ready g.N.NameCalls c.args.cache.now c.args.trace.now c.args.zones.now c.args.clock.now c.args.round c.args.workers.now c.requires.suits c.requires.after c.requires.round
+    all_ready g.N.NameCalls c.args.shared.now.cache.now c.args.shared.now.trace.now c.args.shared.now.zones.now c.args.shared.now.clock.now c.args.round c.args.workers.now c.requires.suits c.requires.after c.requires.round
 
 pub returns-clause-played : goal.returns-clause-played
 returns-clause-played g c =
     let size : length c.work_round.new.workers ≡ length c.args.workers.now = search rules in
     let M : List Between → Type 0 = λ list. AllMoved list c.work_round.new.workers c.do_betweens.new.workers in
-    let D : List Between → Type 0 = λ list. DoBetweens c.args.zones.now list c.work_round.new.workers c.do_betweens.new.workers in
+    let D : List Between → Type 0 = λ list. DoBetweens c.args.shared.now.zones.now list c.work_round.new.workers c.do_betweens.new.workers in
     three_ok c.do_betweens.result (λ keeps moved does. record {
-      after = after_round g.N.NameCalls c.args.cache.now c.args.trace.now c.args.zones.now c.args.clock.now c.args.round c.args.workers.now c.work_round.new.workers c.do_betweens.new.workers c.requires.suits c.requires.after
-          size c.in_ok-all_ended.ensures c.work_round.ensures.worked keeps (subst M c.betweens_of.ensures moved);
-      plays = plays_round g.N.NameCalls c.args.cache.now c.args.trace.now c.args.zones.now c.args.clock.now c.args.round c.args.workers.now c.work_round.new.workers c.do_betweens.new.workers
+      after = after_round g.N.NameCalls c.args.shared.now.cache.now c.args.shared.now.trace.now c.args.shared.now.zones.now c.args.shared.now.clock.now c.args.round c.args.workers.now c.work_round.new.workers c.do_betweens.new.workers c.requires.suits c.requires.after
+          size c.in_ok-all_ended.ensures c.work_round.ensures.worked keeps (subst M c.betweens_of-between.ensures moved);
+      plays = plays_round g.N.NameCalls c.args.shared.now.cache.now c.args.shared.now.trace.now c.args.shared.now.zones.now c.args.shared.now.clock.now c.args.round c.args.workers.now c.work_round.new.workers c.do_betweens.new.workers
           size c.in_ok-all_ended.ensures c.work_round.ensures.worked keeps;
-      round = round_done g.N.NameCalls c.args.cache.now c.args.trace.now c.args.zones.now c.args.clock.now c.args.round c.args.workers.now c.work_round.new.workers c.do_betweens.new.workers
-          size c.in_ok-all_ended.ensures c.work_round.ensures.worked (subst D c.betweens_of.ensures does);
-      asks = asks_round g.G.Gate c.args.gate.now c.args.trace.now.rounds c.args.round c.args.workers.now c.work_round.new.workers c.do_betweens.new.workers size c.in_ok-all_ended.ensures c.work_round.ensures.asks keeps;
+      round = round_done g.N.NameCalls c.args.shared.now.cache.now c.args.shared.now.trace.now c.args.shared.now.zones.now c.args.shared.now.clock.now c.args.round c.args.workers.now c.work_round.new.workers c.do_betweens.new.workers
+          size c.in_ok-all_ended.ensures c.work_round.ensures.worked (subst D c.betweens_of-between.ensures does);
+      asks = asks_round g.G.Gate c.args.shared.now.gate.now c.args.shared.now.trace.now.rounds c.args.round c.args.workers.now c.work_round.new.workers c.do_betweens.new.workers size c.in_ok-all_ended.ensures c.work_round.ensures.asks keeps;
     }) c.do_betweens.ensures.rest c.do_betweens.ensures.moved c.do_betweens.ensures.does
 
 pub returns-clause-free : goal.returns-clause-free

@@ -5,11 +5,11 @@ use Rattle.std.proofs.Common.{All}
 use Rattle.trace_play.specs.Rounds.{HasEnded}
 use Rattle.trace_play.proofs.round.all_ended.Goals as goal
 
-pub loop-running-preserved : goal.loop-running-preserved
-loop-running-preserved g c =
-    let running = c.running-item.result in
-    let ended : HasEnded running = search rules in
-    All-more HasEnded c.args.workers.now c.loop-running.running-index running c.loop-running-test.true c.loop-running.invariant (subst HasEnded c.running-item.is ended)
+pub loop-run-preserved : goal.loop-run-preserved
+loop-run-preserved g c =
+    let run = c.run-item.result in
+    let ended : HasEnded run = search rules in
+    All-more HasEnded c.args.workers.now c.loop-run.run-index run c.loop-run-test.true c.loop-run.invariant (subst HasEnded c.run-item.is ended)
 
 pub returns : goal.returns
-returns g c = subst (All HasEnded) (take_all c.loop-running.running-index c.args.workers.now c.loop-running-test.false) c.loop-running.invariant
+returns g c = subst (All HasEnded) (take_all c.loop-run.run-index c.args.workers.now c.loop-run-test.false) c.loop-run.invariant

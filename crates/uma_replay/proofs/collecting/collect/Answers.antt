@@ -8,5 +8,5 @@ use Rattle.uma_replay.proofs.collecting.collect.Goals as goal
 pub name_ledgers-requires : goal.name_ledgers-requires
 name_ledgers-requires g c =
     let P : List (NameWork _ _ _ _ _) → Type 0 = λ list. first_counts g.N.NameCalls list ≡ true in
-    let serves : IsTrue g.N.NameCalls.serves = serve_where_counted g.N.NameCalls c.args.namings.now (subst P c.as_slice-2.ensures (sym c.do_count.ensures ∙ c.if-do_count.true)) in
+    let serves : IsTrue g.N.NameCalls.serves = serve_where_counted g.N.NameCalls c.args.name_works.now (subst P c.as_slice-2.ensures (sym c.do_count.ensures ∙ c.if-do_count.true)) in
     search rules

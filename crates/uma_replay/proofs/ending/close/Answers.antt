@@ -1,11 +1,8 @@
-use Rattle.std.proofs.Common.{ℕ, List, sym, ◌∙◌, subst}
-use Rattle.std.specs.Prelude.{IfOk}
-use Rattle.trace_worker.specs.declared.name_work.NameWork.{NameWork}
+use Rattle.std.proofs.Common.{List, ap, length, refl, sym, subst, ◌∙◌}
 use Rattle.trace_worker.specs.declared.worker.Worker.{Worker}
 use Rattle.trace_worker.specs.Items.{CountedZone}
 use Rattle.trace_play.specs.Clock.{ReadsHands}
 use Rattle.trace_play.specs.Closes.{AllClose}
-use Rattle.uma_replay.specs.Ending.{IsEndOf}
 use Rattle.uma_replay.specs.Hall.{AreDone, NamesDone}
 use Rattle.uma_replay.specs.Playing.{AllStay}
 use Rattle.uma_replay.proofs.Beginning.{written_back}
@@ -13,52 +10,56 @@ use Rattle.uma_replay.proofs.HallOf.{names_stay}
 use Rattle.uma_replay.proofs.Playing.{ended_stay}
 use Rattle.uma_replay.proofs.ending.close.Goals as goal
 
+pub take_stock-requires-clause-done : goal.take_stock-requires-clause-done
+take_stock-requires-clause-done g c =
+    let t = c.args.trace.now in
+    let hall = c.args.hall in
+    let Z : List (CountedZone _ _ _) → Type 0 = λ zones. AreDone t zones hall.clock c.as_mut_slice.result.now in
+    let W : List (Worker _ _ _) → Type 0 = λ workers. AreDone t hall.zones hall.clock workers in
+    subst Z (sym c.as_slice.ensures) (subst W (sym (c.as_mut_slice.ensures.value ∙ c.into_vec-workers.ensures)) c.requires.can.done)
+
 pub reported-requires-clause-can : goal.reported-requires-clause-can
 reported-requires-clause-can g c κs within =
     let names = g.N.NameCalls in
     let t = c.args.trace.now in
-    let workers = c.args.workers in
-    let A : List (Worker _ _ _) → Type 0 = λ old. AllStay c.args.clock old c.take_stock.new.workers in
-    let stay = subst A c.as_mut_slice.ensures.value c.in_ok-ended.ensures.stay in
-    let same = written_back c.take_stock.new.workers workers.items workers.len workers.ok.0 stay.count in
-    let D : List (CountedZone _ _ _) → Type 0 = λ zones. AreDone t zones c.args.clock c.take_stock.new.workers in
-    let E : List (Worker _ _ _) → Type 0 = λ ws. AreDone t c.from_vec-zones.result c.args.clock ws in
-    let P : List (CountedZone _ _ _) → Type 0 = λ zones. NamesDone names t c.args.cache zones c.args.clock c.take_stock.new.workers c.args.namings.items in
-    let Q : List (Worker _ _ _) → Type 0 = λ ws. NamesDone names t c.args.cache c.from_vec-zones.result c.args.clock ws c.args.namings.items in
-    let R : List (NameWork _ _ _ _ _) → Type 0 = λ gs. NamesDone names t c.args.cache c.from_vec-zones.result c.args.clock c.from_vec-workers.result gs in
+    let hall = c.args.hall in
+    let new = c.take_stock.new.workers in
+    let before = c.into_vec-workers.result in
+    let A : List (Worker _ _ _) → Type 0 = λ old. AllStay hall.clock old new in
+    let stay = subst A (c.as_mut_slice.ensures.value ∙ c.into_vec-workers.ensures) c.in_ok-stock.ensures.stay in
+    let is = c.from_vec.ensures ∙ written_back new before.items before.len before.ok.0 (stay.count ∙ sym (ap length c.into_vec-workers.ensures)) in
+    let D : List (CountedZone _ _ _) → Type 0 = λ zones. AreDone t zones hall.clock new in
+    let E : List (Worker _ _ _) → Type 0 = λ workers. AreDone t hall.zones hall.clock workers in
+    let N : List (Worker _ _ _) → Type 0 = λ workers. NamesDone names t hall.names hall.zones hall.clock workers hall.name_works in
     record {
       valid = c.requires.can.valid;
       few = c.requires.can.few;
-      done = subst E (sym (c.from_vec-workers.ensures ∙ same)) (subst D (c.as_slice.ensures.value ∙ sym c.from_vec-zones.ensures) c.in_ok-ended.ensures.done);
-      named = subst R (sym c.from_vec-namings.ensures) (subst Q (sym (c.from_vec-workers.ensures ∙ same)) (subst P (sym c.from_vec-zones.ensures)
-          (names_stay names t c.args.cache c.args.zones.items c.args.clock workers.items c.take_stock.new.workers c.args.namings.items stay c.requires.can.named)));
-      ended = ended_stay t c.args.clock workers.items c.take_stock.new.workers c.from_vec-workers.result c.args.namings.items c.from_vec-namings.result c.args.gave_ups.items c.from_vec-gave_ups.result
-          stay (c.from_vec-workers.ensures ∙ same) c.from_vec-namings.ensures c.from_vec-gave_ups.ensures c.requires.can.ended;
+      done = subst E (sym is) (subst D c.as_slice.ensures c.in_ok-stock.ensures.done);
+      named = subst N (sym is) (names_stay names t hall.names hall.zones hall.clock hall.workers new hall.name_works stay c.requires.can.named);
+      ended = ended_stay t hall.clock hall.workers new c.from_vec.result hall.name_works hall.name_works hall.gave_ups hall.gave_ups stay is refl refl c.requires.can.ended;
     }
 
 pub reported-requires-clause-hands : goal.reported-requires-clause-hands
 reported-requires-clause-hands g c κs within =
-    let workers = c.args.workers in
-    let ended = c.in_ok-ended.ended in
-    let A : List (Worker _ _ _) → Type 0 = λ old. AllStay c.args.clock old c.take_stock.new.workers in
-    let stay = subst A c.as_mut_slice.ensures.value c.in_ok-ended.ensures.stay in
-    let same = written_back c.take_stock.new.workers workers.items workers.len workers.ok.0 stay.count in
-    let Q : List (Worker _ _ _) → Type 0 = λ ws. ReadsHands c.args.clock ws ended.read ended.write in
-    subst Q (sym (c.from_vec-workers.ensures ∙ same)) c.in_ok-ended.ensures.hands
+    let hall = c.args.hall in
+    let new = c.take_stock.new.workers in
+    let before = c.into_vec-workers.result in
+    let A : List (Worker _ _ _) → Type 0 = λ old. AllStay hall.clock old new in
+    let stay = subst A (c.as_mut_slice.ensures.value ∙ c.into_vec-workers.ensures) c.in_ok-stock.ensures.stay in
+    let is = c.from_vec.ensures ∙ written_back new before.items before.len before.ok.0 (stay.count ∙ sym (ap length c.into_vec-workers.ensures)) in
+    let Q : List (Worker _ _ _) → Type 0 = λ workers. ReadsHands hall.clock workers c.in_ok-stock.stock.read c.in_ok-stock.stock.write in
+    subst Q (sym is) c.in_ok-stock.ensures.hands
 
 pub reported-requires-clause-closes : goal.reported-requires-clause-closes
 reported-requires-clause-closes g c κs within =
     let head = c.args.trace.now.head in
-    let workers = c.args.workers in
-    let totals = c.in_ok-ended.ended.totals in
-    let A : List (Worker _ _ _) → Type 0 = λ old. AllStay c.args.clock old c.take_stock.new.workers in
-    let stay = subst A c.as_mut_slice.ensures.value c.in_ok-ended.ensures.stay in
-    let same = written_back c.take_stock.new.workers workers.items workers.len workers.ok.0 stay.count in
-    let P : List (CountedZone _ _ _) → Type 0 = λ zones. AllClose head zones c.take_stock.new.workers totals.censuses.items totals.tallies.items totals.deferred.items in
-    let Q : List (Worker _ _ _) → Type 0 = λ ws. AllClose head c.from_vec-zones.result ws totals.censuses.items totals.tallies.items totals.deferred.items in
-    subst Q (sym (c.from_vec-workers.ensures ∙ same)) (subst P (c.as_slice.ensures.value ∙ sym c.from_vec-zones.ensures) c.in_ok-ended.ensures.closes)
-
-pub returns : goal.returns
-returns g c =
-    let P : List ℕ → Type 0 = λ list. IfOk c.reported.result (λ played. IsEndOf g.N.NameCalls c.args.trace.now c.args.clock list played) in
-    subst P c.from_vec-gave_ups.ensures c.reported.ensures
+    let hall = c.args.hall in
+    let new = c.take_stock.new.workers in
+    let before = c.into_vec-workers.result in
+    let totals = c.in_ok-stock.stock.totals in
+    let A : List (Worker _ _ _) → Type 0 = λ old. AllStay hall.clock old new in
+    let stay = subst A (c.as_mut_slice.ensures.value ∙ c.into_vec-workers.ensures) c.in_ok-stock.ensures.stay in
+    let is = c.from_vec.ensures ∙ written_back new before.items before.len before.ok.0 (stay.count ∙ sym (ap length c.into_vec-workers.ensures)) in
+    let P : List (CountedZone _ _ _) → Type 0 = λ zones. AllClose head zones new totals.censuses.items totals.tallies.items totals.deferred.items in
+    let Q : List (Worker _ _ _) → Type 0 = λ workers. AllClose head hall.zones workers totals.censuses.items totals.tallies.items totals.deferred.items in
+    subst Q (sym is) (subst P c.as_slice.ensures c.in_ok-stock.ensures.closes)

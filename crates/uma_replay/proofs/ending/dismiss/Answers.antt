@@ -3,46 +3,48 @@ use Rattle.std.proofs.lemmas.Iterator.Adapters.{YieldsList-from_vec}
 use Rattle.std.proofs.lemmas.Iterator.Consumers.{YieldsList-end, YieldsList-turn}
 use Rattle.std.proofs.lemmas.List.{map-id}
 use Rattle.std.proofs.lemmas.Option.{none-some, slice_get_read}
+use Rattle.trace_worker.specs.declared.worker.Worker.{Worker}
 use Rattle.trace_worker.specs.declared.worker_run.WorkerRun.{WorkerRun}
 use Rattle.trace_worker.specs.Together.{crew}
-use Rattle.uma_replay.specs.Playing.{AllBack, gave_ups_of, namings_of}
+use Rattle.uma_replay.specs.Playing.{AllBack, gave_ups_of, name_works_of}
 use Rattle.uma_replay.proofs.ComingBack.{back_more, pushed_map}
 use Rattle.uma_replay.proofs.ending.dismiss.Goals as goal
 
 pub into_worker-requires : goal.into_worker-requires
 into_worker-requires g c =
-    let runnings = c.args.runnings.items in
-    let turn = YieldsList-turn (YieldsList-from_vec runnings (cc) (cc)) c.loop-running.yielded c.loop-running.running-iterator c.loop-running.yielded_by c.next.result c.next.new.self c.in-Some.running c.in-Some.is c.next.ensures.steps in
-    record { pass = c.requires.here (length c.loop-running.yielded) c.in-Some.running (slice_get_read runnings (length runnings) (length c.loop-running.yielded) c.in-Some.running refl turn.0 turn.1) }
+    let runs = c.args.runs.items in
+    let turn = YieldsList-turn (YieldsList-from_vec runs (cc) (cc)) c.loop-worker_run.yielded c.loop-worker_run.worker_run-iterator c.loop-worker_run.yielded_by c.next.result c.next.new.self c.in-Some.worker_run c.in-Some.is c.next.ensures.steps in
+    record { pass = c.requires.here (length c.loop-worker_run.yielded) c.in-Some.worker_run (slice_get_read runs (length runs) (length c.loop-worker_run.yielded) c.in-Some.worker_run refl turn.0 turn.1) }
 
-pub loop-running-preserved : goal.loop-running-preserved
-loop-running-preserved g c = record {
-  workers = back_more c.args.clock.now c.loop-running.yielded c.loop-running.workers.items _ c.in-Some.running c.into_worker.result c.loop-running.invariant.workers c.into_worker.ensures.pass c.into_worker.ensures.keeps c.in_ok-push.ensures.items;
-  namings = pushed_map (λ (r : WorkerRun _ _ _ _ _ _). r.naming) c.loop-running.yielded c.in-Some.running c.loop-running.namings.items _ c.loop-running.invariant.namings c.in_ok-push-2.ensures.items;
-  gave_ups = pushed_map (λ (r : WorkerRun _ _ _ _ _ _). r.gave_up) c.loop-running.yielded c.in-Some.running c.loop-running.gave_ups.items _ c.loop-running.invariant.gave_ups c.in_ok-push-3.ensures.items;
+pub loop-worker_run-preserved : goal.loop-worker_run-preserved
+loop-worker_run-preserved g c = record {
+  workers = back_more c.args.clock.now c.loop-worker_run.yielded c.loop-worker_run.workers.items _ c.in-Some.worker_run c.into_worker.result c.loop-worker_run.invariant.workers c.into_worker.ensures.pass c.into_worker.ensures.keeps c.in_ok-push.ensures.items;
+  name_works = pushed_map (λ (r : WorkerRun _ _ _ _ _ _). r.name_work) c.loop-worker_run.yielded c.in-Some.worker_run c.loop-worker_run.name_works.items _ c.loop-worker_run.invariant.name_works c.in_ok-push-2.ensures.items;
+  gave_ups = pushed_map (λ (r : WorkerRun _ _ _ _ _ _). r.gave_up) c.loop-worker_run.yielded c.in-Some.worker_run c.loop-worker_run.gave_ups.items _ c.loop-worker_run.invariant.gave_ups c.in_ok-push-3.ensures.items;
 }
 
-pub loop-running-init : goal.loop-running-init
-loop-running-init g c = record {
+pub loop-worker_run-init : goal.loop-worker_run-init
+loop-worker_run-init g c = record {
   workers = record { count = ap length c.in_ok-workers.ensures.items; each = λ n before after at at_after. absurd (none-some before at) };
-  namings = c.in_ok-namings.ensures.items;
+  name_works = c.in_ok-name_works.ensures.items;
   gave_ups = c.in_ok-gave_ups.ensures.items;
 }
 
 pub returns-clause-workers : goal.returns-clause-workers
 returns-clause-workers g c =
-    let end = YieldsList-end (YieldsList-from_vec c.args.runnings.items (cc) (cc)) c.loop-running.yielded c.loop-running.running-iterator c.loop-running.yielded_by c.next.result c.next.new.self c.in-None.is c.next.ensures.steps in
-    let P : List (WorkerRun _ _ _ _ _ _) → Type 0 = λ list. AllBack c.args.clock.now (crew list) c.loop-running.workers.items in
-    subst P (sym (map-id c.loop-running.yielded) ∙ end.0) c.loop-running.invariant.workers
+    let end = YieldsList-end (YieldsList-from_vec c.args.runs.items (cc) (cc)) c.loop-worker_run.yielded c.loop-worker_run.worker_run-iterator c.loop-worker_run.yielded_by c.next.result c.next.new.self c.in-None.is c.next.ensures.steps in
+    let P : List (WorkerRun _ _ _ _ _ _) → Type 0 = λ list. AllBack c.args.clock.now (crew list) c.loop-worker_run.workers.items in
+    let Q : List (Worker _ _ _) → Type 0 = λ list. AllBack c.args.clock.now (crew c.args.runs.items) list in
+    subst Q (sym c.from_vec.ensures) (subst P (sym (map-id c.loop-worker_run.yielded) ∙ end.0) c.loop-worker_run.invariant.workers)
 
-pub returns-clause-namings : goal.returns-clause-namings
-returns-clause-namings g c =
-    let end = YieldsList-end (YieldsList-from_vec c.args.runnings.items (cc) (cc)) c.loop-running.yielded c.loop-running.running-iterator c.loop-running.yielded_by c.next.result c.next.new.self c.in-None.is c.next.ensures.steps in
-    let P : List (WorkerRun _ _ _ _ _ _) → Type 0 = λ list. c.loop-running.namings.items ≡ namings_of list in
-    subst P (sym (map-id c.loop-running.yielded) ∙ end.0) c.loop-running.invariant.namings
+pub returns-clause-name_works : goal.returns-clause-name_works
+returns-clause-name_works g c =
+    let end = YieldsList-end (YieldsList-from_vec c.args.runs.items (cc) (cc)) c.loop-worker_run.yielded c.loop-worker_run.worker_run-iterator c.loop-worker_run.yielded_by c.next.result c.next.new.self c.in-None.is c.next.ensures.steps in
+    let P : List (WorkerRun _ _ _ _ _ _) → Type 0 = λ list. c.loop-worker_run.name_works.items ≡ name_works_of list in
+    c.from_vec-2.ensures ∙ subst P (sym (map-id c.loop-worker_run.yielded) ∙ end.0) c.loop-worker_run.invariant.name_works
 
 pub returns-clause-gave_ups : goal.returns-clause-gave_ups
 returns-clause-gave_ups g c =
-    let end = YieldsList-end (YieldsList-from_vec c.args.runnings.items (cc) (cc)) c.loop-running.yielded c.loop-running.running-iterator c.loop-running.yielded_by c.next.result c.next.new.self c.in-None.is c.next.ensures.steps in
-    let P : List (WorkerRun _ _ _ _ _ _) → Type 0 = λ list. c.loop-running.gave_ups.items ≡ gave_ups_of list in
-    subst P (sym (map-id c.loop-running.yielded) ∙ end.0) c.loop-running.invariant.gave_ups
+    let end = YieldsList-end (YieldsList-from_vec c.args.runs.items (cc) (cc)) c.loop-worker_run.yielded c.loop-worker_run.worker_run-iterator c.loop-worker_run.yielded_by c.next.result c.next.new.self c.in-None.is c.next.ensures.steps in
+    let P : List (WorkerRun _ _ _ _ _ _) → Type 0 = λ list. c.loop-worker_run.gave_ups.items ≡ gave_ups_of list in
+    c.from_vec-3.ensures ∙ subst P (sym (map-id c.loop-worker_run.yielded) ∙ end.0) c.loop-worker_run.invariant.gave_ups

@@ -1,77 +1,74 @@
 use Rattle.std.proofs.Common.{◌≡◌, ◌<◌, ◌^◌, ℕ, List, length, refl, sum, sym, ap, ◌∙◌, subst}
 use Rattle.uma_keg.specs.declared.census.Census.{Census}
-use Rattle.uma_life.specs.declared.tally_sum.TallySum.{TallySum}
 use Rattle.trace_worker.specs.declared.name_work.NameWork.{NameWork}
 use Rattle.trace_play.specs.Closes.{AllClose}
 use Rattle.uma_replay.specs.Names.{CountsFit, IsWhole, SeatsFit}
 use Rattle.uma_replay.specs.Reporting.{IsReportOf}
 use Rattle.uma_replay.proofs.Beginning.{gave_ups_few}
-use Rattle.uma_replay.proofs.HallOf.{are_seats, entries_few, few_namings, fit_counts, have_kegs, seat_counts, whole_waits}
+use Rattle.uma_replay.proofs.HallOf.{are_seats, entries_few, few_name_works, fit_counts, have_kegs, seat_counts, whole_waits}
 use Rattle.uma_replay.proofs.ending.reported.Goals as goal
 
 pub all_gave_up-gave_up-requires : goal.all_gave_up-gave_up-requires
 all_gave_up-gave_up-requires g c =
     let P : List ℕ → Type 0 = λ list. sum list < 2 ^ 64 in
-    subst P (sym c.as_slice.ensures) (gave_ups_few c.args.trace.now c.args.clock c.args.workers c.args.namings c.args.gave_ups c.requires.can.valid c.requires.can.few c.requires.can.done.worker_count c.requires.can.ended)
+    subst P (sym c.as_slice.ensures) (gave_ups_few c.args.trace.now c.args.hall.clock c.args.hall.workers c.args.hall.name_works c.args.hall.gave_ups c.requires.can.valid c.requires.can.few c.requires.can.done.worker_count c.requires.can.ended)
 
 pub report_of-requires : goal.report_of-requires
 report_of-requires g c =
-    let few = entries_few c.args.trace.now c.args.zones c.args.clock c.args.workers c.requires.can.valid c.requires.can.few c.requires.can.done in
+    let few = entries_few c.args.trace.now c.args.hall.zones c.args.hall.clock c.args.hall.workers c.requires.can.valid c.requires.can.few c.requires.can.done in
     record {
       kegs = have_kegs c.args.trace.now.head c.requires.can.valid.head;
       each = record {
-        censuses = ap length c.as_slice-2.ensures.value ∙ c.requires.closes.censuses_count;
-        tallies = ap length c.as_slice-3.ensures.value ∙ c.requires.closes.tallies_count;
+        censuses = c.requires.closes.censuses_count;
+        tallies = c.requires.closes.tallies_count;
       };
-      deferred = ap length c.as_slice-4.ensures.value ∙ c.requires.closes.deferred_count;
-      seats = seat_counts c.args.trace.now c.args.zones c.args.clock c.args.workers c.requires.can.done;
+      deferred = c.requires.closes.deferred_count;
+      seats = seat_counts c.args.trace.now c.args.hall.zones c.args.hall.clock c.args.hall.workers c.requires.can.done;
       sections = record { entered = few.0; late = few.1 };
     }
 
 pub whole_report-requires-clause-fit : goal.whole_report-requires-clause-fit
 whole_report-requires-clause-fit g c κs within =
-    let P : List (NameWork _ _ _ _ _) → Type 0 = λ list. SeatsFit g.N.NameCalls c.args.cache list in
-    subst P (sym c.as_slice-5.ensures) (record {
-      few = few_namings g.N.NameCalls c.args.trace.now c.args.cache c.args.zones c.args.clock c.args.workers c.args.namings c.requires.can.valid c.requires.can.named;
-      seats = are_seats g.N.NameCalls c.args.trace.now c.args.cache c.args.zones c.args.clock c.args.workers c.args.namings c.requires.can.done c.requires.can.named;
+    let P : List (NameWork _ _ _ _ _) → Type 0 = λ list. SeatsFit g.N.NameCalls c.args.hall.names list in
+    subst P (sym c.as_slice-name_works.ensures) (record {
+      few = few_name_works g.N.NameCalls c.args.trace.now c.args.hall.names c.args.hall.zones c.args.hall.clock c.args.hall.workers c.args.hall.name_works c.requires.can.valid c.requires.can.named;
+      seats = are_seats g.N.NameCalls c.args.trace.now c.args.hall.names c.args.hall.zones c.args.hall.clock c.args.hall.workers c.args.hall.name_works c.requires.can.done c.requires.can.named;
     })
 
 pub whole_report-requires-clause-counts : goal.whole_report-requires-clause-counts
 whole_report-requires-clause-counts g c κs within =
     let P : List (NameWork _ _ _ _ _) → Type 0 = λ list. CountsFit list in
-    subst P (sym c.as_slice-5.ensures) (fit_counts g.N.NameCalls c.args.trace.now c.args.cache c.args.zones c.args.clock c.args.workers c.args.namings c.requires.can.valid c.requires.can.few c.requires.can.done c.requires.can.named)
+    subst P (sym c.as_slice-name_works.ensures) (fit_counts g.N.NameCalls c.args.trace.now c.args.hall.names c.args.hall.zones c.args.hall.clock c.args.hall.workers c.args.hall.name_works c.requires.can.valid c.requires.can.few c.requires.can.done c.requires.can.named)
 
 pub returns : goal.returns
 returns g c =
     let names = g.N.NameCalls in
     let head = c.args.trace.now.head in
-    let ended = c.args.ended in
+    let stock = c.args.stock in
     let first = c.in_ok-first.first in
     let made = c.in_ok-first.ensures in
     let whole = c.in_ok-report.ensures in
-    let shown : c.in_ok-report.report.gave_up ≡ sum c.args.gave_ups =
-    whole_waits names c.args.cache _ first c.in_ok-report.report head.names whole ∙ (made.waits ∙ (c.all_gave_up-gave_up.ensures ∙ ap sum c.as_slice.ensures)) in
-    let A : List Census → Type 0 = λ censuses. AllClose head c.args.zones c.args.workers censuses ended.totals.tallies.items ended.totals.deferred.items in
-    let B : ℕ → Type 0 = λ n. IsReportOf c.args.trace.now c.args.workers c.as_slice-2.result.now c.as_slice-3.result.now c.as_slice-4.result.now ended.read ended.write n first in
-    let D : List ℕ → Type 0 = λ deferred. IsReportOf c.args.trace.now c.args.workers c.as_slice-2.result.now c.as_slice-3.result.now deferred ended.read ended.write first.gave_up first in
-    let E : List TallySum → Type 0 = λ tallies. IsReportOf c.args.trace.now c.args.workers c.as_slice-2.result.now tallies ended.totals.deferred.items ended.read ended.write first.gave_up first in
-    let F : List Census → Type 0 = λ censuses. IsReportOf c.args.trace.now c.args.workers censuses ended.totals.tallies.items ended.totals.deferred.items ended.read ended.write first.gave_up first in
-    let G : List (NameWork _ _ _ _ _) → Type 0 = λ namings. IsWhole names c.args.cache head.names namings first c.in_ok-report.report in
+    let shown : c.in_ok-report.report.gave_up ≡ sum c.args.hall.gave_ups =
+    whole_waits names c.args.hall.names _ first c.in_ok-report.report head.names whole ∙ (made.waits ∙ (c.all_gave_up-gave_up.ensures ∙ ap sum c.as_slice.ensures)) in
+    let A : List Census → Type 0 = λ censuses. AllClose head c.args.hall.zones c.args.hall.workers censuses stock.totals.tallies.items stock.totals.deferred.items in
+    let B : ℕ → Type 0 = λ n. IsReportOf c.args.trace.now c.args.hall.workers stock.totals.censuses.items stock.totals.tallies.items stock.totals.deferred.items stock.read stock.write n first in
+    let F : List Census → Type 0 = λ censuses. IsReportOf c.args.trace.now c.args.hall.workers censuses stock.totals.tallies.items stock.totals.deferred.items stock.read stock.write first.gave_up first in
+    let G : List (NameWork _ _ _ _ _) → Type 0 = λ name_works. IsWhole names c.args.hall.names head.names name_works first c.in_ok-report.report in
     record {
       hall = record {
         done = c.requires.can.done;
         named = c.requires.can.named;
         ended = c.requires.can.ended;
         gave_up = shown;
-        tallies = ended.totals.tallies.items;
-        deferred = ended.totals.deferred.items;
+        tallies = stock.totals.tallies.items;
+        deferred = stock.totals.deferred.items;
         closes = subst A (sym c.from_vec.ensures) c.requires.closes;
-        read = ended.read;
-        write = ended.write;
+        read = stock.read;
+        write = stock.write;
         hands = c.requires.hands;
         first = first;
-        made_of = subst F (c.as_slice-2.ensures.value ∙ sym c.from_vec.ensures) (subst E c.as_slice-3.ensures.value (subst D c.as_slice-4.ensures.value (subst B (sym made.waits) made)));
-        whole = subst G c.as_slice-5.ensures whole;
+        made_of = subst F (sym c.from_vec.ensures) (subst B (sym made.waits) made);
+        whole = subst G c.as_slice-name_works.ensures whole;
       };
       clock = refl;
       gave_up = shown;

@@ -4,4 +4,4 @@ use Rattle.uma_replay.specs.Names.{AreNameLedgers}
 use Rattle.uma_replay.proofs.name_sums.name_ledgers.Given as goal
 
 abbrev pub invariant-loop-number : goal.invariant-loop-number
-invariant-loop-number g l = AreNameLedgers g.N.NameCalls (take l.number l.namings) l.ledgers.items
+invariant-loop-number g l = AreNameLedgers g.N.NameCalls (take l.number l.name_works) l.ledgers.items

@@ -4,4 +4,4 @@ use Rattle.uma_replay.specs.Names.{total_of}
 use Rattle.uma_replay.proofs.name_sums.total.Given as goal
 
 abbrev pub invariant-loop-number : goal.invariant-loop-number
-invariant-loop-number g l = l.total ≡ total_of l.count (take l.number l.namings)
+invariant-loop-number g l = l.total ≡ total_of l.count (take l.number l.name_works)

@@ -2,5 +2,5 @@
 use Rattle.uma_replay.specs.Names.{AreSeatSums}
 use Rattle.uma_replay.proofs.name_totals.seat_sums.Given as goal
 
-abbrev pub invariant-loop-naming : goal.invariant-loop-naming
-invariant-loop-naming g l = AreSeatSums g.N.NameCalls l.naming-index l.namings l.sums
+abbrev pub invariant-loop-name_work : goal.invariant-loop-name_work
+invariant-loop-name_work g l = AreSeatSums g.N.NameCalls l.name_work-index l.name_works l.sums

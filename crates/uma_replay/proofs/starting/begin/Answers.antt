@@ -15,7 +15,7 @@ loop-worker-preserved g c =
     let names = g.N.NameCalls in
     let cache = c.args.cache.now in
     let domains = c.args.domains in
-    let begun = c.loop-worker.runnings in
+    let begun = c.loop-worker.runs in
     let seat = c.in_ok-seat in
     let new = c.new.ensures in
     let number = c.len-in-loop-worker.ensures ∙ begun.ok.0 in
@@ -26,12 +26,12 @@ loop-worker-preserved g c =
 pub loop-worker-init : goal.loop-worker-init
 loop-worker-init g c =
     let P : List (WorkerRun _ _ _ _ _ _) → Type 0 = λ list. AreFirst g.N.NameCalls c.args.cache.now c.args.domains [] list in
-    subst P (sym c.in_ok-runnings.ensures.items) (record { are = refl; each = λ n r at. absurd (none-some r at) })
+    subst P (sym c.in_ok-runs.ensures.items) (record { are = refl; each = λ n r at. absurd (none-some r at) })
 
 pub overflow_cast-domain : goal.overflow_cast-domain
 overflow_cast-domain g c =
     let workers = c.args.workers.items in
-    let begun = c.loop-worker.runnings in
+    let begun = c.loop-worker.runs in
     let turn = YieldsList-turn (YieldsList-from_vec workers (cc) (cc)) c.loop-worker.yielded c.loop-worker.worker-iterator c.loop-worker.yielded_by c.next.result c.next.new.self c.in-Some.worker c.in-Some.is c.next.ensures.steps in
     let number : c.len-in-loop-worker.result ≡ length begun.items = c.len-in-loop-worker.ensures ∙ begun.ok.0 in
     let each : length begun.items ≡ length c.loop-worker.yielded = sym (length-map begun.items worker_in) ∙ ap length c.loop-worker.invariant.are in
@@ -41,5 +41,5 @@ pub returns : goal.returns
 returns g c =
     let workers = c.args.workers.items in
     let end = YieldsList-end (YieldsList-from_vec workers (cc) (cc)) c.loop-worker.yielded c.loop-worker.worker-iterator c.loop-worker.yielded_by c.next.result c.next.new.self c.in-None.is c.next.ensures.steps in
-    let P : List (Worker _ _ _) → Type 0 = λ list. AreFirst g.N.NameCalls c.args.cache.now c.args.domains list c.loop-worker.runnings.items in
+    let P : List (Worker _ _ _) → Type 0 = λ list. AreFirst g.N.NameCalls c.args.cache.now c.args.domains list c.loop-worker.runs.items in
     subst P (sym (map-id c.loop-worker.yielded) ∙ end.0) c.loop-worker.invariant

@@ -3,4 +3,4 @@ use Rattle.uma_replay.specs.Playing.{AreFirst}
 use Rattle.uma_replay.proofs.starting.begin.Given as goal
 
 abbrev pub invariant-loop-worker : goal.invariant-loop-worker
-invariant-loop-worker g l = AreFirst g.N.NameCalls l.cache l.domains l.yielded l.runnings.items
+invariant-loop-worker g l = AreFirst g.N.NameCalls l.cache l.domains l.yielded l.runs.items

@@ -9,7 +9,7 @@ returns g c =
     let first = c.args.first in
     let totals = c.in_ok-totals.totals in
     let part = c.in_ok-part.part in
-    IfOk-weaker c.with_names.result (λ (report : Report). report ≡ with_names first part) (HasNames g.N.NameCalls c.args.cache.now c.args.line.now c.args.namings.now first)
+    IfOk-weaker c.with_names.result (λ (report : Report). report ≡ with_names first part) (HasNames g.N.NameCalls c.args.cache.now c.args.line.now c.args.name_works.now first)
     (λ report is. record {
       census = totals.census;
       tally = totals.tally;

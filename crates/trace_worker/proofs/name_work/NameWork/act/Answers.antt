@@ -5,19 +5,19 @@ use Rattle.trace_worker.proofs.name_work.NameWork.act.Goals as goal
 
 pub returns-in_ok-bind-in-Bind-clause-stays : goal.returns-in_ok-bind-in-Bind-clause-stays
 returns-in_ok-bind-in-Bind-clause-stays g c = record {
-  fits = fits_kept c.args.zones.now c.args.clock.now c.args.worker.now c.bind.new.worker c.requires.able.fits c.bind.ensures.stays.pass c.in_ok-bind-in-Bind.ensures.binds.holds;
+  fits = fits_kept c.args.shared.now.zones.now c.args.shared.now.clock.now c.args.worker.now c.bind.new.worker c.requires.able.fits c.bind.ensures.stays.pass c.in_ok-bind-in-Bind.ensures.binds.holds;
   seat = c.bind.ensures.stays.seat;
 }
 
 pub returns-in_ok-unbind-in-Unbind-clause-stays : goal.returns-in_ok-unbind-in-Unbind-clause-stays
 returns-in_ok-unbind-in-Unbind-clause-stays g c = record {
-  fits = fits_kept c.args.zones.now c.args.clock.now c.args.worker.now c.unbind.new.worker c.requires.able.fits c.unbind.ensures.stays.pass c.in_ok-unbind-in-Unbind.ensures.unbinds.holds;
+  fits = fits_kept c.args.shared.now.zones.now c.args.shared.now.clock.now c.args.worker.now c.unbind.new.worker c.requires.able.fits c.unbind.ensures.stays.pass c.in_ok-unbind-in-Unbind.ensures.unbinds.holds;
   seat = c.unbind.ensures.stays.seat;
 }
 
 pub returns-in-Look-clause-stays : goal.returns-in-Look-clause-stays
 returns-in-Look-clause-stays g c = record {
-  fits = fits_kept c.args.zones.now c.args.clock.now c.args.worker.now c.look.new.worker c.requires.able.fits c.look.ensures.stays.pass
-      (looks_holds g.N.NameCalls c.args.cache.now c.args.zones.now c.in-Look.key (doing_there c.args.worker.now c.args.self.now) (doing_there c.look.new.worker c.look.new.self) c.look.ensures.looks);
+  fits = fits_kept c.args.shared.now.zones.now c.args.shared.now.clock.now c.args.worker.now c.look.new.worker c.requires.able.fits c.look.ensures.stays.pass
+      (looks_holds g.N.NameCalls c.args.shared.now.cache.now c.args.shared.now.zones.now c.in-Look.key (doing_there c.args.worker.now c.args.self.now) (doing_there c.look.new.worker c.look.new.self) c.look.ensures.looks);
   seat = c.look.ensures.stays.seat;
 }

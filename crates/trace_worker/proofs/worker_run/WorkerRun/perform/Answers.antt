@@ -8,13 +8,13 @@ use Rattle.trace_worker.proofs.worker_run.WorkerRun.perform.Goals as goal
 
 pub returns-in-Away-clause-stays : goal.returns-in-Away-clause-stays
 returns-in-Away-clause-stays g c = record {
-  fits = keeps_fits c.args.zones.now c.args.clock.now (worker_in c.args.self.now) (worker_at c.leave.new.self) c.requires.able.fits c.leave.ensures.stays.pass c.leave.ensures.stays.keeps;
+  fits = keeps_fits c.args.shared.now.zones.now c.args.shared.now.clock.now (worker_in c.args.self.now) (worker_at c.leave.new.self) c.requires.able.fits c.leave.ensures.stays.pass c.leave.ensures.stays.keeps;
   seat = c.requires.able.seat;
 }
 
 pub returns-in-Back-clause-stays : goal.returns-in-Back-clause-stays
 returns-in-Back-clause-stays g c = record {
-  fits = keeps_fits c.args.zones.now c.args.clock.now (worker_in c.args.self.now) (worker_at c.come.new.self) c.requires.able.fits c.come.ensures.stays.pass c.come.ensures.stays.keeps;
+  fits = keeps_fits c.args.shared.now.zones.now c.args.shared.now.clock.now (worker_in c.args.self.now) (worker_at c.come.new.self) c.requires.able.fits c.come.ensures.stays.pass c.come.ensures.stays.keeps;
   seat = c.requires.able.seat;
 }
 
@@ -23,4 +23,4 @@ returns-in_ok-act-in_default-clause-does g c =
     let here : c.args.op ≢ ops.Away = search rules in
     let stays : c.args.op ≢ ops.Back = search rules in
     let is : c.args.self.now.attendance ≡ There c.in-There.worker = search rules in
-    acts_there g.N.NameCalls c.args.cache.now c.args.zones.now c.args.self.now c.args.op c.in-There.worker c.act.new.worker c.act.new.self here stays is c.requires.turn.there c.in_ok-act-in_default.ensures.acts
+    acts_there g.N.NameCalls c.args.shared.now.cache.now c.args.shared.now.zones.now c.args.self.now c.args.op c.in-There.worker c.act.new.worker c.act.new.self here stays is c.requires.turn.there c.in_ok-act-in_default.ensures.acts

@@ -4,7 +4,7 @@ use Rattle.uma_seat.specs.Seat.{ledger_of}
 use Rattle.uma_zone.specs.Zone.{zone_cap}
 use Rattle.name_cache.specs.Cache.{cache_zone, row_count}
 use Rattle.trace_worker.specs.NameCalls.{Bound, CountedBind}
-use Rattle.umarun.specs.Caches.{IsFoundIn}
+use Rattle.umarun.specs.Caches.{IsFoundIn, TurnsBackIn}
 use Rattle.umarun.specs.Known.{KnowsRecord}
 use Rattle.umarun.proofs.Counting.{bind_counts, refusal_counts, refused_ends, room_in_cache}
 use Rattle.umarun.proofs.Knowing.{binds_of, still_known}
@@ -53,7 +53,7 @@ returns-in-Err-clause-counts g c =
     let zone = cache_zone kept.cache in
     let old = c.args.seat.now in
     let new = c.bind.new.seat in
-    let P : Bool → Type 0 = λ done. CountedBind (zone_cap zone) (IsFoundIn kept) done (Some (ledger_of old)) (Some (ledger_of new)) in
+    let P : Bool → Type 0 = λ done. CountedBind (zone_cap zone) (IsFoundIn kept) (TurnsBackIn kept c.args.key (view c.args.pass.now) old (view c.bind.new.pass) new) done (Some (ledger_of old)) (Some (ledger_of new)) in
     refused_ends c.turned.result _ P c.turned.ensures.refuses c.turned.ensures.not_memory
     (λ other. refusal_counts zone kept.unreserved (row_count kept.cache) c.args.key (view c.args.pass.now) (view c.bind.new.pass) old new c.in-Err.refused c.in-Err.ensures.refused other)
 

@@ -4,13 +4,13 @@ use Rattle.std.specs.Prelude.{[]}
 use Rattle.trace_worker.specs.Asking.{HearsEach, heard_by}
 use Rattle.trace_worker.specs.OwnLines.{lines_before}
 use Rattle.trace_worker.proofs.Midway.{Midway}
-use Rattle.trace_worker.proofs.worker_run.WorkerRun.work.Given as goal
+use Rattle.trace_worker.proofs.worker_run.WorkerRun.turn.Given as goal
 
 abbrev pub invariant-loop-place : goal.invariant-loop-place
 invariant-loop-place g l =
     record {
-      midway : Midway g.N.NameCalls l.cache l.zones l.clock l.number (lines_before l.trace.rounds l.round) l.ops l.place l.fn.self l.self;
-      of_gate : g.G.Gate.is_of l.gate l.visit;
+      midway : Midway g.N.NameCalls l.shared.cache.now l.shared.zones.now l.shared.clock.now l.number (lines_before l.shared.trace.now.rounds l.round) l.ops l.place l.fn.self l.self;
+      of_gate : g.G.Gate.is_of l.shared.gate.now l.visit;
       hears : HearsEach l.number (heard_by [] l.fn.self) l.place (heard_by (g.G.Gate.heard l.visit) l.self);
-      free : g.G.Gate.is_free l.gate → l.self.gave_up ≡ l.fn.self.gave_up;
+      free : g.G.Gate.is_free l.shared.gate.now → l.self.gave_up ≡ l.fn.self.gave_up;
     }

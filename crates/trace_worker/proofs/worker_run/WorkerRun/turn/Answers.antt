@@ -5,11 +5,11 @@ use Rattle.trace_worker.specs.OwnLines.{own_ops}
 use Rattle.trace_worker.proofs.Asked.{hears-all, hears-begun, hears-more, told_so}
 use Rattle.trace_worker.proofs.Midway.{Midway-new, Midway-turn, Midway-waits, Midway-step, Midway-asks}
 use Rattle.trace_worker.proofs.Numbers.{few_as, some_as}
-use Rattle.trace_worker.proofs.worker_run.WorkerRun.work.Goals as goal
+use Rattle.trace_worker.proofs.worker_run.WorkerRun.turn.Goals as goal
 
 pub loop-place-init : goal.loop-place-init
 loop-place-init g c = record {
-  midway = Midway-new g.N.NameCalls c.args.cache.now c.args.trace.now c.args.zones.now c.args.clock.now c.args.round c.args.number c.own_list-ops.result.now c.args.self.now c.requires.ready;
+  midway = Midway-new g.N.NameCalls c.args.shared.now.cache.now c.args.shared.now.trace.now c.args.shared.now.zones.now c.args.shared.now.clock.now c.args.round c.args.number c.own_list-ops.result.now c.args.self.now c.requires.ready;
   of_gate = c.open-visit.ensures.of_gate;
   hears = hears-begun c.args.number (g.G.Gate.heard c.open-visit.result) c.args.self.now c.open-visit.ensures.nothing;
   free = λ _. refl;
@@ -17,17 +17,17 @@ loop-place-init g c = record {
 
 pub await_gate-requires-clause-room : goal.await_gate-requires-clause-room
 await_gate-requires-clause-room g c κs within =
-    Midway-asks g.N.NameCalls c.args.cache.now c.args.trace.now c.args.zones.now c.args.clock.now c.args.round c.args.number c.loop-place.place c.own_list-ops.result.now c.args.self.now c.loop-place.self
+    Midway-asks g.N.NameCalls c.args.shared.now.cache.now c.args.shared.now.trace.now c.args.shared.now.zones.now c.args.shared.now.clock.now c.args.round c.args.number c.loop-place.place c.own_list-ops.result.now c.args.self.now c.loop-place.self
     c.requires.ready c.own_list-ops.ensures c.loop-place-test.true c.loop-place.invariant.midway
 
 pub perform-requires-clause-turn : goal.perform-requires-clause-turn
 perform-requires-clause-turn g c κs within =
-    Midway-turn g.N.NameCalls c.args.cache.now c.args.trace.now c.args.zones.now c.args.clock.now c.args.round c.args.number c.loop-place.place c.own_list-ops.result.now _ c.args.self.now c.loop-place.self c.await_gate.new.self
+    Midway-turn g.N.NameCalls c.args.shared.now.cache.now c.args.shared.now.trace.now c.args.shared.now.zones.now c.args.shared.now.clock.now c.args.round c.args.number c.loop-place.place c.own_list-ops.result.now _ c.args.self.now c.loop-place.self c.await_gate.new.self
     c.requires.ready c.own_list-ops.ensures c.loop-place-test.true c.loop-place.invariant.midway c.await_gate.ensures.keeps.attendance
 
 pub perform-requires-clause-able : goal.perform-requires-clause-able
 perform-requires-clause-able g c κs within =
-    Midway-waits g.N.NameCalls c.args.cache.now c.args.trace.now c.args.zones.now c.args.clock.now c.args.round c.args.number c.loop-place.place c.own_list-ops.result.now c.args.self.now c.loop-place.self c.await_gate.new.self
+    Midway-waits g.N.NameCalls c.args.shared.now.cache.now c.args.shared.now.trace.now c.args.shared.now.zones.now c.args.shared.now.clock.now c.args.round c.args.number c.loop-place.place c.own_list-ops.result.now c.args.self.now c.loop-place.self c.await_gate.new.self
     c.requires.ready c.own_list-ops.ensures c.loop-place-test.true c.loop-place.invariant.midway c.await_gate.ensures.keeps
 
 pub loop-place-preserved : goal.loop-place-preserved
@@ -35,8 +35,8 @@ loop-place-preserved g c =
     let waited : WorkerRun _ _ _ _ _ _ = c.await_gate.new.self in
     let next : WorkerRun _ _ _ _ _ _ = c.perform.new.self in
     record {
-      midway = Midway-step g.N.NameCalls c.args.cache.now c.args.trace.now c.args.zones.now c.args.clock.now c.args.round c.args.number c.loop-place.place c.own_list-ops.result.now _ c.args.self.now c.loop-place.self waited next
-          c.requires.ready c.own_list-ops.ensures c.loop-place-test.true c.loop-place.invariant.midway c.await_gate.ensures.keeps.attendance c.await_gate.ensures.keeps.naming c.in_ok-perform.ensures.does c.in_ok-perform.ensures.stays.fits c.in_ok-perform.ensures.stays.seat
+      midway = Midway-step g.N.NameCalls c.args.shared.now.cache.now c.args.shared.now.trace.now c.args.shared.now.zones.now c.args.shared.now.clock.now c.args.round c.args.number c.loop-place.place c.own_list-ops.result.now _ c.args.self.now c.loop-place.self waited next
+          c.requires.ready c.own_list-ops.ensures c.loop-place-test.true c.loop-place.invariant.midway c.await_gate.ensures.keeps.attendance c.await_gate.ensures.keeps.name_work c.in_ok-perform.ensures.does c.in_ok-perform.ensures.stays.fits c.in_ok-perform.ensures.stays.seat
           (some_as c.perform.ensures.gate.asked c.await_gate.ensures.counts.asked_some) (few_as c.perform.ensures.gate.asked c.await_gate.ensures.counts.asked_few) (few_as c.perform.ensures.gate.gave_up c.await_gate.ensures.counts.gave_up);
       of_gate = c.done.ensures.of_gate;
       hears = hears-more c.args.number c.loop-place.place (heard_by [] c.args.self.now) (heard_by (g.G.Gate.heard c.loop-place.visit) c.loop-place.self) (heard_by (g.G.Gate.heard c.await_gate.new.visit) waited) (heard_by (g.G.Gate.heard c.done.new.visit) next)
@@ -51,6 +51,6 @@ returns-clause-asks g c =
     record {
       visit = c.loop-place.visit;
       of_gate = c.loop-place.invariant.of_gate;
-      hears = hears-all c.args.number c.loop-place.place c.own_list-ops.result.now (own_ops c.args.trace.now.rounds c.args.round c.args.number) (heard_by [] c.args.self.now) (heard_by (g.G.Gate.heard c.loop-place.visit) c.loop-place.self)
+      hears = hears-all c.args.number c.loop-place.place c.own_list-ops.result.now (own_ops c.args.shared.now.trace.now.rounds c.args.round c.args.number) (heard_by [] c.args.self.now) (heard_by (g.G.Gate.heard c.loop-place.visit) c.loop-place.self)
           past c.loop-place.invariant.midway.within c.own_list-ops.ensures c.loop-place.invariant.hears;
     }
