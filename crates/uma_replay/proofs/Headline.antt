@@ -1,10 +1,10 @@
 -- The headline, from the hall and its report.
-use Rattle.std.proofs.Common.{◌≡◌, ℕ, zero, suc, ◌+◌, ◌<◌, ◌≤◌, Bool, true, List, [], ◌∷◌, ◌++◌, Option, None, Some, cond, length, get_or, map, inl, inr, refl, sym, ap, ◌∙◌, subst, arith}
+use Rattle.std.proofs.Common.{◌≡◌, ℕ, zero, suc, ◌+◌, ◌<◌, ◌≤◌, Bool, true, List, [], ◌∷◌, ◌++◌, Option, None, Some, cond, length, get_or, map, refl, sym, ap, ◌∙◌, subst, arith}
 use Rattle.std.proofs.lemmas.Bool.{false≢true}
 use Rattle.std.proofs.lemmas.List.Elements.{All-head, All-tail, All-weaker}
 use Rattle.std.proofs.lemmas.List.Sums.{sum_by-append, sum_by-cons}
 use Rattle.std.proofs.lemmas.Option.{none-some, same_Some, slice_get_within, get_or_from_slice_get}
-use Rattle.std.specs.Prelude.{All, IfOk, IfSome, Result, Ok, Err, count_by, is_some, slice_get, take}
+use Rattle.std.specs.Prelude.{◌%◌, All, IfOk, IfSome, Result, Ok, Err, count_by, is_some, slice_get, take}
 use Rattle.std.specs.List.{flat_map}
 use Rattle.std.specs.Option.{option_map_or}
 use Rattle.smr_clock.specs.declared.host.Host.{Ghosts}
@@ -31,23 +31,31 @@ use Rattle.trace_worker.specs.declared.name_calls.NameCalls.{Ghosts as NameGhost
 use Rattle.trace_worker.specs.declared.name_work.NameCounts.{NameCounts}
 use Rattle.trace_worker.specs.declared.name_work.NameWork.{NameWork}
 use Rattle.trace_worker.specs.declared.worker.Worker.{Worker}
+use Rattle.trace_worker.specs.declared.worker_run.WorkerRun.{WorkerRun}
 use Rattle.trace_worker.specs.Attendance.{worker_in}
-use Rattle.trace_worker.specs.Items.{CachedItem, CountedSeat, CountedZone, LiveItem}
+use Rattle.trace_worker.specs.Items.{CountedSeat, CountedZone, LiveItem}
 use Rattle.trace_worker.specs.NameLines.{doing}
 use Rattle.trace_worker.specs.Requests.{GivesBack, Requests}
+use Rattle.trace_worker.specs.Together.{crew}
+use Rattle.trace_play.specs.Beginners.{IsBeginner}
+use Rattle.trace_play.proofs.RoundLists.{at_other}
 use Rattle.uma_replay.specs.declared.hall.Hall.{Hall}
 use Rattle.uma_replay.specs.declared.hall.Played.{Played}
-use Rattle.uma_replay.specs.Counting.{report_zones, worker_ops}
+use Rattle.uma_replay.specs.Counting.{report_zones}
 use Rattle.uma_replay.specs.Hall.{HallStands}
-use Rattle.uma_replay.specs.Headline.{SeatCall, Request, Return, Flush, Empty, Nothing, SeatLine, NameLine, AreLines, AreNameLines, AreAmong, IsCall, HasDone, Follow, Comes, gone, brought_by, got_none, is_refused, PassesHooks, AreOnTrail, HasCause, AreKept, AreTotals, FindsBound, RefusesEntry, WaitsForReaders, Headline}
+use Rattle.uma_replay.specs.Headline.{SeatCall, Request, Return, Flush, Empty, Nothing, SeatLine, NameLine, AreNameLines, AreAmong, IsLine, HasDone, Comes, gone, got_none, is_refused, PassesHooks, AreOnTrail, HasCause, AreKept, AreTotals, FindsBound, RefusesEntry, WaitsForReaders, Headline, steps_of}
 use Rattle.uma_replay.specs.Limits.{last_limit}
 use Rattle.uma_replay.specs.Names.{AreNameLedgers, IsWhole}
+use Rattle.uma_replay.specs.Playing.{HavePlayed, IsFirst}
 use Rattle.uma_replay.specs.Report.{IsLineOf, StandsFor, ledgers_at}
 use Rattle.uma_replay.specs.Reporting.{AreLedgersOf}
 use Rattle.uma_replay.proofs.NameStory as name_story
 use Rattle.uma_replay.proofs.NameStory.{after, before, came, handed}
 use Rattle.uma_replay.proofs.PlainStands.{some_at}
-use Rattle.uma_replay.proofs.SeatLines.{IsGood, Stories, from_seat, to_seat, stories_of_rounds}
+use Rattle.uma_replay.proofs.SeatLines.{Follow, IsGood, from_seat, to_seat}
+use Rattle.uma_replay.proofs.Staying.{found_before}
+use Rattle.uma_replay.proofs.Steps.{Tells, Walks, walks}
+use Rattle.uma_replay.proofs.WorkerRuns.{of_both}
 
 -- ---- on numbers and lists
 
@@ -125,14 +133,6 @@ module _ {L S : Type 0} (old new : L → S) (usable : S → List Ticket) (gone b
       from_no_item left came (subst P empty (flows count is lines from to balance follow))
 
 module _ {H Part : Type 0} {h : Ghosts H Part} where
-  -- ---- safe reuse
-
-  waits : (zone : CountedZone H Part h) (z : ℕ) (lines : List (SeatLine H Part h)) (from to : CountedSeat H Part h) → zone_smr zone ≡ true → All (IsGood zone z) lines → Follow from_seat to_seat from lines to → usable_of from ≡ []
-      → AreAmong gone brought_by lines
-  waits zone z lines from to smr good follow empty =
-      let Even : SeatLine H Part h → Type 0 = λ line. usable_tickets line.new ++ gone line ≡ usable_tickets line.old ++ brought_by line in
-      among from_seat to_seat usable_tickets gone brought_by lines from to (All-weaker (IsGood zone z) Even (λ line g. (g.waits smr).1) lines good) follow (ap (map cached_ticket) empty)
-
   -- ---- hooks
 
   passes : (zone : CountedZone H Part h) (old : CountedSeat H Part h) (call : SeatCall) (new : CountedSeat H Part h) → HasDone zone old call new → PassesHooks zone call
@@ -150,11 +150,6 @@ module _ {H Part : Type 0} {h : Ghosts H Part} where
   }
 
   -- ---- refusals
-
-  has_cause : (zone : CountedZone H Part h) (z : ℕ) (line : SeatLine H Part h) → IsGood zone z line → HasCause zone line
-  has_cause zone z line good ask is =
-      let r : Requests zone ask line.old None line.new = subst (λ (c : SeatCall). HasDone zone line.old c line.new) is good.done in
-      r.ends
 
   abbrev fails_of : CountedSeat H Part h → ℕ
   fails_of seat = (ledger_of seat).fails
@@ -180,14 +175,33 @@ module _ {H Part : Type 0} {h : Ghosts H Part} where
   line_fails zone old Empty new did = same_count (fails_of old) (fails_of new) (counts_fails old new did.keeps.counts)
   line_fails zone old Nothing new did = same_count (fails_of old) (fails_of new) (ap fails_of did)
 
-  all_fails : (zone : CountedZone H Part h) (z : ℕ) (lines : List (SeatLine H Part h)) (from to : CountedSeat H Part h) → All (IsGood zone z) lines → Follow from_seat to_seat from lines to → fails_of to ≡ fails_of from + count_by is_refused lines
+module _ {N H C S Part : Type 0} {h : Ghosts H Part} where
+  -- ---- safe reuse
+
+  abbrev brought_by : SeatLine N H C S Part h → List Ticket
+  brought_by line = line.brought
+
+  waits : (zone : CountedZone H Part h) (z : ℕ) (lines : List (SeatLine N H C S Part h)) (from to : CountedSeat H Part h) → zone_smr zone ≡ true → All (IsGood zone z) lines → Follow from_seat to_seat from lines to → usable_of from ≡ []
+      → AreAmong gone brought_by lines
+  waits zone z lines from to smr good follow empty =
+      let Even : SeatLine N H C S Part h → Type 0 = λ line. usable_tickets line.new ++ gone line ≡ usable_tickets line.old ++ brought_by line in
+      among from_seat to_seat usable_tickets gone brought_by lines from to (All-weaker (IsGood zone z) Even (λ line g. (g.waits smr).1) lines good) follow (ap (map cached_ticket) empty)
+
+  -- ---- refusals
+
+  has_cause : (zone : CountedZone H Part h) (z : ℕ) (line : SeatLine N H C S Part h) → IsGood zone z line → HasCause zone line
+  has_cause zone z line good ask is =
+      let r : Requests zone ask line.old None line.new = subst (λ (c : SeatCall). HasDone zone line.old c line.new) is good.is.done in
+      r.ends
+
+  all_fails : (zone : CountedZone H Part h) (z : ℕ) (lines : List (SeatLine N H C S Part h)) (from to : CountedSeat H Part h) → All (IsGood zone z) lines → Follow from_seat to_seat from lines to → fails_of to ≡ fails_of from + count_by is_refused lines
   all_fails zone z [] from to good follow = same_count (fails_of from) (fails_of to) (ap fails_of follow)
   all_fails zone z (line ∷ lines) from to good follow =
-      let one = line_fails zone line.old line.call line.new (All-head (IsGood zone z) line lines good).done in
+      let one = line_fails zone line.old line.call line.new (All-head (IsGood zone z) line lines good).is.done in
       let rest = all_fails zone z lines line.new to (All-tail (IsGood zone z) line lines good) follow.1 in
       let first : fails_of line.new ≡ fails_of from + unit (is_refused line) = one ∙ ap (λ (s : CountedSeat H Part h). fails_of s + unit (is_refused line)) follow.0 in
       add_up (fails_of from) (fails_of line.new) (fails_of to) (unit (is_refused line)) (count_by is_refused lines) first rest
-      ∙ ap (λ (m : ℕ). fails_of from + m) (sym (sum_by-cons (λ (line : SeatLine H Part h). unit (is_refused line)) line lines))
+      ∙ ap (λ (m : ℕ). fails_of from + m) (sym (sum_by-cons (λ (line : SeatLine N H C S Part h). unit (is_refused line)) line lines))
 
 -- ---- totals
 
@@ -218,42 +232,62 @@ module _ {N H C S Part : Type 0} {h : Ghosts H Part} (names : NameGhosts N H C S
   name_work_of : (n : ℕ) (w : Worker H Part h) → slice_get hall.workers n ≡ Some w → (name_work : NameWork N H C S Part) × (slice_get hall.name_works n ≡ Some name_work)
   name_work_of n w at = some_at hall.name_works n (below_by n (length hall.workers) (length hall.name_works) t.head.workers (slice_get_within hall.workers n w at) has.done.worker_count has.named.name_work_count)
 
-  seat_lines : (n : ℕ) (w : Worker H Part h) → slice_get hall.workers n ≡ Some w → (befores : List (Worker H Part h)) × AreKept names t hall n w befores
-  seat_lines n w at =
+  played : HavePlayed names hall.names t hall.zones hall.clock hall.workers hall.name_works
+  played = has.named.together
+
+  all : Walks names hall.names hall.zones t.rounds played.begun played.ended
+  all = walks names hall.names hall.zones t.rounds played.begun played.ended played.rounds
+
+  -- who began as worker `n`, and did its rounds
+  record Ran (n : ℕ) (w : Worker H Part h) (name_work : NameWork N H C S Part) : Type 0 where
+    begin : WorkerRun N H C S Part h
+    is_new : IsBeginner hall.zones hall.clock (n % t.head.domains) (worker_in begin)
+    is_first : IsFirst names hall.names (n % t.head.domains) begin
+    end : WorkerRun N H C S Part h
+    tells : Tells names hall.names hall.zones (steps_of n all.steps) (doing begin) (doing end)
+    seats : w.seats ≡ (worker_in end).seats
+    name_works : name_work ≡ end.name_work
+
+  ran : (n : ℕ) (w : Worker H Part h) (name_work : NameWork N H C S Part) → slice_get hall.workers n ≡ Some w → slice_get hall.name_works n ≡ Some name_work → Ran n w name_work
+  ran n w name_work at at_name_work =
+      let back = found_before played.back hall.workers n w played.stay.count at in
+      let old = found_before (crew played.ended) played.back n back.0 played.comes.count back.1 in
+      let both = of_both played.ended n old.0 name_work old.1 (ap (λ (list : List (NameWork N H C S Part)). slice_get list n) (sym played.name_works_are) ∙ at_name_work) in
+      let begin = get_or played.begun n both.run in
+      let at_begin = at_other played.begun played.ended n both.run all.count both.at in
+      let new = played.are_new n begin at_begin in
+      record {
+        begin = begin;
+        is_new = new.0;
+        is_first = new.1;
+        end = both.run;
+        tells = all.each n begin both.run at_begin both.at;
+        seats = (played.stay.each n back.0 w back.1 at).seats ∙ ((played.comes.each n old.0 back.0 old.1 back.1).keeps.seats ∙ ap (λ (v : Worker H Part h). v.seats) (sym both.is_worker));
+        name_works = sym both.is_name_work;
+      }
+
+  seat_lines : (n : ℕ) (w : Worker H Part h) → slice_get hall.workers n ≡ Some w → AreKept hall w (steps_of n all.steps)
+  seat_lines n w at z zone seat at_zone at_seat =
       let name_work = name_work_of n w at in
-      let p = has.named.played n w name_work.0 at name_work.1 in
-      let all = stories_of_rounds names hall.names hall.zones t.rounds n (doing p.begin) p.end p.plays in (
-        all.befores,
-        λ z zone seat at_zone at_seat.
-            let first = some_at (worker_in p.begin).seats.items z (below_as z (length hall.zones) (length (worker_in p.begin).seats.items) (slice_get_within hall.zones z zone at_zone) p.is_new.fits.seats.count) in
-            let unused = p.is_new.seats z first.0 first.1 in
-            let s = all.each z zone first.0 at_zone first.1 in
-            let same : s.to ≡ seat = same_Some s.to seat (sym s.at ∙ (ap (λ x. slice_get x.items z) (sym p.stays.seats) ∙ at_seat)) in
-            let follow = subst (λ (x : CountedSeat H Part h). Follow from_seat to_seat first.0 s.lines x) same s.follow in (
-              s.lines,
-              record {
-                all = s.all;
-                by = s.by;
-                seats = All-weaker (IsGood zone z) (λ (line : SeatLine H Part h). slice_get line.by.seats.items z ≡ Some line.old) (λ line g. g.seat) s.lines s.good;
-                calls = All-weaker (IsGood zone z) (λ (line : SeatLine H Part h). IsCall z line.by.slots line.op line.call) (λ line g. g.call) s.lines s.good;
-                done = All-weaker (IsGood zone z) (λ (line : SeatLine H Part h). HasDone zone line.old line.call line.new) (λ line g. g.done) s.lines s.good;
-                first = first.0;
-                empty = unused.usable;
-                fresh = unused.ledger;
-                follow = follow;
-              },
-              record {
-                safe = λ smr. record {
-                  come = All-weaker (IsGood zone z) (Comes zone) (λ line g. (g.waits smr).0) s.lines s.good;
-                  among = waits zone z s.lines first.0 seat smr s.good follow unused.usable;
-                };
-                hooks = All-weaker (IsGood zone z) (λ (line : SeatLine H Part h). PassesHooks zone line.call) (λ line g. passes zone line.old line.call line.new g.done) s.lines s.good;
-                refusals = record {
-                  causes = All-weaker (IsGood zone z) (HasCause zone) (λ line g. has_cause zone z line g) s.lines s.good;
-                  fails = from_none _ _ _ unused.ledger.fails (all_fails zone z s.lines first.0 seat s.good follow);
-                };
-              },
-            ),
+      let r = ran n w name_work.0 at name_work.1 in
+      let first = some_at (worker_in r.begin).seats.items z (below_as z (length hall.zones) (length (worker_in r.begin).seats.items) (slice_get_within hall.zones z zone at_zone) r.is_new.fits.seats.count) in
+      let unused = r.is_new.seats z first.0 first.1 in
+      let s = r.tells.seats z zone first.0 at_zone first.1 in
+      let same : s.to ≡ seat = same_Some s.to seat (sym s.at ∙ (ap (λ x. slice_get x.items z) (sym r.seats) ∙ at_seat)) in
+      let follow = subst (λ (x : CountedSeat H Part h). Follow from_seat to_seat first.0 s.lines x) same s.follow in (
+        s.lines,
+        record { are = s.are; each = All-weaker (IsGood zone z) (IsLine zone z) (λ line g. g.is) s.lines s.good },
+        record {
+          safe = λ smr. record {
+            come = All-weaker (IsGood zone z) (Comes zone) (λ line g. (g.waits smr).0) s.lines s.good;
+            among = waits zone z s.lines first.0 seat smr s.good follow unused.usable;
+          };
+          hooks = All-weaker (IsGood zone z) (λ (line : SeatLine N H C S Part h). PassesHooks zone line.call) (λ line g. passes zone line.old line.call line.new g.is.done) s.lines s.good;
+          refusals = record {
+            causes = All-weaker (IsGood zone z) (HasCause zone) (λ line g. has_cause zone z line g) s.lines s.good;
+            fails = from_none (fails_of first.0) (fails_of seat) (count_by is_refused s.lines) unused.ledger.fails (all_fails zone z s.lines first.0 seat s.good follow);
+          };
+        },
       )
 
   -- ---- totals
@@ -293,33 +327,35 @@ module _ {N H C S Part : Type 0} {h : Ghosts H Part} (names : NameGhosts N H C S
 
   -- ---- names
 
-  names_at : (n : ℕ) (name_work : NameWork N H C S Part) → slice_get hall.name_works n ≡ Some name_work → (lines : List (NameLine Part)) × AreNameLines names hall.names (worker_ops t n) lines name_work
+  names_at : (n : ℕ) (name_work : NameWork N H C S Part) → slice_get hall.name_works n ≡ Some name_work → (lines : List (NameLine N H C S Part h)) × AreNameLines names hall.names (steps_of n all.steps) lines name_work
   names_at n name_work at =
       let w = some_at hall.workers n (below_by n (length hall.name_works) (length hall.workers) t.head.workers (slice_get_within hall.name_works n name_work at) has.named.name_work_count has.done.worker_count) in
-      let p = has.named.played n w.0 name_work w.1 at in
-      let s = name_story.story_of_rounds names hall.names hall.zones t.rounds n (doing p.begin) p.end p.plays in
-      let hits = from_none _ _ _ (ap (λ (c : NameCounts). c.hits) p.is_first.counts) s.hits in
-      let fails = from_none _ _ _ (none_failed (names.counted p.begin.name_work.seat) p.is_first.fresh) s.fails in
-      let Fine : NameLine Part → Type 0 = name_story.IsFine names hall.names in
-      let from_first = subst (λ (from : List Ticket). Follow before after from s.lines (names.usable p.end.name_work.seat)) p.is_first.unused s.follow in
-      let follow = subst (λ (to : List Ticket). Follow before after [] s.lines to) (ap (λ (g : NameWork N H C S Part). names.usable g.seat) (sym p.name_work_stays)) from_first in (
+      let r = ran n w.0 name_work w.1 at in
+      let s = r.tells.name_lines in
+      let failed : WorkerRun N H C S Part h → ℕ = λ run. option_map_or (λ (l : SeatLedger). l.fails) (names.counted run.name_work.seat) 0 in
+      let hits = from_none r.begin.name_work.counts.hits r.end.name_work.counts.hits (count_by name_story.has_found s.lines) (ap (λ (c : NameCounts). c.hits) r.is_first.counts) s.hits in
+      let fails = from_none (failed r.begin) (failed r.end) (count_by name_story.has_refused s.lines) (none_failed (names.counted r.begin.name_work.seat) r.is_first.fresh) s.fails in
+      let Fine : NameLine N H C S Part h → Type 0 = name_story.IsFine names hall.names in
+      let follow = subst (λ (from : List Ticket). Follow (before names hall.names) (after names hall.names) from s.lines (names.usable r.end.name_work.seat)) r.is_first.unused s.follow in (
         s.lines,
         record {
-          all = s.all;
-          looked = All-weaker Fine (λ (line : NameLine Part). IfSome line.found (FindsBound names hall.names line)) (λ line fine. fine.looked) s.lines s.fine;
-          hits = ap (λ (g : NameWork N H C S Part). g.counts.hits) p.name_work_stays ∙ hits;
-          bound = All-weaker Fine (λ (line : NameLine Part). IfSome line.refused (RefusesEntry names hall.names line)) (λ line fine. fine.bound) s.lines s.fine;
+          are = s.are;
+          looked = All-weaker Fine (λ (line : NameLine N H C S Part h). IfSome line.found (FindsBound names hall.names line)) (λ line fine. fine.looked) s.lines s.fine;
+          hits = ap (λ (g : NameWork N H C S Part). g.counts.hits) r.name_works ∙ hits;
+          bound = All-weaker Fine (λ (line : NameLine N H C S Part h). IfSome line.refused (RefusesEntry names hall.names line)) (λ line fine. fine.bound) s.lines s.fine;
           waits = All-weaker Fine (WaitsForReaders names hall.names) (λ line fine. fine.waits) s.lines s.fine;
-          follow = follow;
           among =
-              (let Even : NameLine Part → Type 0 = λ line. line.after ++ line.handed ≡ line.before ++ line.brought in
-              among before after (λ items. items) handed came s.lines [] (names.usable name_work.seat) (All-weaker Fine Even (λ line fine. fine.waits.balance) s.lines s.fine) follow refl);
-          fails = if_fails (names.counted name_work.seat) (count_by name_story.has_refused s.lines) (ap (λ (g : NameWork N H C S Part). option_map_or (λ (l : SeatLedger). l.fails) (names.counted g.seat) 0) p.name_work_stays ∙ fails);
+              (let Even : NameLine N H C S Part h → Type 0 = λ line. after names hall.names line ++ line.handed ≡ before names hall.names line ++ line.brought in
+              among (before names hall.names) (after names hall.names) (λ items. items) handed came s.lines [] (names.usable r.end.name_work.seat) (All-weaker Fine Even (λ line fine. fine.waits.balance) s.lines s.fine) follow refl);
+          fails = if_fails (names.counted name_work.seat) (count_by name_story.has_refused s.lines) (ap (λ (g : NameWork N H C S Part). option_map_or (λ (l : SeatLedger). l.fails) (names.counted g.seat) 0) r.name_works ∙ fails);
         },
       )
 
   pub headline_of : Headline names t report hall
   headline_of = record {
+    played = played;
+    rounds = all.steps;
+    steps = all.are;
     seats = seat_lines;
     trails = λ n w at. on_trail w;
     totals = totals_at;

@@ -23,6 +23,7 @@ pub mod ReportStands
 pub mod WorkerRuns
 mod SeatLines
 pub mod Staying
+mod Steps
 pub mod Upto
 pub mod WithNames
 pub mod WorkerSums

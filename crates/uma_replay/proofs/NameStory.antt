@@ -6,14 +6,10 @@ use Rattle.std.proofs.lemmas.List.Elements.{All-nil, All-cons, All-append}
 use Rattle.std.proofs.lemmas.List.Sums.{sum_by-append, sum_by-cons}
 use Rattle.std.proofs.lemmas.Option.{none-some, same_Some}
 use Rattle.std.specs.Prelude.{◌==◌, ◌%◌, All, IfSome, count_by, is_some}
-use Rattle.std.specs.List.{flat_map}
 use Rattle.std.specs.Option.{option_map_or}
 use Rattle.smr_clock.specs.declared.host.Host.{Ghosts}
-use Rattle.smr_clock.specs.declared.view.View.{View}
-use Rattle.smr_clock.specs.Belongs.{view}
 use Rattle.trace_text.specs.declared.op.Op.{Op}
 use Rattle.trace_text.specs.declared.op.Op.TheVariants.{Alloc, Free, Enter, Exit, Bind, Unbind, Look, Trim, Drain, DrainSeat, Prealloc, Away, Back}
-use Rattle.trace_text.specs.declared.round.Round.{Round}
 use Rattle.uma_life.specs.declared.ticket.Ticket.{Ticket}
 use Rattle.zone_stats.specs.declared.ledger.SeatLedger.{SeatLedger}
 use Rattle.zone_stats.specs.declared.refusal.Refusal.{Refusal}
@@ -24,10 +20,10 @@ use Rattle.trace_worker.specs.Items.{CountedZone}
 use Rattle.trace_worker.specs.Knowing.{Loads, Told, bound_to}
 use Rattle.trace_worker.specs.NameCalls.{OnBoth}
 use Rattle.trace_worker.specs.NameLedger.{BindCounts, UnbindCounts, MayCountFree}
-use Rattle.trace_worker.specs.NameLines.{Changes, Doing, DoesAll}
+use Rattle.trace_worker.specs.NameLines.{Changes, Doing}
 use Rattle.trace_worker.specs.NameWork.{CountsAnswer, CountsBind, CountsUnbind}
-use Rattle.trace_play.specs.Plays.{PlaysRounds, ops_in}
-use Rattle.uma_replay.specs.Headline.{NameLine, FindsBound, Follow, RefusesEntry, WaitsForReaders}
+use Rattle.uma_replay.specs.Headline.{NameLine, Step, FindsBound, RefusesEntry, WaitsForReaders, seen}
+use Rattle.uma_replay.proofs.SeatLines.{Follow, step_by}
 
 -- ---- on numbers
 
@@ -116,185 +112,160 @@ binds_key : (key value : ℕ) (content : Option (ℕ × ℕ)) → Some value ≡
 binds_key key value None answer = absurd (none-some value (sym answer))
 binds_key key value (Some bound) answer = same_key key value bound (bound.0 == key) (λ is. eqb-true bound.0 key is) answer
 
-module _ {Part : Type 0} where
-  abbrev pub has_found : NameLine Part → Bool
+module _ {N H C S Part : Type 0} {h : Ghosts H Part} where
+  abbrev pub has_found : NameLine N H C S Part h → Bool
   has_found line = is_some line.found
 
-  abbrev pub has_refused : NameLine Part → Bool
+  abbrev pub has_refused : NameLine N H C S Part h → Bool
   has_refused line = is_some line.refused
 
   -- the entries of a line
-  abbrev pub before : NameLine Part → List Ticket
-  before line = line.before
-
-  abbrev pub after : NameLine Part → List Ticket
-  after line = line.after
-
-  abbrev pub came : NameLine Part → List Ticket
+  abbrev pub came : NameLine N H C S Part h → List Ticket
   came line = line.brought
 
-  abbrev pub handed : NameLine Part → List Ticket
+  abbrev pub handed : NameLine N H C S Part h → List Ticket
   handed line = line.handed
 
-module _ {N H C S Part : Type 0} (names : NameGhosts N H C S Part) (cache : C) where
   -- a line that neither brings nor hands out an entry
-  abbrev quiet : Op → View Part → View Part → Option ℕ → List Ticket → List Ticket → NameLine Part
-  quiet op old new found before after = record { op = op; old = old; new = new; found = found; refused = None; before = before; brought = []; handed = []; after = after }
+  abbrev quiet : Op → Doing N H C S Part h → Doing N H C S Part h → Option ℕ → NameLine N H C S Part h
+  quiet op old new found = record { step = step_by op old new; found = found; refused = None; brought = []; handed = [] }
 
-  found_bound : (key : ℕ) (old new : View Part) (found : Option ℕ) (before after : List Ticket) → Loads names.knows names.told (names.sizes_of cache).rows key old found new
-      → IfSome found (FindsBound names cache (quiet (Look key) old new found before after))
-  found_bound key old new None before after loads = tt
-  found_bound key old new (Some value) before after loads =
+module _ {N H C S Part : Type 0} {h : Ghosts H Part} (names : NameGhosts N H C S Part) (cache : C) where
+  abbrev usable_by : Doing N H C S Part h → List Ticket
+  usable_by d = names.usable d.name_work.seat
+
+  abbrev pub before : NameLine N H C S Part h → List Ticket
+  before line = names.usable line.step.old.name_work.seat
+
+  abbrev pub after : NameLine N H C S Part h → List Ticket
+  after line = names.usable line.step.new.name_work.seat
+
+  abbrev fails_by : Doing N H C S Part h → ℕ
+  fails_by d = fails_in (names.counted d.name_work.seat)
+
+  found_bound : (key : ℕ) (old new : Doing N H C S Part h) (found : Option ℕ) → Loads names.knows names.told (names.sizes_of cache).rows key (seen old) found (seen new) → IfSome found (FindsBound names cache (quiet (Look key) old new found))
+  found_bound key old new None loads = tt
+  found_bound key old new (Some value) loads =
       let row = key % (names.sizes_of cache).rows in
       let content = binds_key key value loads.content loads.answer in
-      let front : Option (ℕ × ℕ) → List Told = λ bound. (row, loads.version, bound) ∷ names.told old in
+      let front : Option (ℕ × ℕ) → List Told = λ bound. (row, loads.version, bound) ∷ names.told (seen old) in
       record { key = key; looks = refl; version = loads.version; loaded = loads.loaded ∙ ap front content; newest = loads.met }
 
-  entry_refused : (line : NameLine Part) (key value : ℕ) → line.op ≡ Bind key value → IfSome line.refused (names.IsFound cache) → IfSome line.refused (RefusesEntry names cache line)
+  entry_refused : (line : NameLine N H C S Part h) (key value : ℕ) → line.step.op ≡ Bind key value → IfSome line.refused (names.IsFound cache) → IfSome line.refused (RefusesEntry names cache line)
   entry_refused line key value is found = if_found line.refused (λ refusal so. record { key = key; value = value; binds = is; found = so }) found
 
   -- ---- one line
 
-  pub record IsFine (line : NameLine Part) : Type 0 where
+  pub record IsFine (line : NameLine N H C S Part h) : Type 0 where
     pub looked : IfSome line.found (FindsBound names cache line)
     pub bound : IfSome line.refused (RefusesEntry names cache line)
     pub waits : WaitsForReaders names cache line
 
-  record IsNext (op : Op) (old new : NameWork N H C S Part) : Type 0 where
-    line : NameLine Part
-    is_op : line.op ≡ op
+  record IsNext (op : Op) (old new : Doing N H C S Part h) : Type 0 where
+    line : NameLine N H C S Part h
+    is_step : line.step ≡ step_by op old new
     fine : IsFine line
-    hits : new.counts.hits ≡ old.counts.hits + unit (is_some line.found)
-    fails : fails_in (names.counted new.seat) ≡ fails_in (names.counted old.seat) + unit (is_some line.refused)
-    from : line.before ≡ names.usable old.seat
-    to : line.after ≡ names.usable new.seat
+    hits : new.name_work.counts.hits ≡ old.name_work.counts.hits + unit (is_some line.found)
+    fails : fails_by new ≡ fails_by old + unit (is_some line.refused)
 
   -- ---- one line after another
 
-  pub record Story (ops : List Op) (old new : NameWork N H C S Part) : Type 0 where
-    pub lines : List (NameLine Part)
-    pub all : map (λ (line : NameLine Part). line.op) lines ≡ ops
+  pub record Story (steps : List (Step N H C S Part h)) (old new : NameWork N H C S Part) : Type 0 where
+    pub lines : List (NameLine N H C S Part h)
+    pub are : map (λ (line : NameLine N H C S Part h). line.step) lines ≡ steps
     pub fine : All IsFine lines
     pub hits : new.counts.hits ≡ old.counts.hits + count_by has_found lines
     pub fails : fails_in (names.counted new.seat) ≡ fails_in (names.counted old.seat) + count_by has_refused lines
     pub follow : Follow before after (names.usable old.seat) lines (names.usable new.seat)
 
-  story-none : (old new : NameWork N H C S Part) → new ≡ old → Story [] old new
+  pub story-none : (old new : NameWork N H C S Part) → new ≡ old → Story [] old new
   story-none old new same = record {
     lines = [];
-    all = refl;
+    are = refl;
     fine = All-nil IsFine;
     hits = as_before _ _ (ap (λ (n : NameWork N H C S Part). n.counts.hits) same);
     fails = as_before _ _ (ap (λ (n : NameWork N H C S Part). fails_in (names.counted n.seat)) same);
     follow = ap (λ (n : NameWork N H C S Part). names.usable n.seat) same;
   }
 
-  story-cons : (op : Op) (ops : List Op) (old mid new : NameWork N H C S Part) → IsNext op old mid → Story ops mid new → Story (op ∷ ops) old new
-  story-cons op ops old mid new n s = record {
+  story-next : (op : Op) (steps : List (Step N H C S Part h)) (old mid : Doing N H C S Part h) (new : NameWork N H C S Part) → IsNext op old mid → Story steps mid.name_work new → Story (step_by op old mid ∷ steps) old.name_work new
+  story-next op steps old mid new n s = record {
     lines = n.line ∷ s.lines;
-    all = λ i. n.is_op i ∷ s.all i;
+    are = λ i. n.is_step i ∷ s.are i;
     fine = All-cons IsFine n.line s.lines n.fine s.fine;
-    hits = add_up _ _ _ _ _ n.hits s.hits ∙ ap (λ (m : ℕ). old.counts.hits + m) (sym (sum_by-cons (λ (line : NameLine Part). unit (has_found line)) n.line s.lines));
-    fails = add_up _ _ _ _ _ n.fails s.fails ∙ ap (λ (m : ℕ). fails_in (names.counted old.seat) + m) (sym (sum_by-cons (λ (line : NameLine Part). unit (has_refused line)) n.line s.lines));
-    follow = (n.from, subst (λ (from : List Ticket). Follow before after from s.lines (names.usable new.seat)) (sym n.to) s.follow);
+    hits = add_up _ _ _ _ _ n.hits s.hits ∙ ap (λ (m : ℕ). old.name_work.counts.hits + m) (sym (sum_by-cons (λ (line : NameLine N H C S Part h). unit (has_found line)) n.line s.lines));
+    fails = add_up _ _ _ _ _ n.fails s.fails ∙ ap (λ (m : ℕ). fails_by old + m) (sym (sum_by-cons (λ (line : NameLine N H C S Part h). unit (has_refused line)) n.line s.lines));
+    follow = (
+      ap (λ (step : Step N H C S Part h). usable_by step.old) n.is_step,
+      subst (λ (from : List Ticket). Follow before after from s.lines (names.usable new.seat)) (sym (ap (λ (step : Step N H C S Part h). usable_by step.new) n.is_step)) s.follow,
+    );
   }
 
-  joined : (lines more : List (NameLine Part)) (from mid to : List Ticket) → Follow before after from lines mid → Follow before after mid more to → Follow before after from (lines ++ more) to
+  joined : (lines more : List (NameLine N H C S Part h)) (from mid to : List Ticket) → Follow before after from lines mid → Follow before after mid more to → Follow before after from (lines ++ more) to
   joined [] more from mid to same rest = subst (λ (at : List Ticket). Follow before after at more to) same rest
-  joined (line ∷ lines) more from mid to first rest = (first.0, joined lines more line.after mid to first.1 rest)
+  joined (line ∷ lines) more from mid to first rest = (first.0, joined lines more (after line) mid to first.1 rest)
 
-  story-append : (ops others : List Op) (old mid new : NameWork N H C S Part) → Story ops old mid → Story others mid new → Story (ops ++ others) old new
-  story-append ops others old mid new s t = record {
+  pub story-append : (steps more : List (Step N H C S Part h)) (old mid new : NameWork N H C S Part) → Story steps old mid → Story more mid new → Story (steps ++ more) old new
+  story-append steps more old mid new s t = record {
     lines = s.lines ++ t.lines;
-    all = map-append (λ (line : NameLine Part). line.op) s.lines t.lines ∙ (λ i. s.all i ++ t.all i);
+    are = map-append (λ (line : NameLine N H C S Part h). line.step) s.lines t.lines ∙ (λ i. s.are i ++ t.are i);
     fine = All-append IsFine s.lines t.lines s.fine t.fine;
-    hits = add_up _ _ _ _ _ s.hits t.hits ∙ ap (λ (m : ℕ). old.counts.hits + m) (sym (sum_by-append (λ (line : NameLine Part). unit (has_found line)) s.lines t.lines));
-    fails = add_up _ _ _ _ _ s.fails t.fails ∙ ap (λ (m : ℕ). fails_in (names.counted old.seat) + m) (sym (sum_by-append (λ (line : NameLine Part). unit (has_refused line)) s.lines t.lines));
+    hits = add_up _ _ _ _ _ s.hits t.hits ∙ ap (λ (m : ℕ). old.counts.hits + m) (sym (sum_by-append (λ (line : NameLine N H C S Part h). unit (has_found line)) s.lines t.lines));
+    fails = add_up _ _ _ _ _ s.fails t.fails ∙ ap (λ (m : ℕ). fails_in (names.counted old.seat) + m) (sym (sum_by-append (λ (line : NameLine N H C S Part h). unit (has_refused line)) s.lines t.lines));
     follow = joined s.lines t.lines (names.usable old.seat) (names.usable mid.seat) (names.usable new.seat) s.follow t.follow;
   }
 
-module _ {N H C S Part : Type 0} {h : Ghosts H Part} (names : NameGhosts N H C S Part) (cache : C) where
-  abbrev usable_by : Doing N H C S Part h → List Ticket
-  usable_by d = names.usable d.name_work.seat
+  -- ---- what each line does
 
   -- the seat's usable entries stay
-  quiet_waits : (op : Op) (old new : Doing N H C S Part h) (found : Option ℕ) → usable_by new ≡ usable_by old → WaitsForReaders names cache (quiet names cache op (view old.worker.pass) (view new.worker.pass) found (usable_by old) (usable_by new))
+  quiet_waits : (op : Op) (old new : Doing N H C S Part h) (found : Option ℕ) → usable_by new ≡ usable_by old → WaitsForReaders names cache (quiet op old new found)
   quiet_waits op old new found same = record { balance = ap (λ (l : List Ticket). l ++ []) same; come = inl refl }
 
-  -- it isn't of names
-  passes : (op : Op) (old new : Doing N H C S Part h) → new.name_work ≡ old.name_work → IsNext names cache op old.name_work new.name_work
-  passes op old new same = record {
-    line = quiet names cache op (view old.worker.pass) (view new.worker.pass) None (usable_by old) (usable_by new);
-    is_op = refl;
-    fine = record { looked = tt; bound = tt; waits = quiet_waits op old new None (ap (λ (n : NameWork N H C S Part). names.usable n.seat) same) };
-    hits = as_before _ _ (ap (λ (n : NameWork N H C S Part). n.counts.hits) same);
-    fails = as_before _ _ (ap (λ (n : NameWork N H C S Part). fails_in (names.counted n.seat)) same);
-    from = refl;
-    to = refl;
+  -- it found nothing
+  none_found : (op : Op) (old new : Doing N H C S Part h) → usable_by new ≡ usable_by old → new.name_work.counts.hits ≡ old.name_work.counts.hits + 0 → fails_by new ≡ fails_by old + 0 → IsNext op old new
+  none_found op old new usable hits fails = record {
+    line = quiet op old new None;
+    is_step = refl;
+    fine = record { looked = tt; bound = tt; waits = quiet_waits op old new None usable };
+    hits = hits;
+    fails = fails;
   }
+
+  -- it isn't of names
+  passes : (op : Op) (old new : Doing N H C S Part h) → new.name_work ≡ old.name_work → IsNext op old new
+  passes op old new same = none_found op old new (ap (λ (n : NameWork N H C S Part). names.usable n.seat) same) (as_before _ _ (ap (λ (n : NameWork N H C S Part). n.counts.hits) same))
+      (as_before _ _ (ap (λ (n : NameWork N H C S Part). fails_in (names.counted n.seat)) same))
 
   -- a look that ended so
-  looks : (key : ℕ) (old new : Doing N H C S Part h) (found : Option ℕ) → Loads names.knows names.told (names.sizes_of cache).rows key (view old.worker.pass) found (view new.worker.pass) → CountsAnswer found old.name_work.counts new.name_work.counts
-      → new.name_work.seat ≡ old.name_work.seat → IsNext names cache (Look key) old.name_work new.name_work
+  looks : (key : ℕ) (old new : Doing N H C S Part h) (found : Option ℕ) → Loads names.knows names.told (names.sizes_of cache).rows key (seen old) found (seen new) → CountsAnswer found old.name_work.counts new.name_work.counts
+      → new.name_work.seat ≡ old.name_work.seat → IsNext (Look key) old new
   looks key old new found loads counts seat = record {
-    line = quiet names cache (Look key) (view old.worker.pass) (view new.worker.pass) found (usable_by old) (usable_by new);
-    is_op = refl;
-    fine = record {
-      looked = found_bound names cache key (view old.worker.pass) (view new.worker.pass) found (usable_by old) (usable_by new) loads;
-      bound = tt;
-      waits = quiet_waits (Look key) old new found (ap names.usable seat);
-    };
+    line = quiet (Look key) old new found;
+    is_step = refl;
+    fine = record { looked = found_bound key old new found loads; bound = tt; waits = quiet_waits (Look key) old new found (ap names.usable seat) };
     hits = answer_hits found old.name_work.counts new.name_work.counts counts;
     fails = as_before _ _ (ap (λ s. fails_in (names.counted s)) seat);
-    from = refl;
-    to = refl;
   }
 
-  next : (zones : List (CountedZone H Part h)) (op : Op) (old new : Doing N H C S Part h) → Changes names cache zones old op new → IsNext names cache op old.name_work new.name_work
+  next : (zones : List (CountedZone H Part h)) (op : Op) (old new : Doing N H C S Part h) → Changes names cache zones old op new → IsNext op old new
   next zones (Bind key value) old new did =
       let ends = bind_ends (names.sizes_of cache).slabs (names.IsFound cache) _ did.done (names.counted old.name_work.seat) (names.counted new.name_work.seat) did.ledger in
       let moves = did.moves in
-      let line : NameLine Part = record {
-        op = Bind key value;
-        old = view old.worker.pass;
-        new = view new.worker.pass;
-        found = None;
-        refused = ends.refused;
-        before = usable_by old;
-        brought = moves.brought;
-        handed = moves.handed;
-        after = usable_by new;
-      } in
+      let line : NameLine N H C S Part h = record { step = step_by (Bind key value) old new; found = None; refused = ends.refused; brought = moves.brought; handed = moves.handed } in
       record {
         line = line;
-        is_op = refl;
-        fine = record { looked = tt; bound = entry_refused names cache line key value refl ends.found; waits = record { balance = moves.balance; come = moves.come } };
+        is_step = refl;
+        fine = record { looked = tt; bound = entry_refused line key value refl ends.found; waits = record { balance = moves.balance; come = moves.come } };
         hits = bind_hits did.done old.name_work.counts new.name_work.counts did.counts;
         fails = ends.fails;
-        from = refl;
-        to = refl;
       }
-  next zones (Unbind key) old new did = record {
-    line = quiet names cache (Unbind key) (view old.worker.pass) (view new.worker.pass) None (usable_by old) (usable_by new);
-    is_op = refl;
-    fine = record { looked = tt; bound = tt; waits = quiet_waits (Unbind key) old new None did.usable };
-    hits = unbind_hits did.done old.name_work.counts new.name_work.counts did.counts;
-    fails = unbind_ends (names.sizes_of cache).slabs did.done (names.counted old.name_work.seat) (names.counted new.name_work.seat) did.ledger;
-    from = refl;
-    to = refl;
-  }
+  next zones (Unbind key) old new did =
+      none_found (Unbind key) old new did.usable (unbind_hits did.done old.name_work.counts new.name_work.counts did.counts)
+      (unbind_ends (names.sizes_of cache).slabs did.done (names.counted old.name_work.seat) (names.counted new.name_work.seat) did.ledger)
   next zones (Look key) old new did = elim did [
     | inl f ↦ looks key old new f.found f.loads f.counts f.seat
     | inr (inl l) ↦ looks key old new l.found l.loads l.counts l.seat
-    | inr (inr l) ↦ record {
-      line = quiet names cache (Look key) (view old.worker.pass) (view new.worker.pass) None (usable_by old) (usable_by new);
-      is_op = refl;
-      fine = record { looked = tt; bound = tt; waits = quiet_waits (Look key) old new None (ap names.usable l.seat) };
-      hits = as_before _ _ (ap (λ (c : NameCounts). c.hits) l.counts);
-      fails = as_before _ _ (ap (λ s. fails_in (names.counted s)) l.seat);
-      from = refl;
-      to = refl;
-    }
+    | inr (inr l) ↦ none_found (Look key) old new (ap names.usable l.seat) (as_before _ _ (ap (λ (c : NameCounts). c.hits) l.counts)) (as_before _ _ (ap (λ s. fails_in (names.counted s)) l.seat))
   ]
   next zones (Alloc place slot arg reserve) old new did = passes (Alloc place slot arg reserve) old new did.1
   next zones (Free slot) old new did = passes (Free slot) old new did.1
@@ -307,17 +278,6 @@ module _ {N H C S Part : Type 0} {h : Ghosts H Part} (names : NameGhosts N H C S
   next zones Away old new did = passes Away old new did.name_work
   next zones Back old new did = passes Back old new did.name_work
 
-module _ {N H C S Part : Type 0} {h : Ghosts H Part} (names : NameGhosts N H C S Part) (cache : C) where
-  story_of : (zones : List (CountedZone H Part h)) (ops : List Op) (old new : Doing N H C S Part h) → DoesAll names cache zones old ops new → Story names cache ops old.name_work new.name_work
-  unfolding DoesAll
-  story_of zones [] old new same = story-none names cache old.name_work new.name_work (ap (λ (d : Doing N H C S Part h). d.name_work) same)
-  story_of zones (op ∷ ops) old new did = story-cons names cache op ops old.name_work did.0.name_work new.name_work (next names cache zones op old did.0 did.1.changes) (story_of zones ops did.0 new did.2)
-
-  pub story_of_rounds : (zones : List (CountedZone H Part h)) (rounds : List Round) (k : ℕ) (old new : Doing N H C S Part h) → PlaysRounds names cache zones k old rounds new → Story names cache (flat_map (λ (r : Round). ops_in r k) rounds) old.name_work new.name_work
-  unfolding PlaysRounds
-  story_of_rounds zones [] k old new same = story-none names cache old.name_work new.name_work (ap (λ (d : Doing N H C S Part h). d.name_work) same)
-  story_of_rounds zones (r ∷ rounds) k old new played =
-      let mid = played.1.worked in
-      let P : NameWork N H C S Part → Type 0 = λ n. Story names cache (ops_in r k) old.name_work n in
-      let s = subst P (sym played.1.given.name_work) (story_of zones (ops_in r k) old mid played.1.does) in
-      story-append names cache (ops_in r k) (flat_map (λ (r : Round). ops_in r k) rounds) old.name_work played.0.name_work new.name_work s (story_of_rounds zones rounds k played.0 new played.2)
+  pub story-cons : (zones : List (CountedZone H Part h)) (op : Op) (steps : List (Step N H C S Part h)) (old mid : Doing N H C S Part h) (new : NameWork N H C S Part) → Changes names cache zones old op mid → Story steps mid.name_work new
+      → Story (step_by op old mid ∷ steps) old.name_work new
+  story-cons zones op steps old mid new did s = story-next op steps old mid new (next zones op old mid did) s
