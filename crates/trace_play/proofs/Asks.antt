@@ -1,8 +1,8 @@
 -- What the rounds ask of the workers' gate, with one round more at the end.
-use Rattle.std.proofs.Common.{◌≡◌, ℕ, zero, suc, ◌+◌, ◌<◌, ◌≤◌, List, [], ◌∷◌, Ok, Some, refl, sym, ap, ◌∙◌, subst, arith, length, take, get_or}
+use Rattle.std.proofs.Common.{◌≡◌, ℕ, zero, suc, ◌+◌, ◌<◌, ◌≤◌, List, [], ◌∷◌, refl, sym, ap, ◌∙◌, subst, arith, length, take, get_or}
 use Rattle.std.proofs.lemmas.List.{take_all}
 use Rattle.std.proofs.lemmas.Option.{get_or_from_slice_get, same_Some, slice_get_within}
-use Rattle.std.specs.Prelude.{All, OnOk, slice_get}
+use Rattle.std.specs.Prelude.{All, OnOk}
 use Rattle.smr_clock.specs.declared.host.Host.{Ghosts}
 use Rattle.trace_text.specs.declared.round.Round.{Round}
 use Rattle.trace_worker.specs.declared.gate.Gate.{Ghosts as GateGhosts}
@@ -11,7 +11,7 @@ use Rattle.trace_worker.specs.Asking.{AsksGate}
 use Rattle.trace_worker.specs.Giving.{KeepsRest, with_slots}
 use Rattle.trace_worker.specs.OwnLines.{own_ops}
 use Rattle.trace_play.specs.Asks.{AllAsk, AllAskRound, AsksIn, AsksRounds, EachAsks, GateCounts, gate_counts}
-use Rattle.trace_play.specs.Plays.{ops_in}
+use Rattle.trace_play.specs.Parts.{ops_in}
 use Rattle.trace_play.specs.Rounds.{HasEnded}
 use Rattle.trace_play.proofs.RoundLists.{at_other, before}
 

@@ -4,7 +4,6 @@ use Rattle.std.specs.contracts.alloc.Global as heap
 use denote.RattleType.{RattleType}
 use denote.Builtin.{u64}
 use denote.Ref.{NamedLft, ShrRef}
-use denote.Slice.{ShrSlice}
 use base.Fml.{Lft}
 use denote.Param.Send.{AllSync, IsSend, IsSync, enum_send, recorded_send, recorded_sync, struct_send, struct_sync, shr_sync, shr_slice_sync, sendable}
 use denote.Struct.Field.{rows}

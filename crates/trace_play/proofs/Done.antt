@@ -14,8 +14,7 @@ use Rattle.trace_worker.specs.declared.worker_run.WorkerRun.{WorkerRun}
 use Rattle.trace_worker.specs.Items.{CountedZone}
 use Rattle.trace_worker.specs.NameLines.{DoesAll, doing}
 use Rattle.trace_play.specs.Betweens.{DoBetweens, DoesBetween, DoRound, DoRoundAt, DoRounds}
-use Rattle.trace_play.specs.Parts.{betweens_of}
-use Rattle.trace_play.specs.Plays.{ops_in}
+use Rattle.trace_play.specs.Parts.{betweens_of, ops_in}
 use Rattle.trace_play.specs.Rounds.{AllWorked, HasEnded}
 use Rattle.trace_play.proofs.AfterRound.{turns}
 

@@ -26,7 +26,6 @@ pub mod Passes
 pub mod Picks
 pub mod Placed
 pub mod Played
-pub mod Plays
 pub mod RoundLines
 pub mod RoundLists
 pub mod SameFor

@@ -4,9 +4,9 @@ use Rattle.smr_clock.specs.declared.host.Host.{Ghosts}
 use Rattle.trace_text.specs.declared.round.Round.{Round}
 use Rattle.trace_worker.specs.declared.gate.Gate.{Ghosts as GateGhosts}
 use Rattle.trace_worker.specs.declared.worker_run.WorkerRun.{WorkerRun}
-use Rattle.trace_worker.specs.Asking.{AsksGate, HearsEach, Heard}
+use Rattle.trace_worker.specs.Asking.{AsksGate, HearsEach}
 use Rattle.trace_worker.specs.OwnLines.{own_ops}
-use Rattle.trace_play.specs.Plays.{ops_in}
+use Rattle.trace_play.specs.Parts.{ops_in}
 
 -- what a worker counted of its gate: how often that was asked, and how often it gave up waiting
 pub record GateCounts : Type 0 where

@@ -10,7 +10,7 @@ use Rattle.trace_worker.specs.Giving.{Gives}
 use Rattle.trace_worker.specs.Items.{CountedZone}
 use Rattle.trace_worker.specs.NameLines.{DoesAll, doing}
 use Rattle.uma_zone.specs.SetMax.{SetsMax}
-use Rattle.trace_play.specs.Plays.{ops_in}
+use Rattle.trace_play.specs.Parts.{ops_in}
 
 module _ {H P : Type 0} {h : Ghosts H P} where
   -- The limit of the zone at this place was set to this one, once, under its keg's lock. There it was `former` before.

@@ -9,7 +9,6 @@ pub mod Lending
 pub mod Parts
 pub mod Picking
 pub mod Plain
-pub mod Plays
 pub mod Rounds
 pub mod RoundsPlayed
 pub mod Setting

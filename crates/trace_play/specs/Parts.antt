@@ -13,6 +13,10 @@ use Rattle.trace_worker.specs.OwnLines.{stacked, lines_before}
 abbrev pub lists_of : List Round → ℕ → List (List Op)
 lists_of rounds k = option_map_or (λ (r : Round). r.ops) (slice_get rounds k) []
 
+-- what worker `n` does in a round
+abbrev pub ops_in : Round → ℕ → List Op
+ops_in r n = option_map_or (λ ops. ops) (slice_get r.ops n) []
+
 -- the lines between round `k` and the next
 abbrev pub betweens_of : List Round → ℕ → List Between
 betweens_of rounds k = option_map_or (λ (r : Round). r.between) (slice_get rounds k) []

@@ -12,7 +12,6 @@ use Rattle.trace_worker.specs.OwnLines.{lines_before}
 use Rattle.trace_worker.specs.Together.{AddsUp, AllNamed, AllStand, crew}
 use Rattle.trace_play.specs.Asks.{AllAsk, AllAskRound}
 use Rattle.trace_play.specs.Betweens.{DoRoundAt, DoRounds}
-use Rattle.trace_play.specs.Plays.{AllPlay, AllPlayRound}
 use Rattle.trace_play.specs.Rounds.{AllAsked, AreAfter}
 
 module _ {N H C S P : Type 0} {h : Ghosts H P} (names : NameGhosts N H C S P) (cache : C) {G V : Type 0} (gates : GateGhosts G V) (gate : G) where
@@ -20,8 +19,7 @@ module _ {N H C S P : Type 0} {h : Ghosts H P} (names : NameGhosts N H C S P) (c
   pub record IsRoundPlayed (t : Trace) (zones : List (CountedZone H P h)) (clock : Clock H P) (k : ℕ) (old new : List (WorkerRun N H C S P h)) : Type 0 where
     -- the workers stand for the lines up to its end
     pub after : AreAfter names cache zones clock (lines_before t.rounds (k + 1)) new
-    -- each worker did its own list of it, and all did it together
-    pub plays : AllPlayRound names cache zones t.rounds k old new
+    -- each worker did its own list of it, and then the lines behind it were done
     pub round : DoRoundAt names cache zones t.rounds k old new
     pub asks : AllAskRound gates gate t.rounds k old new
 
@@ -32,8 +30,7 @@ module _ {N H C S P : Type 0} {h : Ghosts H P} (names : NameGhosts N H C S P) (c
     pub named : AllNamed names cache (reverse (lines_of t.rounds)) new
     -- each item of a zone that was got and not freed is in a slot
     pub adds_up : (z : ℕ) → AddsUp z (crew new)
-    -- each worker did its own lists, and all did the rounds together
-    pub plays : AllPlay names cache zones t.rounds old new
+    -- the rounds were done one after another
     pub rounds : DoRounds names cache zones t.rounds old new
     -- what each counted of its gate, and what that heard of it
     pub asked : AllAsked (reverse (lines_of t.rounds)) new

@@ -24,12 +24,10 @@ use Rattle.trace_play.specs.declared.setting.Setting.{Setting}
 use Rattle.trace_play.specs.Setting.{IsSetUp}
 use Rattle.trace_play.specs.DoneBy.{done_by, is_by}
 use Rattle.trace_play.specs.Betweens.{DoRounds}
-use Rattle.trace_play.specs.Plays.{AllPlay}
 use Rattle.trace_play.specs.Rounds.{GaveUpAsBefore, IsBegun, FitsTrace}
 use Rattle.uma_replay.specs.Hall.{AreDone, NamesDone}
 use Rattle.uma_replay.specs.Playing.{AllBack, AreFirst, HaveEnded, gave_ups_of, name_works_of}
-use Rattle.uma_replay.proofs.ComingBack.{back_stay}
-use Rattle.uma_replay.proofs.Playing.{played_of, played_stay, together_of}
+use Rattle.uma_replay.proofs.Playing.{together_of}
 use Rattle.uma_replay.proofs.WorkerRuns.{named_first, of_both}
 use Rattle.uma_replay.proofs.Staying.{found_before}
 
@@ -80,11 +78,10 @@ module _ {N H C S Part : Type 0} {h : Ghosts H Part} (names : NameGhosts N H C S
   -- and what each has of the names
   pub named_of : (t : Trace) (s : Setting H Part h) (begun ended : List (WorkerRun N H C S Part h)) (back : List (Worker H Part h)) (name_works : List (NameWork N H C S Part)) → IsSetUp t s → AreFirst names cache t.head.domains s.workers.items begun
       → length ended ≡ length begun → names.serves ≡ is_some t.head.names → (IsTrue names.serves → names.clock_of cache ≡ clock_id s.clock) → IfSome t.head.names (λ line. names.sizes_of cache ≡ sizes_for t.head line)
-      → AllStand s.zones.items s.clock (reverse (lines_of t.rounds)) (crew ended) → AllNamed names cache (reverse (lines_of t.rounds)) ended → AllPlay names cache s.zones.items t.rounds begun ended
+      → AllStand s.zones.items s.clock (reverse (lines_of t.rounds)) (crew ended) → AllNamed names cache (reverse (lines_of t.rounds)) ended
       → DoRounds names cache s.zones.items t.rounds begun ended → AllBack s.clock (crew ended) back → name_works ≡ name_works_of ended → NamesDone names t cache s.zones.items s.clock back name_works
-  named_of t s begun ended back name_works is first count served of_clock sizes stand named plays did comes same_name_works =
+  named_of t s begun ended back name_works is first count served of_clock sizes stand named did comes same_name_works =
       let Q : List (NameWork N H C S Part) → Type 0 = λ gs. NamesDone names t cache s.zones.items s.clock back gs in
-      let stay = back_stay s.clock (crew ended) back comes in
       subst Q (sym same_name_works) (record {
         served = served;
         of_clock = λ serves. sym (of_clock serves);
@@ -96,8 +93,6 @@ module _ {N H C S Part : Type 0} {h : Ghosts H Part} (names : NameGhosts N H C S
             let A : ℕ → Type 0 = λ late. NamesStand names cache n (reverse (lines_of t.rounds)) late name_work in
             let B : NameWork N H C S Part → Type 0 = λ g. NamesStand names cache n (reverse (lines_of t.rounds)) (worker_in both.run).late g in
             subst A (sym (comes.each n was.0 w was.1 at).keeps.late) (subst A (ap (λ (x : Worker H Part h). x.late) both.is_worker) (subst B both.is_name_work (named n both.run both.at)));
-        played = played_stay names cache t s.zones.items s.clock (crew ended) back (name_works_of ended) stay
-            (played_of names cache t s begun ended is first count (λ n w at. (stand.fits n w at).pass) plays);
         together = together_of names cache t s begun ended back is first comes did;
       })
 

@@ -36,7 +36,7 @@ use Rattle.uma_replay.specs.Reporting.{HaveKegs}
 use Rattle.uma_replay.proofs.Entries.{entries_most}
 use Rattle.uma_replay.proofs.KegSums.{shares}
 use Rattle.uma_replay.proofs.NamesFit.{counts_fit, names_ends}
-use Rattle.uma_replay.proofs.Playing.{played_stay, together_stay}
+use Rattle.uma_replay.proofs.Playing.{together_stay}
 use Rattle.uma_replay.proofs.Primaries.{keg_within}
 use Rattle.uma_replay.proofs.PlainStands.{StandsPlain, some_at}
 use Rattle.uma_replay.proofs.ReportStands.{HasPrimary, has_primary, stands_for}
@@ -177,7 +177,6 @@ module _ {N H C S Part : Type 0} {h : Ghosts H Part} (names : NameGhosts N H C S
         let was = found_before old new n w s.count at in
         let P : ℕ → Type 0 = λ late. NamesStand names cache n (reverse (lines_of t.rounds)) late name_work in
         subst P (sym (s.each n was.0 w was.1 at).late) (d.stand n was.0 name_work was.1 at_name_work);
-    played = played_stay names cache t zones clock old new name_works s d.played;
     together = together_stay names cache t zones clock old new name_works s d.together;
   }
 

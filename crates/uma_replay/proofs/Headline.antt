@@ -1,6 +1,7 @@
 -- The headline, from the hall and its report.
-use Rattle.std.proofs.Common.{◌≡◌, ℕ, zero, suc, ◌+◌, ◌<◌, ◌≤◌, Bool, true, List, [], ◌∷◌, ◌++◌, Option, None, Some, cond, length, get_or, map, refl, sym, ap, ◌∙◌, subst, arith}
+use Rattle.std.proofs.Common.{◌≡◌, ℕ, zero, suc, ◌+◌, ◌<◌, ◌≤◌, Bool, true, List, [], ◌∷◌, ◌++◌, Option, None, Some, length, get_or, map, refl, sym, ap, ◌∙◌, subst, arith}
 use Rattle.std.proofs.lemmas.Bool.{false≢true}
+use Rattle.std.proofs.lemmas.List.{length-map}
 use Rattle.std.proofs.lemmas.List.Elements.{All-head, All-tail, All-weaker}
 use Rattle.std.proofs.lemmas.List.Sums.{sum_by-append, sum_by-cons}
 use Rattle.std.proofs.lemmas.Option.{none-some, same_Some, slice_get_within, get_or_from_slice_get}
@@ -43,14 +44,17 @@ use Rattle.uma_replay.specs.declared.hall.Hall.{Hall}
 use Rattle.uma_replay.specs.declared.hall.Played.{Played}
 use Rattle.uma_replay.specs.Counting.{report_zones}
 use Rattle.uma_replay.specs.Hall.{HallStands}
-use Rattle.uma_replay.specs.Headline.{SeatCall, Request, Return, Flush, Empty, Nothing, SeatLine, NameLine, AreNameLines, AreAmong, IsLine, HasDone, Comes, gone, got_none, is_refused, PassesHooks, AreOnTrail, HasCause, AreKept, AreTotals, FindsBound, RefusesEntry, WaitsForReaders, Headline, steps_of}
+use Rattle.uma_replay.specs.Headline.{SeatIn, Comes, Balances, gone, is_refused, WaitForReaders, PassesHooks, AreOnTrail, HasCause, AreForCause, AreTotals, HasTotals, Headline}
 use Rattle.uma_replay.specs.Limits.{last_limit}
+use Rattle.uma_replay.specs.NameLines.{NameLine, AreNameLines, FindsBound, RefusesEntry, WaitsForReaders}
 use Rattle.uma_replay.specs.Names.{AreNameLedgers, IsWhole}
 use Rattle.uma_replay.specs.Playing.{HavePlayed, IsFirst}
-use Rattle.uma_replay.specs.Report.{IsLineOf, StandsFor, ledgers_at}
+use Rattle.uma_replay.specs.Report.{IsLineOf, StandsFor, head_title, ledgers_at, line_title}
 use Rattle.uma_replay.specs.Reporting.{AreLedgersOf}
+use Rattle.uma_replay.specs.SeatLines.{SeatCall, Request, Return, Flush, Empty, Nothing, SeatLine, AreLines, IsLine, HasDone, got_none}
+use Rattle.uma_replay.specs.Steps.{AreAmong, steps_of}
 use Rattle.uma_replay.proofs.NameStory as name_story
-use Rattle.uma_replay.proofs.NameStory.{after, before, came, handed}
+use Rattle.uma_replay.proofs.NameStory.{add_up, after, before, came, from_none, handed, unit}
 use Rattle.uma_replay.proofs.PlainStands.{some_at}
 use Rattle.uma_replay.proofs.SeatLines.{Follow, IsGood, from_seat, to_seat}
 use Rattle.uma_replay.proofs.Staying.{found_before}
@@ -71,12 +75,6 @@ same_count a b e = omega arith
 both_same : (a b c : ℕ) → b ≡ a → c ≡ b → c ≡ a + 0
 both_same a b c e1 e2 = omega arith
 
-add_up : (a b c m n : ℕ) → b ≡ a + m → c ≡ b + n → c ≡ a + (m + n)
-add_up a b c m n e1 e2 = omega arith
-
-from_none : (a b n : ℕ) → a ≡ 0 → b ≡ a + n → b ≡ n
-from_none a b n e1 e2 = omega arith
-
 get_front : {A : Type 0} (xs ys : List A) (z : ℕ) (x : A) → slice_get xs z ≡ Some x → slice_get (xs ++ ys) z ≡ Some x
 get_front [] ys z x at = absurd (none-some x at)
 get_front (w ∷ xs) ys zero x at = at
@@ -88,9 +86,6 @@ at_length (x ∷ xs) y = at_length xs y
 
 get_last : {A : Type 0} (xs : List A) (y : A) (z : ℕ) → z ≡ length xs → slice_get (xs ++ y ∷ []) z ≡ Some y
 get_last xs y z is = ap (slice_get (xs ++ y ∷ [])) is ∙ at_length xs y
-
-abbrev unit : Bool → ℕ
-unit b = cond b 1 0
 
 -- ---- what left a seat is among what was brought to it
 
@@ -108,13 +103,13 @@ from_no_item : (all came : ℕ) → all ≤ 0 + came → all ≤ came
 from_no_item all came few = omega arith
 
 module _ {L S : Type 0} (old new : L → S) (usable : S → List Ticket) (gone brought : L → List Ticket) where
-  abbrev Balances : L → Type 0
-  Balances line = usable (new line) ++ gone line ≡ usable (old line) ++ brought line
+  abbrev Even : L → Type 0
+  Even line = usable (new line) ++ gone line ≡ usable (old line) ++ brought line
 
-  counted : (is : Ticket → Bool) (line : L) → Balances line → times is (usable (new line)) + times is (gone line) ≡ times is (usable (old line)) + times is (brought line)
+  counted : (is : Ticket → Bool) (line : L) → Even line → times is (usable (new line)) + times is (gone line) ≡ times is (usable (old line)) + times is (brought line)
   counted is line balance = sym (times-append is (usable (new line)) (gone line)) ∙ (ap (times is) balance ∙ times-append is (usable (old line)) (brought line))
 
-  flows : (count : ℕ) (is : Ticket → Bool) (lines : List L) (from to : S) → All Balances lines → Follow old new from lines to
+  flows : (count : ℕ) (is : Ticket → Bool) (lines : List L) (from to : S) → All Even lines → Follow old new from lines to
       → times is (flat_map gone (take count lines)) ≤ times is (usable from) + times is (flat_map brought (take count lines))
   flows zero is [] from to balance follow = omega arith
   flows zero is (line ∷ lines) from to balance follow = omega arith
@@ -122,10 +117,10 @@ module _ {L S : Type 0} (old new : L → S) (usable : S → List Ticket) (gone b
   flows (suc count) is (line ∷ lines) from to balance follow =
       with_later (times is (gone line)) (times is (flat_map gone (take count lines))) (times is (usable (old line))) (times is (usable (new line))) (times is (brought line)) (times is (flat_map brought (take count lines))) (times is (usable from)) _ _
       (times-append is (gone line) (flat_map gone (take count lines))) (times-append is (brought line) (flat_map brought (take count lines)))
-      (counted is line (All-head Balances line lines balance)) (ap (λ (s : S). times is (usable s)) follow.0)
-      (flows count is lines (new line) to (All-tail Balances line lines balance) follow.1)
+      (counted is line (All-head Even line lines balance)) (ap (λ (s : S). times is (usable s)) follow.0)
+      (flows count is lines (new line) to (All-tail Even line lines balance) follow.1)
 
-  pub among : (lines : List L) (from to : S) → All Balances lines → Follow old new from lines to → usable from ≡ [] → AreAmong gone brought lines
+  pub among : (lines : List L) (from to : S) → All Even lines → Follow old new from lines to → usable from ≡ [] → AreAmong gone brought lines
   among lines from to balance follow empty count is =
       let left = times is (flat_map gone (take count lines)) in
       let came = times is (flat_map brought (take count lines)) in
@@ -184,8 +179,7 @@ module _ {N H C S Part : Type 0} {h : Ghosts H Part} where
   waits : (zone : CountedZone H Part h) (z : ℕ) (lines : List (SeatLine N H C S Part h)) (from to : CountedSeat H Part h) → zone_smr zone ≡ true → All (IsGood zone z) lines → Follow from_seat to_seat from lines to → usable_of from ≡ []
       → AreAmong gone brought_by lines
   waits zone z lines from to smr good follow empty =
-      let Even : SeatLine N H C S Part h → Type 0 = λ line. usable_tickets line.new ++ gone line ≡ usable_tickets line.old ++ brought_by line in
-      among from_seat to_seat usable_tickets gone brought_by lines from to (All-weaker (IsGood zone z) Even (λ line g. (g.waits smr).1) lines good) follow (ap (map cached_ticket) empty)
+      among from_seat to_seat usable_tickets gone brought_by lines from to (All-weaker (IsGood zone z) Balances (λ line g. (g.waits smr).1) lines good) follow (ap (map cached_ticket) empty)
 
   -- ---- refusals
 
@@ -266,29 +260,40 @@ module _ {N H C S Part : Type 0} {h : Ghosts H Part} (names : NameGhosts N H C S
         name_works = sym both.is_name_work;
       }
 
-  seat_lines : (n : ℕ) (w : Worker H Part h) → slice_get hall.workers n ≡ Some w → AreKept hall w (steps_of n all.steps)
-  seat_lines n w at z zone seat at_zone at_seat =
-      let name_work = name_work_of n w at in
-      let r = ran n w name_work.0 at name_work.1 in
-      let first = some_at (worker_in r.begin).seats.items z (below_as z (length hall.zones) (length (worker_in r.begin).seats.items) (slice_get_within hall.zones z zone at_zone) r.is_new.fits.seats.count) in
+  -- what a seat's lines come to
+  record SeatStory (s : SeatIn hall) : Type 0 where
+    lines : List (SeatLine N H C S Part h)
+    are : AreLines s.zone s.place (steps_of s.number all.steps) lines
+    safe : zone_smr s.zone ≡ true → WaitForReaders s.zone lines
+    hooks : All (λ (line : SeatLine N H C S Part h). PassesHooks s.zone line.call) lines
+    refusals : AreForCause s.zone lines s.seat
+
+  seat_story : (s : SeatIn hall) → SeatStory s
+  seat_story s =
+      let z = s.place in
+      let zone = s.zone in
+      let Good : SeatLine N H C S Part h → Type 0 = IsGood zone z in
+      let name_work = name_work_of s.number s.worker s.is_worker in
+      let r = ran s.number s.worker name_work.0 s.is_worker name_work.1 in
+      let first = some_at (worker_in r.begin).seats.items z (below_as z (length hall.zones) (length (worker_in r.begin).seats.items) (slice_get_within hall.zones z zone s.is_zone) r.is_new.fits.seats.count) in
       let unused = r.is_new.seats z first.0 first.1 in
-      let s = r.tells.seats z zone first.0 at_zone first.1 in
-      let same : s.to ≡ seat = same_Some s.to seat (sym s.at ∙ (ap (λ x. slice_get x.items z) (sym r.seats) ∙ at_seat)) in
-      let follow = subst (λ (x : CountedSeat H Part h). Follow from_seat to_seat first.0 s.lines x) same s.follow in (
-        s.lines,
-        record { are = s.are; each = All-weaker (IsGood zone z) (IsLine zone z) (λ line g. g.is) s.lines s.good },
-        record {
-          safe = λ smr. record {
-            come = All-weaker (IsGood zone z) (Comes zone) (λ line g. (g.waits smr).0) s.lines s.good;
-            among = waits zone z s.lines first.0 seat smr s.good follow unused.usable;
-          };
-          hooks = All-weaker (IsGood zone z) (λ (line : SeatLine N H C S Part h). PassesHooks zone line.call) (λ line g. passes zone line.old line.call line.new g.is.done) s.lines s.good;
-          refusals = record {
-            causes = All-weaker (IsGood zone z) (HasCause zone) (λ line g. has_cause zone z line g) s.lines s.good;
-            fails = from_none (fails_of first.0) (fails_of seat) (count_by is_refused s.lines) unused.ledger.fails (all_fails zone z s.lines first.0 seat s.good follow);
-          };
-        },
-      )
+      let t = r.tells.seats z zone first.0 s.is_zone first.1 in
+      let same : t.to ≡ s.seat = same_Some t.to s.seat (sym t.at ∙ (ap (λ x. slice_get x.items z) (sym r.seats) ∙ s.is_seat)) in
+      let follow = subst (λ (x : CountedSeat H Part h). Follow from_seat to_seat first.0 t.lines x) same t.follow in
+      record {
+        lines = t.lines;
+        are = record { are = t.are; each = All-weaker Good (IsLine zone z) (λ line g. g.is) t.lines t.good };
+        safe = λ smr. record {
+          come = All-weaker Good (Comes zone) (λ line g. (g.waits smr).0) t.lines t.good;
+          balance = All-weaker Good Balances (λ line g. (g.waits smr).1) t.lines t.good;
+          among = waits zone z t.lines first.0 s.seat smr t.good follow unused.usable;
+        };
+        hooks = All-weaker Good (λ (line : SeatLine N H C S Part h). PassesHooks zone line.call) (λ line g. passes zone line.old line.call line.new g.is.done) t.lines t.good;
+        refusals = record {
+          causes = All-weaker Good (HasCause zone) (λ line g. has_cause zone z line g) t.lines t.good;
+          fails = from_none (fails_of first.0) (fails_of s.seat) (count_by is_refused t.lines) unused.ledger.fails (all_fails zone z t.lines first.0 s.seat t.good follow);
+        };
+      }
 
   -- ---- totals
 
@@ -297,33 +302,33 @@ module _ {N H C S Part : Type 0} {h : Ghosts H Part} (names : NameGhosts N H C S
   front_of (Some line) whole z own at =
       ap (λ (r : Report). ledgers_at r z) whole.whole ∙ get_or_from_slice_get (has.first.ledgers ++ whole.part.ledgers ∷ []) z own [] (get_front has.first.ledgers (whole.part.ledgers ∷ []) z own at)
 
-  totals_at : (z : ℕ) (line : ZoneLine) → z < length t.head.zones → slice_get report.lines z ≡ Some line → (ledgers : List SeatLedger) × AreLedgersOf z hall.workers ledgers × AreTotals ledgers line
-  totals_at z line below at =
+  totals_at : (z : ℕ) → z < length t.head.zones → HasTotals report z (λ (ledgers : List SeatLedger). AreLedgersOf z hall.workers ledgers)
+  totals_at z below =
       let own = some_at has.first.ledgers z (below_as z (length t.head.zones) (length has.first.ledgers) below has.made_of.ledgers.count) in
       let head = some_at t.head.zones z below in
       let is_head : slice_get (report_zones t.head) z ≡ Some head.0 = get_front t.head.zones _ z head.0 head.1 in
+      let size : length report.lines ≡ length (report_zones t.head) = sym (length-map report.lines line_title) ∙ (ap length stands.zones ∙ length-map (report_zones t.head) head_title) in
+      let line = some_at report.lines z (below_as z (length (report_zones t.head)) (length report.lines) (slice_get_within (report_zones t.head) z head.0 is_head) size) in
       let limit = last_limit (lines_of t.rounds) z head.0 in
       let P : Option ZoneHead → Type 0 = λ o. IfSome o (λ head. IfSome (slice_get report.lines z) (IsLineOf (last_limit (lines_of t.rounds) z head) head (ledgers_at report z))) in
       let Q : Option ZoneLine → Type 0 = λ o. IfSome o (IsLineOf limit head.0 (ledgers_at report z)) in
-      let R : List SeatLedger → Type 0 = λ ledgers. AreTotals ledgers line in
-      let is = subst Q at (subst P is_head (stands.lines z)) in
-      (own.0, has.made_of.ledgers.each z own.0 own.1, subst R (front_of t.head.names has.whole z own.0 own.1) (totals_of limit head.0 (ledgers_at report z) line is))
+      let R : List SeatLedger → Type 0 = λ ledgers. AreTotals ledgers line.0 in
+      let is = subst Q line.1 (subst P is_head (stands.lines z)) in
+      (line.0, line.1, (own.0, has.made_of.ledgers.each z own.0 own.1, subst R (front_of t.head.names has.whole z own.0 own.1) (totals_of limit head.0 (ledgers_at report z) line.0 is)))
 
-  name_totals_by : (o : Option NamesHead) → IsWhole names hall.names o hall.name_works has.first report → (n : NamesHead) → o ≡ Some n → (line : ZoneLine) → slice_get report.lines (length t.head.zones) ≡ Some line
-      → (ledgers : List SeatLedger) × AreNameLedgers names hall.name_works ledgers × AreTotals ledgers line
-  name_totals_by None whole n is line at = absurd (none-some n is)
-  name_totals_by (Some m) whole n is line at =
+  name_totals_by : (o : Option NamesHead) → IsWhole names hall.names o hall.name_works has.first report → (n : NamesHead) → o ≡ Some n
+      → HasTotals report (length t.head.zones) (λ (ledgers : List SeatLedger). AreNameLedgers names hall.name_works ledgers)
+  name_totals_by None whole n is = absurd (none-some n is)
+  name_totals_by (Some m) whole n is =
       let part = whole.part in
       let last : slice_get (has.first.lines ++ part.line ∷ []) (length t.head.zones) ≡ Some part.line = get_last has.first.lines part.line (length t.head.zones) (sym has.made_of.lines.count) in
-      let same : part.line ≡ line = same_Some part.line line (sym last ∙ (ap (λ (r : Report). slice_get r.lines (length t.head.zones)) (sym whole.whole) ∙ at)) in
-      let R : ZoneLine → Type 0 = λ l. AreTotals part.ledgers l in
       let own : AreTotals part.ledgers part.line = record {
         used = ap (λ (l : ZoneLine). l.used) whole.is_part.of_zone;
         req = ap (λ (l : ZoneLine). l.req) whole.is_part.of_zone;
         fail = ap (λ (l : ZoneLine). l.fail) whole.is_part.of_zone;
         xdomain = ap (λ (l : ZoneLine). l.xdomain) whole.is_part.of_zone;
       } in
-      (part.ledgers, whole.is_part.of_seats, subst R same own)
+      (part.line, ap (λ (r : Report). slice_get r.lines (length t.head.zones)) whole.whole ∙ last, (part.ledgers, whole.is_part.of_seats, own))
 
   -- ---- names
 
@@ -353,13 +358,19 @@ module _ {N H C S Part : Type 0} {h : Ghosts H Part} (names : NameGhosts N H C S
 
   pub headline_of : Headline names t report hall
   headline_of = record {
+    zones = has.done.zones_made;
+    workers = has.done.worker_count;
     played = played;
     rounds = all.steps;
     steps = all.are;
-    seats = seat_lines;
+    lines = λ s. (seat_story s).lines;
+    are_lines = λ s. (seat_story s).are;
+    safe = λ s. (seat_story s).safe;
+    hooks = λ s. (seat_story s).hooks;
     trails = λ n w at. on_trail w;
+    refusals = λ s. (seat_story s).refusals;
     totals = totals_at;
-    name_totals = λ line named at. let n = some_of t.head.names named in name_totals_by t.head.names has.whole n.0 n.1 line at;
+    name_totals = λ named. let n = some_of t.head.names named in name_totals_by t.head.names has.whole n.0 n.1;
     lookups = names_at;
   }
 

@@ -1,7 +1,7 @@
 -- The limits of a trace's zones, round by round.
 use Rattle.std.proofs.Common.{◌≡◌, ℕ, Bool, true, nat_eq, zero, suc, ◌+◌, ◌-◌, ◌<◌, ◌≤◌, List, [], ◌∷◌, ◌++◌, length, map, take, reverse, get_or, Option, None, Some, refl, sym, ap, ◌∙◌, subst, arith, eq-eqb, inl, inr, append-nil, append_assoc, length-append}
 use Rattle.std.proofs.lemmas.Bool.{cases_eq, eqb-true, ne_eqb}
-use Rattle.std.proofs.lemmas.List.{get_or-append-add, get_or_append_left, map-append, reverse-append, take_more}
+use Rattle.std.proofs.lemmas.List.{get_or_append_left, map-append, reverse-append, take_more}
 use Rattle.std.proofs.lemmas.List.Elements.{All-head, All-tail, contains_decides, filter_map-append}
 use Rattle.std.proofs.lemmas.Option.{get_or_from_slice_get}
 use Rattle.std.specs.Prelude.{All, Contains, if◌then◌else◌, slice_get}

@@ -1,5 +1,5 @@
 -- The definitions of limits at small traces.
-use Rattle.std.proofs.Common.{◌≡◌, ◌<◌, ◌≤◌, ℕ, zero, suc, List, [], ◌∷◌, false, length, None, refl, ap, arith, subst}
+use Rattle.std.proofs.Common.{◌≡◌, ◌<◌, ℕ, zero, suc, List, [], ◌∷◌, false, length, None, refl, arith, subst}
 use Rattle.std.specs.Prelude.{Contains}
 use Rattle.trace_text.specs.declared.between.Between.TheVariants.{Give, SetMax}
 use Rattle.trace_text.specs.declared.head.NamesHead.{NamesHead}
@@ -7,7 +7,7 @@ use Rattle.trace_text.specs.declared.head.ZoneHead.{ZoneHead}
 use Rattle.trace_text.specs.declared.head.ZoneKind.TheVariants.{Plain}
 use Rattle.trace_text.specs.declared.op.Op.TheVariants.{Alloc, Free}
 use Rattle.trace_text.specs.declared.trace.Trace.{Trace}
-use Rattle.trace_text.specs.Lines.{Line, Does, Moves, lines_of}
+use Rattle.trace_text.specs.Lines.{Line, Does, Moves}
 use Rattle.trace_text.specs.Valid.{IsValid}
 use Rattle.zone_stats.specs.declared.refusal.Refusal.TheVariants.{AtLimit}
 use Rattle.uma_replay.specs.Counting.{entry_zone}

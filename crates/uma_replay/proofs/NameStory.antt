@@ -22,12 +22,13 @@ use Rattle.trace_worker.specs.NameCalls.{OnBoth}
 use Rattle.trace_worker.specs.NameLedger.{BindCounts, UnbindCounts, MayCountFree}
 use Rattle.trace_worker.specs.NameLines.{Changes, Doing}
 use Rattle.trace_worker.specs.NameWork.{CountsAnswer, CountsBind, CountsUnbind}
-use Rattle.uma_replay.specs.Headline.{NameLine, Step, FindsBound, RefusesEntry, WaitsForReaders, seen}
+use Rattle.uma_replay.specs.NameLines.{NameLine, FindsBound, RefusesEntry, WaitsForReaders}
+use Rattle.uma_replay.specs.Steps.{Step, seen}
 use Rattle.uma_replay.proofs.SeatLines.{Follow, step_by}
 
 -- ---- on numbers
 
-abbrev unit : Bool → ℕ
+abbrev pub unit : Bool → ℕ
 unit b = cond b 1 0
 
 abbrev fails_in : Option SeatLedger → ℕ
@@ -42,10 +43,10 @@ as_before a b e = omega arith
 three_same : (a b c : ℕ) → b ≡ a → c ≡ b → c ≡ a + 0
 three_same a b c e1 e2 = omega arith
 
-add_up : (a b c m n : ℕ) → b ≡ a + m → c ≡ b + n → c ≡ a + (m + n)
+pub add_up : (a b c m n : ℕ) → b ≡ a + m → c ≡ b + n → c ≡ a + (m + n)
 add_up a b c m n e1 e2 = omega arith
 
-from_none : (a b n : ℕ) → a ≡ 0 → b ≡ a + n → b ≡ n
+pub from_none : (a b n : ℕ) → a ≡ 0 → b ≡ a + n → b ≡ n
 from_none a b n e1 e2 = omega arith
 
 -- ---- one line's ledger

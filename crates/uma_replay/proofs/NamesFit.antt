@@ -36,7 +36,7 @@ use Rattle.uma_replay.specs.declared.name_sums.NameCount.TheVariants.{Hits, Miss
 use Rattle.uma_replay.specs.declared.names_part.NamesPart.{NamesPart}
 use Rattle.uma_replay.specs.Counting.{arg_count, entry_zone, is_bind, is_done, is_look, is_unbind, kind_count}
 use Rattle.uma_replay.specs.Hall.{NamesDone}
-use Rattle.uma_replay.specs.Limits.{KeepsOneOf, last_limit}
+use Rattle.uma_replay.specs.Limits.{KeepsOneOf}
 use Rattle.uma_replay.specs.Names.{CountsFit, IsNamesPart, NamesClose, total_of}
 use Rattle.uma_replay.specs.Report.{IsLineOf, LedgerFits, RefusalFits, line_title}
 use Rattle.uma_replay.specs.Reporting.{clock_line}

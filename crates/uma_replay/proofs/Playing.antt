@@ -1,5 +1,5 @@
--- Each worker did its rounds one after another, and stays.
-use Rattle.std.proofs.Common.{◌≡◌, ℕ, List, Some, refl, ap, ◌∙◌, sym, subst, le_refl, length, get_or}
+-- The workers did the rounds one after another, and stay.
+use Rattle.std.proofs.Common.{◌≡◌, ℕ, List, Some, refl, ap, ◌∙◌, sym, subst, le_refl}
 use Rattle.std.proofs.lemmas.Option.{same_Some}
 use Rattle.std.specs.Prelude.{reverse, slice_get}
 use Rattle.smr_clock.specs.declared.clock.Clock.{Clock}
@@ -14,22 +14,18 @@ use Rattle.trace_worker.specs.declared.worker_run.WorkerRun.{WorkerRun}
 use Rattle.trace_worker.specs.declared.worker.Worker.{Worker}
 use Rattle.trace_worker.specs.Attendance.{worker_in}
 use Rattle.trace_worker.specs.Items.{CountedZone}
-use Rattle.trace_worker.specs.NameLines.{doing}
 use Rattle.trace_worker.specs.Together.{crew}
 use Rattle.trace_worker.specs.Worker.{seen_of}
 use Rattle.trace_play.specs.declared.setting.Setting.{Setting}
 use Rattle.trace_play.specs.Setting.{IsSetUp}
 use Rattle.trace_play.specs.Clock.{floor_of}
 use Rattle.trace_play.specs.Betweens.{DoRounds}
-use Rattle.trace_play.specs.Plays.{AllPlay}
 use Rattle.trace_play.specs.Rounds.{AllAsked}
 use Rattle.trace_play.specs.RoundsPlayed.{IsPlayed}
 use Rattle.trace_play.proofs.AfterRound.{in_crew}
-use Rattle.trace_play.proofs.RoundLists.{at_other}
-use Rattle.uma_replay.specs.Playing.{AllBack, AllPlayed, AllStay, AreFirst, HaveEnded, HavePlayed, Stays, gave_ups_of, name_works_of}
+use Rattle.uma_replay.specs.Playing.{AllBack, AllStay, AreFirst, HaveEnded, HavePlayed, Stays, gave_ups_of, name_works_of}
 use Rattle.uma_replay.proofs.ComingBack.{back_stay}
-use Rattle.uma_replay.proofs.WorkerRuns.{of_both}
-use Rattle.uma_replay.proofs.Staying.{all_chain, found_before, stays_chain}
+use Rattle.uma_replay.proofs.Staying.{all_chain, found_before}
 
 module _ {H Part : Type 0} {h : Ghosts H Part} where
   stays_self : (clock : Clock H Part) (w : Worker H Part h) → IsPassOf clock w.pass → Stays clock w w
@@ -56,25 +52,6 @@ module _ {N H C S Part : Type 0} {h : Ghosts H Part} (names : NameGhosts N H C S
       let Q : List (WorkerRun N H C S Part h) → Type 0 = λ list. IsPlayed names cache gates gate t slice clock list back in
       let R : List (WorkerRun N H C S Part h) → Type 0 = λ list. IsPlayed names cache gates gate t slice clock lent list in
       subst P same_zones (subst Q same_old (subst R (sym same_new) played))
-
-  -- when all rounds are done
-  pub played_of : (t : Trace) (s : Setting H Part h) (begun ended : List (WorkerRun N H C S Part h)) → IsSetUp t s → AreFirst names cache t.head.domains s.workers.items begun → length ended ≡ length begun
-      → ((n : ℕ) (w : Worker H Part h) → slice_get (crew ended) n ≡ Some w → IsPassOf s.clock w.pass) → AllPlay names cache s.zones.items t.rounds begun ended
-      → AllPlayed names cache t s.zones.items s.clock (crew ended) (name_works_of ended)
-  played_of t s begun ended is first count here plays n w name_work at at_name_work =
-      let both = of_both ended n w name_work at at_name_work in
-      let began = get_or begun n both.run in
-      let there = at_other begun ended n both.run count both.at in
-      let in_list : slice_get s.workers.items n ≡ Some (worker_in began) = sym (ap (λ list. slice_get list n) first.are) ∙ in_crew n begun began there in
-      record {
-        begin = began;
-        is_new = is.begin.each n (worker_in began) in_list;
-        is_first = first.each n began there;
-        end = doing both.run;
-        plays = plays n began both.run there both.at;
-        stays = let P : Worker H Part h → Type 0 = λ v. Stays s.clock v w in subst P (sym both.is_worker) (stays_self s.clock w (here n w at));
-        name_work_stays = sym both.is_name_work;
-      }
 
   -- all together when all rounds are done, and each is back
   pub together_of : (t : Trace) (s : Setting H Part h) (begun ended : List (WorkerRun N H C S Part h)) (back : List (Worker H Part h)) → IsSetUp t s → AreFirst names cache t.head.domains s.workers.items begun
@@ -103,22 +80,6 @@ module _ {N H C S Part : Type 0} {h : Ghosts H Part} (names : NameGhosts N H C S
     stay = all_chain clock played.back old new played.stay stay;
     name_works_are = played.name_works_are;
   }
-
-  -- and since then
-  pub played_stay : (t : Trace) (zones : List (CountedZone H Part h)) (clock : Clock H Part) (old new : List (Worker H Part h)) (name_works : List (NameWork N H C S Part)) → AllStay clock old new → AllPlayed names cache t zones clock old name_works
-      → AllPlayed names cache t zones clock new name_works
-  played_stay t zones clock old new name_works stay played n w name_work at at_name_work =
-      let was = found_before old new n w stay.count at in
-      let p = played n was.0 name_work was.1 at_name_work in
-      record {
-        begin = p.begin;
-        is_new = p.is_new;
-        is_first = p.is_first;
-        end = p.end;
-        plays = p.plays;
-        stays = stays_chain clock p.end.worker was.0 w p.stays (stay.each n was.0 w was.1 at);
-        name_work_stays = p.name_work_stays;
-      }
 
 -- ---- how often they gave up
 

@@ -32,7 +32,9 @@ use Rattle.trace_worker.specs.Reclaims.{IsDrained, IsFlushed}
 use Rattle.trace_worker.specs.Requests.{GivesBack, Requests}
 use Rattle.trace_worker.specs.Slots.{slot_at}
 use Rattle.trace_worker.proofs.SlotLemmas.{emptied_none}
-use Rattle.uma_replay.specs.Headline.{SeatCall, Request, Return, Flush, Empty, Nothing, SeatLine, Step, IsCall, IsLine, IsReturn, IsThere, HasDone, ComeRipe, ComeFromKeg, gone_by}
+use Rattle.uma_replay.specs.Headline.{ComeRipe, ComeFromKeg, gone_by}
+use Rattle.uma_replay.specs.SeatLines.{SeatCall, Request, Return, Flush, Empty, Nothing, SeatLine, IsCall, IsLine, IsReturn, IsThere, HasDone}
+use Rattle.uma_replay.specs.Steps.{Step}
 
 -- one line after another, each from the state that the one before it left
 abbrev pub Follow : {L S : Type 0} → (L → S) → (L → S) → S → List L → S → Type 0

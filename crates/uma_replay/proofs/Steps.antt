@@ -18,9 +18,9 @@ use Rattle.trace_worker.specs.NameLines.{Doing, DoesAll, doing}
 use Rattle.trace_worker.proofs.Attending.{same_bare}
 use Rattle.trace_worker.proofs.GiveSums.{rest_gives}
 use Rattle.trace_play.specs.Betweens.{DoBetweens, DoRounds}
-use Rattle.trace_play.specs.Plays.{ops_in}
+use Rattle.trace_play.specs.Parts.{ops_in}
 use Rattle.trace_play.proofs.RoundLists.{at_other, before}
-use Rattle.uma_replay.specs.Headline.{AreRounds, AreSteps, Step, steps_of}
+use Rattle.uma_replay.specs.Steps.{AreRounds, AreSteps, Step, steps_of}
 use Rattle.uma_replay.proofs.NameStory as name_story
 use Rattle.uma_replay.proofs.SeatLines.{Stories, step_by, stories-append, stories-cons, stories-none}
 

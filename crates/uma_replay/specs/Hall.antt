@@ -19,7 +19,7 @@ use Rattle.trace_play.specs.Clock.{ReadsHands}
 use Rattle.trace_play.specs.Closes.{AllClose}
 use Rattle.uma_replay.specs.declared.hall.Hall.{Hall}
 use Rattle.uma_replay.specs.Names.{IsWhole}
-use Rattle.uma_replay.specs.Playing.{AllPlayed, HaveEnded, HavePlayed}
+use Rattle.uma_replay.specs.Playing.{HaveEnded, HavePlayed}
 use Rattle.uma_replay.specs.Reporting.{IsReportOf}
 
 module _ {H P : Type 0} {h : Ghosts H P} where
@@ -44,9 +44,7 @@ module _ {N H C S P : Type 0} {h : Ghosts H P} (names : NameGhosts N H C S P) wh
     -- each worker has a seat of them, and its counts stand for all lines
     pub name_work_count : length name_works ≡ t.head.workers
     pub stand : (n : ℕ) (w : Worker H P h) (name_work : NameWork N H C S P) → slice_get workers n ≡ Some w → slice_get name_works n ≡ Some name_work → NamesStand names cache n (reverse (lines_of t.rounds)) w.late name_work
-    -- it began new and did its own lists, line after line, with the `give` lines between them
-    pub played : AllPlayed names cache t zones clock workers name_works
-    -- all together did the rounds, and between two of them the `give` lines moved what slots held, and each `setmax` line set the limit of its zone
+    -- each began new, and all together did the rounds, and between two of them the `give` lines moved what slots held, and each `setmax` line set the limit of its zone
     pub together : HavePlayed names cache t zones clock workers name_works
 
   -- The hall of a trace, and its report, which is made of what the hall has: of the workers' ledgers and counts, of the kegs' censuses, and of

@@ -3,9 +3,12 @@ pub mod Counting
 pub mod Ending
 pub mod Headline
 pub mod Limits
+pub mod NameLines
 pub mod Names
 pub mod Playing
 pub mod Report
 pub mod Reporting
+pub mod SeatLines
+pub mod Steps
 pub mod Hall
 pub mod Replaying

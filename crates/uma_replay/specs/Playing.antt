@@ -12,14 +12,12 @@ use Rattle.trace_worker.specs.declared.worker_run.WorkerRun.{WorkerRun}
 use Rattle.trace_worker.specs.declared.worker.Worker.{Worker}
 use Rattle.trace_worker.specs.Attendance.{is_out, worker_in}
 use Rattle.trace_worker.specs.Items.{CountedZone}
-use Rattle.trace_worker.specs.NameLines.{Doing, doing}
 use Rattle.trace_worker.specs.NameWork.{no_counts}
 use Rattle.trace_worker.specs.Performs.{KeepsAll}
 use Rattle.trace_worker.specs.Together.{crew}
 use Rattle.trace_worker.specs.Worker.{phase_of, seen_of}
 use Rattle.trace_play.specs.Beginners.{IsBeginner}
 use Rattle.trace_play.specs.Betweens.{DoRounds}
-use Rattle.trace_play.specs.Plays.{PlaysRounds}
 use Rattle.trace_play.specs.Rounds.{AllAsked}
 use Rattle.trace_play.specs.Clock.{floor_of}
 use Rattle.trace_play.specs.Lending.{seen_slot}
@@ -86,21 +84,6 @@ module _ {N H C S P : Type 0} {h : Ghosts H P} where
     pub stay : AllStay clock (crew ended) workers
     pub name_works_are : name_works ≡ name_works_of ended
     pub gave_ups_are : gave_ups ≡ gave_ups_of ended
-
-module _ {N H C S P : Type 0} {h : Ghosts H P} (names : NameGhosts N H C S P) (cache : C) where
-  -- Worker `n` and what it has of the names when all lines are done: it began new, with its seats in its domain, that of the names too, it did the rounds one after another, and since then it stays.
-  pub record HasPlayed (t : Trace) (zones : List (CountedZone H P h)) (clock : Clock H P) (n : ℕ) (w : Worker H P h) (name_work : NameWork N H C S P) : Type 0 where
-    pub begin : WorkerRun N H C S P h
-    pub is_new : IsBeginner zones clock (n % t.head.domains) (worker_in begin)
-    pub is_first : IsFirst names cache (n % t.head.domains) begin
-    pub end : Doing N H C S P h
-    pub plays : PlaysRounds names cache zones n (doing begin) t.rounds end
-    pub stays : Stays clock end.worker w
-    pub name_work_stays : name_work ≡ end.name_work
-
-  -- each worker has
-  abbrev pub AllPlayed : Trace → List (CountedZone H P h) → Clock H P → List (Worker H P h) → List (NameWork N H C S P) → Type 0
-  AllPlayed t zones clock workers name_works = (n : ℕ) (w : Worker H P h) (name_work : NameWork N H C S P) → slice_get workers n ≡ Some w → slice_get name_works n ≡ Some name_work → HasPlayed t zones clock n w name_work
 
 module _ {N H C S P : Type 0} {h : Ghosts H P} (names : NameGhosts N H C S P) (cache : C) where
   -- All workers together: those that began new, each with its seats in its domain, did the rounds of the trace one after another, with the `give` and `setmax` lines between two rounds in their order, and stay since then as these.

@@ -127,7 +127,8 @@ fn all_gave_up(gave_ups: &[u64]) -> u64
     gave_ups.iter().sum()
 }
 
-/// The workers, out of their turns, each that is away back, which nothing counts; what each has of the names, and how often it gave up waiting for its gate.
+/// The workers, out of their turns, each that is away back, which nothing counts; what each has of the names, and how often
+/// it gave up waiting for its gate.
 pub(crate) fn dismiss<N: NameCalls>(
     alloc: Global,
     clock: &Clock<N::H>,

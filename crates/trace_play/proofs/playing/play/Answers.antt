@@ -2,13 +2,11 @@ use Rattle.std.proofs.Common.{◌≡◌, ◌<◌, ◌≤◌, ◌∙◌, length, 
 use Rattle.trace_play.proofs.Asks.{ask_all, ask_more, ask_none}
 use Rattle.trace_play.proofs.Done.{rounds_begun, rounds_ended, rounds_more}
 use Rattle.trace_play.proofs.Played.{begun, ended}
-use Rattle.trace_play.proofs.Plays.{play_all, play_more, play_none}
 use Rattle.trace_play.proofs.playing.play.Goals as goal
 
 pub loop-round-init : goal.loop-round-init
 loop-round-init g c = record {
   after = begun g.N.NameCalls c.args.shared.now.cache.now c.args.shared.now.trace.now c.args.shared.now.zones.now c.args.shared.now.clock.now c.args.workers.now c.requires.begun;
-  plays = play_none g.N.NameCalls c.args.shared.now.cache.now c.args.shared.now.zones.now c.args.shared.now.trace.now.rounds c.args.workers.now;
   rounds = rounds_begun g.N.NameCalls c.args.shared.now.cache.now c.args.shared.now.zones.now c.args.shared.now.trace.now.rounds c.args.workers.now;
   asks = ask_none g.G.Gate c.args.shared.now.gate.now c.args.shared.now.trace.now.rounds c.args.workers.now;
   free = λ free. refl;
@@ -20,8 +18,6 @@ loop-round-preserved g c =
     let size : length c.play_round.new.workers ≡ length c.loop-round.workers = search rules in
     record {
       after = c.in_ok-play_round.ensures.played.after;
-      plays = play_more g.N.NameCalls c.args.shared.now.cache.now c.args.shared.now.zones.now c.args.shared.now.trace.now.rounds c.loop-round.round c.args.workers.now c.loop-round.workers c.play_round.new.workers below size c.loop-round.invariant.plays
-          c.in_ok-play_round.ensures.played.plays;
       rounds = rounds_more g.N.NameCalls c.args.shared.now.cache.now c.args.shared.now.zones.now c.args.shared.now.trace.now.rounds c.loop-round.round c.args.workers.now c.loop-round.workers c.play_round.new.workers below c.loop-round.invariant.rounds c.in_ok-play_round.ensures.played.round;
       asks = ask_more g.G.Gate c.args.shared.now.gate.now c.args.shared.now.trace.now.rounds c.loop-round.round c.args.workers.now c.loop-round.workers c.play_round.new.workers below size c.loop-round.invariant.asks c.in_ok-play_round.ensures.played.asks;
       free = λ free. c.in_ok-play_round.ensures.free free ∙ c.loop-round.invariant.free free;
@@ -35,7 +31,6 @@ returns-clause-played g c =
       stands = after.stand;
       named = after.named;
       adds_up = after.adds_up;
-      plays = play_all g.N.NameCalls c.args.shared.now.cache.now c.args.shared.now.zones.now c.args.shared.now.trace.now.rounds c.loop-round.round c.args.workers.now c.loop-round.workers past c.loop-round.invariant.plays;
       rounds = rounds_ended g.N.NameCalls c.args.shared.now.cache.now c.args.shared.now.zones.now c.args.shared.now.trace.now.rounds c.loop-round.round c.args.workers.now c.loop-round.workers past c.loop-round.invariant.rounds;
       asked = after.asked;
       asks = ask_all g.G.Gate c.args.shared.now.gate.now c.args.shared.now.trace.now.rounds c.loop-round.round c.args.workers.now c.loop-round.workers past c.loop-round.invariant.asks;

@@ -6,7 +6,6 @@ use Rattle.trace_play.proofs.AfterRound.{all_ready, gave_up_same}
 use Rattle.trace_play.proofs.Asks.{asks_round}
 use Rattle.trace_play.proofs.Done.{round_done}
 use Rattle.trace_play.proofs.Played.{after_round, both_ok, some_workers, still_free, three_ok}
-use Rattle.trace_play.proofs.Plays.{plays_round}
 use Rattle.trace_play.proofs.playing.play_round.Goals as goal
 
 pub work_round-requires-clause-some : goal.work_round-requires-clause-some
@@ -24,8 +23,6 @@ returns-clause-played g c =
     three_ok c.do_betweens.result (λ keeps moved does. record {
       after = after_round g.N.NameCalls c.args.shared.now.cache.now c.args.shared.now.trace.now c.args.shared.now.zones.now c.args.shared.now.clock.now c.args.round c.args.workers.now c.work_round.new.workers c.do_betweens.new.workers c.requires.suits c.requires.after
           size c.in_ok-all_ended.ensures c.work_round.ensures.worked keeps (subst M c.betweens_of-between.ensures moved);
-      plays = plays_round g.N.NameCalls c.args.shared.now.cache.now c.args.shared.now.trace.now c.args.shared.now.zones.now c.args.shared.now.clock.now c.args.round c.args.workers.now c.work_round.new.workers c.do_betweens.new.workers
-          size c.in_ok-all_ended.ensures c.work_round.ensures.worked keeps;
       round = round_done g.N.NameCalls c.args.shared.now.cache.now c.args.shared.now.trace.now c.args.shared.now.zones.now c.args.shared.now.clock.now c.args.round c.args.workers.now c.work_round.new.workers c.do_betweens.new.workers
           size c.in_ok-all_ended.ensures c.work_round.ensures.worked (subst D c.betweens_of-between.ensures does);
       asks = asks_round g.G.Gate c.args.shared.now.gate.now c.args.shared.now.trace.now.rounds c.args.round c.args.workers.now c.work_round.new.workers c.do_betweens.new.workers size c.in_ok-all_ended.ensures c.work_round.ensures.asks keeps;

@@ -1,4 +1,4 @@
-use Rattle.std.proofs.Common.{◌≡◌, ◌<◌, ◌^◌, ℕ, List, length, refl, sum, sym, ap, ◌∙◌, subst}
+use Rattle.std.proofs.Common.{◌≡◌, ◌<◌, ◌^◌, ℕ, List, refl, sum, sym, ap, ◌∙◌, subst}
 use Rattle.uma_keg.specs.declared.census.Census.{Census}
 use Rattle.trace_worker.specs.declared.name_work.NameWork.{NameWork}
 use Rattle.trace_play.specs.Closes.{AllClose}

@@ -1,4 +1,4 @@
-use Rattle.std.proofs.Common.{◌≡◌, ◌+◌, ◌<◌, ◌∙◌, ℕ, List, ap, arith, length, subst, sym}
+use Rattle.std.proofs.Common.{◌+◌, ◌<◌, ◌∙◌, ℕ, List, ap, arith, length, subst, sym}
 use Rattle.std.proofs.lemmas.Option.{slice_get_within}
 use Rattle.trace_text.specs.declared.head.ZoneHead.{ZoneHead}
 use Rattle.trace_text.specs.Lines.{lines_of}

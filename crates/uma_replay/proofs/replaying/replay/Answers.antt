@@ -78,7 +78,7 @@ close-requires-clause-can g c κs within =
       done = subst D (sym c.from_vec.ensures) (done_stay t s.zones.items s.clock (crew back) workers (back_stay s.clock (crew back) workers c.in_ok-workers.ensures.workers)
           (done_of names cache t s old.items back c.in_ok-setting.ensures.set_up c.in_ok-runs.ensures (ap length same ∙ count) played.stands played.adds_up));
       named = subst N (sym c.from_vec.ensures) (named_of names cache t s old.items back workers name_works c.in_ok-setting.ensures.set_up c.in_ok-runs.ensures (ap length same ∙ count)
-          c.requires.serves of_clock c.in_ok-cache.ensures.sizes played.stands played.named played.plays played.rounds c.in_ok-workers.ensures.workers c.in_ok-workers.ensures.name_works);
+          c.requires.serves of_clock c.in_ok-cache.ensures.sizes played.stands played.named played.rounds c.in_ok-workers.ensures.workers c.in_ok-workers.ensures.name_works);
       ended = ended_of t s.clock back workers name_works c.in_ok-workers.gave_ups
           played.asked c.in_ok-workers.ensures.workers c.in_ok-workers.ensures.name_works c.in_ok-workers.ensures.gave_ups;
     }

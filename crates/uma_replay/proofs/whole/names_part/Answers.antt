@@ -1,4 +1,4 @@
-use Rattle.std.proofs.Common.{ap, ◌∙◌, ◌∷◌, [], List, ℕ, subst}
+use Rattle.std.proofs.Common.{ap, ◌∙◌, ◌∷◌, [], List, subst}
 use Rattle.trace_text.specs.declared.head.ZoneHead.{ZoneHead}
 use Rattle.zone_stats.specs.declared.ledger.SeatLedger.{SeatLedger}
 use Rattle.uma_replay.specs.Limits.{KeepSomeOf}
