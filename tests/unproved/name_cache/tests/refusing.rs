@@ -19,9 +19,13 @@ fn a_bind_is_refused_where_its_zone_has_no_entry(rt: HostRuntime) -> Result<(), 
     let refused = Err(BindRefused::Zone { refusal });
     assert_eq!(rt; one.bind(&rt, alloc, 64, 64)?, refused);
     assert_eq!(rt; one.look(64)?, None);
+
+    // Key 191 is of the row of key 63, which stays bound.
+    assert_eq!(rt; one.bind(&rt, alloc, 191, 64)?, refused);
+    assert_eq!(rt; one.look(191)?, None);
     assert_eq!(rt; one.look(63)?, Some(63));
     let ledger = one.seat.ledger();
-    assert!(rt; ledger.allocs == 64 && ledger.turned == 1 && ledger.last == Some(refusal));
+    assert!(rt; ledger.allocs == 64 && ledger.turned == 2 && ledger.last == Some(refusal));
     Ok(())
 }
 
