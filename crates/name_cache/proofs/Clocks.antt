@@ -1,5 +1,5 @@
 -- What is of one handle of a clock is of each other.
-use Rattle.std.proofs.Common.{◌≡◌, Option, Some, None, ◌∙◌, sym, ap, subst, refl}
+use Rattle.std.proofs.Common.{◌≡◌, Option, Some, None, ◌∙◌, ap, subst}
 use Rattle.std.proofs.lemmas.Option.{none-some, same_Some}
 use Rattle.smr_clock.specs.declared.clock.Clock.{Clock}
 use Rattle.smr_clock.specs.declared.setup.Setup.{Setup}
@@ -10,7 +10,6 @@ use Rattle.name_rows.specs.declared.part.Part.{Part}
 use Rattle.name_rows.specs.declared.root.Root.{Root}
 use Rattle.name_rows.specs.declared.row.Row.{Row}
 use Rattle.name_rows.specs.declared.words.Words.{Words}
-use Rattle.name_rows.specs.Belongs.{FitsNames, IsNamesClock}
 use Rattle.name_rows.specs.Entries.{AreWordsOf}
 use Rattle.name_rows.specs.Roots.{IsRootOf}
 use Rattle.name_rows.specs.Rows.{IsRowOf}
@@ -31,14 +30,6 @@ module _ (one other : Clock Names Part) (same : clock_id one ≡ clock_id other)
   seat_too : (w : Words) → IsSeatOf one w.seat → IsSeatOf other w.seat
   seat_too w is = (is.0 ∙ same_table, is.1 ∙ same_setup)
 
-  pub words_too : (words : Option Words) → ((w : Words) → words ≡ Some w → IsSeatOf one w.seat) → AreWordsOf other words
-  words_too None ours = tt
-  words_too (Some w) ours = seat_too w (ours w refl)
-
   pub ours_too : (words : Option Words) → AreWordsOf one words → (w : Words) → words ≡ Some w → IsSeatOf other w.seat
   ours_too None here w is = absurd (none-some w is)
   ours_too (Some x) here w is = seat_too w (subst (λ (y : Words). IsSeatOf one y.seat) (same_Some x w is) here)
-
--- a clock of names by its identity
-pub names_clock : (clock : Clock Names Part) (id : TableId × Setup) → clock_id clock ≡ id → FitsNames id.1 id.0.words → IsNamesClock clock
-names_clock clock id same fits = subst (λ (x : TableId × Setup). FitsNames x.1 x.0.words) (sym same) fits

@@ -1,13 +1,11 @@
 -- An entry as its row has it, and as an item in its parts.
-use Rattle.std.proofs.Common.{◌≡◌, ℕ, Option, Some, None, true, false, IsSome, ◌∙◌, sym, ap, refl}
+use Rattle.std.proofs.Common.{◌≡◌, Option, Some, None, ◌∙◌, sym, ap}
 use Rattle.std.proofs.lemmas.Option.{none-some, same_Some}
-use Rattle.uma_life.specs.declared.body_phase.BodyPhase.{BodyPhase}
-use Rattle.uma_life.specs.declared.body_phase.BodyPhase.TheVariants.{Built}
 use Rattle.name_rows.specs.declared.entry.Entry.{Entry}
 use Rattle.name_rows.specs.declared.guest.Guest.{Guest}
 use Rattle.name_rows.specs.declared.words.Words.{Words}
 use Rattle.name_rows.specs.Entries.{entry_life, guest_with}
-use Rattle.name_rows.specs.EntryWords.{words_no, is_worded}
+use Rattle.name_rows.specs.EntryWords.{words_no}
 use Rattle.name_cache.specs.LinkedItem.{guest_life}
 
 -- the life of a guest is that of its entry
@@ -16,8 +14,3 @@ guest_lives e None g is numbered = absurd (none-some g is)
 guest_lives e (Some w) g is numbered =
     let same = same_Some (record { no = w.kept.entry; phase = e.phase; tally = e.tally; key = w.kept.key; value = w.kept.value }) g is in
     (λ k. record { no = sym numbered k; phase = e.phase; tally = e.tally }) ∙ ap guest_life same
-
--- an entry that is built has words
-pub built_worded : (phase : BodyPhase) (zone : ℕ) (words : Option Words) → phase ≡ Built zone → is_worded phase words ≡ true → IsSome words
-built_worded phase zone None built worded = absurd (let t : false ≡ true = sym (ap (λ (p : BodyPhase). is_worded p None) built) ∙ worded in cc)
-built_worded phase zone (Some w) built worded = refl

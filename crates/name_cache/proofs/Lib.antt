@@ -6,7 +6,6 @@ pub mod Locking
 pub mod Opening
 pub mod Outs
 pub mod Passes
-pub mod Popped
 pub mod Rebinding
 pub mod Rooms
 pub mod RowFacts

@@ -1,5 +1,5 @@
 -- The entry that a row names, with what the row keeps of it, and an entry that came out of its row.
-use Rattle.std.proofs.Common.{◌≡◌, ◌<◌, ◌+◌, ◌^◌, ◌%◌, ℕ, true, false, Option, Some, None, IfSome, is_some, ◌∙◌, sym, ap, subst, refl}
+use Rattle.std.proofs.Common.{◌≡◌, true, false, Option, Some, None, IfSome, is_some, ◌∙◌, sym, ap, subst, refl}
 use Rattle.std.proofs.lemmas.Bool.{false≢true}
 use Rattle.std.proofs.lemmas.Option.{none-some, same_Some}
 use Rattle.std.specs.Arc.{arc_value}
@@ -10,18 +10,14 @@ use Rattle.uma_life.specs.Life.{Life}
 use Rattle.uma_life.specs.Ticket.{ticket_zone}
 use Rattle.uma_life.specs.Trail.{IsAt}
 use Rattle.uma_life.specs.declared.body_phase.BodyPhase.TheVariants.{Built}
-use Rattle.uma_life.specs.declared.tally.Tally.{Tally}
 use Rattle.uma_life.specs.declared.ticket.Ticket.{Ticket}
 use Rattle.uma_bucket.specs.Home.{Home, IsHome}
 use Rattle.name_rows.specs.declared.entry.Entry.{Entry}
-use Rattle.name_rows.specs.declared.entry_state.EntryState.{EntryState}
-use Rattle.name_rows.specs.declared.entry_state.EntryState.TheVariants.{Unlinked}
 use Rattle.name_rows.specs.declared.guest.Guest.{Guest}
 use Rattle.name_rows.specs.declared.names.Names.{Names}
 use Rattle.name_rows.specs.declared.part.Part.{Part}
-use Rattle.name_rows.specs.declared.words.Words.{Words}
-use Rattle.name_rows.specs.Entries.{IsEntryOf, entry_life, entry_state, state_in, guest_of, guest_with}
-use Rattle.name_rows.specs.Rows.{IsEvicted, IsKeyOf}
+use Rattle.name_rows.specs.Entries.{IsEntryOf, entry_life, entry_state, guest_of}
+use Rattle.name_rows.specs.Rows.{IsEvicted}
 use Rattle.name_cache.specs.Homes.{home_clock}
 use Rattle.name_cache.specs.declared.linked_item.LinkedItem.{LinkedItem}
 use Rattle.name_cache.specs.declared.parts.EntryParts.{EntryParts}
@@ -29,7 +25,7 @@ use Rattle.name_cache.specs.LinkedItem.{guest_life, IsLinkedAs, FitsItem}
 use Rattle.name_cache.specs.declared.rebound.Rebound.TheVariants.{Done}
 use Rattle.name_cache.specs.declared.receipt.Receipt.{Receipt}
 use Rattle.name_cache.specs.LockedRow.{IsItemOf, HasItemOf, IsOut}
-use Rattle.name_cache.specs.Parts.{parts_clock, IsSameItem}
+use Rattle.name_cache.specs.Parts.{IsSameItem}
 use Rattle.name_cache.proofs.Clocks.{ours_too}
 use Rattle.name_cache.proofs.Items.{guest_lives}
 
@@ -54,20 +50,6 @@ fits_out clock id home (Some g) None item same fits here out one other is kept =
 fits_out clock id home (Some g) (Some e) item same fits here out one other is kept =
     subst (λ (x : Entry). FitsItem x other) (same_Some e one is) (fits_item clock id home g other e same (fits g other refl kept) here out.0)
 
--- an entry that goes into a row
-pub linked_as : (id : TableId × Setup) (home : Home) (parts : EntryParts) (guest : Guest) (tally : Tally) → IsItemOf id home parts → guest_of parts.entry ≡ Some guest → tally ≡ (entry_life parts.entry).tally
-    → IsLinkedAs id home guest (record { ticket = parts.ticket; home = parts.home; tally = tally })
-linked_as id home parts guest tally of is kept =
-    let life : entry_life parts.entry ≡ guest_life guest = guest_lives parts.entry parts.entry.words guest is parts.entry.numbered in
-    record {
-      numbered = ap (λ (l : Life). l.no) (sym life) ∙ parts.numbered;
-      built = subst (λ (l : Life). IsAt (Built (ticket_zone parts.ticket)) l) life parts.built;
-      tally = kept ∙ ap (λ (l : Life). l.tally) life;
-      at_home = of.1;
-      of_clock = of.0;
-      of_origin = parts.of_origin;
-    }
-
 -- ---- whether there is one
 
 pub none_of : {A : Type 0} (o : Option A) → is_some o ≡ false → o ≡ None
@@ -83,16 +65,6 @@ evicted_both None None out = refl
 evicted_both None (Some e) out = absurd out
 evicted_both (Some g) None out = absurd out
 evicted_both (Some g) (Some e) out = refl
-
--- an entry with words would be the row's
-pub is_guested : (e : Entry) (words : Option Words) (s : EntryState) → state_in words ≡ Some s → is_some (guest_with e words) ≡ true
-is_guested e None s is = absurd (none-some s is)
-is_guested e (Some w) s is = refl
-
--- a row that names an entry can go on
-pub can_go_on : (guest : Option Guest) (version : ℕ) → is_some guest ≡ true → ((g : Guest) → guest ≡ Some g → version + 1 < 2 ^ 44) → version + 1 < 2 ^ 44
-can_go_on None version some low = absurd (false≢true some)
-can_go_on (Some g) version some low = low g refl
 
 -- ---- an entry that came out
 
@@ -118,32 +90,13 @@ pub none_out : (id : TableId × Setup) (home : Home) (guest : Option Guest) → 
 none_out id home None none = tt
 none_out id home (Some g) none = absurd (false≢true (sym none))
 
-pub out_clock : (clock : Clock Names Part) (id : TableId × Setup) (home : Home) (guest : Option Guest) (out : Option EntryParts) → clock_id clock ≡ id → IsOut id home guest out → IfSome out (λ parts. parts_clock parts ≡ clock_id clock)
-out_clock clock id home None None same out = tt
-out_clock clock id home None (Some p) same out = absurd out
-out_clock clock id home (Some g) None same out = absurd out
-out_clock clock id home (Some g) (Some p) same out = out.2.0 ∙ sym same
-
-pub out_unlinked : (id : TableId × Setup) (home : Home) (guest : Option Guest) (out : Option EntryParts) → IsOut id home guest out → IfSome out (λ parts. entry_state parts.entry ≡ Some Unlinked)
-out_unlinked id home None None out = tt
-out_unlinked id home None (Some p) out = absurd out
-out_unlinked id home (Some g) None out = absurd out
-out_unlinked id home (Some g) (Some p) out = out.1
-
 pub out_of : (id : TableId × Setup) (home : Home) (guest : Option Guest) (parts : EntryParts) → IsOut id home guest (Some parts) → IsItemOf id home parts
 out_of id home None parts out = absurd out
 out_of id home (Some g) parts out = out.2
 
-pub items_out : (id : TableId × Setup) (home : Home) (guest : Option Guest) (out : Option EntryParts) → IsOut id home guest out → IfSome out (IsItemOf id home)
-items_out id home guest None out = tt
-items_out id home guest (Some parts) out = out_of id home guest parts out
-
 -- an item is where it was
 pub item_still : (id : TableId × Setup) (home : Home) (was is : EntryParts) → IsSameItem was is → IsItemOf id home was → IsItemOf id home is
 item_still id home was is same of = (ap (λ (h : _). clock_id (home_clock (arc_value h))) same.home ∙ of.0, subst (λ (t : Ticket). IsHome home t) (sym same.ticket) of.1)
-
-pub key_of_row : (rows number key : ℕ) (guest : Option Guest) (g : Guest) → guest ≡ Some g → g.key ≡ key → key % rows ≡ number → IsKeyOf rows number guest
-key_of_row rows number key guest g is own of = subst (λ (o : Option Guest). IsKeyOf rows number o) (sym is) (ap (λ (k : ℕ). k % rows) own ∙ of)
 
 -- ---- what a bind leaves out of the row
 

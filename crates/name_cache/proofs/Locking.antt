@@ -9,15 +9,11 @@ use Rattle.smr_clock.specs.declared.clock.Clock.{Clock}
 use Rattle.smr_clock.specs.declared.setup.Setup.{Setup}
 use Rattle.smr_clock.specs.Belongs.{TableId}
 use Rattle.uma_bucket.specs.Home.{Home}
-use Rattle.uma_zone.specs.declared.zone_refused.ZoneRefused.{ZoneRefused}
-use Rattle.uma_zone.specs.declared.zone_refused.ZoneRefused.TheVariants.{Size, Slabs, Bucket, Domains, Zones, Memory}
-use Rattle.uma_zone.specs.declared.zone_set.ZoneSet.{ZoneSet}
-use Rattle.uma_zone.specs.Making.{RefusesPrimary}
 use Rattle.name_rows.specs.declared.names.Names.{Names}
 use Rattle.name_rows.specs.declared.part.Part.{Part}
 use Rattle.name_rows.specs.declared.row.Row.{Row}
 use Rattle.name_cache.specs.Locks.{RowLock, lock_version, AreNamed}
-use Rattle.name_cache.specs.Making.{AreFreshRows, IsFreshRow, RefusesCache}
+use Rattle.name_cache.specs.Making.{AreFreshRows, IsFreshRow}
 use Rattle.name_cache.specs.RowKey.{key_identity, identity}
 
 -- the next of the rows
@@ -38,12 +34,3 @@ named_more clock home locks more lock is named own n other there =
 -- the version of the lock at a place
 pub version_at : (locks : List RowLock) (i : ℕ) (lock : RowLock) → get_elem? locks i ≡ some lock → lock_version lock ≡ slice_index_or (map lock_version locks) i 0
 version_at locks i lock there = sym (get_or_at_place (map lock_version locks) i (lock_version lock) 0 (at_map lock_version locks i lock there))
-
--- why no cache is made
-pub refuses_cache : (set : ZoneSet) (why : ZoneRefused) → RefusesPrimary 64 set why → RefusesCache set why
-refuses_cache set (Size size) refuses = refuses
-refuses_cache set (Slabs slabs) refuses = refuses
-refuses_cache set (Bucket bucket) refuses = refuses
-refuses_cache set (Domains domains) refuses = refuses
-refuses_cache set (Zones zones) refuses = refuses
-refuses_cache set Memory refuses = tt

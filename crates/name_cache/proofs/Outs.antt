@@ -5,14 +5,14 @@ use Rattle.smr_clock.specs.declared.setup.Setup.{Setup}
 use Rattle.smr_clock.specs.Belongs.{TableId}
 use Rattle.uma_bucket.specs.Home.{Home}
 use Rattle.name_rows.specs.declared.entry.Entry.{Entry}
-use Rattle.name_rows.specs.declared.entry_state.EntryState.TheVariants.{Clean, Written, Stamped}
+use Rattle.name_rows.specs.declared.entry_state.EntryState.TheVariants.{Stamped}
 use Rattle.name_rows.specs.declared.guest.Guest.{Guest}
 use Rattle.name_rows.specs.declared.owned.Owned.{Owned}
 use Rattle.name_rows.specs.declared.words.Words.{Words}
-use Rattle.name_rows.specs.Entries.{OnWords, guest_with, state_in}
+use Rattle.name_rows.specs.Entries.{OnWords, guest_with}
 use Rattle.name_rows.specs.Guests.{bound_of, content_of}
 use Rattle.name_rows.specs.Records.{owned_as}
-use Rattle.name_rows.specs.Ripening.{StampsAt, IsRipe}
+use Rattle.name_rows.specs.Ripening.{StampsAt}
 use Rattle.name_rows.specs.Roots.{kept_in}
 use Rattle.name_rows.specs.Writing.{Writes}
 use Rattle.name_cache.specs.declared.parts.EntryParts.{EntryParts}
@@ -28,18 +28,6 @@ stamped_words e (Some w) None g is stamps = absurd stamps
 stamped_words e (Some w) (Some x) g is stamps =
     let same = same_Some (record { no = w.kept.entry; phase = e.phase; tally = e.tally; key = w.kept.key; value = w.kept.value }) g is in
     (stamps.write + 2, ap (λ (o : Owned). Some o) (stamps.kept ∙ ap (λ (q : Guest). owned_as (bound_of q) (Stamped (stamps.write + 2))) same))
-
--- an entry that was found ripe is clean
-pub ripe_clean : (words after : Option Words) → OnWords IsRipe words after → state_in after ≡ Some Clean
-ripe_clean None after ripe = absurd ripe
-ripe_clean (Some w) None ripe = absurd ripe
-ripe_clean (Some w) (Some x) ripe = ap (λ (o : Owned). Some o.state) ripe.kept
-
--- an entry whose words were written
-pub written_state : (key value : ℕ) (words after : Option Words) → OnWords (Writes key value) words after → state_in after ≡ Some Written
-written_state key value None after writes = absurd writes
-written_state key value (Some w) None writes = absurd writes
-written_state key value (Some w) (Some x) writes = ap (λ (o : Owned). Some o.state) writes
 
 pub written_guest : (e : Entry) (key value : ℕ) (words after : Option Words) → OnWords (Writes key value) words after → (g : Guest) × (guest_with e after ≡ Some g) × (g.key ≡ key) × (g.value ≡ value)
 written_guest e key value None after writes = absurd writes

@@ -11,18 +11,14 @@ use Rattle.name_rows.specs.declared.records.Record.{Record}
 use Rattle.name_rows.specs.Entries.{OnWords, entry_life, guest_of}
 use Rattle.name_rows.specs.Guests.{bound_of, content_of}
 use Rattle.name_rows.specs.Linking.{row_record}
-use Rattle.name_rows.specs.Reading.{bound_to}
 use Rattle.name_rows.specs.Ripening.{StampsAt}
 use Rattle.name_rows.specs.Rows.{row_last, key_in, value_in, pair_in}
-use Rattle.name_cache.specs.declared.bind_refused.BindRefused.{BindRefused}
-use Rattle.name_cache.specs.declared.bind_refused.BindRefused.TheVariants.{Zone, Worn, Unripe, Memory}
 use Rattle.name_cache.specs.declared.locked_row.LockedRow.{LockedRow}
 use Rattle.name_cache.specs.declared.parts.EntryParts.{EntryParts}
 use Rattle.name_cache.specs.declared.receipt.Receipt.{Receipt}
 use Rattle.name_cache.specs.LinkedItem.{guest_life}
-use Rattle.name_cache.specs.LockedRow.{row_identity, IsSameRow, MeetsRow, IsOut, IsStamped, IsOutStamped, BindsInRow, RefusesEntry, RefusesInRow, UnbindsInRow, HasNotKey}
+use Rattle.name_cache.specs.LockedRow.{row_identity, IsSameRow, MeetsRow, IsOut, IsStamped, IsOutStamped, BindsInRow, UnbindsInRow}
 use Rattle.name_cache.specs.Known.{Meets}
-use Rattle.name_cache.specs.Parts.{IsSameItem}
 use Rattle.name_cache.specs.RowKey.{Identity}
 use Rattle.name_cache.proofs.Items.{guest_lives}
 use Rattle.name_cache.proofs.Outs.{out_stamped, stamped_words}
@@ -69,21 +65,6 @@ module _ (v v1 : View Part) (old one : LockedRow) (met : MeetsRow v old v1) (sam
 
   pub met_at : (row : ℕ) → row ≡ one.row.number → Meets v row met.last v1
   met_at row is = subst (λ (n : ℕ). Meets v n met.last v1) (sym (is ∙ row_is)) met.meets
-
-  -- why a row takes no entry, before it was met
-  refuses_old : (parts back : EntryParts) (refused : BindRefused) → RefusesEntry one parts back refused → RefusesEntry old parts back refused
-  refuses_old parts back (Unripe read stamp) why = why
-  refuses_old parts back (Worn row version) why = (why.0, why.1 ∙ row_is, why.2 ∙ same.version, why.3)
-  refuses_old parts back (Zone refusal) why = why
-  refuses_old parts back Memory why = why
-
-  -- a row that takes no entry
-  pub refuses_in_row : (parts back : EntryParts) (refused : BindRefused) → RefusesEntry one parts back refused → IsSameItem parts back → RefusesInRow v old parts back refused one v1
-  refuses_in_row parts back refused why item = record { why = refuses_old parts back refused why; item = item; same = same; met = met }
-
-  -- a row without the key
-  pub has_not_key : (key : ℕ) → bound_to key (content_of one.row.guest) ≡ None → HasNotKey key v old one v1
-  has_not_key key unbound = record { unbound = ap (λ (g : Option Guest). bound_to key (content_of g)) (sym same.guest) ∙ unbound; same = same; met = met }
 
   -- two is the row with its next record, and three the same after the pass met it again
   module _ (v2 : View Part) (two three : LockedRow) (id2 : row_identity two ≡ row_identity one) (version : two.row.version ≡ one.row.version + 1) (met2 : MeetsRow v1 two v2) (same2 : IsSameRow two three)

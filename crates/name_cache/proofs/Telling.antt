@@ -9,9 +9,6 @@ use Rattle.uma_zone.specs.Told.{TakesInNote}
 use Rattle.name_cache.specs.Known.{StillKnows, Meets, IsAbove}
 use Rattle.name_cache.specs.declared.receipt.Receipt.{Receipt}
 
-pub still_same : (v : View Part) → StillKnows v v
-still_same v r i = i
-
 pub still_then : (v w x : View Part) → StillKnows v w → StillKnows w x → StillKnows v x
 still_then v w x one other r i = other r (one r i)
 

@@ -31,9 +31,6 @@ begun_fits a less = omega arith
 zone_fits : (a : ℕ) → a ≤ 2 ^ 35 * 2 ^ 64 → a ≤ 2 ^ 99
 zone_fits a le = omega arith
 
-pub room_of_zone : (a : ℕ) → a ≤ 2 ^ 35 * 2 ^ 64 → a < 2 ^ 127
-room_of_zone a le = omega arith
-
 picked_few : (t : Bool) (a : ℕ) → a ≤ 2 ^ 99 → cond t a 0 ≤ 2 ^ 99
 picked_few true a le = le
 picked_few false a le = zero-le

@@ -92,9 +92,6 @@ module _ {H Part : Type 0} {h : Ghosts H Part} where
   abbrev pub Begin : List (CountedZone H Part h) → Clock H Part → ℕ → List (Worker H Part h) → Type 0
   Begin zones clock domains workers = (n : ℕ) (r : Worker H Part h) → slice_get workers n ≡ Some r → IsBeginner zones clock (n % domains) r
 
-  pub Begin-none : (zones : List (CountedZone H Part h)) (clock : Clock H Part) (domains : ℕ) → Begin zones clock domains []
-  Begin-none zones clock domains n r at = absurd (none-some r at)
-
   pub Begin-more : (zones : List (CountedZone H Part h)) (clock : Clock H Part) (domains : ℕ) (workers : List (Worker H Part h)) (new : Worker H Part h) → IsBeginner zones clock (length workers % domains) new → Begin zones clock domains workers
       → Begin zones clock domains (workers ++ new ∷ [])
   Begin-more zones clock domains workers new is are n r at = elim (pushed workers new n r at) [

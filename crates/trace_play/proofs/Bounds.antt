@@ -1,5 +1,5 @@
 -- Bounds of plain numbers, so that no proof over workers searches through them.
-use Rattle.std.proofs.Common.{◌≡◌, ℕ, suc, ◌+◌, ◌*◌, ◌<◌, ◌≤◌, ◌^◌, arith}
+use Rattle.std.proofs.Common.{◌≡◌, ℕ, ◌+◌, ◌*◌, ◌<◌, ◌≤◌, ◌^◌, arith}
 
 pub few_lines : {before own all : ℕ} → before ≤ all → own ≤ all → all < 2 ^ 31 → before + own < 2 ^ 32
 few_lines a b few = omega arith
@@ -84,14 +84,5 @@ none_given_up done e = omega arith
 
 -- ---- sums of counts, each at most 2^31
 
-pub most_of_all : 0 ≤ 2 ^ 31 * 0
-most_of_all = omega arith
-
-pub sum_within : {sum first : ℕ} (rest count : ℕ) → sum ≡ first + rest → first ≤ 2 ^ 31 → rest ≤ 2 ^ 31 * count → sum ≤ 2 ^ 31 * suc count
-sum_within rest count e a b = omega arith
-
 pub within : {n lines : ℕ} → lines < 2 ^ 31 → n ≤ lines → n ≤ 2 ^ 31
 within few most = omega arith
-
-pub below_most : {sum : ℕ} {count : ℕ} → sum ≤ 2 ^ 31 * count → count ≤ 16 → sum ≤ 2 ^ 35
-below_most most few = omega arith

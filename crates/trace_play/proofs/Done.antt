@@ -12,7 +12,7 @@ use Rattle.trace_text.specs.declared.trace.Trace.{Trace}
 use Rattle.trace_worker.specs.declared.name_calls.NameCalls.{Ghosts as NameGhosts}
 use Rattle.trace_worker.specs.declared.worker_run.WorkerRun.{WorkerRun}
 use Rattle.trace_worker.specs.Items.{CountedZone}
-use Rattle.trace_worker.specs.NameLines.{DoesAll, doing}
+use Rattle.trace_worker.specs.NameLines.{DoesAll, line_state}
 use Rattle.trace_play.specs.Betweens.{DoBetweens, DoesBetween, DoRound, DoRoundAt, DoRounds}
 use Rattle.trace_play.specs.Parts.{betweens_of, ops_in}
 use Rattle.trace_play.specs.Rounds.{AllWorked, HasEnded}
@@ -65,7 +65,7 @@ module _ {N H C S Part : Type 0} {h : Ghosts H Part} (names : NameGhosts N H C S
         count = size;
         each = λ n was is at now.
             let own : Option Round → List Op = λ o. option_map_or (λ (x : Round). ops_in x n) o [] in
-            let Q : List Op → Type 0 = λ ops. DoesAll names cache zones (doing was) ops (doing is) in
+            let Q : List Op → Type 0 = λ ops. DoesAll names cache zones (line_state was) ops (line_state is) in
             subst Q (ap own here) (turned.each n was is at now).plays;
         behind = subst P (ap behind_round here) done;
       }

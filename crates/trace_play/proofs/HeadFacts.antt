@@ -3,15 +3,12 @@ use Rattle.std.proofs.Common.{◌≡◌, ℕ, ◌+◌, ◌<◌, List, Option, No
 use Rattle.std.specs.Prelude.{IfSome, slice_get}
 use Rattle.trace_text.specs.declared.head.Head.{Head}
 use Rattle.trace_text.specs.declared.head.ZoneHead.{ZoneHead}
-use Rattle.trace_text.specs.Valid.{HeadFits, ZoneFits, KegFits, PrimaryFits, SecondaryFits, sharer_count}
+use Rattle.trace_text.specs.Valid.{HeadFits, ZoneFits, KegFits, SecondaryFits, sharer_count}
 use Rattle.trace_play.proofs.KegLists.{Earlier, at_of_take, count_parent, count_take, take_next}
 use Rattle.trace_play.proofs.Lists.{less_than_eight}
 
 pub line_fits : (h : Head) (place : ℕ) (line : ZoneHead) → HeadFits h → slice_get h.zones place ≡ Some line → ZoneFits h place line
 line_fits h place line fits at = subst (λ (o : Option ZoneHead). IfSome o (ZoneFits h place)) at (fits.zones place)
-
-pub primary_fits : (h : Head) (place : ℕ) (line : ZoneHead) → HeadFits h → slice_get h.zones place ≡ Some line → line.parent ≡ None → PrimaryFits line
-primary_fits h place line fits at is = subst (λ (o : Option ℕ). KegFits h.zones place o line) is (line_fits h place line fits at).keg
 
 pub secondary_fits : (h : Head) (place : ℕ) (line : ZoneHead) (parent : ℕ) → HeadFits h → slice_get h.zones place ≡ Some line → line.parent ≡ Some parent → SecondaryFits h.zones place parent line
 secondary_fits h place line parent fits at is = subst (λ (o : Option ℕ). KegFits h.zones place o line) is (line_fits h place line fits at).keg

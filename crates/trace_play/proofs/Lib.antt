@@ -10,7 +10,6 @@ pub mod Crossed
 pub mod Done
 pub mod Filled
 pub mod Gathering
-pub mod GaveUp
 pub mod HeadFacts
 pub mod Heard
 pub mod Indexes

@@ -1,19 +1,13 @@
 -- From one round to the next, and from the first to the last.
-use Rattle.std.proofs.Common.{◌≡◌, ℕ, ◌+◌, ◌<◌, ◌≤◌, List, [], ◌∷◌, Option, inl, inr, refl, sym, ap, ◌∙◌, subst, length, map, get_or, reverse}
-use Rattle.std.proofs.lemmas.List.Elements.{All-nil}
-use Rattle.std.proofs.lemmas.Option.{same_Some, slice_get_cases}
-use Rattle.std.specs.Option.{option_map_or}
+use Rattle.std.proofs.Common.{◌≡◌, ℕ, ◌+◌, ◌<◌, ◌≤◌, List, [], ◌∷◌, refl, sym, ap, ◌∙◌, subst, length, map, reverse}
+use Rattle.std.proofs.lemmas.Option.{same_Some}
 use Rattle.std.specs.Prelude.{All, Result, Ok, Err, OnOk}
 use Rattle.smr_clock.specs.declared.clock.Clock.{Clock}
 use Rattle.smr_clock.specs.declared.host.Host.{Ghosts}
 use Rattle.trace_text.specs.declared.between.Between.{Between}
-use Rattle.trace_text.specs.declared.between.Between.TheVariants.{Give, SetMax}
-use Rattle.trace_text.specs.declared.head.Head.{Head}
-use Rattle.trace_text.specs.declared.round.Round.{Round}
 use Rattle.trace_text.specs.declared.trace.Trace.{Trace}
 use Rattle.trace_text.specs.Lines.{Line, Moves, lines_of}
 use Rattle.trace_text.specs.Reading.{is_away}
-use Rattle.trace_text.specs.Valid.{BetweenFits, RoundFits}
 use Rattle.trace_worker.specs.declared.name_calls.NameCalls.{Ghosts as NameGhosts}
 use Rattle.trace_worker.specs.declared.name_work.NameWork.{NameWork}
 use Rattle.trace_worker.specs.declared.worker_run.WorkerRun.{WorkerRun}
@@ -27,10 +21,10 @@ use Rattle.trace_worker.specs.Together.{AllAbsent, AllNamed}
 use Rattle.trace_worker.proofs.Attending.{same_bare, same_out}
 use Rattle.trace_worker.proofs.LineCounts.{binds-more, looks-more, unbinds-more}
 use Rattle.trace_play.specs.DoneBy.{done_by}
-use Rattle.trace_play.specs.Parts.{after_workers, betweens_of, IsAmong}
+use Rattle.trace_play.specs.Parts.{after_workers, betweens_of}
 use Rattle.trace_play.specs.Rounds.{AllAsked, AllMoved, AllWorked, AreAfter, GaveUpAsBefore, HasEnded, IsBegun, FitsTrace}
 use Rattle.trace_play.proofs.AfterRound.{SameNumbers, absent_after, turns, stand_after, named_after, named_as, asked_after}
-use Rattle.trace_play.proofs.Bounds.{below_as, some_of, none_done, none_asked, none_given_up, done_as, asked_as}
+use Rattle.trace_play.proofs.Bounds.{some_of, none_done, none_asked, none_given_up, done_as, asked_as}
 use Rattle.trace_play.proofs.Items.{adds_after}
 use Rattle.trace_play.proofs.RoundLists.{before, map-same}
 use Rattle.trace_play.proofs.RoundLines.{betweens_fit, lines_before-all, lines_before-more, none_before}
@@ -40,37 +34,6 @@ module _ {N H C S Part : Type 0} {h : Ghosts H Part} (names : NameGhosts N H C S
   -- there is a worker
   pub some_workers : (t : Trace) (zones : List (CountedZone H Part h)) (clock : Clock H Part) (workers : List (WorkerRun N H C S Part h)) → FitsTrace names cache t zones clock workers → 0 < length workers
   some_workers t zones clock workers suits = some_of suits.worker_count suits.valid.head.workers.0
-
-  pub suits_still : (t : Trace) (zones : List (CountedZone H Part h)) (clock : Clock H Part) (old new : List (WorkerRun N H C S Part h)) → length new ≡ length old → FitsTrace names cache t zones clock old → FitsTrace names cache t zones clock new
-  suits_still t zones clock old new size suits = record {
-    valid = suits.valid;
-    served = suits.served;
-    few = suits.few;
-    zone_count = suits.zone_count;
-    of_clock = suits.of_clock;
-    names_of_clock = suits.names_of_clock;
-    worker_count = size ∙ suits.worker_count;
-  }
-
--- ---- givers and takers are workers, and limits are set of zones
-
-among : (workers zones : ℕ) (h : Head) (b : Between) → workers ≡ h.workers → zones ≡ length h.zones → BetweenFits h b → IsAmong workers zones b
-among workers zones h (Give giver slot taker slot2) same all fits = (below_as fits.0 (sym same), below_as fits.2 (sym same), fits.3)
-among workers zones h (SetMax zone limit) same all fits = (below_as fits.0 (sym all), fits.1)
-
-all_of_round : (workers zones : ℕ) (h : Head) (r : Round) → workers ≡ h.workers → zones ≡ length h.zones → RoundFits h r → All (IsAmong workers zones) r.between
-all_of_round workers zones h r same all fits i d below = among workers zones h (get_or r.between i d) same all (fits.between i d below)
-
-module _ {N H C S Part : Type 0} {h : Ghosts H Part} (names : NameGhosts N H C S Part) (cache : C) where
-  pub all_among : (t : Trace) (zones : List (CountedZone H Part h)) (clock : Clock H Part) (k : ℕ) (workers : List (WorkerRun N H C S Part h)) → FitsTrace names cache t zones clock workers
-      → All (IsAmong (length workers) (length zones)) (betweens_of t.rounds k)
-  all_among t zones clock k workers suits =
-      let P : List Between → Type 0 = λ list. All (IsAmong (length workers) (length zones)) list in
-      let between : Option Round → List Between = λ o. option_map_or (λ (r : Round). r.between) o [] in
-      elim (slice_get_cases t.rounds k).1 [
-        | inl w ↦ subst P (ap between (sym w.2)) (all_of_round (length workers) (length zones) t.head w.0 suits.worker_count suits.zone_count (subst (RoundFits t.head) w.3 (suits.valid.rounds k w.0 w.1)))
-        | inr w ↦ subst P (ap between (sym w.1)) (All-nil (IsAmong (length workers) (length zones)))
-      ]
 
 -- ---- the lines between two rounds leave the counts as they are
 

@@ -53,10 +53,6 @@ own_of_round rounds k n =
 
 -- ---- the lines before a round
 
-pub stacked-none : (before : List Line) → stacked [] before ≡ before
-unfolding stacked
-stacked-none before = refl
-
 -- the lines with one more behind them
 pub stacked-snoc : (lines : List Line) (line : Line) (before : List Line) → stacked (lines ++ line ∷ []) before ≡ line ∷ stacked lines before
 unfolding stacked

@@ -1,5 +1,5 @@
 -- All workers before the first line.
-use Rattle.std.proofs.Common.{◌≡◌, ℕ, ◌≤◌, List, [], Option, None, Some, refl, sym, ap, ◌∙◌, subst, length}
+use Rattle.std.proofs.Common.{◌≡◌, ℕ, List, [], Option, None, Some, refl, sym, ap, ◌∙◌, length}
 use Rattle.std.specs.Prelude.{All, slice_get, option_map}
 use Rattle.std.specs.List.{sum_by}
 use Rattle.std.specs.Option.{option_map_or}
@@ -42,9 +42,6 @@ module _ {H Part : Type 0} {h : Ghosts H Part} where
 
   pub as_many : (count : ℕ) (clock : Clock H Part) (passes : List (Pass H Part h)) → ArePasses count clock passes → ArePasses (length passes) clock passes
   as_many count clock passes are = record { one_each = refl; each = are.each }
-
-  pub few_passes : (count : ℕ) (clock : Clock H Part) (passes : List (Pass H Part h)) → ArePasses count clock passes → count ≤ 16 → length passes ≤ 16
-  few_passes count clock passes are few = subst (λ (n : ℕ). n ≤ 16) (sym are.one_each) few
 
   all_stand : (zones : List (CountedZone H Part h)) (clock : Clock H Part) (domains count : ℕ) (workers : List (Worker H Part h)) → AreBeginners zones clock domains count workers → AllStand zones clock [] workers
   all_stand zones clock domains count workers are = record { fits = λ n w at. (are.each n w at).fits; stands = λ n w at. (are.each n w at).stands n }

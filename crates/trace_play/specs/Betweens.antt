@@ -8,7 +8,7 @@ use Rattle.trace_worker.specs.declared.name_calls.NameCalls.{Ghosts as NameGhost
 use Rattle.trace_worker.specs.declared.worker_run.WorkerRun.{WorkerRun}
 use Rattle.trace_worker.specs.Giving.{Gives}
 use Rattle.trace_worker.specs.Items.{CountedZone}
-use Rattle.trace_worker.specs.NameLines.{DoesAll, doing}
+use Rattle.trace_worker.specs.NameLines.{DoesAll, line_state}
 use Rattle.uma_zone.specs.SetMax.{SetsMax}
 use Rattle.trace_play.specs.Parts.{ops_in}
 
@@ -36,7 +36,7 @@ module _ {N H C S P : Type 0} {h : Ghosts H P} (names : NameGhosts N H C S P) (c
   pub record DoRound (zones : List (CountedZone H P h)) (r : Round) (old new : List (WorkerRun N H C S P h)) : Type 0 where
     pub worked : List (WorkerRun N H C S P h)
     pub count : length worked ≡ length old
-    pub each : (n : ℕ) (was is : WorkerRun N H C S P h) → slice_get old n ≡ Some was → slice_get worked n ≡ Some is → DoesAll names cache zones (doing was) (ops_in r n) (doing is)
+    pub each : (n : ℕ) (was is : WorkerRun N H C S P h) → slice_get old n ≡ Some was → slice_get worked n ≡ Some is → DoesAll names cache zones (line_state was) (ops_in r n) (line_state is)
     pub behind : DoBetweens zones r.between worked new
 
   -- round `k`

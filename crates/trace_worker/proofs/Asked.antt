@@ -6,8 +6,7 @@ use Rattle.trace_worker.specs.declared.gate.Call.TheVariants.{Asked, Done}
 use Rattle.trace_worker.specs.declared.gate.Go.{Go}
 use Rattle.trace_worker.specs.declared.gate.Go.TheVariants as answers
 use Rattle.trace_worker.specs.declared.worker_run.WorkerRun.{WorkerRun}
-use Rattle.trace_worker.specs.Asking.{HearsEach, HearsOne, Heard, IsAskedLast, LetsGo, Waits, heard_by, held_for}
-use Rattle.trace_worker.specs.Turn.{most_asks}
+use Rattle.trace_worker.specs.Asking.{HearsEach, HearsOne, Heard, IsAskedLast, Waits, heard_by, held_for}
 
 pub held-none : (n i : ℕ) (before : List Call) → before ≡ held_for n i before 0
 unfolding held_for
@@ -26,25 +25,10 @@ unfolding held_for
 held-last n i zero before calls some held = absurd (omega (arith, some))
 held-last n i (suc times) before calls some held = record { earlier = held_for n i before times; answer = answers.Hold; last = held }
 
-pub lets_go : (n i times : ℕ) (before calls after : List Call) → times < most_asks → calls ≡ held_for n i before times → after ≡ calls ++ Asked n i answers.Go ∷ [] → LetsGo n i before (times + 1) after
-lets_go n i times before calls after few held one = record {
-  holds = times;
-  count = refl;
-  few = few;
-  calls = one ∙ ap (λ (l : List Call). l ++ Asked n i answers.Go ∷ []) held;
-}
-
-pub go-last : (n i times : ℕ) (before after : List Call) → LetsGo n i before times after → IsAskedLast n i after
-go-last n i times before after go = record { earlier = held_for n i before go.holds; answer = answers.Go; last = go.calls }
-
 pub never-both : (go : Go) → go ≡ answers.Go → go ≡ answers.Hold → ⊥
 never-both go is held = absurd (cc)
 
 -- ---- one operation after another
-
-pub hears-none : (n : ℕ) (was : Heard) → HearsEach n was 0 was
-unfolding HearsEach
-hears-none n was = refl
 
 pub hears-more : (n i : ℕ) (was mid waited is : Heard) → HearsEach n was i mid → Waits n (i + 1) mid waited → is ≡ record waited { calls = waited.calls ++ Done n (i + 1) ∷ [] } → HearsEach n was (i + 1) is
 unfolding HearsEach

@@ -15,7 +15,7 @@ use Rattle.trace_worker.specs.declared.worker_run.WorkerRun.{WorkerRun}
 use Rattle.trace_worker.specs.declared.worker.Worker.{Worker}
 use Rattle.trace_worker.specs.Attendance.{is_out, worker_at}
 use Rattle.trace_worker.specs.Items.{CountedZone}
-use Rattle.trace_worker.specs.NameLines.{Acts, CanDo, Changes, Doing, DoesLine, GoesOrComes, LooksLine, doing, doing_there}
+use Rattle.trace_worker.specs.NameLines.{Acts, CanDo, Changes, LineState, DoesLine, GoesOrComes, LooksLine, line_state, line_state_there}
 use Rattle.trace_worker.specs.Performs.{CanPerform, KeepsHolds, Performs}
 use Rattle.trace_worker.specs.Stands.{Stands}
 use Rattle.trace_worker.specs.Turn.{Balances}
@@ -26,30 +26,30 @@ use Rattle.trace_worker.proofs.SeenSteps.{seen_step}
 use Rattle.trace_worker.proofs.StandSteps.{stand_step, stands_find, stands_late, stands_look, stands_quiet}
 
 module _ {N H C S Part : Type 0} {h : Ghosts H Part} (names : NameGhosts N H C S Part) (cache : C) (zones : List (CountedZone H Part h)) where
-  looks_stand : (clock : Clock H Part) (n key : ℕ) (lines : List Line) (old new : Doing N H C S Part h) → IsPassOf clock old.worker.pass → LooksLine names cache old key new
+  looks_stand : (clock : Clock H Part) (n key : ℕ) (lines : List Line) (old new : LineState N H C S Part h) → IsPassOf clock old.worker.pass → LooksLine names cache old key new
       → Stands zones clock n lines old.worker → Stands zones clock n (Does n (Look key) ∷ lines) new.worker
   looks_stand clock n key lines old new of (inl step) stands = stands_find zones clock n key lines old.worker new.worker step.inside step.holds step.section stands
   looks_stand clock n key lines old new of (inr (inl step)) stands = stands_look zones clock n key lines old.worker new.worker step.outside step.phase step.holds step.seen step.entered step.late stands
   looks_stand clock n key lines old new of (inr (inr step)) stands =
       stands_late zones clock n key lines old.worker new.worker step.overtaken of step.misses step.phase step.holds step.seen step.entered step.late stands
 
-  pub looks_holds : (key : ℕ) (old new : Doing N H C S Part h) → LooksLine names cache old key new → KeepsHolds old.worker new.worker
+  pub looks_holds : (key : ℕ) (old new : LineState N H C S Part h) → LooksLine names cache old key new → KeepsHolds old.worker new.worker
   looks_holds key old new (inl step) = step.holds
   looks_holds key old new (inr (inl step)) = step.holds
   looks_holds key old new (inr (inr step)) = step.holds
 
-  looks_seen : (key : ℕ) (old new : Doing N H C S Part h) → LooksLine names cache old key new → seen_of old.worker ≤ seen_of new.worker
+  looks_seen : (key : ℕ) (old new : LineState N H C S Part h) → LooksLine names cache old key new → seen_of old.worker ≤ seen_of new.worker
   looks_seen key old new (inl step) = step.section.seen
   looks_seen key old new (inr (inl step)) = step.seen
   looks_seen key old new (inr (inr step)) = step.seen
 
   -- what all lines leave of the worker
-  pub record Leaves (clock : Clock H Part) (n : ℕ) (op : Op) (lines : List Line) (old new : Doing N H C S Part h) : Type 0 where
+  pub record Leaves (clock : Clock H Part) (n : ℕ) (op : Op) (lines : List Line) (old new : LineState N H C S Part h) : Type 0 where
     pub stands : Stands zones clock n (Does n op ∷ lines) new.worker
     pub balances : (z : ℕ) → Balances z old.worker new.worker
     pub seen : seen_of old.worker ≤ seen_of new.worker
 
-  performed : (clock : Clock H Part) (n : ℕ) (op : Op) (lines : List Line) (old new : Doing N H C S Part h) → IsPassOf clock old.worker.pass → CanPerform zones old.worker op → Performs zones old.worker op new.worker
+  performed : (clock : Clock H Part) (n : ℕ) (op : Op) (lines : List Line) (old new : LineState N H C S Part h) → IsPassOf clock old.worker.pass → CanPerform zones old.worker op → Performs zones old.worker op new.worker
       → Stands zones clock n lines old.worker → Leaves clock n op lines old new
   performed clock n op lines old new of can step stands = record {
     stands = stand_step zones clock n op lines old.worker new.worker of can step stands;
@@ -58,14 +58,14 @@ module _ {N H C S Part : Type 0} {h : Ghosts H Part} (names : NameGhosts N H C S
   }
 
   -- the pass left or came
-  went : (clock : Clock H Part) (n : ℕ) (op : Op) (lines : List Line) (old new : Doing N H C S Part h) → GoesOrComes old new → Stands zones clock n (Does n op ∷ lines) new.worker → Leaves clock n op lines old new
+  went : (clock : Clock H Part) (n : ℕ) (op : Op) (lines : List Line) (old new : LineState N H C S Part h) → GoesOrComes old new → Stands zones clock n (Does n op ∷ lines) new.worker → Leaves clock n op lines old new
   went clock n op lines old new step stands = record {
     stands = stands;
     balances = balance_holds old.worker new.worker (keeps_holds old.worker new.worker step.keeps);
     seen = (keeps_section old.worker new.worker step.keeps).seen;
   }
 
-  pub line_step : (clock : Clock H Part) (n : ℕ) (op : Op) (lines : List Line) (old new : Doing N H C S Part h) → IsPassOf clock old.worker.pass → CanDo names zones old.worker op → Changes names cache zones old op new
+  pub line_step : (clock : Clock H Part) (n : ℕ) (op : Op) (lines : List Line) (old new : LineState N H C S Part h) → IsPassOf clock old.worker.pass → CanDo names zones old.worker op → Changes names cache zones old op new
       → Stands zones clock n lines old.worker → Leaves clock n op lines old new
   line_step clock n (Bind key value) lines old new of can step stands = record {
     stands = stands_quiet zones clock n (Bind key value) lines old.worker new.worker (λ z. refl) (λ z. refl) (λ slot o. refl) refl (λ b. refl) step.holds step.section stands;
@@ -102,7 +102,7 @@ module _ {N H C S Part : Type 0} {h : Ghosts H Part} (names : NameGhosts N H C S
   -- ---- a worker that is there and stays
 
   there_line : (op : Op) (old new : Worker H Part h) (name_work name_work' : NameWork N H C S Part) → op ≢ Away → op ≢ Back → false ≡ comes_back op
-      → Acts names cache zones (doing_there old name_work) op (doing_there new name_work') → DoesLine names cache zones (doing_there old name_work) op (doing_there new name_work')
+      → Acts names cache zones (line_state_there old name_work) op (line_state_there new name_work') → DoesLine names cache zones (line_state_there old name_work) op (line_state_there new name_work')
   there_line (Alloc zone slot arg reserve) old new name_work name_work' here stays was acts = record { changes = acts; was = was; is = refl }
   there_line (Free slot) old new name_work name_work' here stays was acts = record { changes = acts; was = was; is = refl }
   there_line Enter old new name_work name_work' here stays was acts = record { changes = acts; was = was; is = refl }
@@ -118,8 +118,8 @@ module _ {N H C S Part : Type 0} {h : Ghosts H Part} (names : NameGhosts N H C S
   there_line Back old new name_work name_work' here stays was acts = absurd (stays refl)
 
   pub acts_there : (r : WorkerRun N H C S Part h) (op : Op) (old new : Worker H Part h) (name_work : NameWork N H C S Part) → op ≢ Away → op ≢ Back → r.attendance ≡ There old → is_out r.attendance ≡ comes_back op
-      → Acts names cache zones (doing_there old r.name_work) op (doing_there new name_work) → DoesLine names cache zones (doing r) op (doing_there new name_work)
+      → Acts names cache zones (line_state_there old r.name_work) op (line_state_there new name_work) → DoesLine names cache zones (line_state r) op (line_state_there new name_work)
   acts_there r op old new name_work here stays is was acts =
-      let of : Attendance H Part h → Doing N H C S Part h = λ a. record { worker = worker_at a; name_work = r.name_work; out = is_out a } in
-      let P : Doing N H C S Part h → Type 0 = λ d. DoesLine names cache zones d op (doing_there new name_work) in
+      let of : Attendance H Part h → LineState N H C S Part h = λ a. record { worker = worker_at a; name_work = r.name_work; out = is_out a } in
+      let P : LineState N H C S Part h → Type 0 = λ d. DoesLine names cache zones d op (line_state_there new name_work) in
       subst P (sym (ap of is)) (there_line op old new r.name_work name_work here stays (sym (ap is_out is) ∙ was) acts)

@@ -1,5 +1,5 @@
 -- A worker's ledger of one zone with one line of the worker more.
-use Rattle.std.proofs.Common.{◌≡◌, ◌≢◌, ℕ, ◌+◌, ◌<◌, ◌≤◌, List, [], ◌∷◌, Bool, true, false, cond, None, Some, refl, sym, ap, ◌∙◌, subst, arith, eq-eqb}
+use Rattle.std.proofs.Common.{◌≡◌, ◌≢◌, ℕ, ◌+◌, ◌<◌, ◌≤◌, List, ◌∷◌, Bool, true, false, cond, Some, refl, sym, ap, ◌∙◌, subst, arith, eq-eqb}
 use Rattle.std.proofs.lemmas.Bool.{ne_eqb, and_left, lt-ltb}
 use Rattle.std.proofs.lemmas.Option.{same_Some}
 use Rattle.std.specs.Prelude.{◌&&◌, ◌==◌, nat_lt}
@@ -10,10 +10,10 @@ use Rattle.zone_stats.specs.declared.ledger.SeatLedger.{SeatLedger}
 use Rattle.zone_stats.specs.declared.refusal.Refusal.{Refusal}
 use Rattle.zone_stats.specs.declared.refusal.Refusal.TheVariants.{AtLimit, Reserved, Full, Init, Ctor}
 use Rattle.zone_stats.specs.Ledger.{is_ctor}
-use Rattle.zone_stats.specs.LedgerSteps.{IsNew, CountsAlloc, CountsTurned, CountsCtor, CountsFree}
+use Rattle.zone_stats.specs.LedgerSteps.{CountsAlloc, CountsTurned, CountsCtor, CountsFree}
 use Rattle.trace_worker.specs.Counting.{is_ask, is_ask_with_arg, is_ask_with, asked, argued, asked_with, freed}
 use Rattle.trace_worker.specs.LedgerStands.{KeptFits, LedgerStands}
-use Rattle.trace_worker.proofs.LineCounts.{asked-more, argued-more, asked_with-more, freed-more, asked-none, argued-none, is_ask-own, is_ask_with_arg-own, is_ask_with-own, is_free-own}
+use Rattle.trace_worker.proofs.LineCounts.{asked-more, argued-more, asked_with-more, freed-more, is_ask-own, is_ask_with_arg-own, is_ask_with-own, is_free-own}
 
 -- what is kept goes on fitting with more lines
 kept_more : (Names : Refusal → Type 0) (n z : ℕ) (lines : List Line) (line : Line) (refusal : Refusal) → KeptFits Names n z lines refusal → KeptFits Names n z (line ∷ lines) refusal
@@ -138,13 +138,3 @@ LedgerStands-freed Names n z slot lines l l' crossed holds counted stands =
       frees = omega (arith, this, stands.frees, counted.frees);
       kept = λ refusal is. kept_more Names n z lines line refusal (stands.kept refusal (sym counted.last ∙ is));
     }
-
--- before the first line nothing is counted
-pub LedgerStands-new : (Names : Refusal → Type 0) (n z : ℕ) (l : SeatLedger) → IsNew l → LedgerStands Names n z [] l
-LedgerStands-new Names n z l new = record {
-  requests = new.requests ∙ sym (asked-none n z);
-  some_args = omega (arith, new.fails);
-  all_args = omega (arith, argued-none n z);
-  frees = omega (arith, new.frees);
-  kept = λ refusal is. absurd (let never : None ≡ Some refusal = sym new.last ∙ is in cc);
-}

@@ -16,7 +16,6 @@ pub mod LineCounts
 pub mod Midway
 pub mod Moving
 pub mod NameSteps
-pub mod NewRooms
 pub mod NewSeats
 pub mod Numbers
 pub mod Plays

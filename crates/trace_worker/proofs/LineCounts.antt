@@ -76,10 +76,6 @@ pub asked-none : (n z : ℕ) → asked n z [] ≡ 0
 unfolding asked
 asked-none n z = refl
 
-pub argued-none : (n z : ℕ) → argued n z [] ≡ 0
-unfolding argued
-argued-none n z = refl
-
 pub sections-none : (n : ℕ) → sections n [] ≡ 0
 unfolding sections
 sections-none n = refl
@@ -91,10 +87,6 @@ looks-none n = refl
 pub binds-none : (n : ℕ) → binds n [] ≡ 0
 unfolding binds
 binds-none n = refl
-
-pub unbinds-none : (n : ℕ) → unbinds n [] ≡ 0
-unfolding unbinds
-unbinds-none n = refl
 
 pub freed-none : (n z : ℕ) → freed n z [] ≡ 0
 unfolding freed

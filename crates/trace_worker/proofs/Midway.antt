@@ -23,7 +23,7 @@ use Rattle.trace_worker.specs.declared.worker.Worker.{Worker}
 use Rattle.trace_worker.specs.Asking.{CanWait, KeepsWork}
 use Rattle.trace_worker.specs.Attendance.{is_out, worker_at, worker_in}
 use Rattle.trace_worker.specs.Items.{CountedZone}
-use Rattle.trace_worker.specs.NameLines.{CanDo, CanGoOn, CanTurn, Doing, DoesAll, DoesLine, HasNameRooms, doing}
+use Rattle.trace_worker.specs.NameLines.{CanDo, CanGoOn, CanTurn, LineState, DoesAll, DoesLine, HasNameRooms, line_state}
 use Rattle.trace_worker.specs.NamesStand.{NamesStand}
 use Rattle.trace_worker.specs.OwnLines.{worked, lines_before, own_ops}
 use Rattle.trace_worker.specs.Slots.{slot_at}
@@ -49,7 +49,7 @@ module _ {N H C S Part : Type 0} {h : Ghosts H Part} (names : NameGhosts N H C S
     pub stands : Stands zones clock n (worked n (take i ops) before) (worker_in now)
     pub named : NamesStand names cache n (worked n (take i ops) before) (worker_in now).late now.name_work
     pub absent : IsAbsent n (worked n (take i ops) before) now
-    pub plays : DoesAll names cache zones (doing old) (take i ops) (doing now)
+    pub plays : DoesAll names cache zones (line_state old) (take i ops) (line_state now)
     pub balances : (z : ℕ) → Balances z (worker_in old) (worker_in now)
     pub seen : seen_of (worker_in old) ≤ seen_of (worker_in now)
     pub asked_some : old.asked + i ≤ now.asked
@@ -142,7 +142,7 @@ module _ {N H C S Part : Type 0} {h : Ghosts H Part} (names : NameGhosts N H C S
         stands = subst P (sym (worked-none n ops (lines_before t.rounds k))) ready.stands;
         named = let Q : List Line → Type 0 = λ lines. NamesStand names cache n lines (worker_in r).late r.name_work in subst Q (sym (worked-none n ops (lines_before t.rounds k))) ready.named;
         absent = let A : List Line → Type 0 = λ lines. IsAbsent n lines r in subst A (sym (worked-none n ops (lines_before t.rounds k))) ready.absent;
-        plays = plays-none names cache zones ops (doing r);
+        plays = plays-none names cache zones ops (line_state r);
         balances = Balances-self (worker_in r) (worker_in r) refl;
         seen = le_refl (seen_of (worker_in r));
         asked_some = no_more r.asked;
@@ -219,34 +219,34 @@ module _ {N H C S Part : Type 0} {h : Ghosts H Part} (names : NameGhosts N H C S
         there = Midway-there t zones clock k n i ops d old now waited ready is below midway same;
       }
 
-  same_doing : (a b : WorkerRun N H C S Part h) → a.attendance ≡ b.attendance → a.name_work ≡ b.name_work → doing a ≡ doing b
-  same_doing a b attendance name_work =
-      let with_attendance : Attendance H Part h → Doing N H C S Part h = λ x. record { worker = worker_at x; name_work = a.name_work; out = is_out x } in
-      let with_name_work : NameWork N H C S Part → Doing N H C S Part h = λ x. record { worker = worker_in b; name_work = x; out = is_out b.attendance } in
+  same_line_state : (a b : WorkerRun N H C S Part h) → a.attendance ≡ b.attendance → a.name_work ≡ b.name_work → line_state a ≡ line_state b
+  same_line_state a b attendance name_work =
+      let with_attendance : Attendance H Part h → LineState N H C S Part h = λ x. record { worker = worker_at x; name_work = a.name_work; out = is_out x } in
+      let with_name_work : NameWork N H C S Part → LineState N H C S Part h = λ x. record { worker = worker_in b; name_work = x; out = is_out b.attendance } in
       ap with_attendance attendance ∙ ap with_name_work name_work
 
   -- The gate was asked, and the next operation is done.
   pub Midway-more : (zones : List (CountedZone H Part h)) (clock : Clock H Part) (n i : ℕ) (before : List Line) (ops : List Op) (d : Op) (old now waited next : WorkerRun N H C S Part h) → i < length ops
       → Midway names cache zones clock n before ops i old now → waited.attendance ≡ now.attendance → waited.name_work ≡ now.name_work → CanDo names zones (worker_in now) (get_or ops i d)
-      → DoesLine names cache zones (doing waited) (get_or ops i d) (doing next) → FitsZones zones clock (worker_in next) → names.IsSeat cache next.name_work.seat
+      → DoesLine names cache zones (line_state waited) (get_or ops i d) (line_state next) → FitsZones zones clock (worker_in next) → names.IsSeat cache next.name_work.seat
       → now.asked + 1 ≤ next.asked → next.asked ≤ now.asked + most_asks → next.gave_up ≤ now.gave_up + 1
       → Midway names cache zones clock n before ops (i + 1) old next
   Midway-more zones clock n i before ops d old now waited next below midway same same_name_work can does fits seat some few gave_up =
       let op : Op = get_or ops i d in
       let lines : List Line = worked n (take i ops) before in
       let P : List Line → Type 0 = λ lines. Stands zones clock n lines (worker_in next) in
-      let Q : Doing N H C S Part h → Type 0 = λ d. DoesLine names cache zones d op (doing next) in
+      let Q : LineState N H C S Part h → Type 0 = λ d. DoesLine names cache zones d op (line_state next) in
       let L : List Line → Type 0 = λ lines. NamesStand names cache n lines (worker_in next).late next.name_work in
       let A : List Line → Type 0 = λ lines. IsAbsent n lines next in
-      let step : DoesLine names cache zones (doing now) op (doing next) = subst Q (same_doing waited now same same_name_work) does in
-      let leaves = line_step names cache zones clock n op lines (doing now) (doing next) midway.fits.pass can step.changes midway.stands in
+      let step : DoesLine names cache zones (line_state now) op (line_state next) = subst Q (same_line_state waited now same same_name_work) does in
+      let leaves = line_step names cache zones clock n op lines (line_state now) (line_state next) midway.fits.pass can step.changes midway.stands in
       record {
         within = one_more_within below;
         fits = fits;
         stands = subst P (sym (worked-more n i ops d before below)) leaves.stands;
-        named = subst L (sym (worked-more n i ops d before below)) (named_step names cache zones n op lines (doing now) (doing next) step.changes seat midway.named);
+        named = subst L (sym (worked-more n i ops d before below)) (named_step names cache zones n op lines (line_state now) (line_state next) step.changes seat midway.named);
         absent = subst A (sym (worked-more n i ops d before below)) (step.is ∙ (ap (away_after op) midway.absent ∙ sym (is_away-own lines n op)));
-        plays = plays-more names cache zones i ops d (doing old) (doing now) (doing next) below midway.plays step;
+        plays = plays-more names cache zones i ops d (line_state old) (line_state now) (line_state next) below midway.plays step;
         balances = λ z. Balances-chain z (worker_in old) (worker_in now) (worker_in next) (midway.fits.seats.count ∙ sym fits.seats.count) (midway.balances z) (leaves.balances z);
         seen = le_trans midway.seen leaves.seen;
         asked_some = some_more old.asked i midway.asked_some some;
@@ -256,7 +256,7 @@ module _ {N H C S Part : Type 0} {h : Ghosts H Part} (names : NameGhosts N H C S
 
   pub Midway-step : (t : Trace) (zones : List (CountedZone H Part h)) (clock : Clock H Part) (k n i : ℕ) (ops : List Op) (d : Op) (old now waited next : WorkerRun N H C S Part h) → IsReady names cache t zones clock k n old
       → ops ≡ own_ops t.rounds k n → i < length ops → Midway names cache zones clock n (lines_before t.rounds k) ops i old now → waited.attendance ≡ now.attendance → waited.name_work ≡ now.name_work
-      → DoesLine names cache zones (doing waited) (get_or ops i d) (doing next) → FitsZones zones clock (worker_in next) → names.IsSeat cache next.name_work.seat
+      → DoesLine names cache zones (line_state waited) (get_or ops i d) (line_state next) → FitsZones zones clock (worker_in next) → names.IsSeat cache next.name_work.seat
       → now.asked + 1 ≤ next.asked → next.asked ≤ now.asked + most_asks → next.gave_up ≤ now.gave_up + 1 → Midway names cache zones clock n (lines_before t.rounds k) ops (i + 1) old next
   Midway-step t zones clock k n i ops d old now waited next ready is below midway same same_name_work does fits seat some few gave_up =
       Midway-more zones clock n i (lines_before t.rounds k) ops d old now waited next below midway same same_name_work (Midway-can t zones clock k n i ops d old now ready is below midway) does fits seat some few gave_up

@@ -17,7 +17,7 @@ use Rattle.trace_worker.specs.Counting.{is_bind, is_look, is_unbind, binds, look
 use Rattle.trace_worker.specs.Items.{CountedZone}
 use Rattle.trace_worker.specs.NameCalls.{OnBoth}
 use Rattle.trace_worker.specs.NameLedger.{BindCounts, MayCountFree, NamesRefuse, UnbindCounts}
-use Rattle.trace_worker.specs.NameLines.{BindsLine, Changes, Doing, HasNameRooms, LooksLine, UnbindsLine}
+use Rattle.trace_worker.specs.NameLines.{BindsLine, Changes, LineState, HasNameRooms, LooksLine, UnbindsLine}
 use Rattle.trace_worker.specs.NamesStand.{NameCountsStand, NameLedgerStands, NamesStand}
 use Rattle.trace_worker.specs.NameWork.{CountsAnswer, CountsBind, CountsLate, CountsUnbind}
 use Rattle.trace_worker.specs.Performs.{Performs}
@@ -383,7 +383,7 @@ module _ {N H C S Part : Type 0} (names : NameGhosts N H C S Part) (cache : C) w
       }
 
 module _ {N H C S Part : Type 0} {h : Ghosts H Part} (names : NameGhosts N H C S Part) (cache : C) where
-  named_bind : (n key value : ℕ) (lines : List Line) (old new : Doing N H C S Part h) → BindsLine names cache old key value new → names.IsSeat cache new.name_work.seat
+  named_bind : (n key value : ℕ) (lines : List Line) (old new : LineState N H C S Part h) → BindsLine names cache old key value new → names.IsSeat cache new.name_work.seat
       → NamesStand names cache n lines old.worker.late old.name_work → NamesStand names cache n (Does n (Bind key value) ∷ lines) new.worker.late new.name_work
   named_bind n key value lines old new step seat stands = record {
     seat = seat;
@@ -392,7 +392,7 @@ module _ {N H C S Part : Type 0} {h : Ghosts H Part} (names : NameGhosts N H C S
         (λ before after counted was. ledger_bind (slabs names cache) n key value (names.IsFound cache) _ lines step.done old.name_work.counts new.name_work.counts before after step.counts counted was) stands.ledger;
   }
 
-  named_unbind : (n key : ℕ) (lines : List Line) (old new : Doing N H C S Part h) → UnbindsLine names cache old key new → names.IsSeat cache new.name_work.seat
+  named_unbind : (n key : ℕ) (lines : List Line) (old new : LineState N H C S Part h) → UnbindsLine names cache old key new → names.IsSeat cache new.name_work.seat
       → NamesStand names cache n lines old.worker.late old.name_work → NamesStand names cache n (Does n (Unbind key) ∷ lines) new.worker.late new.name_work
   named_unbind n key lines old new step seat stands = record {
     seat = seat;
@@ -401,7 +401,7 @@ module _ {N H C S Part : Type 0} {h : Ghosts H Part} (names : NameGhosts N H C S
         (λ before after counted was. ledger_unbind (slabs names cache) n key lines step.done old.name_work.counts new.name_work.counts before after step.counts counted was) stands.ledger;
   }
 
-  named_look : (n key : ℕ) (lines : List Line) (old new : Doing N H C S Part h) → LooksLine names cache old key new → names.IsSeat cache new.name_work.seat
+  named_look : (n key : ℕ) (lines : List Line) (old new : LineState N H C S Part h) → LooksLine names cache old key new → names.IsSeat cache new.name_work.seat
       → NamesStand names cache n lines old.worker.late old.name_work → NamesStand names cache n (Does n (Look key) ∷ lines) new.worker.late new.name_work
   named_look n key lines old new (inl step) seat stands = record {
     seat = seat;
@@ -420,7 +420,7 @@ module _ {N H C S Part : Type 0} {h : Ghosts H Part} (names : NameGhosts N H C S
   }
 
   -- a line of any kind
-  pub named_step : (zones : List (CountedZone H Part h)) (n : ℕ) (op : Op) (lines : List Line) (old new : Doing N H C S Part h) → Changes names cache zones old op new → names.IsSeat cache new.name_work.seat
+  pub named_step : (zones : List (CountedZone H Part h)) (n : ℕ) (op : Op) (lines : List Line) (old new : LineState N H C S Part h) → Changes names cache zones old op new → names.IsSeat cache new.name_work.seat
       → NamesStand names cache n lines old.worker.late old.name_work → NamesStand names cache n (Does n op ∷ lines) new.worker.late new.name_work
   named_step zones n (Bind key value) lines old new step seat stands = named_bind n key value lines old new step seat stands
   named_step zones n (Unbind key) lines old new step seat stands = named_unbind n key lines old new step seat stands

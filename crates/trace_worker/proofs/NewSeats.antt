@@ -1,23 +1,17 @@
 -- A worker before its first line: a new seat of each zone, and empty slots.
-use Rattle.std.proofs.Common.{◌≡◌, ℕ, zero, suc, inl, inr, ◌⊎◌, List, [], ◌∷◌, ◌++◌, Option, None, Some, refl, sym, ◌∙◌, subst, arith, length, zero-le, get_or}
+use Rattle.std.proofs.Common.{◌≡◌, ℕ, zero, suc, inl, inr, ◌⊎◌, List, [], ◌∷◌, ◌++◌, Option, None, Some, refl, sym, ◌∙◌, subst, arith, length, zero-le}
 use Rattle.std.proofs.lemmas.List.{get_or_past}
-use Rattle.std.proofs.lemmas.Option.{same_Some, none-some, slice_get-get_or}
+use Rattle.std.proofs.lemmas.Option.{same_Some, none-some}
 use Rattle.std.specs.Prelude.{slice_get}
 use Rattle.smr_clock.specs.declared.clock.Clock.{Clock}
-use Rattle.smr_clock.specs.declared.pass.Pass.{Pass}
 use Rattle.smr_clock.specs.declared.host.Host.{Ghosts}
 use Rattle.smr_clock.specs.Belongs.{IsPassOf}
-use Rattle.uma_seat.specs.Seat.{ledger_of}
-use Rattle.zone_stats.specs.declared.ledger.SeatLedger.{SeatLedger}
-use Rattle.zone_stats.specs.LedgerSteps.{HasRoom, IsNew}
-use Rattle.trace_worker.proofs.Belongs.{some_within}
-use Rattle.trace_worker.proofs.Numbers.{below_as, none_room, none_count}
 use Rattle.trace_worker.specs.declared.held.Held.{Held}
 use Rattle.trace_worker.specs.declared.worker.Worker.{Worker}
 use Rattle.trace_worker.specs.Items.{CountedSeat, CountedZone}
-use Rattle.trace_worker.specs.Making.{AreSeats, IsNewSeat, IsNewWorker}
+use Rattle.trace_worker.specs.Making.{AreSeats, IsNewSeat}
 use Rattle.trace_worker.specs.Slots.{slot_at}
-use Rattle.trace_worker.specs.Worker.{FitsZones, HasRooms}
+use Rattle.trace_worker.specs.Worker.{FitsZones}
 
 -- what a list with one more at its end has at a place
 pushed : {X : Type 0} (xs : List X) (x : X) (z : ℕ) (y : X) → slice_get (xs ++ x ∷ []) z ≡ Some y → ((z ≡ length xs) × (x ≡ y)) ⊎ (slice_get xs z ≡ Some y)
@@ -53,27 +47,4 @@ module _ {H Part : Type 0} {h : Ghosts H Part} where
         let P : List (Option Held) → Type 0 = λ list. slot_at list slot ≡ Some it in
         let none : Option Held = None in
         absurd (none-some it (sym (get_or_past [] slot none zero-le) ∙ subst P slots found));
-  }
-
-  -- ---- what a new worker may do
-
-  pub empty_new : (zones : List (CountedZone H Part h)) (pass : Pass H Part h) (domain : ℕ) (w : Worker H Part h) (slot : ℕ) → IsNewWorker zones pass domain w → slot_at w.slots slot ≡ None
-  empty_new zones pass domain w slot new =
-      let none : Option Held = None in
-      let P : List (Option Held) → Type 0 = λ list. slot_at list slot ≡ None in
-      subst P (sym new.slots) (get_or_past [] slot none zero-le)
-
--- nothing counted leaves room
-room_new : (ledger : SeatLedger) → IsNew ledger → HasRoom ledger
-room_new ledger new = record { requests = none_room new.requests; frees = none_room new.frees }
-
-module _ {H Part : Type 0} {h : Ghosts H Part} where
-  pub rooms_new : (zones : List (CountedZone H Part h)) (pass : Pass H Part h) (domain : ℕ) (w : Worker H Part h) → IsNewWorker zones pass domain w → HasRooms w
-  rooms_new zones pass domain w new = record {
-    ledgers = λ z d below.
-        let zone = some_within zones z (below_as below (sym new.seats.count)) in
-        let seat = get_or w.seats.items z d in
-        room_new (ledger_of seat) (new.seats.each z zone.0 seat zone.1 (slice_get-get_or w.seats.items z d below)).fresh.ledger;
-    entered = none_count new.entered;
-    late = none_count new.late;
   }

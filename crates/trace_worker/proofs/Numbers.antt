@@ -22,15 +22,6 @@ below_as below same = omega arith
 
 -- ---- a worker's counts amid its turn
 
-pub none_room : {count : ℕ} → count ≡ 0 → count < 2 ^ 63
-none_room none = omega arith
-
-pub one_room : {old new : ℕ} → new ≡ old + 1 → old ≡ 0 → new < 2 ^ 63
-one_room one none = omega arith
-
-pub none_count : {count : ℕ} → count ≡ 0 → count < 2 ^ 62
-none_count none = omega arith
-
 pub room_for : {count lines : ℕ} → lines < 2 ^ 32 → count ≤ lines → count < 2 ^ 63
 room_for few most = omega arith
 

@@ -25,21 +25,21 @@ use Rattle.trace_worker.specs.Performs.{CanPerform, IsBetween, KeepsAll, KeepsHo
 use Rattle.trace_worker.specs.Worker.{AreOfClock, FitsZones, HasRooms, phase_of, seen_of}
 
 -- what a worker's lines change: itself, what it has of the names, and whether it is away; then the worker is that as which it comes back
-pub record Doing (N H C S P : Type 0) (h : Ghosts H P) : Type 0 where
+pub record LineState (N H C S P : Type 0) (h : Ghosts H P) : Type 0 where
   pub worker : Worker H P h
   pub name_work : NameWork N H C S P
   pub out : Bool
 
 module _ {N H C S P : Type 0} {h : Ghosts H P} where
-  abbrev pub doing : WorkerRun N H C S P h → Doing N H C S P h
-  doing r = record { worker = worker_in r; name_work = r.name_work; out = is_out r.attendance }
+  abbrev pub line_state : WorkerRun N H C S P h → LineState N H C S P h
+  line_state r = record { worker = worker_in r; name_work = r.name_work; out = is_out r.attendance }
 
   -- the same of a worker that is there
-  abbrev pub doing_there : Worker H P h → NameWork N H C S P → Doing N H C S P h
-  doing_there w name_work = record { worker = w; name_work = name_work; out = false }
+  abbrev pub line_state_there : Worker H P h → NameWork N H C S P → LineState N H C S P h
+  line_state_there w name_work = record { worker = w; name_work = name_work; out = false }
 
   -- An `away` or a `back` line: the pass leaves, or comes, and nothing is counted.
-  pub record GoesOrComes (old new : Doing N H C S P h) : Type 0 where
+  pub record GoesOrComes (old new : LineState N H C S P h) : Type 0 where
     pub keeps : KeepsAll old.worker new.worker
     pub name_work : new.name_work ≡ old.name_work
 
@@ -95,7 +95,7 @@ module _ {N H C S P : Type 0} {h : Ghosts H P} (names : NameGhosts N H C S P) (c
     pub seat : names.IsSeat cache name_work.seat
 
   -- a `bind` line: one call, which bound the key or didn't; the seat stays in its memory domain, and what leaves it was usable there or came by this call
-  pub record BindsLine (old : Doing N H C S P h) (key value : ℕ) (new : Doing N H C S P h) : Type 0 where
+  pub record BindsLine (old : LineState N H C S P h) (key value : ℕ) (new : LineState N H C S P h) : Type 0 where
     pub done : Bool
     pub still : StillKnows names.knows (view old.worker.pass) (view new.worker.pass)
     pub bound : Bound names.knows (names.sizes_of cache).rows key value (view old.worker.pass) done (view new.worker.pass)
@@ -107,7 +107,7 @@ module _ {N H C S P : Type 0} {h : Ghosts H P} (names : NameGhosts N H C S P) (c
     pub section : KeepsSection old.worker new.worker
 
   -- an `unbind` line: one call, which took the key out or found it unbound; the seat stays in its memory domain, and no other entry is usable there
-  pub record UnbindsLine (old : Doing N H C S P h) (key : ℕ) (new : Doing N H C S P h) : Type 0 where
+  pub record UnbindsLine (old : LineState N H C S P h) (key : ℕ) (new : LineState N H C S P h) : Type 0 where
     pub done : Bool
     pub still : StillKnows names.knows (view old.worker.pass) (view new.worker.pass)
     pub unbound : Unbound names.knows (names.sizes_of cache).rows key (view old.worker.pass) done (view new.worker.pass)
@@ -119,7 +119,7 @@ module _ {N H C S P : Type 0} {h : Ghosts H P} (names : NameGhosts N H C S P) (c
     pub section : KeepsSection old.worker new.worker
 
   -- a look in the section that is open
-  pub record FindsLine (old : Doing N H C S P h) (key : ℕ) (new : Doing N H C S P h) : Type 0 where
+  pub record FindsLine (old : LineState N H C S P h) (key : ℕ) (new : LineState N H C S P h) : Type 0 where
     pub found : Option ℕ
     pub inside : phase_of old.worker ≡ Inside
     pub still : StillKnows names.knows (view old.worker.pass) (view new.worker.pass)
@@ -131,7 +131,7 @@ module _ {N H C S P : Type 0} {h : Ghosts H P} (names : NameGhosts N H C S P) (c
     pub section : KeepsSection old.worker new.worker
 
   -- a look in a section of its own, which is counted as entered
-  pub record LooksInTime (old : Doing N H C S P h) (key : ℕ) (new : Doing N H C S P h) : Type 0 where
+  pub record LooksInTime (old : LineState N H C S P h) (key : ℕ) (new : LineState N H C S P h) : Type 0 where
     pub found : Option ℕ
     pub outside : phase_of old.worker ≡ Outside
     pub still : StillKnows names.knows (view old.worker.pass) (view new.worker.pass)
@@ -146,7 +146,7 @@ module _ {N H C S P : Type 0} {h : Ghosts H P} (names : NameGhosts N H C S P) (c
     pub holds : KeepsHolds old.worker new.worker
 
   -- the enter of a look was overtaken: the section is counted as late, and the look too
-  pub record LooksLate (old : Doing N H C S P h) (key : ℕ) (new : Doing N H C S P h) : Type 0 where
+  pub record LooksLate (old : LineState N H C S P h) (key : ℕ) (new : LineState N H C S P h) : Type 0 where
     pub overtaken : Overtaken
     pub outside : phase_of old.worker ≡ Outside
     pub misses : Misses (view old.worker.pass) overtaken (view new.worker.pass)
@@ -160,35 +160,35 @@ module _ {N H C S P : Type 0} {h : Ghosts H P} (names : NameGhosts N H C S P) (c
     pub holds : KeepsHolds old.worker new.worker
 
   -- a look outside a section
-  abbrev pub LookEnds : Doing N H C S P h → ℕ → Doing N H C S P h → Type 0
+  abbrev pub LookEnds : LineState N H C S P h → ℕ → LineState N H C S P h → Type 0
   LookEnds old key new = LooksInTime old key new ⊎ LooksLate old key new
 
   -- a `look` line
-  abbrev pub LooksLine : Doing N H C S P h → ℕ → Doing N H C S P h → Type 0
+  abbrev pub LooksLine : LineState N H C S P h → ℕ → LineState N H C S P h → Type 0
   LooksLine old key new = FindsLine old key new ⊎ LookEnds old key new
 
   -- what a line of a worker that is there and stays does; one that isn't of names leaves what the worker has of them
-  abbrev pub Acts : List (CountedZone H P h) → Doing N H C S P h → Op → Doing N H C S P h → Type 0
+  abbrev pub Acts : List (CountedZone H P h) → LineState N H C S P h → Op → LineState N H C S P h → Type 0
   Acts zones old (Bind key value) new = BindsLine old key value new
   Acts zones old (Unbind key) new = UnbindsLine old key new
   Acts zones old (Look key) new = LooksLine old key new
   Acts zones old op new = Performs zones old.worker op new.worker × (new.name_work ≡ old.name_work)
 
-  abbrev pub Changes : List (CountedZone H P h) → Doing N H C S P h → Op → Doing N H C S P h → Type 0
+  abbrev pub Changes : List (CountedZone H P h) → LineState N H C S P h → Op → LineState N H C S P h → Type 0
   Changes zones old Away new = GoesOrComes old new
   Changes zones old Back new = GoesOrComes old new
   Changes zones old op new = Acts zones old op new
 
   -- What a line does. A worker that is away comes back before it does anything else, and is away after an `away` line alone.
-  pub record DoesLine (zones : List (CountedZone H P h)) (old : Doing N H C S P h) (op : Op) (new : Doing N H C S P h) : Type 0 where
+  pub record DoesLine (zones : List (CountedZone H P h)) (old : LineState N H C S P h) (op : Op) (new : LineState N H C S P h) : Type 0 where
     pub changes : Changes zones old op new
     pub was : old.out ≡ comes_back op
     pub is : new.out ≡ away_after op old.out
 
   -- what lines do, one after another
-  unfoldable pub DoesAll : List (CountedZone H P h) → Doing N H C S P h → List Op → Doing N H C S P h → Type 0
+  unfoldable pub DoesAll : List (CountedZone H P h) → LineState N H C S P h → List Op → LineState N H C S P h → Type 0
   DoesAll zones old [] new = new ≡ old
-  DoesAll zones old (op ∷ ops) new = (next : Doing N H C S P h) × DoesLine zones old op next × DoesAll zones next ops new
+  DoesAll zones old (op ∷ ops) new = (next : LineState N H C S P h) × DoesLine zones old op next × DoesAll zones next ops new
 
 module _ {N H C S P : Type 0} {h : Ghosts H P} (names : NameGhosts N H C S P) where
   -- what a line of a worker that is there and stays needs

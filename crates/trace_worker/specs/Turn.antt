@@ -10,7 +10,7 @@ use Rattle.trace_worker.specs.Attendance.{worker_in}
 use Rattle.trace_worker.specs.Items.{CountedSeat, CountedZone}
 use Rattle.trace_worker.specs.OwnLines.{lines_before, own_ops, worked}
 use Rattle.trace_worker.specs.Live.{live_count}
-use Rattle.trace_worker.specs.NameLines.{DoesAll, doing}
+use Rattle.trace_worker.specs.NameLines.{DoesAll, line_state}
 use Rattle.trace_worker.specs.NamesStand.{NamesOfClock, NamesStand}
 use Rattle.trace_worker.specs.Stands.{Stands}
 use Rattle.trace_worker.specs.Together.{IsAbsent}
@@ -53,7 +53,7 @@ module _ {N H C S P : Type 0} {h : Ghosts H P} (names : NameGhosts N H C S P) (c
     pub stands : Stands zones clock n (worked n (own_ops t.rounds k n) (lines_before t.rounds k)) (worker_in new)
     pub named : NamesStand names cache n (worked n (own_ops t.rounds k n) (lines_before t.rounds k)) (worker_in new).late new.name_work
     pub absent : IsAbsent n (worked n (own_ops t.rounds k n) (lines_before t.rounds k)) new
-    pub plays : DoesAll names cache zones (doing old) (own_ops t.rounds k n) (doing new)
+    pub plays : DoesAll names cache zones (line_state old) (own_ops t.rounds k n) (line_state new)
     pub balances : (z : ℕ) → Balances z (worker_in old) (worker_in new)
     -- its pass forgets nothing
     pub seen : seen_of (worker_in old) ≤ seen_of (worker_in new)

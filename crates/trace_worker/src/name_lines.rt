@@ -1,6 +1,6 @@
 ghost use Rattle.std.specs.Prelude.{◌≡◌, ◌⊎◌, OnOk};
 ghost use Rattle.smr_core.specs.declared.phase.Phase.{Phase};
-ghost use Rattle.trace_worker.specs.NameLines.{Acts, BindsLine, CanAct, CanGoOn, CanLook, CanLookOutside, CanName, FindsLine, LookEnds, LooksLine, StaysFit, StaysNamed, UnbindsLine, doing_there};
+ghost use Rattle.trace_worker.specs.NameLines.{Acts, BindsLine, CanAct, CanGoOn, CanLook, CanLookOutside, CanName, FindsLine, LookEnds, LooksLine, StaysFit, StaysNamed, UnbindsLine, line_state_there};
 ghost use Rattle.trace_worker.specs.NameWork.{CountsAnswer, CountsBind, CountsFew, CountsUnbind};
 ghost use Rattle.trace_worker.specs.Worker.{phase_of};
 
@@ -32,7 +32,7 @@ impl<N: NameCalls> NameWork<N> {
         requires can { CanAct N.NameCalls shared.now.zones.now worker.old op }
         requires able { CanGoOn N.NameCalls shared.now.cache.now shared.now.zones.now shared.now.clock.now worker.old self.old }
         ensures stays { OnOk result (StaysFit N.NameCalls shared.now.cache.now shared.now.zones.now shared.now.clock.now worker.new self.new) }
-        ensures acts { OnOk result (Acts N.NameCalls shared.now.cache.now shared.now.zones.now (doing_there worker.old self.old) op (doing_there worker.new self.new)) }
+        ensures acts { OnOk result (Acts N.NameCalls shared.now.cache.now shared.now.zones.now (line_state_there worker.old self.old) op (line_state_there worker.new self.new)) }
     {
         let Shared {
             zones,
@@ -76,7 +76,7 @@ impl<N: NameCalls> NameWork<N> {
     ) -> Result<(), Memory>
         requires { CanName N.NameCalls shared.now.cache.now shared.now.clock.now worker.old self.old }
         ensures stays { StaysNamed N.NameCalls shared.now.cache.now shared.now.clock.now worker.new self.new }
-        ensures binds { OnOk result (BindsLine N.NameCalls shared.now.cache.now (doing_there worker.old self.old) key value (doing_there worker.new self.new)) }
+        ensures binds { OnOk result (BindsLine N.NameCalls shared.now.cache.now (line_state_there worker.old self.old) key value (line_state_there worker.new self.new)) }
     {
         let Shared {
             names,
@@ -103,7 +103,7 @@ impl<N: NameCalls> NameWork<N> {
     ) -> Result<(), Memory>
         requires { CanName N.NameCalls shared.now.cache.now shared.now.clock.now worker.old self.old }
         ensures stays { StaysNamed N.NameCalls shared.now.cache.now shared.now.clock.now worker.new self.new }
-        ensures unbinds { OnOk result (UnbindsLine N.NameCalls shared.now.cache.now (doing_there worker.old self.old) key (doing_there worker.new self.new)) }
+        ensures unbinds { OnOk result (UnbindsLine N.NameCalls shared.now.cache.now (line_state_there worker.old self.old) key (line_state_there worker.new self.new)) }
     {
         let Shared {
             names,
@@ -130,7 +130,7 @@ impl<N: NameCalls> NameWork<N> {
     )
         requires { CanLook N.NameCalls cache.now clock.now worker.old self.old }
         ensures stays { StaysNamed N.NameCalls cache.now clock.now worker.new self.new }
-        ensures looks { LooksLine N.NameCalls cache.now (doing_there worker.old self.old) key (doing_there worker.new self.new) }
+        ensures looks { LooksLine N.NameCalls cache.now (line_state_there worker.old self.old) key (line_state_there worker.new self.new) }
     {
         if worker.pass.phase() == Phase::Inside {
             self.find_inside(worker, names, cache, clock, key);
@@ -151,7 +151,7 @@ impl<N: NameCalls> NameWork<N> {
         requires can { CanName N.NameCalls cache.now clock.now worker.old self.old }
         requires inside { phase_of worker.old ≡ Phase.Inside }
         ensures stays { StaysNamed N.NameCalls cache.now clock.now worker.new self.new }
-        ensures finds { FindsLine N.NameCalls cache.now (doing_there worker.old self.old) key (doing_there worker.new self.new) }
+        ensures finds { FindsLine N.NameCalls cache.now (line_state_there worker.old self.old) key (line_state_there worker.new self.new) }
     {
         let found = names.find(cache, clock, &mut worker.pass, key);
         self.counts = counted_answer(self.counts, found);
@@ -168,7 +168,7 @@ impl<N: NameCalls> NameWork<N> {
     )
         requires { CanLookOutside N.NameCalls cache.now clock.now worker.old self.old }
         ensures stays { StaysNamed N.NameCalls cache.now clock.now worker.new self.new }
-        ensures looks { LookEnds N.NameCalls cache.now (doing_there worker.old self.old) key (doing_there worker.new self.new) }
+        ensures looks { LookEnds N.NameCalls cache.now (line_state_there worker.old self.old) key (line_state_there worker.new self.new) }
     {
         match names.look(cache, clock, &mut worker.pass, key) {
             Ok(found) => {

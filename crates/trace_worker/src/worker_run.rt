@@ -2,7 +2,7 @@ ghost use Rattle.std.specs.Prelude.{◌≡◌, ◌<◌, ◌≤◌, Some, length,
 ghost use Rattle.trace_worker.specs.Asking.{Answers, AsksGate, CanWait, CountsWait, IsAskedLast, KeepsWork, Waits, heard_by};
 ghost use Rattle.trace_worker.specs.Attendance.{worker_in};
 ghost use Rattle.trace_worker.specs.Making.{IsIdle};
-ghost use Rattle.trace_worker.specs.NameLines.{CanGoOn, CanTurn, DoesLine, KeepsGate, StaysFit, doing};
+ghost use Rattle.trace_worker.specs.NameLines.{CanGoOn, CanTurn, DoesLine, KeepsGate, StaysFit, line_state};
 ghost use Rattle.trace_worker.specs.OwnLines.{own_ops as ops_at};
 ghost use Rattle.trace_worker.specs.Turn.{IsReady, HasWorked, most_asks};
 
@@ -109,7 +109,7 @@ impl<N: NameCalls> WorkerRun<N> {
         requires turn { CanTurn N.NameCalls shared.now.zones.now self.old op }
         requires able { CanGoOn N.NameCalls shared.now.cache.now shared.now.zones.now shared.now.clock.now (worker_in self.old) self.old.name_work }
         ensures stays { OnOk result (StaysFit N.NameCalls shared.now.cache.now shared.now.zones.now shared.now.clock.now (worker_in self.new) self.new.name_work) }
-        ensures does { OnOk result (DoesLine N.NameCalls shared.now.cache.now shared.now.zones.now (doing self.old) op (doing self.new)) }
+        ensures does { OnOk result (DoesLine N.NameCalls shared.now.cache.now shared.now.zones.now (line_state self.old) op (line_state self.new)) }
         ensures gate { KeepsGate self.old self.new }
     {
         match op {

@@ -1,19 +1,12 @@
 -- What a local knows of its directory after a bind, an unbind or a look.
-use Rattle.std.proofs.Common.{◌≡◌, ℕ, ◌==◌, ◌∷◌, Option, Some, None, inl, inr, refl, sym, subst, arith, eqb-true}
-use Rattle.std.proofs.lemmas.Option.{cond_some}
+use Rattle.std.proofs.Common.{◌≡◌, ℕ, Option, Some, None, refl, sym, subst}
 use Rattle.std.specs.Option.{option_map}
-use Rattle.std.specs.Prelude.{Result, Ok, Err, IfOk, IfErr, IfSome, IfNone}
-use Rattle.smr_clock.specs.declared.refused.Overtaken.{Overtaken}
+use Rattle.std.specs.Prelude.{IfSome, IfNone}
 use Rattle.smr_clock.specs.declared.view.View.{View}
-use Rattle.smr_clock.specs.Sections.{Misses}
 use Rattle.name_rows.specs.declared.part.Part.{Part}
-use Rattle.name_rows.specs.declared.records.Bound.{Bound}
-use Rattle.name_rows.specs.Reading.{bound_to}
-use Rattle.name_rows.specs.Records.{In}
 use Rattle.name_cache.specs.declared.receipt.Receipt.{Receipt}
 use Rattle.name_cache.specs.Bind.{Binds}
-use Rattle.name_cache.specs.Known.{IsAbove, StillKnows, known_in}
-use Rattle.name_cache.specs.Look.{Looks}
+use Rattle.name_cache.specs.Known.{IsAbove, known_in}
 use Rattle.name_cache.specs.Types.{ZoneOfEntries, EntrySeat}
 use Rattle.name_cache.specs.Unbind.{Unbinds}
 use Rattle.uma.specs.Directory.{WasBound}
@@ -26,51 +19,6 @@ bound_by_bind zone rows key value said v old receipt v' new is b =
 pub bound_by_unbind : (rows key value : ℕ) (v : View Part) (old : EntrySeat) (receipt : Receipt) (v' : View Part) (new : EntrySeat) → Unbinds rows key value v old receipt v' new → WasBound key value (known_in v')
 bound_by_unbind rows key value v old receipt v' new u =
     record { at = u.before; knows = u.met.knows; bound = u.bound; content = u.content; named = u.key_bound; valued = u.value_bound }
-
--- content that binds this value to the key
-record Bounds (key value : ℕ) (content : Option Bound) : Type 0 where
-  bound : Bound
-  is : content ≡ Some bound
-  name : bound.key ≡ key
-  connected : bound.value ≡ value
-
-bounds : (key value : ℕ) (content : Option Bound) → Some value ≡ bound_to key content → Bounds key value content
-bounds key value None is = absurd (grind arith)
-bounds key value (Some b) is =
-    let both = cond_some (b.key == key) b.value value (sym is) in
-    record { bound = b; is = refl; name = eqb-true b.key key both.0; connected = both.1 }
-
-pub bound_by_look : (key value : ℕ) (v v' : View Part) → Looks key v (Some value) v' → WasBound key value (known_in v')
-bound_by_look key value v v' l =
-    let b = bounds key value l.finds.last.content l.finds.result in
-    let last : In l.finds.last (l.finds.last ∷ known_in l.inside) = inl refl in
-    let there : In l.finds.last (known_in l.looked) = subst (λ (w : View Part). In l.finds.last (known_in w)) (sym l.finds.after) last in
-    record {
-      at = l.finds.last;
-      knows = subst (λ (w : View Part). In l.finds.last (known_in w)) (sym l.left) there;
-      bound = b.bound;
-      content = b.is;
-      named = b.name;
-      valued = b.connected;
-    }
-
-pub still_by_look : (key : ℕ) (found : Option ℕ) (v v' : View Part) → Looks key v found v' → StillKnows v v'
-still_by_look key found v v' l r i =
-    let there : In r (known_in l.inside) = subst (λ (w : View Part). In r (known_in w)) (sym l.enters.third.after) i in
-    let more : In r (known_in l.looked) = subst (λ (w : View Part). In r (known_in w)) (sym l.finds.after) (inr there) in
-    subst (λ (w : View Part). In r (known_in w)) (sym l.left) more
-
-pub still_by_miss : (v v' : View Part) (late : Overtaken) → Misses v late v' → StillKnows v v'
-still_by_miss v v' late m r i = subst (λ (w : View Part). In r (known_in w)) (sym m.third.after) i
-
-pub found_by_look : (key : ℕ) (v v' : View Part) (r : Result (Option ℕ) Overtaken) → IfOk r (λ found. Looks key v found v') → IfOk r (λ found. IfSome found (λ value. WasBound key value (known_in v')))
-found_by_look key v v' (Ok (Some value)) l = bound_by_look key value v v' l
-found_by_look key v v' (Ok None) l = tt
-found_by_look key v v' (Err late) l = tt
-
-pub still_by_looking : (key : ℕ) (v v' : View Part) (r : Result (Option ℕ) Overtaken) → IfOk r (λ found. Looks key v found v') → IfErr r (λ late. Misses v late v') → StillKnows v v'
-still_by_looking key v v' (Ok found) l m = still_by_look key found v v' l
-still_by_looking key v v' (Err late) l m = still_by_miss v v' late m
 
 value_bound : (rows key : ℕ) (v v' : View Part) (old new : EntrySeat) (found : Option (ℕ × Receipt)) → IfSome found (λ pair. Unbinds rows key pair.0 v old pair.1 v' new)
     → IfSome (option_map (λ pair. pair.0) found) (λ value. WasBound key value (known_in v'))

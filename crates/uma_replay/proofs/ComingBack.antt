@@ -1,7 +1,7 @@
 -- Workers that came back where they were away.
-use Rattle.std.proofs.Common.{◌≡◌, ℕ, ◌+◌, ◌<◌, inl, inr, List, [], ◌∷◌, ◌++◌, refl, sym, ap, ◌∙◌, subst, arith, length-append, le_of_eq, map}
+use Rattle.std.proofs.Common.{◌≡◌, ℕ, ◌+◌, ◌<◌, inl, inr, List, [], ◌∷◌, ◌++◌, sym, ap, ◌∙◌, subst, arith, length-append, le_of_eq, map}
 use Rattle.std.proofs.lemmas.List.{map-append}
-use Rattle.std.proofs.lemmas.Option.{none-some, slice_get_within}
+use Rattle.std.proofs.lemmas.Option.{slice_get_within}
 use Rattle.smr_clock.specs.declared.clock.Clock.{Clock}
 use Rattle.smr_clock.specs.declared.host.Host.{Ghosts}
 use Rattle.smr_clock.specs.declared.view.View.{View}
@@ -36,9 +36,6 @@ module _ {H Part : Type 0} {h : Ghosts H Part} where
 
   pub back_stay : (clock : Clock H Part) (old new : List (Worker H Part h)) → AllBack clock old new → AllStay clock old new
   back_stay clock old new back = record { count = back.count; each = λ n v w at at'. comes_stay clock v w (back.each n v w at at') }
-
-  pub back_none : (clock : Clock H Part) → AllBack {h = h} clock [] []
-  back_none clock = record { count = refl; each = λ n v w at at'. absurd (none-some v at) }
 
   one_back : (clock : Clock H Part) (old new : List (Worker H Part h)) (v w : Worker H Part h) → AllBack clock old new → ComesBack clock v w → AllBack clock (old ++ v ∷ []) (new ++ w ∷ [])
   one_back clock old new v w back comes = record {

@@ -8,7 +8,6 @@ use Rattle.std.specs.Prelude.{◌==◌, slice_get, sum_by}
 use Rattle.std.specs.Option.{option_map_or}
 use Rattle.smr_clock.specs.declared.clock.Clock.{Clock}
 use Rattle.smr_clock.specs.declared.host.Host.{Ghosts}
-use Rattle.smr_clock.specs.Belongs.{IsPassOf, setup_of}
 use Rattle.trace_text.specs.declared.head.Head.{Head}
 use Rattle.trace_text.specs.declared.head.NamesHead.{NamesHead}
 use Rattle.trace_text.specs.declared.head.ZoneHead.{ZoneHead}
@@ -97,12 +96,6 @@ module _ {H Part : Type 0} {h : Ghosts H Part} where
 
   pub some_workers : (t : Trace) (zones : List (CountedZone H Part h)) (clock : Clock H Part) (workers : List (Worker H Part h)) → IsValid t → AreDone t zones clock workers → 0 < length workers
   some_workers t zones clock workers valid d = at_least_one (length workers) t.head.workers d.worker_count valid.head.workers.0
-
-  pub passes_here : (t : Trace) (zones : List (CountedZone H Part h)) (clock : Clock H Part) (workers : List (Worker H Part h)) → AreDone t zones clock workers → (n : ℕ) (w : Worker H Part h) → slice_get workers n ≡ Some w → IsPassOf clock w.pass
-  passes_here t zones clock workers d n w at = (d.stand.fits n w at).pass
-
-  pub window_is : (t : Trace) (zones : List (CountedZone H Part h)) (clock : Clock H Part) (workers : List (Worker H Part h)) → AreDone t zones clock workers → window_of t.head.clock ≡ (setup_of clock).config.window
-  window_is t zones clock workers d = sym (ap (λ s. s.config.window) d.clock_made)
 
   pub all_fit : (t : Trace) (zones : List (CountedZone H Part h)) (clock : Clock H Part) (workers : List (Worker H Part h)) → AreDone t zones clock workers → AllFit zones clock workers
   all_fit t zones clock workers d = d.stand.fits

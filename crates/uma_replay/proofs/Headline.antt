@@ -5,7 +5,7 @@ use Rattle.std.proofs.lemmas.List.{length-map}
 use Rattle.std.proofs.lemmas.List.Elements.{All-head, All-tail, All-weaker}
 use Rattle.std.proofs.lemmas.List.Sums.{sum_by-append, sum_by-cons}
 use Rattle.std.proofs.lemmas.Option.{none-some, same_Some, slice_get_within, get_or_from_slice_get}
-use Rattle.std.specs.Prelude.{◌%◌, All, IfOk, IfSome, Result, Ok, Err, count_by, is_some, slice_get, take}
+use Rattle.std.specs.Prelude.{◌%◌, All, IfSome, count_by, is_some, slice_get, take}
 use Rattle.std.specs.List.{flat_map}
 use Rattle.std.specs.Option.{option_map_or}
 use Rattle.smr_clock.specs.declared.host.Host.{Ghosts}
@@ -35,13 +35,12 @@ use Rattle.trace_worker.specs.declared.worker.Worker.{Worker}
 use Rattle.trace_worker.specs.declared.worker_run.WorkerRun.{WorkerRun}
 use Rattle.trace_worker.specs.Attendance.{worker_in}
 use Rattle.trace_worker.specs.Items.{CountedSeat, CountedZone, LiveItem}
-use Rattle.trace_worker.specs.NameLines.{doing}
+use Rattle.trace_worker.specs.NameLines.{line_state}
 use Rattle.trace_worker.specs.Requests.{GivesBack, Requests}
 use Rattle.trace_worker.specs.Together.{crew}
 use Rattle.trace_play.specs.Beginners.{IsBeginner}
 use Rattle.trace_play.proofs.RoundLists.{at_other}
 use Rattle.uma_replay.specs.declared.hall.Hall.{Hall}
-use Rattle.uma_replay.specs.declared.hall.Played.{Played}
 use Rattle.uma_replay.specs.Counting.{report_zones}
 use Rattle.uma_replay.specs.Hall.{HallStands}
 use Rattle.uma_replay.specs.Headline.{SeatIn, Comes, Balances, gone, is_refused, WaitForReaders, PassesHooks, AreOnTrail, HasCause, AreForCause, AreTotals, HasTotals, Headline}
@@ -238,7 +237,7 @@ module _ {N H C S Part : Type 0} {h : Ghosts H Part} (names : NameGhosts N H C S
     is_new : IsBeginner hall.zones hall.clock (n % t.head.domains) (worker_in begin)
     is_first : IsFirst names hall.names (n % t.head.domains) begin
     end : WorkerRun N H C S Part h
-    tells : Tells names hall.names hall.zones (steps_of n all.steps) (doing begin) (doing end)
+    tells : Tells names hall.names hall.zones (steps_of n all.steps) (line_state begin) (line_state end)
     seats : w.seats ≡ (worker_in end).seats
     name_works : name_work ≡ end.name_work
 
@@ -373,9 +372,3 @@ module _ {N H C S Part : Type 0} {h : Ghosts H Part} (names : NameGhosts N H C S
     name_totals = λ named. let n = some_of t.head.names named in name_totals_by t.head.names has.whole n.0 n.1;
     lookups = names_at;
   }
-
-module _ {N H C S Part E : Type 0} {h : Ghosts H Part} (names : NameGhosts N H C S Part) (t : Trace) where
-  -- of what a replay answers
-  pub headline_if : (r : Result (Played N H C S Part h) E) → IfOk r (λ played. StandsFor t played.report) → IfOk r (λ played. HallStands names t played.report played.hall) → IfOk r (λ played. Headline names t played.report played.hall)
-  headline_if (Ok played) stands has = headline_of names t played.report played.hall stands has
-  headline_if (Err e) stands has = tt

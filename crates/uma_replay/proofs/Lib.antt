@@ -2,7 +2,6 @@ pub mod Asked
 pub mod Beginning
 pub mod Entries
 pub mod Filled
-pub mod FirstTurn
 pub mod HallOf
 pub mod Headline
 pub mod KegLines

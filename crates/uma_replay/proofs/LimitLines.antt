@@ -176,9 +176,6 @@ at_end (first ∷ limits) limit (suc z) is = at_end limits limit z (omega arith)
 below_other : (z count n : ℕ) → z < count → n ≡ count → z < n
 below_other z count n below is = omega arith
 
-pub AreTested-none : (lines : List Line) (heads : List ZoneHead) (ledgers : List (List SeatLedger)) → AreTested lines heads ledgers 0 []
-AreTested-none lines heads ledgers = record { size = refl; last = λ z head below at. absurd (omega arith); kept = λ z head own below at at_own. absurd (omega arith) }
-
 pub AreTested-more : (lines : List Line) (heads : List ZoneHead) (ledgers : List (List SeatLedger)) (count : ℕ) (limits : List ℕ) (head : ZoneHead) (own : List SeatLedger) (limit : ℕ)
     → AreTested lines heads ledgers count limits → head ≡ get_or heads count head → own ≡ get_or ledgers count own → limit ≡ last_limit lines count head
     → KeepSomeOf (limits_had lines count head) own → AreTested lines heads ledgers (count + 1) (limits ++ limit ∷ [])

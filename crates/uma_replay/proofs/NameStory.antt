@@ -20,7 +20,7 @@ use Rattle.trace_worker.specs.Items.{CountedZone}
 use Rattle.trace_worker.specs.Knowing.{Loads, Told, bound_to}
 use Rattle.trace_worker.specs.NameCalls.{OnBoth}
 use Rattle.trace_worker.specs.NameLedger.{BindCounts, UnbindCounts, MayCountFree}
-use Rattle.trace_worker.specs.NameLines.{Changes, Doing}
+use Rattle.trace_worker.specs.NameLines.{Changes, LineState}
 use Rattle.trace_worker.specs.NameWork.{CountsAnswer, CountsBind, CountsUnbind}
 use Rattle.uma_replay.specs.NameLines.{NameLine, FindsBound, RefusesEntry, WaitsForReaders}
 use Rattle.uma_replay.specs.Steps.{Step, seen}
@@ -33,9 +33,6 @@ unit b = cond b 1 0
 
 abbrev fails_in : Option SeatLedger → ℕ
 fails_in o = option_map_or (λ (ledger : SeatLedger). ledger.fails) o 0
-
-one_more : (a b c : ℕ) → b ≡ a + 1 → c ≡ b → c ≡ a + 1
-one_more a b c e1 e2 = omega arith
 
 as_before : (a b : ℕ) → b ≡ a → b ≡ a + 0
 as_before a b e = omega arith
@@ -128,11 +125,11 @@ module _ {N H C S Part : Type 0} {h : Ghosts H Part} where
   handed line = line.handed
 
   -- a line that neither brings nor hands out an entry
-  abbrev quiet : Op → Doing N H C S Part h → Doing N H C S Part h → Option ℕ → NameLine N H C S Part h
+  abbrev quiet : Op → LineState N H C S Part h → LineState N H C S Part h → Option ℕ → NameLine N H C S Part h
   quiet op old new found = record { step = step_by op old new; found = found; refused = None; brought = []; handed = [] }
 
 module _ {N H C S Part : Type 0} {h : Ghosts H Part} (names : NameGhosts N H C S Part) (cache : C) where
-  abbrev usable_by : Doing N H C S Part h → List Ticket
+  abbrev usable_by : LineState N H C S Part h → List Ticket
   usable_by d = names.usable d.name_work.seat
 
   abbrev pub before : NameLine N H C S Part h → List Ticket
@@ -141,10 +138,10 @@ module _ {N H C S Part : Type 0} {h : Ghosts H Part} (names : NameGhosts N H C S
   abbrev pub after : NameLine N H C S Part h → List Ticket
   after line = names.usable line.step.new.name_work.seat
 
-  abbrev fails_by : Doing N H C S Part h → ℕ
+  abbrev fails_by : LineState N H C S Part h → ℕ
   fails_by d = fails_in (names.counted d.name_work.seat)
 
-  found_bound : (key : ℕ) (old new : Doing N H C S Part h) (found : Option ℕ) → Loads names.knows names.told (names.sizes_of cache).rows key (seen old) found (seen new) → IfSome found (FindsBound names cache (quiet (Look key) old new found))
+  found_bound : (key : ℕ) (old new : LineState N H C S Part h) (found : Option ℕ) → Loads names.knows names.told (names.sizes_of cache).rows key (seen old) found (seen new) → IfSome found (FindsBound names cache (quiet (Look key) old new found))
   found_bound key old new None loads = tt
   found_bound key old new (Some value) loads =
       let row = key % (names.sizes_of cache).rows in
@@ -162,7 +159,7 @@ module _ {N H C S Part : Type 0} {h : Ghosts H Part} (names : NameGhosts N H C S
     pub bound : IfSome line.refused (RefusesEntry names cache line)
     pub waits : WaitsForReaders names cache line
 
-  record IsNext (op : Op) (old new : Doing N H C S Part h) : Type 0 where
+  record IsNext (op : Op) (old new : LineState N H C S Part h) : Type 0 where
     line : NameLine N H C S Part h
     is_step : line.step ≡ step_by op old new
     fine : IsFine line
@@ -189,7 +186,7 @@ module _ {N H C S Part : Type 0} {h : Ghosts H Part} (names : NameGhosts N H C S
     follow = ap (λ (n : NameWork N H C S Part). names.usable n.seat) same;
   }
 
-  story-next : (op : Op) (steps : List (Step N H C S Part h)) (old mid : Doing N H C S Part h) (new : NameWork N H C S Part) → IsNext op old mid → Story steps mid.name_work new → Story (step_by op old mid ∷ steps) old.name_work new
+  story-next : (op : Op) (steps : List (Step N H C S Part h)) (old mid : LineState N H C S Part h) (new : NameWork N H C S Part) → IsNext op old mid → Story steps mid.name_work new → Story (step_by op old mid ∷ steps) old.name_work new
   story-next op steps old mid new n s = record {
     lines = n.line ∷ s.lines;
     are = λ i. n.is_step i ∷ s.are i;
@@ -219,11 +216,11 @@ module _ {N H C S Part : Type 0} {h : Ghosts H Part} (names : NameGhosts N H C S
   -- ---- what each line does
 
   -- the seat's usable entries stay
-  quiet_waits : (op : Op) (old new : Doing N H C S Part h) (found : Option ℕ) → usable_by new ≡ usable_by old → WaitsForReaders names cache (quiet op old new found)
+  quiet_waits : (op : Op) (old new : LineState N H C S Part h) (found : Option ℕ) → usable_by new ≡ usable_by old → WaitsForReaders names cache (quiet op old new found)
   quiet_waits op old new found same = record { balance = ap (λ (l : List Ticket). l ++ []) same; come = inl refl }
 
   -- it found nothing
-  none_found : (op : Op) (old new : Doing N H C S Part h) → usable_by new ≡ usable_by old → new.name_work.counts.hits ≡ old.name_work.counts.hits + 0 → fails_by new ≡ fails_by old + 0 → IsNext op old new
+  none_found : (op : Op) (old new : LineState N H C S Part h) → usable_by new ≡ usable_by old → new.name_work.counts.hits ≡ old.name_work.counts.hits + 0 → fails_by new ≡ fails_by old + 0 → IsNext op old new
   none_found op old new usable hits fails = record {
     line = quiet op old new None;
     is_step = refl;
@@ -233,12 +230,12 @@ module _ {N H C S Part : Type 0} {h : Ghosts H Part} (names : NameGhosts N H C S
   }
 
   -- it isn't of names
-  passes : (op : Op) (old new : Doing N H C S Part h) → new.name_work ≡ old.name_work → IsNext op old new
+  passes : (op : Op) (old new : LineState N H C S Part h) → new.name_work ≡ old.name_work → IsNext op old new
   passes op old new same = none_found op old new (ap (λ (n : NameWork N H C S Part). names.usable n.seat) same) (as_before _ _ (ap (λ (n : NameWork N H C S Part). n.counts.hits) same))
       (as_before _ _ (ap (λ (n : NameWork N H C S Part). fails_in (names.counted n.seat)) same))
 
   -- a look that ended so
-  looks : (key : ℕ) (old new : Doing N H C S Part h) (found : Option ℕ) → Loads names.knows names.told (names.sizes_of cache).rows key (seen old) found (seen new) → CountsAnswer found old.name_work.counts new.name_work.counts
+  looks : (key : ℕ) (old new : LineState N H C S Part h) (found : Option ℕ) → Loads names.knows names.told (names.sizes_of cache).rows key (seen old) found (seen new) → CountsAnswer found old.name_work.counts new.name_work.counts
       → new.name_work.seat ≡ old.name_work.seat → IsNext (Look key) old new
   looks key old new found loads counts seat = record {
     line = quiet (Look key) old new found;
@@ -248,7 +245,7 @@ module _ {N H C S Part : Type 0} {h : Ghosts H Part} (names : NameGhosts N H C S
     fails = as_before _ _ (ap (λ s. fails_in (names.counted s)) seat);
   }
 
-  next : (zones : List (CountedZone H Part h)) (op : Op) (old new : Doing N H C S Part h) → Changes names cache zones old op new → IsNext op old new
+  next : (zones : List (CountedZone H Part h)) (op : Op) (old new : LineState N H C S Part h) → Changes names cache zones old op new → IsNext op old new
   next zones (Bind key value) old new did =
       let ends = bind_ends (names.sizes_of cache).slabs (names.IsFound cache) _ did.done (names.counted old.name_work.seat) (names.counted new.name_work.seat) did.ledger in
       let moves = did.moves in
@@ -279,6 +276,6 @@ module _ {N H C S Part : Type 0} {h : Ghosts H Part} (names : NameGhosts N H C S
   next zones Away old new did = passes Away old new did.name_work
   next zones Back old new did = passes Back old new did.name_work
 
-  pub story-cons : (zones : List (CountedZone H Part h)) (op : Op) (steps : List (Step N H C S Part h)) (old mid : Doing N H C S Part h) (new : NameWork N H C S Part) → Changes names cache zones old op mid → Story steps mid.name_work new
+  pub story-cons : (zones : List (CountedZone H Part h)) (op : Op) (steps : List (Step N H C S Part h)) (old mid : LineState N H C S Part h) (new : NameWork N H C S Part) → Changes names cache zones old op mid → Story steps mid.name_work new
       → Story (step_by op old mid ∷ steps) old.name_work new
   story-cons zones op steps old mid new did s = story-next op steps old mid new (next zones op old mid did) s

@@ -100,10 +100,6 @@ primary_is (first ∷ heads) z k p head at = by_first first heads z k p head fir
 NumberIs : List ZoneHead → ℕ → ℕ → ℕ → ZoneHead → Type 0
 NumberIs heads z k p head = slice_get (primaries heads z) k ≡ Some (p, head) → (j : ℕ) → p ≡ z + j → number heads j ≡ k
 
-number_none : (heads : List ZoneHead) → number heads 0 ≡ 0
-number_none [] = refl
-number_none (head ∷ heads) = refl
-
 rest_place : (z i j p : ℕ) → p ≡ z + 1 + i → p ≡ z + suc j → p ≡ z + 1 + j
 rest_place z i j p first second = omega arith
 

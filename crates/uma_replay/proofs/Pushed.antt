@@ -8,9 +8,6 @@ pub record ArePushed {A : Type 0} (P : ℕ → A → Type 0) (count : ℕ) (xs :
   pub size : length xs ≡ count
   pub each : (z : ℕ) (x : A) → slice_get xs z ≡ Some x → P z x
 
-pub ArePushed-none : {A : Type 0} (P : ℕ → A → Type 0) → ArePushed P 0 []
-ArePushed-none P = record { size = refl; each = λ z x at. absurd (none-some x at) }
-
 pub at_end : {A : Type 0} (xs : List A) (y : A) (z : ℕ) (x : A) → slice_get (xs ++ y ∷ []) z ≡ Some x → (slice_get xs z ≡ Some x) ⊎ ((z ≡ length xs) × (x ≡ y))
 at_end [] y zero x at = inr (refl, sym (same_Some y x at))
 at_end [] y (suc z) x at = absurd (none-some x at)

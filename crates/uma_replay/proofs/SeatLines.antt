@@ -26,14 +26,14 @@ use Rattle.trace_worker.specs.declared.name_calls.NameCalls.{Ghosts as NameGhost
 use Rattle.trace_worker.specs.declared.held.Held.{Held}
 use Rattle.trace_worker.specs.declared.worker.Worker.{Worker}
 use Rattle.trace_worker.specs.Items.{CachedItem, CountedSeat, CountedZone, LiveItem}
-use Rattle.trace_worker.specs.NameLines.{Changes, Doing}
+use Rattle.trace_worker.specs.NameLines.{Changes, LineState}
 use Rattle.trace_worker.specs.Performs.{ask_of}
 use Rattle.trace_worker.specs.Reclaims.{IsDrained, IsFlushed}
 use Rattle.trace_worker.specs.Requests.{GivesBack, Requests}
 use Rattle.trace_worker.specs.Slots.{slot_at}
 use Rattle.trace_worker.proofs.SlotLemmas.{emptied_none}
 use Rattle.uma_replay.specs.Headline.{ComeRipe, ComeFromKeg, gone_by}
-use Rattle.uma_replay.specs.SeatLines.{SeatCall, Request, Return, Flush, Empty, Nothing, SeatLine, IsCall, IsLine, IsReturn, IsThere, HasDone}
+use Rattle.uma_replay.specs.SeatLines.{SeatCall, Request, Return, Flush, Empty, Nothing, SeatLine, IsCall, IsLine, IsReturn, OnlyOfZone, HasDone}
 use Rattle.uma_replay.specs.Steps.{Step}
 
 -- one line after another, each from the state that the one before it left
@@ -56,7 +56,7 @@ set_apart (w ∷ xs) (suc p) zero y apart = refl
 set_apart (w ∷ xs) (suc p) (suc z) y apart = set_apart xs p z y (λ same. apart (ap suc same))
 
 -- what a `free` line is, by what its slot holds
-is_return : (z slot : ℕ) (slots : List (Option Held)) (it : Held) (call : SeatCall) → slot_at slots slot ≡ Some it → IsThere z it.zone (λ c. c ≡ Return it.item) call → IsReturn z (slot_at slots slot) call
+is_return : (z slot : ℕ) (slots : List (Option Held)) (it : Held) (call : SeatCall) → slot_at slots slot ≡ Some it → OnlyOfZone z it.zone (λ c. c ≡ Return it.item) call → IsReturn z (slot_at slots slot) call
 is_return z slot slots it call holds is = subst (λ (o : Option Held). IsReturn z o call) (sym holds) is
 
 is_nothing : (z slot : ℕ) (slots : List (Option Held)) → slot_at slots slot ≡ None → IsReturn z (slot_at slots slot) Nothing
@@ -138,14 +138,14 @@ module _ {H Part : Type 0} {h : Ghosts H Part} where
 module _ {N H C S Part : Type 0} {h : Ghosts H Part} where
   -- ---- one line
 
-  abbrev pub step_by : Op → Doing N H C S Part h → Doing N H C S Part h → Step N H C S Part h
+  abbrev pub step_by : Op → LineState N H C S Part h → LineState N H C S Part h → Step N H C S Part h
   step_by op old new = record { op = op; old = old; new = new }
 
   pub record IsGood (zone : CountedZone H Part h) (z : ℕ) (line : SeatLine N H C S Part h) : Type 0 where
     pub is : IsLine zone z line
     pub waits : Waits zone line.call line.old line.brought line.new
 
-  record IsNext (zone : CountedZone H Part h) (z : ℕ) (op : Op) (by new : Doing N H C S Part h) (old : CountedSeat H Part h) : Type 0 where
+  record IsNext (zone : CountedZone H Part h) (z : ℕ) (op : Op) (by new : LineState N H C S Part h) (old : CountedSeat H Part h) : Type 0 where
     line : SeatLine N H C S Part h
     is_step : line.step ≡ step_by op by new
     from : line.old ≡ old
@@ -153,10 +153,10 @@ module _ {N H C S Part : Type 0} {h : Ghosts H Part} where
     at : slice_get new.worker.seats.items z ≡ Some line.new
 
   -- what an operation is at the seat, and does to the slots
-  abbrev Is : ℕ → Op → Doing N H C S Part h → Doing N H C S Part h → SeatCall → Type 0
+  abbrev Is : ℕ → Op → LineState N H C S Part h → LineState N H C S Part h → SeatCall → Type 0
   Is z op old new call = IsCall z op old.worker.slots new.worker.slots call
 
-  next_by : (zone : CountedZone H Part h) (z : ℕ) (op : Op) (call : SeatCall) (by now : Doing N H C S Part h) (old new : CountedSeat H Part h) → slice_get by.worker.seats.items z ≡ Some old → Is z op by now call
+  next_by : (zone : CountedZone H Part h) (z : ℕ) (op : Op) (call : SeatCall) (by now : LineState N H C S Part h) (old new : CountedSeat H Part h) → slice_get by.worker.seats.items z ≡ Some old → Is z op by now call
       → HasDone zone old call new → Source zone call old new → slice_get now.worker.seats.items z ≡ Some new → IsNext zone z op by now old
   next_by zone z op call by now old new has is did source at = record {
     line = record { step = step_by op by now; call = call; old = old; brought = source.brought; new = new };
@@ -166,13 +166,13 @@ module _ {N H C S Part : Type 0} {h : Ghosts H Part} where
     at = at;
   }
 
-  stays : (zone : CountedZone H Part h) (z : ℕ) (op : Op) (by now : Doing N H C S Part h) (old : CountedSeat H Part h) → slice_get by.worker.seats.items z ≡ Some old → Is z op by now Nothing → slice_get now.worker.seats.items z ≡ Some old
+  stays : (zone : CountedZone H Part h) (z : ℕ) (op : Op) (by now : LineState N H C S Part h) (old : CountedSeat H Part h) → slice_get by.worker.seats.items z ≡ Some old → Is z op by now Nothing → slice_get now.worker.seats.items z ≡ Some old
       → IsNext zone z op by now old
   stays zone z op by now old has is at = next_by zone z op Nothing by now old old has is refl (same_usable zone Nothing old old refl (λ smr. refl)) at
 
   module _ (zones : List (CountedZone H Part h)) (z : ℕ) (zone : CountedZone H Part h) (at_zone : slice_get zones z ≡ Some zone) where
     -- a line of the zone at some place, by the worker's seat there
-    at_place : (op : Op) (call : SeatCall) (by now : Doing N H C S Part h) (place : ℕ) (of : CountedZone H Part h) (before after seat : CountedSeat H Part h) → slice_get zones place ≡ Some of → slice_get by.worker.seats.items place ≡ Some before
+    at_place : (op : Op) (call : SeatCall) (by now : LineState N H C S Part h) (place : ℕ) (of : CountedZone H Part h) (before after seat : CountedSeat H Part h) → slice_get zones place ≡ Some of → slice_get by.worker.seats.items place ≡ Some before
         → now.worker.seats.items ≡ slice_set by.worker.seats.items place after → slice_get by.worker.seats.items z ≡ Some seat → HasDone of before call after → Source of call before after → (place ≡ z → Is z op by now call) → (place ≢ z → Is z op by now Nothing)
         → IsNext zone z op by now seat
     at_place op call by now place of before after seat is_zone at_before set at did source is isnt =
@@ -189,11 +189,11 @@ module _ {N H C S Part : Type 0} {h : Ghosts H Part} where
         ]
 
     -- the seats stay
-    same_seats : (op : Op) (old new : Doing N H C S Part h) (seat : CountedSeat H Part h) → Is z op old new Nothing → new.worker.seats ≡ old.worker.seats → slice_get old.worker.seats.items z ≡ Some seat → IsNext zone z op old new seat
+    same_seats : (op : Op) (old new : LineState N H C S Part h) (seat : CountedSeat H Part h) → Is z op old new Nothing → new.worker.seats ≡ old.worker.seats → slice_get old.worker.seats.items z ≡ Some seat → IsNext zone z op old new seat
     same_seats op old new seat is same at = stays zone z op old new seat at is (ap (λ s. slice_get s.items z) same ∙ at)
 
   module _ (names : NameGhosts N H C S Part) (cache : C) (zones : List (CountedZone H Part h)) (z : ℕ) (zone : CountedZone H Part h) (at_zone : slice_get zones z ≡ Some zone) where
-    next : (op : Op) (old new : Doing N H C S Part h) (seat : CountedSeat H Part h) → slice_get old.worker.seats.items z ≡ Some seat → Changes names cache zones old op new → IsNext zone z op old new seat
+    next : (op : Op) (old new : LineState N H C S Part h) (seat : CountedSeat H Part h) → slice_get old.worker.seats.items z ≡ Some seat → Changes names cache zones old op new → IsNext zone z op old new seat
     next (Alloc place slot arg reserve) old new seat at did =
         let a = did.0 in
         let op = Alloc place slot arg reserve in
@@ -259,7 +259,7 @@ module _ {N H C S Part : Type 0} {h : Ghosts H Part} where
   story-none : (zone : CountedZone H Part h) (z : ℕ) (from : CountedSeat H Part h) (seats : List (CountedSeat H Part h)) → slice_get seats z ≡ Some from → Story zone z [] from seats
   story-none zone z from seats at = record { lines = []; are = refl; good = All-nil (IsGood zone z); to = from; follow = refl; at = at }
 
-  story-cons : (zone : CountedZone H Part h) (z : ℕ) (op : Op) (steps : List (Step N H C S Part h)) (old mid : Doing N H C S Part h) (from : CountedSeat H Part h) (new : List (CountedSeat H Part h)) (n : IsNext zone z op old mid from)
+  story-cons : (zone : CountedZone H Part h) (z : ℕ) (op : Op) (steps : List (Step N H C S Part h)) (old mid : LineState N H C S Part h) (from : CountedSeat H Part h) (new : List (CountedSeat H Part h)) (n : IsNext zone z op old mid from)
       → Story zone z steps n.line.new new → Story zone z (step_by op old mid ∷ steps) from new
   story-cons zone z op steps old mid from new n s = record {
     lines = n.line ∷ s.lines;
@@ -286,20 +286,20 @@ module _ {N H C S Part : Type 0} {h : Ghosts H Part} where
   }
 
   -- the same at each seat of a worker
-  abbrev pub Stories : List (CountedZone H Part h) → List (Step N H C S Part h) → Doing N H C S Part h → Doing N H C S Part h → Type 0
+  abbrev pub Stories : List (CountedZone H Part h) → List (Step N H C S Part h) → LineState N H C S Part h → LineState N H C S Part h → Type 0
   Stories zones steps old new = (z : ℕ) (zone : CountedZone H Part h) (seat : CountedSeat H Part h) → slice_get zones z ≡ Some zone → slice_get old.worker.seats.items z ≡ Some seat → Story zone z steps seat new.worker.seats.items
 
-  pub stories-none : (zones : List (CountedZone H Part h)) (old new : Doing N H C S Part h) → new.worker.seats ≡ old.worker.seats → Stories zones [] old new
+  pub stories-none : (zones : List (CountedZone H Part h)) (old new : LineState N H C S Part h) → new.worker.seats ≡ old.worker.seats → Stories zones [] old new
   stories-none zones old new same z zone seat at_zone at = story-none zone z seat new.worker.seats.items (ap (λ s. slice_get s.items z) same ∙ at)
 
-  pub stories-cons : (names : NameGhosts N H C S Part) (cache : C) (zones : List (CountedZone H Part h)) (op : Op) (steps : List (Step N H C S Part h)) (old mid new : Doing N H C S Part h) → Changes names cache zones old op mid → Stories zones steps mid new
+  pub stories-cons : (names : NameGhosts N H C S Part) (cache : C) (zones : List (CountedZone H Part h)) (op : Op) (steps : List (Step N H C S Part h)) (old mid new : LineState N H C S Part h) → Changes names cache zones old op mid → Stories zones steps mid new
       → Stories zones (step_by op old mid ∷ steps) old new
   stories-cons names cache zones op steps old mid new did rest z zone seat at_zone at =
       let n = next names cache zones z zone at_zone op old mid seat at did in
       story-cons zone z op steps old mid seat new.worker.seats.items n (rest z zone n.line.new at_zone n.at)
 
   -- between the two the seats stay
-  pub stories-append : (zones : List (CountedZone H Part h)) (steps more : List (Step N H C S Part h)) (old mid next new : Doing N H C S Part h) → next.worker.seats ≡ mid.worker.seats → Stories zones steps old mid → Stories zones more next new
+  pub stories-append : (zones : List (CountedZone H Part h)) (steps more : List (Step N H C S Part h)) (old mid next new : LineState N H C S Part h) → next.worker.seats ≡ mid.worker.seats → Stories zones steps old mid → Stories zones more next new
       → Stories zones (steps ++ more) old new
   stories-append zones steps more old mid next new same first rest z zone seat at_zone at =
       let s = first z zone seat at_zone at in

@@ -14,7 +14,7 @@ use Rattle.trace_worker.specs.declared.worker_run.WorkerRun.{WorkerRun}
 use Rattle.trace_worker.specs.declared.worker.Worker.{Worker}
 use Rattle.trace_worker.specs.Giving.{KeepsRest, with_slots}
 use Rattle.trace_worker.specs.Items.{CountedZone}
-use Rattle.trace_worker.specs.NameLines.{Doing, DoesAll, doing}
+use Rattle.trace_worker.specs.NameLines.{LineState, DoesAll, line_state}
 use Rattle.trace_worker.proofs.Attending.{same_bare}
 use Rattle.trace_worker.proofs.GiveSums.{rest_gives}
 use Rattle.trace_play.specs.Betweens.{DoBetweens, DoRounds}
@@ -40,17 +40,17 @@ module _ {N H C S Part : Type 0} {h : Ghosts H Part} where
 
 module _ {N H C S Part : Type 0} {h : Ghosts H Part} (names : NameGhosts N H C S Part) (cache : C) (zones : List (CountedZone H Part h)) where
   -- what the steps are at each of the worker's seats, and of names
-  pub record Tells (steps : List (Step N H C S Part h)) (old new : Doing N H C S Part h) : Type 0 where
+  pub record Tells (steps : List (Step N H C S Part h)) (old new : LineState N H C S Part h) : Type 0 where
     pub seats : Stories zones steps old new
     pub name_lines : name_story.Story names cache steps old.name_work new.name_work
 
-  tells-none : (old new : Doing N H C S Part h) → new ≡ old → Tells [] old new
+  tells-none : (old new : LineState N H C S Part h) → new ≡ old → Tells [] old new
   tells-none old new same = record {
-    seats = stories-none zones old new (ap (λ (d : Doing N H C S Part h). d.worker.seats) same);
-    name_lines = name_story.story-none names cache old.name_work new.name_work (ap (λ (d : Doing N H C S Part h). d.name_work) same);
+    seats = stories-none zones old new (ap (λ (d : LineState N H C S Part h). d.worker.seats) same);
+    name_lines = name_story.story-none names cache old.name_work new.name_work (ap (λ (d : LineState N H C S Part h). d.name_work) same);
   }
 
-  tells-append : (steps more : List (Step N H C S Part h)) (old mid next new : Doing N H C S Part h) → next.worker.seats ≡ mid.worker.seats → next.name_work ≡ mid.name_work → Tells steps old mid → Tells more next new → Tells (steps ++ more) old new
+  tells-append : (steps more : List (Step N H C S Part h)) (old mid next new : LineState N H C S Part h) → next.worker.seats ≡ mid.worker.seats → next.name_work ≡ mid.name_work → Tells steps old mid → Tells more next new → Tells (steps ++ more) old new
   tells-append steps more old mid next new seats name_work first rest =
       let P : NameWork N H C S Part → Type 0 = λ n. name_story.Story names cache steps old.name_work n in
       record {
@@ -59,12 +59,12 @@ module _ {N H C S Part : Type 0} {h : Ghosts H Part} (names : NameGhosts N H C S
       }
 
   -- a worker's own list in a round
-  record Walk (ops : List Op) (old new : Doing N H C S Part h) : Type 0 where
+  record Walk (ops : List Op) (old new : LineState N H C S Part h) : Type 0 where
     steps : List (Step N H C S Part h)
     are : AreSteps names cache zones ops old steps new
     tells : Tells steps old new
 
-  walk : (ops : List Op) (old new : Doing N H C S Part h) → DoesAll names cache zones old ops new → Walk ops old new
+  walk : (ops : List Op) (old new : LineState N H C S Part h) → DoesAll names cache zones old ops new → Walk ops old new
   unfolding DoesAll
   walk [] old new same = record {
     steps = [];
@@ -85,22 +85,22 @@ module _ {N H C S Part : Type 0} {h : Ghosts H Part} (names : NameGhosts N H C S
   -- ---- the turns of a round, by the worker's place before and after it
 
   abbrev Turns : List Op → Option (WorkerRun N H C S Part h) → Option (WorkerRun N H C S Part h) → Type 0
-  Turns ops o p = (was is : WorkerRun N H C S Part h) → o ≡ Some was → p ≡ Some is → DoesAll names cache zones (doing was) ops (doing is)
+  Turns ops o p = (was is : WorkerRun N H C S Part h) → o ≡ Some was → p ≡ Some is → DoesAll names cache zones (line_state was) ops (line_state is)
 
   abbrev turn_steps : (ops : List Op) (o p : Option (WorkerRun N H C S Part h)) → Turns ops o p → List (Step N H C S Part h)
   turn_steps ops None p each = []
   turn_steps ops (Some was) None each = []
-  turn_steps ops (Some was) (Some is) each = (walk ops (doing was) (doing is) (each was is refl refl)).steps
+  turn_steps ops (Some was) (Some is) each = (walk ops (line_state was) (line_state is) (each was is refl refl)).steps
 
   record IsTurn (ops : List Op) (was is : WorkerRun N H C S Part h) (steps : List (Step N H C S Part h)) : Type 0 where
-    are : AreSteps names cache zones ops (doing was) steps (doing is)
-    tells : Tells steps (doing was) (doing is)
+    are : AreSteps names cache zones ops (line_state was) steps (line_state is)
+    tells : Tells steps (line_state was) (line_state is)
 
   is_turn : (ops : List Op) (o p : Option (WorkerRun N H C S Part h)) (each : Turns ops o p) (was is : WorkerRun N H C S Part h) → o ≡ Some was → p ≡ Some is → IsTurn ops was is (turn_steps ops o p each)
   is_turn ops None p each was is at now = absurd (none-some was at)
   is_turn ops (Some first) None each was is at now = absurd (none-some is now)
   is_turn ops (Some first) (Some last) each was is at now =
-      let w = walk ops (doing first) (doing last) (each first last refl refl) in
+      let w = walk ops (line_state first) (line_state last) (each first last refl refl) in
       let one : IsTurn ops first last w.steps = record { are = w.are; tells = w.tells } in
       let P : WorkerRun N H C S Part h → Type 0 = λ r. IsTurn ops r last w.steps in
       let Q : WorkerRun N H C S Part h → Type 0 = λ r. IsTurn ops was r w.steps in
@@ -112,7 +112,7 @@ module _ {N H C S Part : Type 0} {h : Ghosts H Part} (names : NameGhosts N H C S
     pub steps : List (ℕ → List (Step N H C S Part h))
     pub are : AreRounds names cache zones rounds old steps new
     pub count : length new ≡ length old
-    pub each : (n : ℕ) (was is : WorkerRun N H C S Part h) → slice_get old n ≡ Some was → slice_get new n ≡ Some is → Tells (steps_of n steps) (doing was) (doing is)
+    pub each : (n : ℕ) (was is : WorkerRun N H C S Part h) → slice_get old n ≡ Some was → slice_get new n ≡ Some is → Tells (steps_of n steps) (line_state was) (line_state is)
 
   pub walks : (rounds : List Round) (old new : List (WorkerRun N H C S Part h)) → DoRounds names cache zones rounds old new → Walks rounds old new
   unfolding DoRounds
@@ -122,7 +122,7 @@ module _ {N H C S Part : Type 0} {h : Ghosts H Part} (names : NameGhosts N H C S
     count = ap length same;
     each = λ n was is at now.
         let one : is ≡ was = same_Some is was (sym now ∙ (ap (λ (list : List (WorkerRun N H C S Part h)). slice_get list n) same ∙ at)) in
-        tells-none (doing was) (doing is) (ap (λ (r : WorkerRun N H C S Part h). doing r) one);
+        tells-none (line_state was) (line_state is) (ap (λ (r : WorkerRun N H C S Part h). line_state r) one);
   }
   walks (r ∷ rounds) old new did =
       let next = did.0 in
@@ -148,5 +148,5 @@ module _ {N H C S Part : Type 0} {h : Ghosts H Part} (names : NameGhosts N H C S
             let at_mid = at_other next new n is rest.count now in
             let b = before bare round.worked next n mid keeps at_mid in
             let first = (is_turn (ops_in r n) (slice_get old n) (slice_get round.worked n) (round.each n) was b.was at b.at).tells in
-            tells-append (own n) (steps_of n rest.steps) (doing was) (doing b.was) (doing mid) (doing is) (ap (λ (w : Worker H Part h). w.seats) (same_bare mid b.was b.same)) (ap (λ (r : WorkerRun N H C S Part h). r.name_work) b.same) first (rest.each n mid is at_mid now);
+            tells-append (own n) (steps_of n rest.steps) (line_state was) (line_state b.was) (line_state mid) (line_state is) (ap (λ (w : Worker H Part h). w.seats) (same_bare mid b.was b.same)) (ap (λ (r : WorkerRun N H C S Part h). r.name_work) b.same) first (rest.each n mid is at_mid now);
       }

@@ -28,21 +28,21 @@ got_none (Request ask None) = true
 got_none call = false
 
 -- what a line of the zone at place `zone` is at the seat of the zone at place `z`
-abbrev pub IsThere : ℕ → ℕ → (SeatCall → Type 0) → SeatCall → Type 0
-IsThere z zone Is call = ((zone ≡ z) × Is call) ⊎ ((zone ≢ z) × (call ≡ Nothing))
+abbrev pub OnlyOfZone : ℕ → ℕ → (SeatCall → Type 0) → SeatCall → Type 0
+OnlyOfZone z zone Is call = ((zone ≡ z) × Is call) ⊎ ((zone ≢ z) × (call ≡ Nothing))
 
 -- a `free` line is of the zone whose item its slot holds, and the free of that item; of an empty slot it does nothing
 abbrev pub IsReturn : ℕ → Option Held → SeatCall → Type 0
 IsReturn z None call = call ≡ Nothing
-IsReturn z (Some it) call = IsThere z it.zone (λ c. c ≡ Return it.item) call
+IsReturn z (Some it) call = OnlyOfZone z it.zone (λ c. c ≡ Return it.item) call
 
 -- What an operation is at its worker's seat of the zone at place `z`, and what it does to the slots, which were so before and after it: what a request got lies in its slot, and nothing in one that was freed.
 abbrev pub IsCall : ℕ → Op → List (Option Held) → List (Option Held) → SeatCall → Type 0
-IsCall z (Alloc zone slot arg reserve) old new call = IsThere z zone (λ c. (got : Option LiveItem) × (c ≡ Request (ask_of arg reserve) got) × (new ≡ filled old slot (option_map (holding zone) got))) call
+IsCall z (Alloc zone slot arg reserve) old new call = OnlyOfZone z zone (λ c. (got : Option LiveItem) × (c ≡ Request (ask_of arg reserve) got) × (new ≡ filled old slot (option_map (holding zone) got))) call
 IsCall z (Free slot) old new call = IsReturn z (slot_at old slot) call × (new ≡ emptied old slot)
-IsCall z (Trim zone) old new call = IsThere z zone (λ c. c ≡ Flush) call × (new ≡ old)
-IsCall z (Drain zone) old new call = IsThere z zone (λ c. c ≡ Flush) call × (new ≡ old)
-IsCall z (DrainSeat zone) old new call = IsThere z zone (λ c. c ≡ Empty) call × (new ≡ old)
+IsCall z (Trim zone) old new call = OnlyOfZone z zone (λ c. c ≡ Flush) call × (new ≡ old)
+IsCall z (Drain zone) old new call = OnlyOfZone z zone (λ c. c ≡ Flush) call × (new ≡ old)
+IsCall z (DrainSeat zone) old new call = OnlyOfZone z zone (λ c. c ≡ Empty) call × (new ≡ old)
 IsCall z op old new call = (call ≡ Nothing) × (new ≡ old)
 
 -- a step at the seat of a zone: what it is there, the seat before and after it, and the items, by their tickets, that it brought to the seat

@@ -10,15 +10,15 @@ use Rattle.uma_life.specs.declared.ticket.Ticket.{Ticket}
 use Rattle.trace_worker.specs.declared.name_calls.NameCalls.{Ghosts as NameGhosts}
 use Rattle.trace_worker.specs.declared.worker_run.WorkerRun.{WorkerRun}
 use Rattle.trace_worker.specs.Items.{CountedZone}
-use Rattle.trace_worker.specs.NameLines.{Doing, DoesLine, doing}
+use Rattle.trace_worker.specs.NameLines.{LineState, DoesLine, line_state}
 use Rattle.trace_play.specs.Betweens.{DoBetweens}
 use Rattle.trace_play.specs.Parts.{ops_in}
 
 -- One line that a worker did: the operation, and its worker, with what it has of the names, before and after it.
 pub record Step (N H C S P : Type 0) (h : Ghosts H P) : Type 0 where
   pub op : Op
-  pub old : Doing N H C S P h
-  pub new : Doing N H C S P h
+  pub old : LineState N H C S P h
+  pub new : LineState N H C S P h
 
 module _ {N H C S P : Type 0} {h : Ghosts H P} where
   -- all steps of worker `n`, from what each worker did in each round
@@ -26,12 +26,12 @@ module _ {N H C S P : Type 0} {h : Ghosts H P} where
   steps_of n rounds = flat_map (λ (round : ℕ → List (Step N H C S P h)). round n) rounds
 
   -- what the worker's pass has seen
-  abbrev pub seen : Doing N H C S P h → View P
+  abbrev pub seen : LineState N H C S P h → View P
   seen d = view d.worker.pass
 
 module _ {N H C S P : Type 0} {h : Ghosts H P} (names : NameGhosts N H C S P) (cache : C) (zones : List (CountedZone H P h)) where
   -- A worker's own list in a round, line after line, each from what the one before it left. What a line does, to the slots and to the pass too, `DoesLine` says.
-  abbrev pub AreSteps : List Op → Doing N H C S P h → List (Step N H C S P h) → Doing N H C S P h → Type 0
+  abbrev pub AreSteps : List Op → LineState N H C S P h → List (Step N H C S P h) → LineState N H C S P h → Type 0
   AreSteps [] old [] new = new ≡ old
   AreSteps (op ∷ ops) old (step ∷ steps) new = (step.op ≡ op) × (step.old ≡ old) × DoesLine names cache zones step.old step.op step.new × AreSteps ops step.new steps new
   AreSteps ops old steps new = ⊥
@@ -40,7 +40,7 @@ module _ {N H C S P : Type 0} {h : Ghosts H P} (names : NameGhosts N H C S P) (c
   pub record IsRound (r : Round) (old : List (WorkerRun N H C S P h)) (steps : ℕ → List (Step N H C S P h)) (new : List (WorkerRun N H C S P h)) : Type 0 where
     pub worked : List (WorkerRun N H C S P h)
     pub count : length worked ≡ length old
-    pub each : (n : ℕ) (was is : WorkerRun N H C S P h) → slice_get old n ≡ Some was → slice_get worked n ≡ Some is → AreSteps (ops_in r n) (doing was) (steps n) (doing is)
+    pub each : (n : ℕ) (was is : WorkerRun N H C S P h) → slice_get old n ≡ Some was → slice_get worked n ≡ Some is → AreSteps (ops_in r n) (line_state was) (steps n) (line_state is)
     pub behind : DoBetweens zones r.between worked new
 
   -- all rounds, one after another

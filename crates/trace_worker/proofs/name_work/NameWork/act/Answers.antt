@@ -1,6 +1,6 @@
 use Rattle.trace_worker.proofs.AtPlace.{fits_kept}
 use Rattle.trace_worker.proofs.DoneLines.{looks_holds}
-use Rattle.trace_worker.specs.NameLines.{doing_there}
+use Rattle.trace_worker.specs.NameLines.{line_state_there}
 use Rattle.trace_worker.proofs.name_work.NameWork.act.Goals as goal
 
 pub returns-in_ok-bind-in-Bind-clause-stays : goal.returns-in_ok-bind-in-Bind-clause-stays
@@ -18,6 +18,6 @@ returns-in_ok-unbind-in-Unbind-clause-stays g c = record {
 pub returns-in-Look-clause-stays : goal.returns-in-Look-clause-stays
 returns-in-Look-clause-stays g c = record {
   fits = fits_kept c.args.shared.now.zones.now c.args.shared.now.clock.now c.args.worker.now c.look.new.worker c.requires.able.fits c.look.ensures.stays.pass
-      (looks_holds g.N.NameCalls c.args.shared.now.cache.now c.args.shared.now.zones.now c.in-Look.key (doing_there c.args.worker.now c.args.self.now) (doing_there c.look.new.worker c.look.new.self) c.look.ensures.looks);
+      (looks_holds g.N.NameCalls c.args.shared.now.cache.now c.args.shared.now.zones.now c.in-Look.key (line_state_there c.args.worker.now c.args.self.now) (line_state_there c.look.new.worker c.look.new.self) c.look.ensures.looks);
   seat = c.look.ensures.stays.seat;
 }
