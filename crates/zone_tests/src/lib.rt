@@ -3,8 +3,6 @@
 //! What no clause of the zones' lower crates says: rows at the edges, and their contracts met at types of a caller's own.
 
 #[cfg(test)]
-mod arenas;
-#[cfg(test)]
 mod body;
 #[cfg(test)]
 mod buckets;

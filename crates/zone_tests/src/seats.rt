@@ -1,7 +1,2 @@
-mod lists;
 mod new_ports;
-mod plain_seat;
-mod sealing;
-mod sequences;
-mod shelves;
 mod turned;

@@ -6,6 +6,7 @@ use std::process::Abort;
 use std::test::Fail;
 
 mod plain;
+mod rows;
 
 use plain::Plain;
 

@@ -1,5 +1,5 @@
+use super::clock::two_seats;
 use super::plain_seat::PlainSeat;
-use crate::clock::two_seats;
 use std::test::Fail;
 
 #[test]

@@ -1,5 +1,5 @@
+use crate::{AddRefused, Arena, ArenaRefused, NotTaken, TakeRefused};
 use std::test::Fail;
-use vmem_arena::{AddRefused, Arena, ArenaRefused, NotTaken, TakeRefused};
 
 #[test]
 fn the_worked_rows(rt: HostRuntime) -> Result<(), Fail> {

@@ -3,10 +3,11 @@ ghost use Rattle.deed_book.specs.Book.{book_table};
 ghost use Rattle.smr_clock.specs.Belongs.{IsPassOf, clock_id};
 ghost use Rattle.uma_seat.specs.Seat.{seat_home, seat_smr, seat_clock};
 
+use super::body::{Plain, idle_hooks};
+use super::clock::two_seats;
 use super::new_ports::new_ports;
 use super::plain_seat::cached;
-use crate::body::{Plain, idle_hooks};
-use crate::clock::two_seats;
+use crate::{SeatCache, Seating};
 use deed_book::{Book, FailBook};
 use smr_clock::{Bare, Clock, Pass};
 use std::alloc::Global;
@@ -14,7 +15,6 @@ use std::snapshot::Snapshot;
 use std::sync::Wait;
 use std::test::Fail;
 use uma_bucket::Shelved;
-use uma_seat::{SeatCache, Seating};
 
 /// A seat of one domain, whose readers hold no lock, with buckets of 4.
 fn smr_seat(alloc: Global, clock: &Clock<Bare>, book: &Book) -> Result<SeatCache<Plain, Bare>, Fail>

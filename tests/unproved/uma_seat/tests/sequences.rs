@@ -1,8 +1,8 @@
 //! Every sequence of at most six calls, of a seat and of plain lists beside it.
+use super::body::Plain;
+use super::clock::two_seats;
 use super::lists::{Full, Lists};
 use super::plain_seat::PlainSeat;
-use crate::body::Plain;
-use crate::clock::two_seats;
 use smr_clock::{Bare, Clock};
 use std::alloc::Global;
 use std::sync::Wait;

@@ -4,8 +4,9 @@ ghost use Rattle.uma_bucket.specs.Home.{IsHome};
 ghost use Rattle.uma_life.specs.Cached.{cached_table, cached_zone, cached_domain};
 ghost use Rattle.uma_seat.specs.Seat.{seat_home, seat_smr};
 
+use super::body::{Plain, idle_hooks};
 use super::new_ports::new_ports;
-use crate::body::{Plain, idle_hooks};
+use crate::{SeatCache, Seating};
 use deed_book::{Book, FailBook};
 use smr_clock::{Bare, Clock};
 use std::alloc::Global;
@@ -14,7 +15,6 @@ use std::sync::Wait;
 use std::test::Fail;
 use uma_bucket::{Bucket, Shelved};
 use uma_life::{Cached, Stored};
-use uma_seat::{SeatCache, Seating};
 
 /// A seat of domain 0 in a plain zone, with buckets of 4, and the book of its items' numbers.
 #[derive(Drop)]
