@@ -11,7 +11,6 @@ use Rattle.uma_keg.specs.declared.fetch_refused.FetchRefused.TheVariants.{Refuse
 use Rattle.uma_keg.specs.declared.keg.Keg.{Keg}
 use Rattle.uma_keg.specs.BringSlabs.{IsNewSlab, BringsSlabs, StopsAtSlab}
 use Rattle.uma_keg.specs.Fetched.{Fetches, FetchesInto, RefusesFetch}
-use Rattle.uma_keg.specs.FreeSlabs.{DropsFrom}
 use Rattle.uma_keg.specs.Keg.{places_in}
 use Rattle.uma_keg.specs.TakeItem.{IsTaken}
 use Rattle.uma_places.specs.Places.{KegPlaces, KeepsSlabs, domain_at}
@@ -47,12 +46,6 @@ brought_domains old new domain count domains brings own is = record {
     | inr was ↦
         is.each index found (sym (brings.other_slabs index (λ new_slab. not_both (domain_at (places_in old) index) was.0 new_slab.absent was.1)) ∙ at)
   ];
-}
-
--- slabs that are given up are in no more
-pub dropped_domains : (old new : KegPlaces) (from domains : ℕ) → DropsFrom old from new → HasDomainsBelow domains old → HasDomainsBelow domains new
-dropped_domains old new from domains drops is = record {
-  each = λ index found at. is.each index found (sym (drops.other_slabs index (λ goes. not_both (domain_at new index) found (drops.absent index goes) at)) ∙ at);
 }
 
 kept_domains : (old new : KegPlaces) (domains : ℕ) → KeepsSlabs old new → HasDomainsBelow domains old → HasDomainsBelow domains new

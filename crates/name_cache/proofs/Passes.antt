@@ -1,5 +1,5 @@
 -- What a pass keeps by one call after another.
-use Rattle.std.proofs.Common.{◌≡◌, ◌≤◌, ◌∙◌, arith}
+use Rattle.std.proofs.Common.{◌≤◌, ◌∙◌, arith}
 use Rattle.smr_clock.specs.declared.clock.Clock.{Clock}
 use Rattle.smr_clock.specs.Belongs.{holder, view}
 use Rattle.uma_seat.specs.Seat.{IsSameSeat}

@@ -1,8 +1,8 @@
 -- The law of names after rows and entries went from one seat to another.
-use Rattle.std.proofs.Common.{◌≡◌, ℕ, ◌<◌, ◌≢◌, ◌⊎◌, List, [], ◌∷◌, ◌++◌, length, set, refl, sym, ap, ◌∙◌, subst, ⊎_elim, inl, inr, Some, None, length-set}
+use Rattle.std.proofs.Common.{◌≡◌, ℕ, ◌≢◌, ◌⊎◌, List, [], ◌∷◌, ◌++◌, length, set, refl, sym, ap, ◌∙◌, subst, ⊎_elim, inl, inr, Some, None, length-set}
 use mathlib.Core.Option.{some}
 use lib.ListN.{get_elem?}
-use Rattle.smr_core.proofs.PlaceLemmas.{set_here, set_else, at_longer, at_end, place_within}
+use Rattle.smr_core.proofs.PlaceLemmas.{set_here, set_else, at_longer, at_end}
 use Rattle.smr_clock.specs.declared.setup.Setup.{Setup}
 use Rattle.name_rows.specs.declared.records.Bound.{Bound}
 use Rattle.name_rows.specs.declared.records.Record.{Record}
@@ -90,9 +90,6 @@ module _ (a : Setup) (ws : List ℕ) (ps ps' : List Part) (held : Held a ws ps) 
 -- ---- a split
 
 module _ (ps : List Part) (id : ℕ) (p l r : Part) (here : get_elem? ps id ≡ some p) where
-  within : id < length ps
-  within = place_within ps id p here
-
   split_at : length (set ps id l) ≡ length ps
   split_at = length-set ps id l
 

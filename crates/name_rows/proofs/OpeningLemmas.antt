@@ -118,9 +118,6 @@ module _ (a : Setup) (version : ℕ) where
 
   -- ---- the law
 
-  abbrev parts : List Part
-  parts = first_part a ∷ []
-
   alone : (F : Part → Type 0) (at : ℕ) → Has (first_part a ∷ []) at F → (at ≡ 0) × F (first_part a)
   alone F zero h = (refl, subst F (sym (some-injective (first_part a) h.0 h.1)) h.2)
   alone F (suc at) h = absurd (some-ne-none h.0 (sym h.1))

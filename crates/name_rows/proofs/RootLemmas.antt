@@ -110,13 +110,3 @@ module _ {A : Type 0} (number : A → ℕ) where
       (λ f. let h : m ≢ n = (λ e. let g : (m == n) ≡ true = ap (λ (k : ℕ). k == n) e ∙ eq_refl n in let d : true ≡ false = sym g ∙ f in cc) in
       found_other m n l h ∙ by m ∙ sym (get_or-set_other kept n m None None h))
       (eq_of m n)
-
-  -- and after one was put into it
-  pub put_by_number : (x : A) (l : List A) (kept : List (Option A)) → number x < length kept → ((m : ℕ) → found number m l ≡ slice_index_or kept m None)
-      → (m : ℕ) → found number m (x ∷ l) ≡ slice_index_or (set kept (number x) (Some x)) m None
-  put_by_number x l kept below by m =
-      ⊎_elim
-      (λ e. found_here m x l e ∙ sym (ap (λ (k : ℕ). get_or (set kept (number x) (Some x)) k None) (sym e) ∙ get_or-set_same kept (number x) (Some x) None below))
-      (λ f. let h : m ≢ number x = (λ e. let g : (number x == m) ≡ true = ap (λ (k : ℕ). number x == k) e ∙ eq_refl (number x) in let d : true ≡ false = sym g ∙ f in cc) in
-      found_behind m x l f ∙ by m ∙ sym (get_or-set_other kept (number x) m (Some x) None h))
-      (eq_of (number x) m)

@@ -11,8 +11,8 @@ use Rattle.name_rows.specs.declared.entry_state.EntryState.{EntryState}
 use Rattle.name_rows.specs.declared.entry_state.EntryState.TheVariants.{Written, Linked, Unlinked}
 use Rattle.name_rows.specs.declared.owned.Owned.{Owned}
 use Rattle.name_rows.specs.declared.part.Part.{Part}
-use Rattle.name_rows.specs.Records.{owned_as, taken_out}
-use Rattle.name_rows.specs.Linking.{bound_by, written_in, relinked, unlinked, restated, goes_on, linking, unlinking, first_seen, last_seen, last_version, linked_in, last_told, row_record}
+use Rattle.name_rows.specs.Records.{owned_as}
+use Rattle.name_rows.specs.Linking.{bound_by, written_in, relinked, restated, goes_on, linking, first_seen, last_seen, linked_in, last_told, row_record}
 use Rattle.name_rows.specs.Moving.{taken, linked_rest, unlinked_entry}
 use Rattle.smr_clock.specs.declared.clock.Clock.{Clock}
 use Rattle.smr_clock.specs.Belongs.{setup_of}
@@ -38,24 +38,12 @@ seen_form (v ∷ []) n version content e = first v v.records refl e
         (r, rest, (λ k. record { number = (ap (λ (t : ℕ × ℕ × Option Bound). t.0) p) k; records = own k } ∷ []), ap (λ (t : ℕ × ℕ × Option Bound). t.1) p, ap (λ (t : ℕ × ℕ × Option Bound). t.2) p)
 seen_form (v ∷ w ∷ more) n version content e = absurd (let f : None ≡ Some (n, version, content) = e in cc)
 
-pub version_seen : (rows : List RowView) (n version : ℕ) (content : Option Bound) → last_seen rows ≡ Some (n, version, content) → last_version rows ≡ Some (n, version)
-version_seen rows n version content e =
-    let k = seen_form rows n version content e in
-    ap last_version k.2 ∙ ap (λ (m : ℕ). Some (n, m)) k.3
-
 -- the row after its store
 module _ (p : Part) (n version : ℕ) (content : Option Bound) (seen : last_seen p.rows ≡ Some (n, version, content)) (f : ℕ → ℕ → EntryState → EntryState) (found : ℕ) (next : Option Bound) where
   pub next_seen : last_seen (goes_on f found next p p.rows).rows ≡ Some (n, version + 1, next)
   next_seen =
       let k = seen_form p.rows n version content seen in
       ap (λ (l : List RowView). last_seen (goes_on f found next p l).rows) k.2 ∙ ap (λ (m : ℕ). Some (n, m + 1, next)) k.3
-
-  pub next_told : last_told (goes_on f found next p p.rows).rows ≡ row_record n (version + 1) next (taken_out next content) ∷ []
-  next_told =
-      let k = seen_form p.rows n version content seen in
-      ap (λ (l : List RowView). last_told (goes_on f found next p l).rows) k.2
-      ∙ ap (λ (m : ℕ). row_record n (m + 1) next (taken_out next k.0.content) ∷ []) k.3
-      ∙ ap (λ (o : Option Bound). row_record n (version + 1) next (taken_out next o) ∷ []) k.4
 
   pub next_owned : (goes_on f found next p p.rows).owned ≡ map (restated (f n (version + 1))) p.owned
   next_owned =
@@ -70,23 +58,6 @@ pub record Unlinking (v v' other : View Part) (n version : ℕ) (b : Bound) : Ty
   pub setup : v'.setup ≡ v.setup
   pub no_rows : other.host.rows ≡ []
   pub owns : other.host.owned ≡ owned_as b Unlinked ∷ []
-  pub other_setup : other.setup ≡ v.setup
-
-pub unlinks_so : (v w v' other : View Part) (n version : ℕ) (b : Bound) → last_seen v.host.rows ≡ Some (n, version, Some b) → v.host.owned ≡ linked_in n version (Some b)
-    → (found : ℕ) × (w ≡ with_host v (unlinking found v.host)) → HostSplits linked_rest unlinked_entry w v' other → Unlinking v v' other n version b
-unlinks_so v w v' other n version b seen owned step split =
-    let rows : v'.host.rows ≡ (unlinking step.0 v.host).rows = ap (λ (x : View Part). x.host.rows) split.after ∙ ap (λ (x : View Part). x.host.rows) step.1 in
-    let owns : w.host.owned ≡ owned_as b Unlinked ∷ [] =
-    ap (λ (x : View Part). x.host.owned) step.1 ∙ next_owned v.host n version (Some b) seen unlinked step.0 None ∙ ap (λ (l : List Owned). map (restated (unlinked n (version + 1))) l) owned in
-    record {
-      seen = ap last_seen rows ∙ next_seen v.host n version (Some b) seen unlinked step.0 None;
-      told = ap last_told rows ∙ next_told v.host n version (Some b) seen unlinked step.0 None;
-      owned = ap (λ (x : View Part). x.host.owned) split.after ∙ ap (λ (l : List Owned). (linked_rest (record w.host { owned = l })).owned) owns;
-      setup = ap (λ (x : View Part). x.setup) split.after ∙ ap (λ (x : View Part). x.setup) step.1;
-      no_rows = ap (λ (x : View Part). x.host.rows) split.split;
-      owns = ap (λ (x : View Part). x.host.owned) split.split ∙ ap (λ (l : List Owned). (unlinked_entry (record w.host { owned = l })).owned) owns;
-      other_setup = ap (λ (x : View Part). x.setup) split.split ∙ ap (λ (x : View Part). x.setup) step.1;
-    }
 
 -- ---- a link
 
@@ -107,19 +78,11 @@ module _ (v w x : View Part) (n version : ℕ) (content : Option Bound) (o : Own
   pub written_one : written_in x.host.owned ≡ Some (bound_by o)
   written_one = ap written_in joined_owned ∙ ap (λ (y : Owned). written_in (y ∷ linked_in n version content)) is_written
 
-  pub linked_setup : (y : View Part) → (found : ℕ) × (y ≡ with_host x (linking found x.host)) → y.setup ≡ v.setup
-  linked_setup y step = ap (λ (z : View Part). z.setup) step.1 ∙ ap (λ (z : View Part). z.setup) joined
-
   module _ (y : View Part) (step : (found : ℕ) × (y ≡ with_host x (linking found x.host))) where
     pub linked_seen : last_seen y.host.rows ≡ Some (n, version + 1, Some (bound_by o))
     linked_seen =
         ap (λ (z : View Part). last_seen z.host.rows) step.1 ∙ next_seen x.host n version content joined_seen relinked step.0 (written_in x.host.owned)
         ∙ ap (λ (c : Option Bound). Some (n, version + 1, c)) written_one
-
-    pub linked_told : last_told y.host.rows ≡ row_record n (version + 1) (Some (bound_by o)) None ∷ []
-    linked_told =
-        ap (λ (z : View Part). last_told z.host.rows) step.1 ∙ next_told x.host n version content joined_seen relinked step.0 (written_in x.host.owned)
-        ∙ ap (λ (c : Option Bound). row_record n (version + 1) c (taken_out c content) ∷ []) written_one
 
     linked_owned : y.host.owned ≡ map (restated (relinked n (version + 1))) (owned_as (bound_by o) Written ∷ linked_in n version content)
     linked_owned =
@@ -138,23 +101,11 @@ module _ (v w x : View Part) (n version : ℕ) (content : Option Bound) (o : Own
       pub rest_seen : last_seen v'.host.rows ≡ Some (n, version + 1, Some (bound_by o))
       rest_seen = ap (λ (z : View Part). last_seen z.host.rows) split.after ∙ linked_seen
 
-      pub rest_told : last_told v'.host.rows ≡ row_record n (version + 1) (Some (bound_by o)) None ∷ []
-      rest_told = ap (λ (z : View Part). last_told z.host.rows) split.after ∙ linked_told
-
       pub rest_owned : v'.host.owned ≡ linked_in n (version + 1) (Some (bound_by o))
       rest_owned = ap (λ (z : View Part). z.host.owned) split.after ∙ ap (λ (l : List Owned). (linked_rest (record y.host { owned = l })).owned) (linked_both b there)
 
-      pub rest_setup : v'.setup ≡ v.setup
-      rest_setup = ap (λ (z : View Part). z.setup) split.after ∙ linked_setup y step
-
-      pub out_rows : other.host.rows ≡ []
-      out_rows = ap (λ (z : View Part). z.host.rows) split.split
-
       pub out_owns : other.host.owned ≡ owned_as b Unlinked ∷ []
       out_owns = ap (λ (z : View Part). z.host.owned) split.split ∙ ap (λ (l : List Owned). (unlinked_entry (record y.host { owned = l })).owned) (linked_both b there)
-
-      pub out_setup : other.setup ≡ v.setup
-      out_setup = ap (λ (z : View Part). z.setup) split.split ∙ linked_setup y step
 
 -- ---- words that an entry has
 

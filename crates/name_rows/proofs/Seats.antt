@@ -44,9 +44,6 @@ module _ (ps : List Part) (id : ℕ) (x p : Part) (here : get_elem? ps id ≡ so
   pub at_here : (F : Part → Type 0) (at : ℕ) → at ≡ id → Has ps at F → F p
   at_here F at e h = subst F (same_place ps id h.0 p (subst (λ (n : ℕ). get_elem? ps n ≡ some h.0) e h.1) here) h.2
 
-  pub has_here : (F : Part → Type 0) → F p → Has ps id F
-  has_here F f = (p, here, f)
-
   -- what is so of a seat after the step, was so before
   pub has_back : (F : Part → Type 0) (at : ℕ) → (F x → F p) → Has (set ps id x) at F → Has ps at F
   has_back F at same has =

@@ -39,9 +39,6 @@ module _ (version : Version) where
       ∙ sym (append_assoc (flat_map (seen_line version) first) (text_of sees) (flat_map (seen_line version) saw))
 
 module _ (version : Version) where
-  pub prints-none : (s : State) → Prints version s [] [] s
-  prints-none s = record { sees = []; run = refl; text = refl }
-
   pub prints-push : (s mid s' : State) (lines : List TurnLine) (l : TurnLine) (before bytes : List ℕ)
       → Prints version s lines before mid → PrintsLine version mid l before bytes s' → Prints version s (lines ++ l ∷ []) bytes s'
   unfolding text_of

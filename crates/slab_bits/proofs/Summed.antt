@@ -5,7 +5,7 @@ use Rattle.std.specs.Int.RustNames.{bit_or, bit_and}
 use Rattle.std.proofs.Math.Arith.{digits_div}
 use Rattle.std.proofs.lemmas.Bool.{cases_lt, cases_eq, lt-ltb, le-ltb, ltb-true}
 use Rattle.std.proofs.lemmas.List.{ext_get_or, get_or_past, get_or-replicate, get_or-set_same, get_or-set_other, length-replicate, length-set}
-use Rattle.std.proofs.lemmas.Nat.{leading_top, and_le_l}
+use Rattle.std.proofs.lemmas.Nat.{leading_top}
 use Rattle.std.proofs.lemmas.Nat.Bits.{bit_at-zero, bit_at-trailing_zeros, bit_at_above, bit_at_set_same, bit_at_set_other, bit_at_clear_same, bit_at_clear_other}
 use Rattle.slab_bits.specs.Members.{HasNoneFrom, IsLeastFrom, IsGreatest}
 use Rattle.slab_bits.specs.Words.{is_set, places_of, AreSummed}
@@ -146,11 +146,6 @@ AreSummed-with summary words are n below =
     (ap (λ (b : ℕ). b == 1) (bit_at_set_same w64 summary k (omega arith)) ∙ sym (lt-ltb 0 (bit_or word (1 * 2 ^ (n % 64) % 2 ^ 64)) some))
     (λ i other. ap (λ (b : ℕ). b == 1) (bit_at_set_other w64 summary k (omega arith) i other))
 
--- a word that still has a bit keeps its bit of the summary
-pub AreSummed-some : (summary : ℕ) (words : List ℕ) → AreSummed summary words → (k word : ℕ) → k < 16 → word < 2 ^ 64 → 0 < word → 0 < get_or words k 0 → AreSummed summary (set words k word)
-AreSummed-some summary words are k word within fit some had =
-    AreSummed-set summary summary words are k word within fit (are.summed k ∙ lt-ltb 0 (get_or words k 0) had ∙ sym (lt-ltb 0 word some)) (λ i _. refl)
-
 -- a word that became 0 loses it
 pub AreSummed-none : (summary : ℕ) (words : List ℕ) → AreSummed summary words → summary < 2 ^ 64 → (k word : ℕ) → k < 16 → word ≡ 0
     → AreSummed (bit_and summary (bit_not w64 (1 * 2 ^ k % 2 ^ 64))) (set words k word)
@@ -165,10 +160,6 @@ AreSummed-none summary words are fit k word within none =
       | inl below ↦ ap (λ (b : ℕ). b == 1) (bit_at_clear_other w64 summary k small i below other)
       | inr past ↦ ap (λ (b : ℕ). b == 1) (bit_at_above summary' 64 i fits past ∙ sym (bit_at_above summary 64 i fit past))
     ])
-
--- what clearing leaves of a word is some of what it had
-pub had_bit : (word mask : ℕ) → 0 < bit_and word mask → 0 < word
-had_bit word mask some = let less = and_le_l word mask in omega arith
 
 -- the words of the set with no member
 zeros : (k : ℕ) → ◌≡◌ {A = ℕ} (get_or (replicate 16 0) k 0) 0

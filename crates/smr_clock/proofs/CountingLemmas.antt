@@ -72,9 +72,6 @@ module _ (a : Setup) (ws : List ℕ) (vs : Views) (id : ℕ) (v : View (Option �
 
   -- the keeper writes
   module _ (n : ℕ) (mine : v.host ≡ Some n) (value : ℕ) where
-    written : Views
-    written = set vs id (with_host v (Some value))
-
     keeper : (j m : ℕ) → KeepsCount (set vs id (with_host v (Some value))) j m → (j ≡ id) × (value ≡ m)
     keeper j m keeps =
         ⊎_elim

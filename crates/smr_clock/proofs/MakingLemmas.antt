@@ -1,7 +1,7 @@
 -- The workers of a clock are split off in order.
 use Rattle.std.proofs.Common.{◌≡◌, ℕ, zero, suc, ◌+◌, ◌<◌, List, [], ◌∷◌, ◌++◌, length, length-set, replicate, set, sym, refl, ap, ◌∙◌, subst, ⊎_elim, arith, Some}
 use Rattle.std.proofs.Math.ListN.{length-append, length-replicate}
-use mathlib.Core.Option.{some, some-ne-none}
+use mathlib.Core.Option.{some}
 use lib.ListN.{get_elem?}
 use Rattle.atomic_table.specs.Seated.{TableId}
 use Rattle.smr_core.specs.ClockState.{all_seats, opening_words, place_after_seats, presence_place, read_place, write_place}
@@ -26,9 +26,6 @@ words_made a b more given made count is same whole all =
     all ∙ ap (λ (l : List ℕ). length l) is ∙ length-append (opening_words b.config) given ∙ (λ i. own i + length (whole i)) ∙ (λ i. place_after_seats (same i).config + length more)
 
 module _ {H P : Type 0} {g : Ghosts H P} (table : TableId) (copied : P → P) (a : Setup) (first : P) where
-  pub none_yet : AreSplitOff {H = H} {P = P} {g = g} table copied a first []
-  none_yet = record { here = λ seat pass there. absurd (some-ne-none pass (sym there)); fresh = λ seat pass there. absurd (some-ne-none pass (sym there)) }
-
   pub one_more : (passes : List (Pass H P g)) (pass : Pass H P g) → AreSplitOff table copied a first passes
       → pass.seat.table_id ≡ table → view pass ≡ fresh_view copied a first (length passes) → AreSplitOff table copied a first (passes ++ pass ∷ [])
   one_more passes pass before here fresh =

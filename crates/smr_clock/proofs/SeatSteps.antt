@@ -1,6 +1,6 @@
 -- A step of a host's seat, on a word of the host's or on a hand.
 use Rattle.std.proofs.Common.{◌≡◌, ℕ, ◌<◌, List, refl, sym, ap, ◌∙◌, subst, ⊎_elim, arith, Bool, true, false}
-use Rattle.std.specs.Prelude.{◌==◌, slice_index, slice_set}
+use Rattle.std.specs.Prelude.{◌==◌, slice_index}
 use borrow.Author.Tests.{eqb-true, ne_eqb}
 use mathlib.Core.Option.{some}
 use lib.ListN.{get_elem?}
@@ -11,12 +11,11 @@ use Rattle.smr_core.specs.ClockState.{write_place, read_place, place_after_seats
 use Rattle.smr_core.specs.ClockLaw.{ClockLaw}
 use Rattle.smr_clock.specs.declared.setup.Setup.{Setup}
 use Rattle.smr_clock.specs.declared.view.View.{View}
-use Rattle.smr_clock.specs.declared.host_act.HostAct.{HostAct}
 use Rattle.smr_clock.specs.declared.host_act.HostAct.TheVariants.{Load}
 use Rattle.smr_clock.specs.Views.{holders_of}
 use Rattle.smr_clock.specs.HostLaws.{Rule, Includes}
 use Rattle.smr_clock.specs.Steps.{IsWriteFound, IsReadFound}
-use Rattle.smr_clock.specs.HostSteps.{Change, HostKeeps, HostStepped, IsHand, SeatKeeps, SeatStepped, FindsAt, FindsHand, looked, looked_at, with_host, word_after}
+use Rattle.smr_clock.specs.HostSteps.{Change, IsHand, SeatKeeps, SeatStepped, FindsAt, FindsHand, looked, looked_at, with_host}
 use Rattle.smr_clock.proofs.Found.{write_found, read_found}
 use Rattle.smr_clock.proofs.Kept.{holder_there}
 
@@ -49,21 +48,7 @@ pub looked_else : {P : Type 0} (v : View P) (word found : ℕ) → read_place < 
 looked_else v word found above =
     ap (λ (b : Bool). looked_at b (word == read_place) v found) (no_write word above) ∙ ap (λ (b : Bool). looked_at false b v found) (no_read word above)
 
-finds_else : (h : Holder) (word found : ℕ) → read_place < word → FindsHand h word found
-finds_else h word found above =
-    subst (λ (b : Bool). FindsAt b (word == read_place) h found) (sym (no_write word above))
-    (subst (λ (b : Bool). FindsAt false b h found) (sym (no_read word above)) tt)
-
 module _ {P : Type 0} (holds : Rule P) where
-  pub host_keeps : (a : Setup) (id : ℕ) (v : View P) (word : ℕ) (act : HostAct) (changes : Change P) → read_place < word → SeatKeeps holds a id v word act changes → HostKeeps holds a id v word act changes
-  host_keeps a id v word act changes above kept ws vs held at small =
-      let t = kept ws vs held at small in
-      (t.0, t.1, subst (λ (x : View P). holds a (slice_set ws word (word_after act (slice_index ws word))) (slice_set vs id (with_host x t.0))) (looked_else v word (slice_index ws word) above) t.2)
-
-  pub seat_stepped : (v : View P) (word : ℕ) (act : HostAct) (changes : Change P) (found : ℕ) (v' : View P) → read_place < word → HostStepped v word act changes found v' → SeatStepped v word act changes found v'
-  seat_stepped v word act changes found v' above s =
-      (finds_else v.holder word found above, s.0, s.1, subst (λ (x : View P). v' ≡ with_host x s.0) (sym (looked_else v word found above)) s.2)
-
   at_own : (includes : Includes holds) (a : Setup) (slots id : ℕ) (me : Me (Unit {0}) (View P)) (word : ℕ) (changes : Change P) → SeatKeeps holds a id me.0 word Load changes
       → Allows (λ (s : State (Unit {0}) (View P)). holds a s.words s.views) slots id me word (λ n. n) (λ found after. SeatStepped me.0 word Load changes found after.0 × (after.1 ≡ me.1))
   at_own includes a slots id me word changes kept s held counted at small =

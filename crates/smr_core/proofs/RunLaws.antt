@@ -23,7 +23,7 @@ use Rattle.smr_core.specs.ClockLaw.{HolderFits}
 use Rattle.smr_core.specs.CoreState.{State, IsActor, CoreLaw, opening}
 use Rattle.smr_core.specs.CoreStep.{IsStep, Run, Needs, taker, poll_goes_on, poll_sees, swap_sees, check_sees}
 use Rattle.smr_core.specs.YesMeans as means
-use Rattle.smr_core.specs.YesMeans.{IsReached, LeadsTo, IsPolling, NoNewPoll, AnswersYes, YesAtLoad, YesAtSwap, SaysYes, IsOver, NoSectionBefore}
+use Rattle.smr_core.specs.YesMeans.{IsReached, LeadsTo, IsPolling, AnswersYes, YesAtLoad, YesAtSwap, SaysYes, IsOver}
 use Rattle.smr_core.proofs.PlaceLemmas.{same_place, set_here}
 use Rattle.smr_core.proofs.KindLemmas.{by_test, in_phase, in_task}
 use Rattle.smr_core.proofs.CoreLemmas.{CoreLater, core_keeps, holder_there}

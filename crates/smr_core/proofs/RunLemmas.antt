@@ -1,5 +1,5 @@
 -- Runs, joined end to end.
-use Rattle.std.proofs.Common.{◌≡◌, ℕ, List, [], ◌∷◌, ◌++◌, take, refl, sym, subst, ◌+◌, ◌<◌, ◌≤◌, length, get_or, slice_get, Some, zero, suc, arith, inl, take_all}
+use Rattle.std.proofs.Common.{◌≡◌, ℕ, List, [], ◌∷◌, ◌++◌, take, refl, sym, subst, ◌+◌, ◌<◌, length, get_or, slice_get, Some, zero, suc, arith, inl}
 use Rattle.std.proofs.lemmas.List.{take_more}
 use Rattle.smr_core.specs.declared.step.Step.{Step}
 use Rattle.smr_core.specs.declared.seen.Seen.{Seen}
@@ -39,7 +39,3 @@ stops s mid s' steps n sees d refused below p q e =
       run = subst (λ (t : State). Run s (take n steps) sees t) (sym e) p;
       cause = inl (get_or steps n d, slice_get-below steps n d below, subst (λ (t : State). StepIsRefused t (get_or steps n d) refused) (sym e) q);
     }
-
--- a run of a whole list
-pub run_all : (s s' : State) (steps : List Step) (n : ℕ) (sees : List Seen) → length steps ≤ n → Run s (take n steps) sees s' → Run s steps sees s'
-run_all s s' steps n sees h p = subst (λ (l : List Step). Run s l sees s') (take_all n steps h) p

@@ -14,13 +14,12 @@ use Rattle.smr_core.specs.declared.seen.Seen.{Seen}
 use Rattle.smr_core.specs.declared.seen.Seen.TheVariants as seen
 use Rattle.smr_core.specs.declared.step_refused.StepRefused.{StepRefused}
 use Rattle.smr_core.specs.declared.step_refused.StepRefused.TheVariants.{NoSeat, OutOfTurn, Crowded, Memory}
-use Rattle.smr_core.specs.declared.turn.Turn.{Turn}
-use Rattle.smr_core.specs.declared.turn.Turn.TheVariants.{Enter, PollLoads, Poll}
+use Rattle.smr_core.specs.declared.turn.Turn.TheVariants.{Enter, Poll}
 use Rattle.smr_core.specs.ClockState.{write_place, presence_place, seat_place, next_present, seats_below}
 use Rattle.smr_core.specs.ClockStep as clock
 use Rattle.smr_core.specs.CoreState.{State, IsActor}
 use Rattle.smr_core.specs.CoreStep.{IsStep, Moves, Needs, StepIsRefused, Run, IsMissing, IsOutOfTurn, MayMakeNote, taker, poll_goes_on, poll_sees, load_sees}
-use Rattle.smr_core.specs.Turns.{IsSure, IsTurn, RefusesTurn, Scans, first_step, is_hand, is_late, saw_at, set_in, set_at}
+use Rattle.smr_core.specs.Turns.{IsSure, IsTurn, Scans, is_hand, is_late, saw_at, set_in, set_at}
 use Rattle.smr_core.proofs.PlaceLemmas.{set_here, same_place, place_within}
 use Rattle.smr_core.proofs.RunLemmas.{run-push}
 
@@ -203,17 +202,6 @@ poll-whole s mid s' n tag set k sees saw run all begun step =
     (subst (λ (j : ℕ). Run s (PollRead n tag ∷ PollLoad n ∷ PollPresent n ∷ (map (λ seat. PollScan n) (seats_below set j) ++ PollSwap n ∷ [])) (sees ++ saw ∷ []) s') all
     (run-push s mid s' (poll_so_far n tag (seats_below set k)) sees (PollSwap n) saw run step)))
 
--- a poll's load of the write hand that goes on, with that of the presence word
-pub poll-loads-whole : (s mid s' : State) (n : ℕ) (x y : Seen) (sees : List Seen) → sees ≡ x ∷ y ∷ [] → IsStep s (PollLoad n) x mid → is_hand x ≡ true
-    → IsStep mid (PollPresent n) y s' → IsTurn s (PollLoads n) sees s'
-poll-loads-whole s mid s' n x y sees e p hand q =
-    subst (λ (l : List Seen). IsTurn s (PollLoads n) l s') (sym e)
-    (subst (λ (b : Bool). Run s (PollLoad n ∷ cond b (PollPresent n ∷ []) []) (x ∷ y ∷ []) s') (sym hand) (mid, p, (s', q, refl)))
-
--- two steps
-pub run-two : (s mid s' : State) (a b : Step) (x y : Seen) → IsStep s a x mid → IsStep mid b y s' → Run s (a ∷ b ∷ []) (x ∷ y ∷ []) s'
-run-two s mid s' a b x y p q = (mid, p, (s', q, refl))
-
 pub run-three : (s m1 m2 s' : State) (a b c : Step) (x y z : Seen) → IsStep s a x m1 → IsStep m1 b y m2 → IsStep m2 c z s' → Run s (a ∷ b ∷ c ∷ []) (x ∷ y ∷ z ∷ []) s'
 run-three s m1 m2 s' a b c x y z p q r = (m1, p, (m2, q, (s', r, refl)))
 
@@ -231,13 +219,3 @@ enter-late s m1 m2 m3 s' n x y z w sees e p q r late v =
     (subst (λ (b : Bool). Run s (EnterLoad n ∷ EnterStore n ∷ EnterCheck n ∷ cond b (Clear n ∷ []) []) (x ∷ y ∷ z ∷ w ∷ []) s') (sym late)
     (run-push s m3 s' (EnterLoad n ∷ EnterStore n ∷ EnterCheck n ∷ []) (x ∷ y ∷ z ∷ []) (Clear n) w
     (run-three s m1 m2 m3 (EnterLoad n) (EnterStore n) (EnterCheck n) x y z p q r) v))
-
--- a turn is refused as its first step is
-pub refuses-turn : (s : State) (turn : Turn) (refused : StepRefused) → StepIsRefused s (first_step turn) refused → RefusesTurn s turn refused
-refuses-turn s turn (NoSeat m count) r = r
-refuses-turn s turn (OutOfTurn k in_phase in_task) r = r
-refuses-turn s turn (Crowded count) r = r
-refuses-turn s turn Memory r = tt
-
-pub refuses-memory : (s : State) (turn : Turn) (refused : StepRefused) → refused ≡ Memory → RefusesTurn s turn refused
-refuses-memory s turn refused e = subst (λ (z : StepRefused). RefusesTurn s turn z) (sym e) tt

@@ -5,7 +5,7 @@ use Rattle.smr_core.specs.declared.actor.Actor.{Actor}
 use Rattle.smr_core.specs.declared.holder.Holder.{Holder}
 use Rattle.smr_core.specs.declared.phase.Phase.TheVariants as phase
 use Rattle.smr_core.specs.declared.task.Task.TheVariants as task
-use Rattle.smr_core.specs.ClockState.{place_after_seats, presence_place, seat_place, write_hand}
+use Rattle.smr_core.specs.ClockState.{place_after_seats, seat_place, write_hand}
 use Rattle.smr_core.specs.ClockLaw.{HolderFits, all_advances}
 use Rattle.smr_core.specs.CoreState.{State, IsActor, CoreLaw, holders_of}
 use Rattle.smr_core.proofs.PlaceLemmas.{at_map, term-le-sum_by}
@@ -30,10 +30,6 @@ module _ (s : State) (n : ℕ) (x : Actor) (law : CoreLaw s) (there : IsActor s 
   entered_place e =
       worker_place (⊎_elim (λ i. seat_in_phase s.config s.words x.holder phase.Inside fits i) (λ l. seat_in_phase s.config s.words x.holder phase.Late fits l) e)
 
-  -- so is the presence word, and a seat that comes or leaves is below 64
-  pub presence_there : presence_place s.config < length s.words
-  presence_there = let places : length s.words ≡ place_after_seats s.config = law.words in omega arith
-
   pub seat_below : IsSome x.holder.seat → n < 64
   seat_below worker =
       let mine : x.holder.seat ≡ Some n = seat_of_worker s.config n x.holder.seat (law.seats n x there) worker in
@@ -45,12 +41,6 @@ module _ (s : State) (n : ℕ) (x : Actor) (law : CoreLaw s) (there : IsActor s 
 
   pub comer_below : x.holder.phase ≡ phase.Vacant → n < 64
   comer_below e = seat_below (seat_in_phase s.config s.words x.holder phase.Vacant fits e)
-
-  -- the seat that a poll scans next is below 64
-  pub scanned_below : x.holder.task ≡ task.Scanning → x.holder.scanned ≤ 64
-  scanned_below e =
-      let few : s.config.seats ≤ 64 = law.clock.numbers.few_seats in
-      let within : x.holder.scanned ≤ s.config.seats = (in_task s.config s.words x.holder task.Scanning fits e).7.0 in omega arith
 
   -- an advance that may exchange has room for its goal
   pub goal_fits : x.holder.task ≡ task.AdvLoaded → x.holder.write + 2 < 2 ^ 63

@@ -1,6 +1,6 @@
 -- What the steps of a publish come to together.
-use Rattle.std.proofs.Common.{◌≡◌, ◌≢◌, ℕ, ◌+◌, ◌<◌, ◌≤◌, ◌⊎◌, ◌∷◌, length, get_or-set_other, refl, sym, ap, ◌∙◌, subst, ⊎_elim, inl, inr, arith, Some, None, le_trans}
-use Rattle.std.proofs.Math.Nat.{le_refl, le-max_left, le-max_right}
+use Rattle.std.proofs.Common.{◌≡◌, ◌≢◌, ℕ, ◌+◌, ◌<◌, ◌≤◌, ◌∷◌, length, get_or-set_other, refl, sym, ap, ◌∙◌, subst, arith, Some, le_trans}
+use Rattle.std.proofs.Math.Nat.{le-max_left, le-max_right}
 use Rattle.smr_core.specs.declared.holder.Holder.{Holder}
 use Rattle.smr_clock.specs.declared.view.View.{View}
 use Rattle.smr_objects.specs.declared.records.SlotView.{SlotView}
@@ -10,79 +10,8 @@ use Rattle.smr_objects.specs.declared.part.Part.{Part}
 use Rattle.smr_objects.specs.Cells.{fresh_slot, slot_at, current_slot, last_version}
 use Rattle.smr_objects.specs.Stamping.{StampsSlot}
 use Rattle.smr_objects.specs.Steps.{with_slot, valued, opened, stamped, switched}
-use Rattle.smr_objects.proofs.Seats.{decide}
-use Rattle.smr_hold.specs.declared.slot_cause.SlotCause.{SlotCause}
-use Rattle.smr_hold.specs.declared.slot_cause.SlotCause.TheVariants.{Current, Unripe, Held}
-use Rattle.smr_hold.specs.Publishing.{cell_in, slot_in, current_in, GivesStamp, CauseIs, SlotWaits, Waits, published, Puts}
+use Rattle.smr_hold.specs.Publishing.{cell_in, slot_in, current_in, GivesStamp, published, Puts}
 use Rattle.smr_hold.proofs.FreeLemmas.{changed, changes}
-
--- ---- the slots that wait
-
-gives_after : (v u w : View Part) (stamp : ℕ) → u.holder.seen ≤ w.holder.seen → GivesStamp v u stamp → GivesStamp v w stamp
-gives_after v u w stamp seen g = record { write = g.write; two_above = g.two_above; not_lower = g.not_lower; seen = le_trans g.seen seen }
-
-gives_before : (v u w : View Part) (stamp : ℕ) → v.holder.seen ≤ u.holder.seen → GivesStamp u w stamp → GivesStamp v w stamp
-gives_before v u w stamp seen g = record { write = g.write; two_above = g.two_above; not_lower = le_trans seen g.not_lower; seen = g.seen }
-
-cause_after : (n : ℕ) (cause : SlotCause) (v u w : View Part) → slot_in w n ≡ slot_in u n → u.holder.seen ≤ w.holder.seen → u.holder.floor ≤ w.holder.floor → CauseIs n cause v u → CauseIs n cause v w
-cause_after n Current v u w same seen floor is = (is.0, same ∙ is.1)
-cause_after n (Unripe read stamp) v u w same seen floor is = (
-  is.0,
-  is.1,
-  le_trans is.2 floor,
-  ap (λ (x : SlotView). x.state) same ∙ is.3,
-  ap (λ (x : SlotView). x.closings) same ∙ is.4,
-  ⊎_elim (λ t. inl t) (λ t. inr (t.0, gives_after v u w stamp seen t.1)) is.5,
-  is.6,
-)
-cause_after n (Held holds) v u w same seen floor is = (is.0, ap (λ (x : SlotView). x.closings) same ∙ is.1, ap (λ (x : SlotView). x.found) same ∙ is.2, is.3)
-
-cause_before : (n : ℕ) (cause : SlotCause) (v u w : View Part) → slot_in u n ≡ slot_in v n → (cell_in u).records ≡ (cell_in v).records → v.holder.seen ≤ u.holder.seen → v.holder.floor ≤ u.holder.floor → CauseIs n cause u w → CauseIs n cause v w
-cause_before n Current v u w same records seen floor is = (ap current_slot (sym records) ∙ is.0, is.1 ∙ same)
-cause_before n (Unripe read stamp) v u w same records seen floor is = (
-  is.0,
-  le_trans floor is.1,
-  is.2,
-  is.3,
-  is.4 ∙ ap (λ (x : SlotView). x.closings) same,
-  ⊎_elim (λ t. inl (ap (λ (x : SlotView). x.state) (sym same) ∙ t)) (λ t. inr (ap (λ (x : SlotView). x.state) (sym same) ∙ t.0, gives_before v u w stamp seen t.1)) is.5,
-  λ e. is.6 (ap current_slot records ∙ e),
-)
-cause_before n (Held holds) v u w same records seen floor is = (is.0, is.1 ∙ ap (λ (x : SlotView). x.closings + 1) same, is.2, λ e. is.3 (ap current_slot records ∙ e))
-
-pub waits_none : (causes : ℕ → SlotCause) (v : View Part) → Waits 0 causes v v
-waits_none causes v =
-    record { records = refl; number = refl; values = λ n. refl; each = λ n low. absurd (omega arith); others = λ n high. refl; seen = le_refl v.holder.seen; floor = le_refl v.holder.floor }
-
-pub waits_more : (k : ℕ) (causes later : ℕ → SlotCause) (cause : SlotCause) (v u w : View Part) → Waits k causes v u → SlotWaits k cause u w → later k ≡ cause → ((n : ℕ) → n ≢ k → later n ≡ causes n) → Waits (k + 1) later v w
-waits_more k causes later cause v u w before one here other =
-    record {
-      records = one.touches.records ∙ before.records;
-      number = one.touches.number ∙ before.number;
-      values = λ n.
-          ⊎_elim
-          (λ e. subst (λ (m : ℕ). (slot_in w m).value ≡ (slot_in v m).value) (sym e) (one.touches.value ∙ before.values k))
-          (λ f. ap (λ (x : SlotView). x.value) (one.touches.others n f) ∙ before.values n)
-          (decide k n);
-      each = λ n low.
-          ⊎_elim
-          (λ e.
-          subst (λ (m : ℕ). CauseIs m (later m) v w) (sym e)
-          (subst (λ (c : SlotCause). CauseIs k c v w) (sym here) (cause_before k cause v u w (before.others k (le_refl k)) before.records before.seen before.floor one.because)))
-          (λ f.
-          subst (λ (c : SlotCause). CauseIs n c v w) (sym (other n f))
-          (cause_after n (causes n) v u w (one.touches.others n f) one.touches.seen one.touches.floor (before.each n (let g : n ≢ k = f in below n k low g))))
-          (decide k n);
-      others = λ n high. one.touches.others n (λ e. omega arith) ∙ before.others n (omega arith);
-      seen = le_trans before.seen one.touches.seen;
-      floor = le_trans before.floor one.touches.floor;
-    }
-  where
-    below : (n k : ℕ) → n < k + 1 → n ≢ k → n < k
-    below n k low other = ⊎_elim (λ (e : n < k). e) (λ (e : k ≤ n). absurd (other (omega arith))) (split n k)
-      where
-        split : (n k : ℕ) → (n < k) ⊎ (k ≤ n)
-        split n k = grind arith
 
 -- ---- a value is put in a closed slot
 
@@ -130,19 +59,6 @@ module _ (v a b c : View Part) (slot value : ℕ) (few : slot < length (cell_in 
 
   floor_after : v.holder.floor ≤ c.holder.floor
   floor_after = le_same v.holder.floor c.holder.floor (ap (λ (h : Holder). h.floor) (sym same_holder))
-
-  pub puts_first : None ≡ current_in v → Puts slot value v c
-  puts_first none =
-      record {
-        records = records_after;
-        number = number_after;
-        opens = ap (λ (x : SlotView). x.state) its_slot;
-        value_in = ap (λ (x : SlotView). x.value) its_slot;
-        former = λ f e. absurd (let g : None ≡ Some f = none ∙ e in cc);
-        others = λ n other far. wrote_touches n other;
-        seen = seen_after;
-        floor = floor_after;
-      }
 
   -- the former current slot isn't the new one
   pub not_former : (f : ℕ) → Some f ≡ current_in v → Some slot ≢ Some f

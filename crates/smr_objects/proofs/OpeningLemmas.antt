@@ -1,5 +1,5 @@
 -- Where a clock of objects begins.
-use Rattle.std.proofs.Common.{◌≡◌, ℕ, zero, suc, ◌+◌, ◌-◌, ◌*◌, ◌<◌, ◌≤◌, List, [], ◌∷◌, ◌++◌, length, replicate, map, get_or, slice_index, refl, sym, ap, ◌∙◌, subst, ⊎_elim, inl, inr, arith}
+use Rattle.std.proofs.Common.{◌≡◌, ℕ, zero, suc, ◌+◌, ◌-◌, ◌*◌, ◌<◌, ◌≤◌, List, [], ◌∷◌, ◌++◌, length, replicate, get_or, slice_index, refl, sym, ap, ◌∙◌, subst, ⊎_elim, inl, inr, arith}
 use Rattle.std.proofs.lemmas.List.{length-append, length-replicate, get_or-append-add, get_or-replicate}
 use mathlib.Core.Option.{some, some-injective, some-ne-none}
 use lib.ListN.{get_elem?}
@@ -15,8 +15,6 @@ use Rattle.smr_objects.specs.declared.records.CellView.{CellView}
 use Rattle.smr_objects.specs.declared.records.SlotView.{SlotView}
 use Rattle.smr_objects.specs.declared.part.Part.{Part}
 use Rattle.smr_objects.specs.declared.cell.Cell.{Cell}
-use Rattle.smr_objects.specs.declared.slot_state.SlotState.TheVariants.{Closed}
-use Rattle.smr_objects.specs.Belongs.{state_of}
 use Rattle.smr_objects.specs.Cells.{In, fresh_slot, slot_at, fresh_cell, cells_from, first_part, cell_holds, all_holds, Has, IsCell, KnowsIt, LookedIt, HoldsIt}
 use Rattle.smr_objects.specs.ObjectsLaw.{IsPlan, SlotFits, CellFits, Objected}
 use Rattle.smr_objects.specs.CellViews.{IsCellOf, cell_knows}
@@ -71,9 +69,6 @@ cells_rest n plan cells below e = ap without_first (e ∙ cells_left n plan belo
 -- ---- the law where the clock begins
 
 module _ (a : Setup) where
-  abbrev pub objects_words : List ℕ
-  objects_words = replicate (48 * a.plan.0) 0
-
   clock_long : length (opening_words a.config) ≡ place_after_seats a.config
   clock_long = opening-long a.config
 
@@ -170,7 +165,3 @@ one_longer cells cells' cell count is long =
     let all : length (cells ++ cell ∷ []) ≡ length cells + 1 = length-append cells (cell ∷ []) in
     let same : length cells' ≡ length (cells ++ cell ∷ []) = ap length is in
     omega arith
-
--- a slot that was never used is closed
-pub fresh_states : map state_of (replicate 16 fresh_slot) ≡ replicate 16 Closed
-fresh_states = refl

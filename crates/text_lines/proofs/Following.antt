@@ -1,8 +1,7 @@
 -- Going over the lines of a text: what is kept from line to line, and what it gives in the end.
-use Rattle.std.proofs.Common.{◌≡◌, ℕ, ◌+◌, ◌<◌, ◌≤◌, Bool, true, false, List, [], ◌∷◌, length, Ok, Err, refl, sym, ap, subst, ◌∙◌, arith, inl, inr}
+use Rattle.std.proofs.Common.{◌≡◌, ℕ, ◌+◌, ◌<◌, ◌≤◌, Bool, true, List, [], ◌∷◌, length, Ok, Err, refl, sym, ap, subst, ◌∙◌, arith, inl}
 use Rattle.std.specs.Str.Lines.{lines}
 use Rattle.text_lines.specs.declared.refused.TraceKind.{TraceKind}
-use Rattle.text_lines.specs.declared.refused.TraceKind.TheVariants.{NoEnd}
 use Rattle.text_lines.specs.declared.refused.LineRefused.{LineRefused}
 use Rattle.text_lines.specs.declared.refused.LineRefused.TheVariants as refusals
 use Rattle.text_lines.specs.declared.refused.TraceRefused.{TraceRefused}
@@ -71,24 +70,3 @@ ends test shows text rest number state ended f none tells yes' = (
   record { all = f.earlier; whole = all_lines test shows text rest number state f none; right = f.right; spoke_is = refl; ended = sym (tells (spoken f.earlier) f.shown) ∙ yes' },
   f.shown,
 )
-
-misses_end_at : {S : Type 0} (test : Test) (shows : S → List TextLine → Type 0) (text rest : List ℕ) (number : ℕ) (state : S) (ended : Bool)
-    → Follows test shows text rest number state → rest ≡ [] → ((earlier : List TextLine) → shows state earlier → ended ≡ is_ended earlier) → ended ≡ false
-    → IsRefusedAt test text (number + 1) NoEnd
-misses_end_at test shows text rest number state ended f none tells not_ended =
-    inr (record {
-      all = f.earlier;
-      whole = all_lines test shows text rest number state f none;
-      right = f.right;
-      unended = sym (tells (spoken f.earlier) f.shown) ∙ not_ended;
-      number_is = omega (arith, f.number_is);
-      kind_is = refl;
-    })
-
-pub misses_end : {S : Type 0} (test : Test) (shows : S → List TextLine → Type 0) (text rest : List ℕ) (number : ℕ) (state : S) (ended : Bool) (refused : TraceRefused)
-    → Follows test shows text rest number state → rest ≡ [] → ((earlier : List TextLine) → shows state earlier → ended ≡ is_ended earlier) → ended ≡ false
-    → at_line (number + 1) (refusals.Kind NoEnd) ≡ texts.Trace refused → IsRefusedAt test text refused.line refused.kind
-misses_end test shows text rest number state ended refused f none tells not_ended e =
-    let is : record { line = number + 1; kind = NoEnd } ≡ refused = cc in
-    let P : TraceRefused → Type 0 = λ r. IsRefusedAt test text r.line r.kind in
-    subst P is (misses_end_at test shows text rest number state ended f none tells not_ended)

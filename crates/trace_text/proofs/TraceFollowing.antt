@@ -31,7 +31,7 @@ use Rattle.trace_text.specs.Reading.{held, in_section, is_away}
 use Rattle.trace_text.specs.TraceApplied.{Applies, MarksAll, conflict_found}
 use Rattle.trace_text.specs.TraceKnown.{Knows, KnowsParsed, KnowsTables, is_start, is_last}
 use Rattle.trace_text.specs.TraceLine.{says, version_in}
-use Rattle.trace_text.specs.TraceShown.{slot_at, is_marked, filled_by, filled_after, opened_after, left_after, NamesFit}
+use Rattle.trace_text.specs.TraceShown.{slot_at, is_marked, filled_after, opened_after, left_after, NamesFit}
 use Rattle.trace_text.specs.TraceTables.{AreEmpty}
 use Rattle.trace_text.proofs.TraceConflict.{same_conflict}
 use Rattle.trace_text.proofs.TraceSlots.{filled_next, opened_next, left_next}
@@ -188,9 +188,6 @@ first_fits n zones (parsed.Give giver slot taker slot2) fit = fit.1
 first_fits n zones (parsed.SetMax zone limit) fit = limit_first limit (zone_named zones zone)
 first_fits n zones parsed.End fit = tt
 
-op_filled_as : (op : Op) (slot : ℕ) (x y : Bool) → x ≡ y → filled_by op slot x ≡ filled_by op slot y
-op_filled_as op slot x y e = ap (filled_by op slot) e
-
 filled_as : (e : Entry) (more : List Entry) (a b : ℕ → ℕ → Bool) → SameSlots a b → FirstFits (e ∷ more) → (w slot : ℕ) → slot ≤ last_slot → filled_after e a w slot ≡ filled_after e b w slot
 filled_as (entries.Does v op) more a b same fit w slot le = rw (same w slot le) refl
 filled_as (entries.Moves (Give giver from taker to)) more a b same fit w slot le = rw (same giver from fit, same w slot le) refl
@@ -257,16 +254,6 @@ begins old new number fields version start head is [] shown =
     } in
     (e, subst P (sym is) (record { parsed = known; begun = refl; ended = sym (head_no_end fields e) }))
 begins old new number fields version start head is (last ∷ before) shown = absurd (let some = shown.begun in cc)
-
-pub bad_head : (old new : TraceReader) (number : ℕ) (fields : List (List ℕ)) → is_start old.stage ≡ true → version_in fields ≡ None
-    → ReadsLine trace_test Knows old number fields (Err (refusals.Kind kinds.Head)) new
-bad_head old new number fields start head [] shown = ap (λ (o : Option Version). head_wrong (is_some o)) head
-bad_head old new number fields start head (last ∷ before) shown = absurd (let some = shown.begun in cc)
-
-pub after_end : (old new : TraceReader) (number : ℕ) (fields : List (List ℕ)) → old.stage ≡ stages.End → ReadsLine trace_test Knows old number fields (Err (refusals.Kind kinds.After)) new
-after_end old new number fields end [] shown = absurd (let none = shown.begun in let e = ap is_start end in cc)
-after_end old new number fields end (last ∷ before) shown =
-    let ended : is_ended (last ∷ before) ≡ true = sym shown.ended ∙ ap is_last end in rw ended refl
 
 tables_next : (old new : Tables) (before : List ParsedLine) (found : List Entry) → FirstFits found → MarksAll found old new → KnowsTables old.slots.items old.sections.items old.away.items before
     → ((w slot : ℕ) → slot ≤ last_slot → slot_at new.slots.items w slot ≡ is_some (held (line_of found ++ done before) w slot))
@@ -377,14 +364,4 @@ conflicts old new number fields n s why begun unended is fit found lines shown =
     let says_it : says (version_of earlier) (last_stage earlier) (workers_of earlier) fields ≡ Ok s = sym (says_there old earlier fields behind.knows) ∙ is in
     let conflict : conflict_after earlier s ≡ Some why = sym (same_found old earlier n s fit behind.knows) ∙ found in
     let tells_it : tells earlier fields ≡ Err why = rw (says_it, conflict) refl in
-    tested last before (record { number = number; fields = fields }) behind.unended ∙ ap wrong tells_it)
-
-pub says_wrong : (old new : TraceReader) (number : ℕ) (fields : List (List ℕ)) (why : TraceKind)
-    → is_start old.stage ≡ false → is_last old.stage ≡ false → says old.version old.stage old.workers fields ≡ Err why
-    → ReadsLine trace_test Knows old number fields (Err (refusals.Kind why)) new
-says_wrong old new number fields why begun unended is lines shown =
-    behind_some old lines begun unended shown (λ all. trace_test all (record { number = number; fields = fields }) ≡ Some why) (λ last before behind.
-    let earlier : List ParsedLine = parsed_lines (last ∷ before) in
-    let says_it : says (version_of earlier) (last_stage earlier) (workers_of earlier) fields ≡ Err why = sym (says_there old earlier fields behind.knows) ∙ is in
-    let tells_it : tells earlier fields ≡ Err why = rw says_it refl in
     tested last before (record { number = number; fields = fields }) behind.unended ∙ ap wrong tells_it)

@@ -1,6 +1,6 @@
 -- The lines of a right text are told, and the last one is `end`.
 use Rattle.std.proofs.Common.{◌≡◌, ℕ, Bool, true, false, List, [], ◌∷◌, length, Option, Some, None, Result, Ok, Err, refl, sym, ap, subst, ◌∙◌, cond}
-use Rattle.std.specs.Prelude.{is_some, ◌↔◌, ◌+◌, not}
+use Rattle.std.specs.Prelude.{is_some, ◌+◌, not}
 use Rattle.std.specs.List.{list_all}
 use Rattle.text_lines.specs.declared.refused.TraceKind.{TraceKind}
 use Rattle.text_lines.specs.declared.refused.TraceKind.TheVariants as kinds
@@ -130,11 +130,6 @@ ended_is_told (line ∷ last ∷ before) p =
     let b = parsed_behind last before line p.0 in
     let earlier : List ParsedLine = parsed_lines (last ∷ before) in
     end_is_told (version_of earlier) (last_stage earlier) (workers_of earlier) line.fields b.0 b.1.says_it ∙ sym (ap (λ (all : List ParsedLine). is_last (last_stage all)) b.1.all)
-
-pub ended_where_end : (lines : List TextLine) → Passes trace_test lines → (is_ended lines ≡ true) ↔ (last_stage (parsed_lines lines) ≡ stages.End)
-ended_where_end lines p =
-    let same : is_ended lines ≡ is_last (last_stage (parsed_lines lines)) = ended_is_told lines p in
-    (λ e. end_stage_is (last_stage (parsed_lines lines)) (sym same ∙ e), λ e. same ∙ ap is_last e)
 
 pub told : (bytes : List ℕ) (spoke : List TextLine) → IsRightText trace_test bytes spoke → Told (parsed_lines spoke) × (last_stage (parsed_lines spoke) ≡ stages.End)
 told bytes spoke right =

@@ -1,4 +1,4 @@
--- What a local knows of its directory after a bind, an unbind or a look.
+-- What a local knows of its directory after a bind or an unbind.
 use Rattle.std.proofs.Common.{◌≡◌, ℕ, Option, Some, None, refl, sym, subst}
 use Rattle.std.specs.Option.{option_map}
 use Rattle.std.specs.Prelude.{IfSome, IfNone}

@@ -3,7 +3,7 @@ use Rattle.std.proofs.Common.{◌≡◌, ◌<◌, ◌≤◌, ◌+◌, ◌*◌, �
 use Rattle.std.specs.List.{sum_by, filter_map, list_all, cons_option}
 use Rattle.std.proofs.lemmas.List.{length-take, get_or-replicate, get_or_past}
 use Rattle.std.proofs.lemmas.Bool.{cases_lt}
-use Rattle.std.proofs.lemmas.List.Sums.{sum_by-cons, sum_by-le, sum_by_more}
+use Rattle.std.proofs.lemmas.List.Sums.{sum_by-cons, sum_by-le}
 use Rattle.uma_life.specs.declared.tally_sum.ZoneTallySum.{ZoneTallySum}
 use Rattle.uma_life.specs.declared.ticket.Ticket.{Ticket}
 use Rattle.uma_life.specs.Hook.{Hook, KegInit, ZoneInit, Ctor, Dtor, ZoneFini, KegFini}
@@ -59,18 +59,6 @@ module _ {T : Type 0} {g : _} where
       let front : sum_by (times_held hook) (take i xs) ≤ length (take i xs) * 2 ^ 64 = all_times hook (take i xs) in
       let short = length-take i xs in
       omega (arith, room.tally hook, adds.tally hook)
-
-  pub one_added : (was now next : Sums) (xs : List (Outside T g)) (i : ℕ) (x : Outside T g) (times : Hook → ℕ) → i < length xs → x ≡ get_or xs i x → ((hook : Hook) → times hook ≡ times_held hook x)
-      → Adds (λ hook. sum_by (times_held hook) (take i xs)) 0 was now → ((hook : Hook) → sum_of next.tally hook ≡ sum_of now.tally hook + times hook) → next.deferred ≡ now.deferred
-      → Adds (λ hook. sum_by (times_held hook) (take (i + 1) xs)) 0 was next
-  one_added was now next xs i x times within there each adds more same =
-      record {
-        tally = λ hook.
-            let front = sum_by_more (times_held hook) xs i x within in
-            let here : times_held hook (get_or xs i x) ≡ times_held hook x = ap (times_held hook) (sym there) in
-            omega (arith, front, here, each hook, adds.tally hook, more hook);
-        deferred_too = same ∙ adds.deferred_too;
-      }
 
 -- the sums are those of more items
 pub more_of : (was is : Sums) (times : Hook → ℕ) (items deferred count : ℕ) → Adds times deferred was is → ((hook : Hook) → times hook ≤ items * 2 ^ 64) → deferred ≤ items → AreOfAtMost count was → AreOfAtMost (count + items) is

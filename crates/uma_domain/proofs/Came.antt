@@ -1,5 +1,5 @@
 -- Buckets that come by the inbox: they may be pushed, they may be listed, and one after another they are listed.
-use Rattle.std.proofs.Common.{◌≡◌, ◌+◌, ℕ, List, [], ◌∷◌, ◌++◌, length-append, map, Option, Result, Ok, Err, OnErr, sum_by, min, max, refl, sym, ap, ◌∙◌, subst, append_assoc, arith}
+use Rattle.std.proofs.Common.{◌≡◌, ◌+◌, ℕ, List, [], ◌++◌, length-append, map, Option, Result, Ok, Err, OnErr, sum_by, min, max, refl, sym, ap, ◌∙◌, subst, append_assoc, arith}
 use Rattle.std.proofs.lemmas.List.{append-nil}
 use Rattle.std.proofs.lemmas.List.Elements.{All-nil, All-cons, All-head, filter_map-append}
 use Rattle.std.proofs.lemmas.List.Sums.{sum_by-append}
@@ -105,9 +105,6 @@ module _ {T H P : Type 0} {g h : _} where
 
   pub none_settled : (was is : Locked T H P g h) → popped_by is.taker ≡ popped_by was.taker → AreListed [] was.lists is.lists → Settles was 0 is
   none_settled was is popped listed = record { came = []; popped = ap (map item_of) popped ∙ sym (append-nil (items_of was.taker)); listed = listed; counted = refl }
-
-  pub one_settled : (was is : Locked T H P g h) (mid : Lists T H P g h) (shelved : Shelved T H P g h) → items_of is.taker ≡ items_of was.taker ++ shelved ∷ [] → AreListed [] was.lists mid → AreListed (shelved ∷ []) mid is.lists → Settles was 1 is
-  one_settled was is mid shelved popped room listed = record { came = shelved ∷ []; popped = popped; listed = more_listed was.lists mid is.lists [] (shelved ∷ []) room listed; counted = refl }
 
   pub more_settled : (was mid is : Locked T H P g h) (many more : ℕ) → Settles was many mid → Settles mid more is → Settles was (many + more) is
   more_settled was mid is many more one two = record {

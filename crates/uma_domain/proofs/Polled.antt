@@ -1,5 +1,5 @@
 -- One poll of the bucket at a place, and a scan by such polls.
-use Rattle.std.proofs.Common.{◌≡◌, ◌<◌, ◌≤◌, ◌+◌, ℕ, List, [], ◌∷◌, ◌++◌, length, take, drop, set, get_or, Some, None, All, refl, sym, ap, ◌∙◌, subst, append_assoc, arith, true}
+use Rattle.std.proofs.Common.{◌≡◌, ◌<◌, ◌≤◌, ◌+◌, ℕ, List, [], ◌∷◌, ◌++◌, length, take, drop, set, get_or, Some, None, All, sym, ap, ◌∙◌, subst, append_assoc, arith, true}
 use Rattle.std.specs.List.{remove}
 use Rattle.std.proofs.lemmas.List.{drop_more, drop_at, take_at, length-take-le, take_all, drop_all, append-nil}
 use Rattle.std.proofs.lemmas.List.Elements.{All-get_or, all_zip_more, length_all_zip}
@@ -51,9 +51,6 @@ module _ {T H P : Type 0} {g h : _} where
     pub stay : List (Sealed T H P g h)
     pub said_no : AllStay (take at was) stay
     pub split : is ≡ stay ++ drop at was
-
-  pub none_scanned : (was : List (Sealed T H P g h)) → Scanned was 0 was
-  none_scanned was = record { stay = []; said_no = tt; split = refl }
 
   -- what a try at the next place finds: the next bucket, behind those that stay
   record Found (was : List (Sealed T H P g h)) (at : ℕ) (is stay : List (Sealed T H P g h)) (bucket : Sealed T H P g h) : Type 0 where

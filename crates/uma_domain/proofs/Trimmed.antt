@@ -121,9 +121,6 @@ module _ {T H P : Type 0} {g h : _} where
     pub floored : 0 < length gone → floor ≤ left
     pub enough : sum_by plain_len is ≤ left
 
-  pub plain_begins : (floor remain : ℕ) (was : List (Bucket T g)) (list : List (TakenBucket T H P g h)) → sum_by plain_len was ≤ remain → TrimmingPlain floor remain was list remain was list
-  plain_begins floor remain was list enough = record { gone = []; split = refl; order = sym (append-nil list); sums = omega arith; floored = λ some. absurd (omega (arith, some)); enough = enough }
-
   pub plain_stops : (floor remain : ℕ) (was : List (Bucket T g)) (list : List (TakenBucket T H P g h)) (left : ℕ) (is : List (Bucket T g)) (now : List (TakenBucket T H P g h))
       → ((next : Bucket T g) (behind : List (Bucket T g)) → is ≡ next ∷ behind → left < floor + plain_len next) → TrimmingPlain floor remain was list left is now → TrimsPlainInto {h = h} floor remain was list left is now
   plain_stops floor remain was list left is now short so = record {
@@ -157,18 +154,6 @@ module _ {T H P : Type 0} {g h : _} where
         floored = λ some. omega (arith, enough);
         enough = omega (arith, so.enough, sum, same_len);
       }
-
-  -- a trim that stops at a plain bucket
-  pub only_plain : (floor remain : ℕ) (plain : List (Bucket T g)) (sealed : List (Sealed T H P g h)) (list : List (TakenBucket T H P g h)) (left : ℕ) (plain_left : List (Bucket T g)) (now : List (TakenBucket T H P g h))
-      → list ≡ [] → TrimsPlainInto {h = h} floor remain plain list left plain_left now → 0 < length plain_left → Trims floor remain plain sealed now plain_left sealed
-  only_plain floor remain plain sealed list left plain_left now empty p some = record {
-    plain_taken = p.taken;
-    ripe = [];
-    order = p.order ∙ ap (λ (xs : List (TakenBucket T H P g h)). xs ++ map Plain' p.taken) empty ∙ sym (append-nil (map Plain' p.taken));
-    plain_trimmed = p.trims;
-    sealed_trimmed = λ none. absurd (omega (arith, some, ap length none));
-    sealed_unseen = λ _. (refl, refl);
-  }
 
   -- a trim that takes every plain bucket, and goes on to the sealed ones
   pub both_kinds : (floor remain : ℕ) (plain : List (Bucket T g)) (sealed : List (Sealed T H P g h)) (list : List (TakenBucket T H P g h)) (left : ℕ) (plain_left : List (Bucket T g)) (now : List (TakenBucket T H P g h)) (last : ℕ) (sealed_left : List (Sealed T H P g h)) (later : List (TakenBucket T H P g h))

@@ -76,28 +76,10 @@ dtor-tally zone ctors stays within =
 
 -- a ctor raises the ctors of its zone, and the zone's dtors stay
 
-begun : (stays ctors : ℕ) (stay other : StayCounts) → (let counts = counts_with true 0 stays ctors stay in record counts { ctors = raised counts.ctors }) ≡ counts_with true 1 stays (raised ctors) other
-begun stays ctors stay other = λ i. record { inits = 0; ctors = raised ctors; dtors = sym (less-raised ctors) i; finis = 0 }
-
 begun_in_stay : (stays ctors : ℕ) (stay : StayCounts) → (let counts = counts_with false 0 stays ctors stay in record counts { ctors = raised counts.ctors }) ≡ counts_with false 1 stays ctors (record stay { ctors = raised stay.ctors })
 begun_in_stay stays ctors stay = λ i. record { inits = stay.inits; ctors = raised stay.ctors; dtors = sym (less-raised stay.ctors) i; finis = less stay.inits stays }
 
 -- in the primary zone
-
-others_primary : (other ctors : ℕ) (stays : List StayCounts) → other ≢ 0 → counts_by Kept ctors stays other ≡ counts_by (Built 0) (raised ctors) stays other
-others_primary other ctors stays differs =
-    let no : (other == 0) ≡ false = ne_eqb other 0 differs in
-    let builds : cond (0 == other) 1 0 ≡ 0 = ap (λ b. cond b 1 0) (ne_eqb 0 other (λ e. differs (sym e))) in
-    (λ i. counts_with (no i) 0 0 ctors (stay_at stays other)) ∙ (λ i. counts_with (sym no i) (sym builds i) (sym (stays_kept 0 other) i) (raised ctors) (stay_at stays other))
-
-pub ctor_tally-primary : (ctors : ℕ) (stays : List StayCounts) → tally_by (Built 0) (raised ctors) stays ≡ tally_after (Ctor 0) (tally_by Kept ctors stays)
-ctor_tally-primary ctors stays =
-    let change : ZoneTally → ZoneTally = λ counts. record counts { ctors = raised counts.ctors } in
-    sym (λ i. record {
-      keg_inits = 1;
-      keg_finis = 0;
-      zones = changed (counts_by Kept ctors stays) (counts_by (Built 0) (raised ctors) stays) change 0 (omega arith) (begun 0 ctors (stay_at stays 0) (stay_at stays 0)) (λ other differs. others_primary other ctors stays differs) i;
-    })
 
 -- in a secondary zone, whose kept counts change
 

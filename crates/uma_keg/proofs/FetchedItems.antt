@@ -12,7 +12,7 @@ use Rattle.uma_keg.specs.declared.fetch_refused.FetchRefused.TheVariants.{Refuse
 use Rattle.uma_keg.specs.declared.keg.Keg.{Keg}
 use Rattle.uma_places.specs.Places.{KegPlaces, slab_count, free_count}
 use Rattle.uma_keg.specs.Outs.{out_of}
-use Rattle.uma_keg.specs.Fetch.{Wish, is_at_limit, IsNewSlabs, outcome_with, Outcome, Refuses, Gives, EndsAs}
+use Rattle.uma_keg.specs.Fetch.{Wish, is_at_limit, IsNewSlabs, outcome_with, Outcome, Refuses, Gives}
 use Rattle.uma_keg.specs.BringSlab.{RefusesSlab}
 use Rattle.uma_keg.specs.BringSlabs.{found_in, BringsSlabs, StopsAtSlab}
 use Rattle.uma_keg.specs.Keg.{places_in, zones_in, stored_in, buried_in, out_in, limit_in, reserve_in, IsSameKeg, IsWithinLimit}
@@ -228,13 +228,6 @@ is_ready old mid ask count clear below brings zones limits same gives some =
       on = proceeds old mid ask brings.0 (Gives count) clear brings.1 (brings.2 ask.zone) same zones limit gives;
       given = is_given mid ask.zone (wish_of ask) count gives some (still_below old mid ask.zone zones limit below);
     }
-
--- a zone at its limit is refused
-pub refused_at_limit : {T K : Type 0} {g : _} {h : _} (old : Keg T K g h) (hooks : K) (ask : FetchAsk) (refusal : Refusal) → is_at_limit (found_in old ask.zone) ≡ true → refusal ≡ AtLimit (out_in old ask.zone) (limit_in old ask.zone) → RefusesFetch old hooks ask old (Refused refusal)
-refused_at_limit old hooks ask refusal at is =
-    let Refused' : Refusal → Type 0 = λ r. RefusesFetch old hooks ask old (Refused r) in
-    let ends : EndsAs (found_in old ask.zone) (wish_of ask) (Refuses (AtLimit (out_in old ask.zone) (limit_in old ask.zone))) = record { at_limit = λ yes. refl; below_limit = λ no. absurd (cc (at, no)) } in
-    subst Refused' (sym is) (ends, at, unmoved old)
 
 -- where nothing moved after a refusal, it stands
 moved : {T K : Type 0} {g : _} {h : _} (old mid new : Keg T K g h) → IsUnmoved old mid → IsUnmoved mid new → IsUnmoved old new

@@ -12,9 +12,6 @@ use Rattle.uma_keg.specs.declared.undeeded.Undeeded.{Undeeded}
 use Rattle.uma_keg.specs.Lent.{Seen, seen_of, all_seen, lent_of, deed_of, seen_without, deed_without, together, TakesIn}
 use Rattle.uma_keg.proofs.Outs.{out_accepted}
 
-pub TakesIn-none : (zones : List (Option ℕ)) → TakesIn zones [] zones
-TakesIn-none zones = refl
-
 -- one deed more is taken in
 pub TakesIn-push : (zones : List (Option ℕ)) (deeds : List (ℕ × ℕ)) (now : List (Option ℕ)) (deed : ℕ × ℕ) → TakesIn zones deeds now → IsOutside now deed → TakesIn zones (deeds ++ deed ∷ []) (set now deed.0 None)
 TakesIn-push zones [] now deed is out = (subst (λ zs. IsOutside zs deed) is out, ap (λ zs. set zs deed.0 None) is)

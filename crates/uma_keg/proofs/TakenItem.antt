@@ -1,5 +1,5 @@
 -- A keg keeps its law where an item is taken.
-use Rattle.std.proofs.Common.{◌≡◌, ◌≢◌, ◌<◌, ◌+◌, ◌*◌, ◌/◌, ℕ, zero, suc, [], ◌∷◌, true, false, List, Option, Some, None, IsSome, is_some, length, get_or, set, refl, inl, inr, arith, sym, ap, subst, IfSome, OnSome, ◌∙◌}
+use Rattle.std.proofs.Common.{◌≡◌, ◌≢◌, ◌<◌, ◌+◌, ◌*◌, ◌/◌, ℕ, zero, suc, [], ◌∷◌, false, List, Option, Some, None, is_some, length, get_or, set, refl, inl, inr, arith, sym, ap, subst, IfSome, OnSome, ◌∙◌}
 use Rattle.std.proofs.lemmas.Bool.{cases_eq}
 use Rattle.std.proofs.lemmas.List.{get_or-set_same, get_or-set_other, length-set}
 use Rattle.std.proofs.lemmas.Option.{slice_get-get_or, slice_get_within, get_or_from_slice_get}
@@ -29,13 +29,6 @@ pub free_home : {T : Type 0} {g : _} {places : KegPlaces} {zones : List (Option 
 free_home {places = places} {zones = zones} law n below free =
     let within : n < length zones = omega (arith, law.numbers) in
     slice_get-get_or zones n None within ∙ ap Some (no_zone (zone_at zones n) (law.outside n ∙ ap is_used_place free))
-
-there : {X : Type 0} (o : Option X) → is_some o ≡ true → IsSome o
-there None is = absurd cc
-there (Some x) is = refl
-
-pub free_item : {T : Type 0} {g : _} {places : KegPlaces} {zones : List (Option ℕ)} {home_items : HomeItems T g} → PlacesLaw places zones home_items → (n : ℕ) → IsFree places n → IsSome (item_at home_items n)
-free_item {home_items = home_items} law n free = there (item_at home_items n) (law.home n ∙ ap is_free_place free)
 
 pub PlacesLaw-taken : {T : Type 0} {g : _} (places now : KegPlaces) (zones away : List (Option ℕ)) (home_items left : HomeItems T g) (n zone : ℕ) → PlacesLaw places zones home_items → TakesPlaces places n now → n < places.cap * places.per_slab → away ≡ set zones n (Some zone)
     → item_at left n ≡ None → ((m : ℕ) → m ≢ n → item_at left m ≡ item_at home_items m) → ((index : ℕ) → has_slab left index ≡ has_slab home_items index) → slab_room left ≡ slab_room home_items → places_each left ≡ places_each home_items → PlacesLaw now away left

@@ -1,5 +1,5 @@
 -- An item outside its keg is one item, in the state that its body's phase says.
-use Rattle.std.proofs.Common.{◌≡◌, ◌==◌, ℕ, Bool, true, false, cond, Some, refl, sym, ap, ◌∙◌, subst}
+use Rattle.std.proofs.Common.{◌≡◌, ◌==◌, ℕ, Bool, true, false, cond, Some, refl, ap, ◌∙◌, subst}
 use Rattle.uma_life.specs.declared.body_phase.BodyPhase.TheVariants.{Kept, Zoned}
 use Rattle.uma_life.specs.declared.cached.Cached.{Cached}
 use Rattle.uma_life.specs.declared.live.Live.{Live}
@@ -8,7 +8,7 @@ use Rattle.uma_life.specs.Hook.{Dtor, after}
 use Rattle.uma_life.specs.Life.{Life}
 use Rattle.uma_life.specs.Outside.{is_live, stands_so, cached_where, live_where, IsCachedItem, IsLiveItem, FinishesOutside}
 use Rattle.uma_life.specs.Ticket.{ticket_zone}
-use Rattle.uma_life.specs.Trail.{IsAt, IsOutside, is_built, outside_phase}
+use Rattle.uma_life.specs.Trail.{IsAt, is_built, outside_phase}
 use Rattle.uma_life.proofs.Same.{cached_same, live_same}
 
 base_unbuilt : (is_primary : Bool) (zone : ℕ) → is_built (cond is_primary Kept (Zoned zone)) ≡ false
@@ -22,10 +22,6 @@ tells false zone = base_unbuilt (zone == 0) zone
 
 pub told : (built : Bool) (zone : ℕ) (life : Life) → IsAt (outside_phase built zone) life → is_built life.phase ≡ built
 told built zone life at = ap is_built at.stands ∙ tells built zone
-
--- so an item in either state is outside
-pub is_outside : (built : Bool) (zone : ℕ) (life : Life) → IsAt (outside_phase built zone) life → IsOutside zone life
-is_outside built zone life at = subst (λ (b : Bool). IsAt (outside_phase b zone) life) (sym (told built zone life at)) at
 
 module _ {T : Type 0} {g : _} where
   cached_by : (x : Outside T g) (item : Cached T g) (built : Bool) (is : is_live x ≡ built) → built ≡ false → x.body ≡ item.body → x.ticket ≡ item.ticket → cached_where x built is ≡ Some item

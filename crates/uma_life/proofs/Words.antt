@@ -92,24 +92,6 @@ to_base : (is_primary : Bool) (zone : ℕ) (left : List Hook) → Finishes (cond
 to_base true zone left finishes = finishes
 to_base false zone left finishes = finishes
 
--- a zone that a phase names can be left
-abbrev HasZone : BodyPhase → Type 0
-HasZone (Zoned zone) = (1 ≤ zone) × (zone < 8)
-HasZone (Built zone) = zone < 8
-HasZone _ = Unit {0}
-
-has_zone-base_at : (is_primary : Bool) (zone : ℕ) → (zone == 0) ≡ is_primary → zone < 8 → HasZone (cond is_primary Kept (Zoned zone))
-has_zone-base_at true zone primary small = tt
-has_zone-base_at false zone primary small = (grind (arith, nat_tests), small)
-
-has_zone-last : (hook : Hook) → HasItsZone hook → HasZone (last_phase hook)
-has_zone-last KegInit zone_of = tt
-has_zone-last (ZoneInit zone) zone_of = zone_of
-has_zone-last (Ctor zone) zone_of = zone_of
-has_zone-last (Dtor zone) zone_of = has_zone-base_at (zone == 0) zone refl zone_of
-has_zone-last (ZoneFini zone) zone_of = tt
-has_zone-last KegFini zone_of = tt
-
 some_end_from_base : (is_primary : Bool) (zone : ℕ) → (left : List Hook) × FromBase is_primary zone left
 some_end_from_base true zone = (KegFini ∷ [], ([], refl))
 some_end_from_base false zone = (ZoneFini zone ∷ KegFini ∷ [], (0, (KegFini ∷ []), refl, ([], refl)))

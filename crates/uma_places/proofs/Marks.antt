@@ -29,9 +29,6 @@ found_free free place is =
     let at = position-Some (λ (b : Bool). b) free place false is in
     rw (slice_get-get_or free place false at.0, at.1)
 
-pub found_least : (free : List Bool) (place : ℕ) → position (λ b. b) free ≡ Some place → (lower : ℕ) → lower < place → get_or free lower false ≡ false
-found_least free place is = (position-Some (λ (b : Bool). b) free place false is).2
-
 -- a place that is free, and one that isn't, are counted
 pub free_counts : (free : List Bool) (place : ℕ) → slice_get free place ≡ Some true → 0 < count_by (λ b. b) free
 free_counts free place is =

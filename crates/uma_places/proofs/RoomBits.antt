@@ -1,8 +1,8 @@
 -- A room's places, as the first of a set of 256.
-use Rattle.std.proofs.Common.{◌≡◌, ◌≢◌, ℕ, zero, suc, ◌+◌, ◌-◌, ◌<◌, ◌≤◌, Bool, true, false, cond, List, [], ◌∷◌, ◌++◌, length, set, take, drop, get_or, replicate, Option, Some, count_by, arith, refl, sym, ap, inl, inr, ◌∙◌}
+use Rattle.std.proofs.Common.{◌≡◌, ◌≢◌, ℕ, zero, suc, ◌+◌, ◌-◌, ◌<◌, ◌≤◌, Bool, true, false, cond, List, [], ◌∷◌, length, set, take, drop, get_or, replicate, Option, Some, count_by, arith, refl, sym, ap, inl, inr, ◌∙◌}
 use Rattle.std.specs.List.{All, slice_get}
 use Rattle.std.proofs.lemmas.Bool.{cases_lt}
-use Rattle.std.proofs.lemmas.List.{ext_get_or, get_or-take, get_or-drop, get_or-replicate, get_or-append_right, get_or-set_other, get_or_default, get_or_past, take_at, length-append, length-replicate, length-set, length-take-le}
+use Rattle.std.proofs.lemmas.List.{ext_get_or, get_or-take, get_or-drop, get_or-replicate, get_or-set_other, get_or_default, get_or_past, length-replicate, length-set, length-take-le}
 use Rattle.std.proofs.lemmas.List.Sums.{sum_by-take-drop, sum_by-le}
 use Rattle.std.proofs.lemmas.Option.{slice_get_within, slice_get-get_or}
 use Rattle.slab_bits.specs.Members.{HasNoneFrom, IsLeastFrom, IsEmpty}
@@ -66,20 +66,6 @@ replicate_false m j =
       | inl below ↦ get_or-replicate m j false false below
       | inr past ↦ (let len = length-replicate m false in get_or_past (replicate m false) j false (omega arith))
     ]
-
-pub IsRoom-first : (places : ℕ) → places ≤ 256 → IsRoom places (replicate places true ++ replicate (256 - places) false)
-IsRoom-first places few =
-    let one = length-replicate places true in
-    let other = length-replicate (256 - places) false in
-    let both = length-append (replicate places true) (replicate (256 - places) false) in
-    record {
-      few = few;
-      whole = omega arith;
-      none_past = λ place past. get_or-append_right (replicate places true) (replicate (256 - places) false) places place false one past ∙ replicate_false (256 - places) (place - places);
-    }
-
-pub take-first : (places : ℕ) → take places (replicate places true ++ replicate (256 - places) false) ≡ replicate places true
-take-first places = take_at (replicate places true) (replicate (256 - places) false) places (length-replicate places true)
 
 -- the least member of a room's set is its least free place
 member_within : (places : ℕ) (free : List Bool) → IsRoom places free → (place : ℕ) → get_or free place false ≡ true → place < places

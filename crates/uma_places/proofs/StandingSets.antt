@@ -11,7 +11,7 @@ use Rattle.uma_places.specs.Standing.{standing, AreStandings, IsChosen}
 use Rattle.uma_places.proofs.EmptyKeg.{map-replicate}
 use Rattle.uma_places.proofs.Marks.{free_and_used}
 use Rattle.uma_places.proofs.RoomBits.{replicate_false}
-use Rattle.uma_places.proofs.RoomTests.{and_left, and_right, can_take-partly}
+use Rattle.uma_places.proofs.RoomTests.{and_left, and_right}
 
 true_false : (b : Bool) → b ≡ true → b ≡ false → ⊥
 true_false b is isnt = cc
@@ -97,13 +97,6 @@ cannot_take r partly whole =
           ])
       | inr cannot ↦ cannot
     ]
-
--- the slab to take from
-pub chosen_partly : (rooms : List RoomState) (partly_used : List Bool) (o : Option ℕ) → partly_used ≡ standing is_partly_used rooms → IfSome o (IsLeastFrom partly_used 0) → IfSome o (IsChosen rooms)
-chosen_partly rooms partly_used o same is =
-    if_some o (IsFirstThat is_partly_used rooms) (IsChosen rooms)
-    (λ i first. record { within = first.within; can = λ d. can_take-partly (get_or rooms i d) (first.passes d); preferred = inl first.passes })
-    (first_found is_partly_used rooms partly_used o same is)
 
 pub chosen_whole : (rooms : List RoomState) (wholly_free : List Bool) (o : Option ℕ) → All (λ room. 1 ≤ length room.free) rooms → NonePassFrom is_partly_used rooms 0 → wholly_free ≡ standing is_wholly_free rooms
     → IfSome o (IsLeastFrom wholly_free 0) → IfSome o (IsChosen rooms)

@@ -22,12 +22,6 @@ widen n m sums within at = record {
   deferred = let a = at.deferred in omega arith;
 }
 
-pub adds_both : (first second : Hook → ℕ) (d e : ℕ) (was mid is : Sums) → Adds first d was mid → Adds second e mid is → Adds (λ hook. first hook + second hook) (d + e) was is
-adds_both first second d e was mid is one two = record {
-  tally = λ hook. let a = one.tally hook in let b = two.tally hook in omega arith;
-  deferred_too = let a = one.deferred_too in let b = two.deferred_too in omega arith;
-}
-
 pub zero_sum : {B : Type 0} (xs : List B) → sum_by (λ x. 0) xs ≡ 0
 zero_sum [] = refl
 zero_sum (x ∷ xs) = let step = sum_by-cons (λ x. 0) x xs in let rest = zero_sum xs in omega (arith, step, rest)

@@ -1,5 +1,5 @@
 -- Imports one after another, and releases.
-use Rattle.std.proofs.Common.{◌≡◌, ◌≢◌, ◌<◌, ℕ, List, [], ◌∷◌, ◌++◌, Option, Some, None, length, All, inl, inr, refl, sym, ap, ◌∙◌, subst, arith, append_assoc}
+use Rattle.std.proofs.Common.{◌≡◌, ◌≢◌, ℕ, List, [], ◌∷◌, ◌++◌, Option, Some, None, All, inl, inr, refl, sym, ap, ◌∙◌, subst, arith, append_assoc}
 use Rattle.std.specs.Prelude.{Result, Ok, Err, OnOk, IfErr, slice_get, slice_set}
 use Rattle.std.proofs.lemmas.List.Elements.{All-push, All-weaker}
 use Rattle.uma_zcache.specs.declared.held.Held.{Held}
@@ -8,8 +8,8 @@ use Rattle.uma_zcache.specs.declared.locked.LockedCache.{LockedCache}
 use Rattle.uma_zcache.specs.declared.refused.ZAllocRefused.{ZAllocRefused}
 use Rattle.uma_zcache.specs.Entries.{IsOutWith}
 use Rattle.uma_zcache.specs.Held.{held_base, held_no, held_book}
-use Rattle.uma_zcache.specs.Imports.{HasEntry, Imports, RefusesImport, ImportsAll, StopsImporting, Fills, TurnsAway}
-use Rattle.uma_zcache.specs.Locked.{entries_in, book_in, turned_in, counted, IsSound, IsSameCache, CountsNothing, MovesNothing}
+use Rattle.uma_zcache.specs.Imports.{HasEntry, Imports, RefusesImport, ImportsAll, StopsImporting, Fills}
+use Rattle.uma_zcache.specs.Locked.{entries_in, book_in, IsSound, IsSameCache, CountsNothing}
 use Rattle.uma_zcache.specs.Releases.{Releases, ReleasesAll}
 use Rattle.uma_zcache.specs.Rounds.{ImportsFull, StopsShort}
 use Rattle.uma_zcache.specs.Rule.{Keeps}
@@ -48,11 +48,6 @@ module _ {I : Type 0} {g : _} where
       let here : E es held = get_set_here (entries_in mid) (held_no held) (Some (held_base held)) None one.home in
       subst (λ (l : List (Option ℕ)). All (E l) (items ++ held ∷ [])) (sym one.entries) (All-push (E es) items held still here)
 
-  pub still_entries : (mid new : LockedCache I g) (items : List Held) → MovesNothing mid new → All (HasEntry mid) items → All (HasEntry new) items
-  still_entries mid new items moves all =
-      let E : List (Option ℕ) → Held → Type 0 = λ es h. IsOutWith es (held_no h) (held_base h) in
-      subst (λ (l : List (Option ℕ)). All (E l) items) (sym moves.entries) all
-
   pub more_books : (old mid : LockedCache I g) (items : List Held) (held : Held) → IsSameCache old mid → held_book held ≡ book_in mid → All (λ h. held_book h ≡ book_in old) items → All (λ h. held_book h ≡ book_in old) (items ++ held ∷ [])
   more_books old mid items held same here all = All-push (λ h. held_book h ≡ book_in old) items held all (here ∙ same.book)
 
@@ -63,26 +58,11 @@ module _ {I : Type 0} {g : _} where
   fills old new bucket items (Ok done) whole stopped = inl (whole.full, whole.all)
   fills old new bucket items (Err why) whole stopped = inr (stopped.fewer, why, stopped.stops)
 
-  -- the first import was refused, and that was counted
-  pub turns_away : (old mid new : LockedCache I g) (items : List Held) (why : ZAllocRefused) → items ≡ [] → StopsImporting old items why mid → MovesNothing mid new → turned_in new ≡ turned_in mid ++ counted why → IsSameCache mid new → TurnsAway old why new
-  turns_away old mid new items why none stopped moves turned same =
-      let first : stopped.left ≡ old = subst (λ (l : List Held). ImportsAll old l stopped.left) none stopped.imports in
-      let refused : RefusesImport old why mid = subst (λ (m : LockedCache I g). RefusesImport m why mid) first stopped.refused in
-      record {
-        finds = refused.finds;
-        moves = record { entries = moves.entries ∙ refused.moves.entries; outside = moves.outside ∙ refused.moves.outside };
-        turned = turned ∙ ap (λ (l : List ZAllocRefused). l ++ counted why) refused.nothing.turned;
-        same = same_cache old mid new refused.same same;
-      }
-
   -- so far the last of them were released
   pub record ReleasesLast (old : LockedCache I g) (all left : List Held) (now : LockedCache I g) : Type 0 where
     pub done : List Held
     pub order : all ≡ left ++ done
     pub releases : ReleasesAll old done now
-
-  pub releases_none : (old : LockedCache I g) (all : List Held) → ReleasesLast old all all old
-  releases_none old all = record { done = []; order = sym (append_nil all); releases = refl }
 
   pub releases_more : (old mid new : LockedCache I g) (all left rest : List Held) (held : Held) → ReleasesLast old all left mid → left ≡ rest ++ held ∷ [] → Releases mid held new → ReleasesLast old all rest new
   releases_more old mid new all left rest held last popped one = record {
@@ -90,8 +70,3 @@ module _ {I : Type 0} {g : _} where
     order = last.order ∙ ap (λ (l : List Held). l ++ last.done) popped ∙ append_assoc rest (held ∷ []) last.done;
     releases = (mid, last.releases, one);
   }
-
-  pub releases_all : (old new : LockedCache I g) (all left : List Held) → ReleasesLast old all left new → left ≡ [] → ReleasesAll old all new
-  releases_all old new all left last none =
-      let whole : last.done ≡ all = sym (last.order ∙ ap (λ (l : List Held). l ++ last.done) none) in
-      subst (λ (l : List Held). ReleasesAll old l new) whole last.releases

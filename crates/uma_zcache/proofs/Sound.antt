@@ -1,24 +1,16 @@
 -- What lies behind the lock stays sound as a number goes out with a base or comes home.
-use Rattle.std.proofs.Common.{◌≡◌, ◌≤◌, ◌+◌, ◌==◌, ℕ, zero, suc, true, false, List, [], ◌∷◌, Option, Some, None, map, replicate, set, refl, sym, ap, ◌∙◌, inl, inr, subst, arith, eq-eqb}
+use Rattle.std.proofs.Common.{◌≡◌, ◌≤◌, ◌+◌, ◌==◌, ℕ, zero, suc, false, List, [], ◌∷◌, Option, Some, None, map, replicate, set, refl, ap, ◌∙◌, inl, inr, subst, arith, eq-eqb}
 use Rattle.std.specs.Prelude.{slice_get, option_map}
 use Rattle.std.proofs.lemmas.Bool.Decides.{eqb_tells}
 use Rattle.std.proofs.lemmas.Option.{slice_get-map}
 use Rattle.uma_zcache.specs.Bases.{times, Has, Gains, Loses}
-use Rattle.uma_zcache.specs.Entries.{has_base, numbers_with, is_out_at, is_out}
+use Rattle.uma_zcache.specs.Entries.{has_base, numbers_with}
 use Rattle.uma_zcache.specs.Locked.{zone_with}
 use Rattle.uma_zcache.proofs.Counts.{one, one_yes, one_no, times_cons, count_set, count_some, count_replicate}
 
 -- the zones of a book beside the entries
 pub zones_home : (zones entries : List (Option ℕ)) (n : ℕ) → zones ≡ map zone_with entries → slice_get entries n ≡ Some None → slice_get zones n ≡ Some None
 zones_home zones entries n same home = ap (λ (l : List (Option ℕ)). slice_get l n) same ∙ slice_get-map zone_with entries n ∙ ap (option_map zone_with) home
-
-entry_out : (o : Option (Option ℕ)) (zone : ℕ) → option_map zone_with o ≡ Some (Some zone) → is_out_at o ≡ true
-entry_out None zone at = absurd (cc)
-entry_out (Some None) zone at = absurd (grind arith)
-entry_out (Some (Some base)) zone at = refl
-
-pub zones_out : (zones entries : List (Option ℕ)) (n zone : ℕ) → zones ≡ map zone_with entries → slice_get zones n ≡ Some (Some zone) → is_out entries n ≡ true
-zones_out zones entries n zone same out = entry_out (slice_get entries n) zone (sym (slice_get-map zone_with entries n) ∙ ap (λ (l : List (Option ℕ)). slice_get l n) (sym same) ∙ out)
 
 pub map_set : (entries : List (Option ℕ)) (n : ℕ) (e : Option ℕ) → set (map zone_with entries) n (zone_with e) ≡ map zone_with (set entries n e)
 map_set [] n e = refl

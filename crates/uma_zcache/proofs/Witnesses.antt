@@ -1,5 +1,5 @@
 -- What a call did under the lock is told by the states that it found and left there.
-use Rattle.std.proofs.Common.{◌≡◌, ◌≤◌, ℕ, List, [], All}
+use Rattle.std.proofs.Common.{◌≡◌, []}
 use Rattle.std.specs.Prelude.{Result, Ok, Err, OnOk, IfErr}
 use Rattle.uma_zcache.specs.declared.cache.ZCache.{ZCache}
 use Rattle.uma_zcache.specs.declared.locked.LockedCache.{LockedCache}

@@ -3,26 +3,21 @@ use Rattle.std.proofs.Common.{◌≡◌, ◌<◌, ◌≤◌, ◌+◌, ℕ, Some,
 use Rattle.std.specs.declared.vec.Vec.{Vec}
 use Rattle.std.proofs.lemmas.Bool.{cases_lt}
 use Rattle.std.proofs.lemmas.List.{length-append, length-map}
-use Rattle.std.proofs.lemmas.List.Elements.{All-nil}
-use Rattle.smr_clock.specs.Belongs.{TableId}
 use Rattle.deed_book.specs.declared.fail_share.FailShare.{FailShare}
 use Rattle.deed_book.specs.FailShare.{share_table}
-use Rattle.uma_life.specs.declared.cached.Cached.{Cached}
 use Rattle.uma_life.specs.Cached.{cached_ticket}
 use Rattle.uma_bucket.specs.declared.bucket.Bucket.{Bucket}
 use Rattle.uma_bucket.specs.declared.loose.Loose.{Loose}
 use Rattle.uma_bucket.specs.Bucket.{items_of, tickets_of}
 use Rattle.uma_bucket.specs.Freed.{freed_ticket}
-use Rattle.uma_bucket.specs.Home.{IsHome, AreHome}
+use Rattle.uma_bucket.specs.Home.{AreHome}
 use Rattle.uma_bucket.specs.Loose.{loose_items, loose_tickets}
 use Rattle.uma_seat.specs.declared.seating.Seating.{Seating}
 use Rattle.uma_seat.specs.declared.seat.SeatCache.{SeatCache}
-use Rattle.uma_seat.specs.Seat.{seat_home, IsNewSeat}
-use Rattle.uma_seat.specs.Stack.{Stack}
 use Rattle.uma_seat.specs.Seating.{home_of, clock_of}
 use Rattle.uma_zone.specs.Ports.{origins_of, HasPorts}
 use Rattle.uma_zone.specs.declared.domains.ZoneDomains.{ZoneDomains}
-use Rattle.uma_zone.specs.Domains.{domain_count, domains_home, domains_clock, domains_smr, misses_at, IsSeatOf}
+use Rattle.uma_zone.specs.Domains.{domain_count, domains_home, misses_at, IsSeatOf}
 
 module _ {T H P : Type 0} {g h : _} where
   -- one that is made for the same, with ports of the same inboxes and such a bucket to allocate from
@@ -44,21 +39,6 @@ module _ {T H P : Type 0} {g h : _} where
   pub refilled_seat : (them : ZoneDomains T H P g h) (old new : SeatCache T H P g h) (bucket : Bucket T g) → new.seating ≡ old.seating → new.misses ≡ old.misses → new.ports ≡ old.ports → new.top ≡ bucket → AreHome (domains_home them) (tickets_of bucket)
       → IsSeatOf them old → IsSeatOf them new
   refilled_seat them old new bucket made misses ports top here was = put_seat them old new bucket made misses (ap (λ (v : Vec _ _). origins_of v.items) ports ∙ was.ports) top here was
-
-  -- a new one, which is made for a domain of the zone with a share of that domain's book of misses
-  pub new_seat : (them : ZoneDomains T H P g h) (seat : SeatCache T H P g h) (seating : Seating H P) (size domain : ℕ) (fails : TableId) (misses : FailShare) → home_of seating ≡ domains_home them → clock_of seating ≡ domains_clock them → seating.smr ≡ domains_smr them
-      → seating.domain ≡ domain → domain < domain_count them → misses_at them domain ≡ Some (share_table misses) → HasPorts them seat → IsNewSeat size seating fails misses seat → IsSeatOf them seat
-  new_seat them seat seating size domain fails misses home clock smr own within book has new =
-      let none : items_of seat.top ≡ [] = ap (λ (s : Stack _). s.items) new.top in
-      record {
-        same_home = ap home_of new.seated ∙ home;
-        same_clock = ap clock_of new.seated ∙ clock;
-        same_smr = ap (λ (s : Seating H P). s.smr) new.seated ∙ smr;
-        own = subst (λ (n : ℕ). n < domain_count them) (sym (ap (λ (s : Seating H P). s.domain) new.seated ∙ own)) within;
-        own_misses = ap (λ (n : ℕ). misses_at them n) (ap (λ (s : Seating H P). s.domain) new.seated ∙ own) ∙ book ∙ ap (λ (s : FailShare). Some (share_table s)) (sym new.misses_kept);
-        ports = has;
-        top_home = subst (λ (l : List (Cached T g)). AreHome (seat_home seat) (map cached_ticket l)) (sym none) (All-nil (IsHome (seat_home seat)));
-      }
 
   -- one whose allocation bucket is the same
   pub still_seat : (them : ZoneDomains T H P g h) (old new : SeatCache T H P g h) → new.seating ≡ old.seating → new.misses ≡ old.misses → new.ports ≡ old.ports → new.top ≡ old.top → IsSeatOf them old → IsSeatOf them new

@@ -1,5 +1,5 @@
 -- A seat's ports beside the domains of its zone, and what they pushed.
-use Rattle.std.proofs.Common.{◌≡◌, ◌<◌, ℕ, Option, Some, List, length, map, arith, sym, ap, ◌∙◌, subst}
+use Rattle.std.proofs.Common.{◌≡◌, ◌<◌, ℕ, Some, List, length, map, arith, sym, ap, ◌∙◌, subst}
 use Rattle.std.specs.Prelude.{slice_get, slice_set}
 use Rattle.std.proofs.lemmas.List.{length-map, map-set}
 use Rattle.std.proofs.Math.Seq.{map-set_same}
@@ -16,7 +16,7 @@ use Rattle.uma_bucket.specs.declared.sealed.Sealed.{Sealed}
 use Rattle.uma_bucket.specs.declared.shelved.Shelved.{Shelved}
 use Rattle.uma_bucket.specs.declared.shelved.Shelved.TheVariants.{Plain as Plain', Loose as Loose', Sealed as Sealed'}
 use Rattle.uma_bucket.specs.Home.{Home}
-use Rattle.uma_bucket.specs.Inboxes.{InboxOrigin, port_origin}
+use Rattle.uma_bucket.specs.Inboxes.{port_origin}
 use Rattle.uma_bucket.specs.Shelved.{shelved_domain}
 use Rattle.uma_domain.specs.declared.domain.Domain.{Domain}
 use Rattle.uma_domain.specs.UnderLock.{HandsOver}

@@ -1,8 +1,8 @@
 -- The rights that come with a new keg, and those that a primary zone keeps.
-use Rattle.std.proofs.Common.{◌≡◌, ◌≢◌, ◌<◌, ◌≤◌, ◌+◌, ◌-◌, ℕ, List, [], ◌∷◌, ◌++◌, length, map, take, get_or, Some, rules, refl, sym, ap, ◌∙◌, subst, arith}
+use Rattle.std.proofs.Common.{◌≡◌, ◌<◌, ◌+◌, ◌-◌, ℕ, List, [], ◌∷◌, ◌++◌, length, map, get_or, Some, rules, refl, sym, ap, ◌∙◌, subst, arith}
 use Rattle.std.specs.List.{All, slice_get}
-use Rattle.std.proofs.lemmas.List.{length-append, map-append, take_more, take_all}
-use Rattle.std.proofs.lemmas.List.Elements.{All-nil, All-cons, All-head, All-tail, All-push, All-get_or}
+use Rattle.std.proofs.lemmas.List.{length-append, map-append}
+use Rattle.std.proofs.lemmas.List.Elements.{All-nil, All-cons, All-head, All-tail, All-get_or}
 
 -- two lists with one more element at the end
 ends_same : (ms ns : List ℕ) (m n : ℕ) → ms ++ m ∷ [] ≡ ns ++ n ∷ [] → (m ≡ n) × (ms ≡ ns)
@@ -48,22 +48,6 @@ next_goes f all xs ys x y n e here at is =
     let last : Some x ≡ slice_get xs (length xs - 1) = at ∙ ap (λ (l : List _). slice_get l (length l - 1)) here in
     let own : n ≡ f y = is ∙ ap f (last_goes xs ys x y e last) in
     ap (map f) e ∙ map-append f ys (y ∷ []) ∙ ap (λ (m : ℕ). map f ys ++ m ∷ []) (sym own)
-
--- a list that has a last element has numbers
-pub has_numbers : {X : Type 0} (f : X → ℕ) (xs : List X) (x : X) (n : ℕ) → Some x ≡ slice_get xs n → map f xs ≢ []
-has_numbers f [] x n at e = absurd (cc)
-has_numbers f (y ∷ xs) x n at e = absurd (cc)
-
--- what holds of the numbers of the first rights, and of the next one's, holds of one more
-pub All-map_more : {X : Type 0} (P : ℕ → Type 0) (f : X → ℕ) (xs : List X) (i : ℕ) (x : X) → i < length xs → x ≡ get_or xs i x → P (f x) → All P (map f (take i xs)) → All P (map f (take (i + 1) xs))
-All-map_more P f xs i x within at here before =
-    let ends : map f (take i xs ++ x ∷ []) ≡ map f (take i xs) ++ f x ∷ [] = map-append f (take i xs) (x ∷ []) in
-    let more : take (i + 1) xs ≡ take i xs ++ get_or xs i x ∷ [] = take_more xs i x within in
-    let same : map f (take (i + 1) xs) ≡ map f (take i xs) ++ f x ∷ [] = ap (map f) (more ∙ ap (λ (y : _). take i xs ++ y ∷ []) (sym at)) ∙ ends in
-    subst (All P) (sym same) (All-push P (map f (take i xs)) (f x) before here)
-
-pub All-map_all : {X : Type 0} (P : ℕ → Type 0) (f : X → ℕ) (xs : List X) (n : ℕ) → length xs ≤ n → All P (map f (take n xs)) → All P (map f xs)
-All-map_all P f xs n all here = subst (λ (l : List _). All P (map f l)) (take_all n xs all) here
 
 -- one more number, where one more right is kept
 pub map_more : {X Y : Type 0} (f : X → ℕ) (h : Y → ℕ) (xs : List X) (ys : List Y) (x : X) (y : Y) → map f xs ≡ map h ys → f x ≡ h y → map f (xs ++ x ∷ []) ≡ map h (ys ++ y ∷ [])

@@ -1,5 +1,5 @@
 -- Domains that are settled one after another.
-use Rattle.std.proofs.Common.{◌≡◌, ◌<◌, ◌+◌, ℕ, zero, suc, Result, Ok, Err, OnOk, OnErr, IfErr, refl, ap, subst, arith}
+use Rattle.std.proofs.Common.{◌≡◌, ◌+◌, ℕ, suc, Result, Ok, Err, OnOk, OnErr, IfErr, refl, ap, subst, arith}
 use Rattle.smr_clock.specs.declared.view.View.{View}
 use Rattle.uma_zone.specs.declared.domains.ZoneDomains.{ZoneDomains}
 use Rattle.zone_stats.specs.declared.refusal.Refusal.TheVariants.{Ctor}

@@ -3,16 +3,12 @@ use Rattle.std.proofs.Common.{◌≡◌, ◌+◌, List, [], ◌∷◌, All, map,
 use Rattle.std.proofs.lemmas.List.Elements.{All-nil, All-cons}
 use Rattle.std.proofs.lemmas.List.Sums.{sum_by-cons}
 use Rattle.smr_clock.specs.declared.host.Host.{Ghosts as HostGhosts}
-use Rattle.smr_clock.specs.declared.setup.Setup.{Setup}
-use Rattle.smr_clock.specs.declared.view.View.{View}
-use Rattle.smr_clock.specs.Belongs.{TableId}
 use Rattle.uma_life.specs.declared.body.Body.{Ghosts}
 use Rattle.uma_bucket.specs.declared.loose.Loose.{Loose}
 use Rattle.uma_bucket.specs.declared.sealed.Sealed.{Sealed}
 use Rattle.uma_bucket.specs.Sealed.{Seals, sealed_bucket}
 use Rattle.uma_domain.specs.Listed.{loose_len, sealed_len}
-use Rattle.uma_domain.specs.Tries.{Tries}
-use Rattle.uma_zone.specs.TriesLaw.{IsSealedThen, SealsOrKeeps, TriesLoseNone}
+use Rattle.uma_zone.specs.TriesLaw.{IsSealedThen, TriesLoseNone}
 
 module _ {T H P : Type 0} {g : Ghosts T} {h : HostGhosts H P} where
   pub tries_lose_none : TriesLoseNone T H P g h

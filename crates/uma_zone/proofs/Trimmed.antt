@@ -1,5 +1,5 @@
 -- A trim keeps its floor, and a drain loses no item.
-use Rattle.std.proofs.Common.{◌≡◌, ◌≤◌, ◌<◌, ◌+◌, ◌-◌, ℕ, List, [], ◌∷◌, ◌++◌, length, map, sum_by, inl, inr, refl, sym, ap, ◌∙◌, subst, arith}
+use Rattle.std.proofs.Common.{◌≡◌, ◌≤◌, ◌<◌, ◌+◌, ◌-◌, ℕ, List, [], ◌∷◌, ◌++◌, length, map, sum_by, inl, inr, refl, ap, ◌∙◌, subst, arith}
 use Rattle.std.proofs.lemmas.List.{length-append, length-map}
 use Rattle.std.proofs.lemmas.List.Sums.{sum_by-append, sum_by-cons}
 use Rattle.smr_clock.specs.declared.host.Host.{Ghosts as HostGhosts}
@@ -16,7 +16,7 @@ use Rattle.uma_domain.specs.Scans.{TakesAllRipe, TrimsSealed}
 use Rattle.uma_domain.specs.Taken.{taken_in}
 use Rattle.uma_domain.specs.Trim.{in_order, Trims}
 use Rattle.uma_domain.specs.Working.{working_set}
-use Rattle.uma_zone.specs.TrimLaw.{taken_len, FirstIsTooMany, StopsAtFloor, KeepsFloor, TrimsKeepFloor, DrainsLoseNone}
+use Rattle.uma_zone.specs.TrimLaw.{taken_len, FirstIsTooMany, KeepsFloor, TrimsKeepFloor, DrainsLoseNone}
 
 -- what a list that is empty comes to
 sum_none : {X : Type 0} (f : X → ℕ) (xs : List X) → xs ≡ [] → sum_by f xs ≡ 0

@@ -9,14 +9,14 @@ use Rattle.vmem_arena.specs.declared.fit.Fit.{Fit}
 use Rattle.vmem_arena.specs.Fits.{HasOneMore}
 use Rattle.vmem_arena.specs.Kept.{fit_of, taken_count}
 use Rattle.vmem_arena.specs.Add.{IsSpanShape, Meet, MeetsNone, IsFirstMet}
-use Rattle.vmem_arena.specs.ByBase.{IsLastBelow, NoneBelow, IsFirstFrom, NoneFrom, NoneAt, put_in}
+use Rattle.vmem_arena.specs.ByBase.{IsLastBelow, IsFirstFrom, put_in}
 use Rattle.vmem_arena.specs.Steps.{AreFits, BeginFrom, BeginBelow, Spaced, NoneReaches}
 use Rattle.vmem_arena.specs.Tags.{range_end, span_end, free_range, free_total}
 use Rattle.vmem_arena.specs.TagsLaw.{IsMeasured, BeginsAnew, TileOn, Tile}
 use Rattle.vmem_arena.specs.TakenBases.{taken_bases}
 use Rattle.vmem_arena.proofs.FitLists.{passing-append}
 use Rattle.vmem_arena.proofs.FreeCounts.{each_weaker, free_total-append}
-use Rattle.vmem_arena.proofs.Spaced.{each_at, each_front, each_back, each_append, begin_sooner, put_at, none_by_recursion}
+use Rattle.vmem_arena.proofs.Spaced.{each_at, each_front, each_back, each_append, begin_sooner, put_at}
 use Rattle.vmem_arena.proofs.Tiling.{Follows, TileFrom, last_of, back_of_tile}
 use Rattle.vmem_arena.proofs.Merging.{Lawful}
 use Rattle.vmem_arena.proofs.Taking.{taken_bases-append}
@@ -130,11 +130,6 @@ none_reaches q ranges span last law h test =
     let b = each_weaker (λ x. SpanLe x last) P (λ x g. reach_by span.base last x test under g) h.before (spans_before q h.before last h.after l) in
     subst (All P) (sym h.is) (All-from_recursion P _ (each_append P h.before (last ∷ h.after) b ((λ _. test), a)))
 
-pub none_below_reaches : (ranges : List Range) (span : Span) → NoneBelow ranges span.base → NoneReaches span ranges
-none_below_reaches ranges span h =
-    let P : Range → Type 0 = λ x. x.base < span.base → span_end x.span ≤ span.base in
-    All-from_recursion P ranges (each_weaker (λ (x : Range). span.base ≤ x.base) P (λ x g b. absurd (omega arith)) ranges (recursion_from_All _ _ h))
-
 -- of those that begin below, none is met
 earlier_ends : (span : Span) (before rest : List Range) → AllByRecursion (λ (s : Range). s.base < span.base) before → AllByRecursion (λ x. x.base < span.base → span_end x.span ≤ span.base) (before ++ rest) → AllByRecursion (λ x. span_end x.span ≤ span.base) before
 earlier_ends span [] rest b h = tt
@@ -180,15 +175,6 @@ meets_none q ranges span first law none h test =
     let b = each_weaker (λ (x : Range). span_end x.span ≤ span.base) P (λ x g n. let e = n.ends in omega arith) h.before ends in
     let a = each_weaker (SpanLe first) P (λ x g. apart x g) h.after (spans_behind q h.before first h.after l) in
     subst (All P) (sym h.is) (All-from_recursion P _ (each_append P h.before (first ∷ h.after) b (apart first (inl refl), a)))
-
-pub all_below_meet_none : (ranges : List Range) (span : Span) → NoneReaches span ranges → NoneFrom ranges span.base → MeetsNone span ranges
-all_below_meet_none ranges span none from =
-    let P : Range → Type 0 = λ x. Meet x.span span → ⊥ in
-    All-from_recursion P ranges (both ranges (recursion_from_All (λ (x : Range). x.base < span.base) ranges from) (recursion_from_All (λ (x : Range). x.base < span.base → span_end x.span ≤ span.base) ranges none))
-  where
-    both : (rs : List Range) → AllByRecursion (λ (x : Range). x.base < span.base) rs → AllByRecursion (λ (x : Range). x.base < span.base → span_end x.span ≤ span.base) rs → AllByRecursion (λ (x : Range). Meet x.span span → ⊥) rs
-    both [] b n = tt
-    both (x ∷ rs) b n = ((λ m. let e = m.ends in let g = n.0 b.0 in omega arith), both rs b.1 n.1)
 
 -- ---- the parts below and above a span that meets none
 pub record Parted (q : ℕ) (ranges : List Range) (span : Span) : Type 0 where
@@ -282,11 +268,6 @@ lawful_add q ranges span law shape p =
       measured = each_append (IsMeasured q) p.before (free_range span.base span.size span ∷ p.after) (each_front (IsMeasured q) p.before p.after l.measured) (measured_span q span shape, each_back (IsMeasured q) p.before p.after l.measured);
       tile = tile_insert None p.before p.after span shape.some tt p.below p.above l.tile;
     }
-
-pub none_at_span : (q : ℕ) (ranges : List Range) (span : Span) → 0 < span.size → (p : Parted q ranges span) → NoneAt ranges span.base
-none_at_span q ranges span size p =
-    let high = begin_sooner (span.base + 1) (span_end span) p.after (omega arith) p.high in
-    subst (λ l. NoneAt l span.base) (sym p.is) (All-from_recursion _ _ (none_by_recursion span.base p.before p.after p.low high))
 
 pub put_span_is : (q : ℕ) (ranges : List Range) (span : Span) → 0 < span.size → (p : Parted q ranges span) → put_in (free_range span.base span.size span) ranges ≡ p.before ++ free_range span.base span.size span ∷ p.after
 put_span_is q ranges span size p =

@@ -68,9 +68,6 @@ holds n f = nat_le n f.size
 abbrev better : ℕ → Fit → Fit → Bool
 better n f y = holds n y && is_before y f
 
-not_before_itself : (f : Fit) → is_before f f ≡ false
-not_before_itself f = grind (arith, nat_tests)
-
 better_holds : (n : ℕ) (f y : Fit) → better n f y ≡ true → holds n y ≡ true
 better_holds n f y h = grind (arith, nat_tests)
 

@@ -36,9 +36,6 @@ spaced_of a k = let l = lawful a k in spaced a.quantum a.by_base l.measured l.ti
 ends_each : (q : ℕ) (rs : List Range) → AllByRecursion (IsMeasured q) rs → AllByRecursion (λ (r : Range). range_end r ≤ 2 ^ 63) rs
 ends_each q rs m = each_weaker (IsMeasured q) (λ (r : Range). range_end r ≤ 2 ^ 63) (λ r h. let a = h.high in let b = h.within in omega arith) rs m
 
-pub end_low : (a : Inside) → IsKept a → EndLow a.by_base
-end_low a k = All-from_recursion _ a.by_base (ends_each a.quantum a.by_base (lawful a k).measured)
-
 begin_zero : (rs : List Range) → BeginFrom 0 rs
 begin_zero [] = tt
 begin_zero (r ∷ rs) = (omega arith, begin_zero rs)

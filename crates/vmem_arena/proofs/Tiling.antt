@@ -67,10 +67,6 @@ pub tile_on_as : (r u : Range) (rs : List Range) → range_end u ≡ range_end r
 tile_on_as r u [] ends span taken t = ends ∙ t ∙ sym (ap span_end span)
 tile_on_as r u (s ∷ rs) ends span taken t = (followed_as r u s ends span taken t.0, t.1)
 
-pub tile_as : (o : Option Range) (r u : Range) (rs : List Range) → u.base ≡ r.base → u.span ≡ r.span → (r.taken ≡ true → u.taken ≡ true) → TileFrom o (r ∷ rs) → (TileOn r rs → TileOn u rs) → TileFrom o (u ∷ rs)
-tile_as None r u rs base span taken t on = (base ∙ t.0 ∙ sym (ap (λ (s : Span). s.base) span), on t.1)
-tile_as (Some l) r u rs base span taken t on = (follows_as l r u base span taken t.0, on t.1)
-
 -- ---- what a tiling says of the order
 behind : (r s : Range) → Follows r s → range_end r ≤ s.base
 behind r s (inl g) = let b = g.base in omega arith

@@ -9,7 +9,6 @@ use Rattle.smr_core.specs.declared.holder.Holder.{Holder}
 use Rattle.smr_core.specs.declared.task.Task.TheVariants as task
 use Rattle.smr_core.specs.ClockState.{write_hand, read_hand, write_place, read_place}
 use Rattle.smr_core.specs.ClockStep as step
-use Rattle.smr_core.specs.ClockStep.{same, stored, exchanged}
 use Rattle.smr_core.specs.ClockLaw.{HolderFits, ClockLaw}
 use Rattle.smr_core.specs.ClockMoves.{AdvanceReadKeeps, AdvanceLoadKeeps}
 use Rattle.smr_core.proofs.KindLemmas.{in_task, phase_kept, same_scans, Loads, keeps_load}

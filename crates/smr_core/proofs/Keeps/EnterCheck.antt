@@ -9,7 +9,6 @@ use Rattle.smr_core.specs.declared.phase.Phase.TheVariants as phase
 use Rattle.smr_core.specs.declared.task.Task.TheVariants as task
 use Rattle.smr_core.specs.ClockState.{write_hand, read_hand, write_place}
 use Rattle.smr_core.specs.ClockStep as step
-use Rattle.smr_core.specs.ClockStep.{same, stored, exchanged}
 use Rattle.smr_core.specs.ClockLaw.{PhaseFits, SeatFits, HolderFits, ScanCovers, ClockLaw, presence_bit}
 use Rattle.smr_core.specs.ClockMoves.{EnterCheckKeeps}
 use Rattle.smr_core.proofs.KindLemmas.{in_phase, in_task, seat_in_phase, presence_in_phase, task_kept, Loads, keeps_load}

@@ -3,7 +3,6 @@ use Rattle.std.proofs.Common.{refl, arith}
 use Rattle.smr_core.specs.declared.phase.Phase.TheVariants as phase
 use Rattle.smr_core.specs.ClockState.{write_hand, write_place}
 use Rattle.smr_core.specs.ClockStep as step
-use Rattle.smr_core.specs.ClockStep.{same, stored, exchanged}
 use Rattle.smr_core.specs.ClockLaw.{HolderFits}
 use Rattle.smr_core.specs.ClockMoves.{EnterLoadKeeps}
 use Rattle.smr_core.proofs.KindLemmas.{in_phase, seat_in_phase, presence_in_phase, task_kept, same_scans, keeps_load}

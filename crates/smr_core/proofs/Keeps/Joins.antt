@@ -7,7 +7,6 @@ use Rattle.smr_core.specs.declared.holder.Holder.{Holder}
 use Rattle.smr_core.specs.declared.phase.Phase.TheVariants as phase
 use Rattle.smr_core.specs.ClockState.{write_hand, read_hand, spent}
 use Rattle.smr_core.specs.ClockStep as step
-use Rattle.smr_core.specs.ClockStep.{same, stored, exchanged}
 use Rattle.smr_core.specs.ClockLaw.{HolderFits, ClockLaw}
 use Rattle.smr_core.proofs.PlaceLemmas.{set_else}
 use Rattle.smr_core.specs.ClockMoves.{JoinKeeps}

@@ -4,7 +4,6 @@ use Rattle.smr_core.specs.declared.clock_config.ClockConfig.{ClockConfig}
 use Rattle.smr_core.specs.declared.holder.Holder.{Holder}
 use Rattle.smr_core.specs.ClockState.{write_hand, read_hand, write_place, read_place}
 use Rattle.smr_core.specs.ClockStep as step
-use Rattle.smr_core.specs.ClockStep.{same, stored, exchanged}
 use Rattle.smr_core.specs.ClockLaw.{HolderFits, ClockLaw}
 use Rattle.smr_core.specs.ClockMoves.{WriteLookKeeps, ReadLookKeeps}
 use Rattle.smr_core.proofs.KindLemmas.{phase_kept, task_kept, same_scans, keeps_load}

@@ -16,7 +16,7 @@ use Rattle.smr_core.specs.ClockStep as clock
 use Rattle.smr_core.specs.ClockLaw.{HolderFits}
 use Rattle.smr_core.specs.Remembered.{View, Remembered, StoredFits, FoundFits, RememberedFits, RememberedLaw, nothing_remembered, least_of, words_found, stored_too, none_found, found_too, poll_done}
 use Rattle.smr_core.specs.RememberedMoves as moves
-use Rattle.smr_core.specs.RememberedMoves.{holders_in, KeepsMemory}
+use Rattle.smr_core.specs.RememberedMoves.{KeepsMemory}
 use Rattle.smr_core.proofs.PlaceLemmas.{at_map, set_else}
 use Rattle.smr_core.proofs.PresenceLemmas.{none-below-first, one-more-below}
 use Rattle.smr_core.proofs.KindLemmas.{in_phase, in_task, seat_in_phase}

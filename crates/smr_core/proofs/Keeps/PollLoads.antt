@@ -8,7 +8,6 @@ use Rattle.smr_core.specs.declared.phase.Phase.TheVariants as phase
 use Rattle.smr_core.specs.declared.task.Task.TheVariants as task
 use Rattle.smr_core.specs.ClockState.{write_hand, read_hand, write_place, read_place, presence_place, presence_word, IsPresent, IsAbsent}
 use Rattle.smr_core.specs.ClockStep as step
-use Rattle.smr_core.specs.ClockStep.{same, stored, exchanged}
 use Rattle.smr_core.specs.ClockLaw.{HolderFits, ScanCovers}
 use Rattle.smr_core.specs.ClockMoves.{PollReadKeeps, PollLoadKeeps, PollEndKeeps, PollPresentKeeps}
 use Rattle.smr_core.proofs.PresenceLemmas.{next-within, next-present, next-skips}

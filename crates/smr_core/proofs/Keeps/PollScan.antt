@@ -12,7 +12,6 @@ use Rattle.smr_core.specs.declared.task.Task.{Task}
 use Rattle.smr_core.specs.declared.task.Task.TheVariants as task
 use Rattle.smr_core.specs.ClockState.{IsOdd, IsAbsent, write_hand, read_hand, seat_word, seat_place, word_of}
 use Rattle.smr_core.specs.ClockStep as step
-use Rattle.smr_core.specs.ClockStep.{same, stored, exchanged}
 use Rattle.smr_core.specs.ClockLaw.{TaskFits, HolderFits, ScanCovers, ClockLaw}
 use Rattle.smr_core.specs.ClockMoves.{PollScanKeeps}
 use Rattle.smr_core.proofs.PresenceLemmas.{next-within, next-present, next-skips}

@@ -8,7 +8,6 @@ use Rattle.smr_core.specs.declared.phase.Phase.TheVariants as phase
 use Rattle.smr_core.specs.declared.task.Task.TheVariants as task
 use Rattle.smr_core.specs.ClockState.{seats_of, presence_word, IsPresent}
 use Rattle.smr_core.specs.ClockStep as step
-use Rattle.smr_core.specs.ClockStep.{same, stored, exchanged}
 use Rattle.smr_core.specs.ClockLaw.{HolderFits, OneHolderEach, HasNoHolder, ScansFit, all_advances, ClockLaw, Later}
 use Rattle.smr_core.proofs.PlaceLemmas.{at_push, at_longer}
 use Rattle.smr_core.specs.ClockMoves.{NoteKeeps, WorkerKeeps}

@@ -14,7 +14,7 @@ use Rattle.smr_core.specs.declared.task.Task.{Task}
 use Rattle.smr_core.specs.declared.task.Task.TheVariants as task
 use Rattle.smr_core.specs.ClockState.{IsOdd, place_after_seats, presence_place, presence_word, write_hand, read_hand, seat_word, seat_place, write_place, read_place, word_of}
 use Rattle.smr_core.specs.ClockStep as step
-use Rattle.smr_core.specs.ClockStep.{same, stored, exchanged}
+use Rattle.smr_core.specs.ClockStep.{stored}
 use Rattle.smr_core.specs.ClockLaw.{HandsFit, PhaseFits, SeatFits, TaskFits, HolderFits, ClockLaw, Keeps, presence_bit}
 use Rattle.smr_core.proofs.PlaceLemmas.{at_map}
 use Rattle.smr_core.specs.ClockMoves.{EnterStoreKeeps, ClearKeeps}
