@@ -6,10 +6,10 @@ use crate::seat::SeatCache;
 use deed_book::FailBook;
 use smr_clock::Host;
 use uma_life::Body;
-use zone_stats::{Refusal, SeatLedger};
+use zone_stats::SeatLedger;
 
 impl<T: Body, H: Host> SeatCache<T, H> {
-    ghost use Rattle.uma_seat.specs.Counting.{CanListEnd, CanListRefusal, CountsFetch};
+    ghost use Rattle.uma_seat.specs.Counting.{CanListEnd, CountsFetch};
     ghost use Rattle.uma_seat.specs.Frames.{KeepsAllButLedger};
     ghost use Rattle.uma_seat.specs.Seat.{counts_of, ledger_of};
 
@@ -47,17 +47,8 @@ impl<T: Body, H: Host> SeatCache<T, H> {
         self.counts.count_ctor(code);
     }
 
-    /// Counts a request whose fetch was refused, and keeps the refusal. The fetch is listed with its cause in the zone's
-    /// book and in the seat's share.
-    pub fn count_turned(&mut self, book: &mut FailBook, refusal: Refusal)
-        requires { CanListRefusal (counts_of self.old) book.old refusal }
-        ensures { CountsFetch self.old book.old (FetchEnd.Refused refusal) self.new book.new }
-    {
-        self.counts.count_turned(book, refusal);
-    }
-
-    /// Lists a fetch with its end in the zone's book and in the seat's share. One that was refused is counted as by
-    /// `count_turned`; every other one leaves the ledger as it was.
+    /// Lists a fetch with its end in the zone's book and in the seat's share. One that was refused is counted, and its
+    /// refusal kept; every other one leaves the ledger as it was.
     pub fn count_end(&mut self, book: &mut FailBook, end: FetchEnd)
         requires { CanListEnd (counts_of self.old) book.old end }
         ensures { CountsFetch self.old book.old end self.new book.new }

@@ -27,8 +27,6 @@ mod places_of_slabs;
 #[cfg(test)]
 mod ports;
 #[cfg(test)]
-mod seats;
-#[cfg(test)]
 mod slabs;
 #[cfg(test)]
 mod stations;

@@ -6,3 +6,4 @@ mod plain_seat;
 mod sealing;
 mod sequences;
 mod shelves;
+mod turned;

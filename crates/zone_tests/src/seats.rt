@@ -1,2 +1,0 @@
-mod new_ports;
-mod turned;
