@@ -34,7 +34,7 @@
 //! - The guard lends its value by a public field and not by `Deref`: so the check sees the rule of the value at every way
 //!   out.
 //! - `into_inner` waits for ever where a guard was forgotten (`mem::forget`), in place of making up a value. `rt.forever()`
-//!   stands in it and in `lock`, and nowhere else in the repository.
+//!   is used in it and in `lock`, and nowhere else in the repository.
 //! - Not proved, and tested with threads: that a lock is ever free again, that a sleeper is woken, that `try_lock` succeeds
 //!   where nobody holds the lock. A `try_lock` that always answers `None` and a `new` that always answers want of memory
 //!   meet their contracts: no clause can say that no other thread holds the lock, or that memory is left.

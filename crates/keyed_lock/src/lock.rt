@@ -7,7 +7,12 @@ use crate::protocol::{CONTENDED, LOCKED, Look, Protocol, SLOT, Take, UNLOCKED, U
 use crate::rule::LockRule;
 use atomic_table::{Closed, Refused, Seat, Table};
 use std::alloc::Global;
+use std::hint::spin_loop;
 use std::sync::Wait;
+
+/// How often a thread looks again before it sleeps. Before look `n` it pauses `2^n` times, so 127 times in all: about as
+/// long as it takes to fall asleep and to be woken.
+const SPINS: u32 = 7;
 
 /// A value that one thread at a time may hold, under a key that contracts can name.
 ///
@@ -20,6 +25,8 @@ use std::sync::Wait;
 /// 4. The holder puts a value that keeps the rule back into the slot first, and makes the word unlocked after that.
 /// 5. A thread sleeps only while the word says contended, and whoever unlocks a contended word wakes one sleeper. A
 ///    thread that slept takes the lock as contended, so that the next unlock wakes the next sleeper.
+///
+/// A thread that spins before it sleeps takes the lock as `try_lock` does, by a step of part 3.
 ///
 /// Parts 1 to 4 are proved. Part 5 is progress, which no contract speaks of. The word and its states are those of the
 /// second mutex of Drepper's "Futexes are tricky", and of the standard library's lock on Linux.
@@ -52,13 +59,29 @@ impl<T, K, P: LockRule<T, K>> KeyedLock<T, K, P> {
         }
     }
 
-    /// Waits until it has the lock. It waits for ever if the thread itself holds the lock, or if a guard was forgotten.
+    /// Blocks until it has the lock. A thread that finds the lock held looks again for some microseconds, since most holders
+    /// let go sooner than that, and then sleeps. It blocks for ever if the thread itself holds the lock, or if a guard was
+    /// forgotten.
     pub fn lock<'a, R: Wait>(&'a self, rt: &R) -> KeyedGuard<'a, T, K, P>
         ensures same_key { guard_key result ≡ lock_key self.now }
         ensures kept { P.keeps (lock_key self.now) result.value }
         ensures mine { P.keeps (guard_key result) result.value }
     {
-        if let Some(guard) = self.try_lock() {
+        match self.try_lock() {
+            Some(guard) => guard,
+            None => self.lock_held(rt),
+        }
+    }
+
+    // Blocks until it has the lock, which was held a moment ago.
+    #[cold]
+    #[inline(never)]
+    fn lock_held<'a, R: Wait>(&'a self, rt: &R) -> KeyedGuard<'a, T, K, P>
+        ensures same_key { guard_key result ≡ lock_key self.now }
+        ensures kept { P.keeps (lock_key self.now) result.value }
+        ensures mine { P.keeps (guard_key result) result.value }
+    {
+        if let Some(guard) = self.spin() {
             return guard;
         }
         for _ in rt.forever() {
@@ -69,6 +92,22 @@ impl<T, K, P: LockRule<T, K>> KeyedLock<T, K, P> {
             self.table.shared.park(rt, WORD, CONTENDED as u32);
         }
         unreachable!()
+    }
+
+    // Looks again, each time after twice as many pauses, and takes the lock where it finds it unlocked. A look only loads
+    // the word, so the threads that spin share its cache line with the holder.
+    fn spin<'a>(&'a self) -> Option<KeyedGuard<'a, T, K, P>>
+        ensures same_key { IfSome result (λ guard. guard_key guard ≡ lock_key self.now) }
+        ensures kept { IfSome result (λ guard. P.keeps (lock_key self.now) guard.value) }
+        ensures mine { IfSome result (λ guard. P.keeps (guard_key guard) guard.value) }
+    {
+        for turn in 0..SPINS {
+            pause(1 << turn);
+            if let Some(guard) = self.try_lock() {
+                return Some(guard);
+            }
+        }
+        None
     }
 
     /// Takes the lock if nobody holds it, and waits for nobody. `None` says that somebody held it at some moment of the
@@ -162,6 +201,13 @@ impl<T: Drop, K, P: LockRule<T, K>> Drop for KeyedLock<T, K, P> {
     fn drop(self) {
         let KeyedLock { table } = self;
         drop(table);
+    }
+}
+
+/// So many of the processor's pauses.
+fn pause(count: u32) {
+    for _ in 0..count {
+        spin_loop();
     }
 }
 

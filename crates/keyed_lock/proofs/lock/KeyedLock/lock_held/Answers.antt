@@ -1,7 +1,7 @@
 use Rattle.std.proofs.Common.{arith}
 use Rattle.keyed_lock.specs.declared.protocol.TheConstants.{CONTENDED}
 use Rattle.keyed_lock.proofs.ProtocolSteps.{may_arrive}
-use Rattle.keyed_lock.proofs.lock.KeyedLock.lock.Goals as goal
+use Rattle.keyed_lock.proofs.lock.KeyedLock.lock_held.Goals as goal
 
 pub swap_new_seat-found-requires : goal.swap_new_seat-found-requires
 swap_new_seat-found-requires g c =
