@@ -1,6 +1,6 @@
 -- What is done with the bytes leaves no room for another ending.
 use Rattle.std.proofs.Common.{◌≡◌, ◌⊎◌, ℕ, ◌≤◌, List, length, Option, Some, None, Result, Err, refl, ap, subst, arith, inl, inr}
-use Rattle.std.specs.Prelude.{IfSome, IsSomeAnd}
+use Rattle.std.specs.Prelude.{IfNone, IfSome, IsSomeAnd}
 use Rattle.smr_core.specs.declared.step_refused.StepRefused.{StepRefused}
 use Rattle.text_lines.specs.TextLines.{TextLine, Test, IsRightText, IsRefusedAt}
 use Rattle.text_lines.specs.declared.refused.TraceKind.{TraceKind}
@@ -15,14 +15,17 @@ use Rattle.schedule_text.specs.ScheduleLaws.{RefusedPrintsNothing}
 use Rattle.schedule_text.specs.ScheduleText.{IsOutput, RefusesSchedule}
 use Rattle.trace_text.specs.declared.trace.Trace.{Trace}
 use Rattle.trace_text.specs.Grammar.{IsTraceText, trace_test}
+use Rattle.trace_text.specs.Valid.{IsValid}
+use Rattle.uma_io.specs.Sink.{Adds, AddsPart}
 use Rattle.uma_replay.specs.Report.{StandsFor}
 use Rattle.umarun.specs.Answers.{AnswersReplay, AnswersSteps}
 use Rattle.umarun.specs.Causes.{parse_fault, schedule_fault}
 use Rattle.umarun.specs.declared.fault.Fault.{Fault}
 use Rattle.umarun.specs.declared.fault.Fault.TheVariants as faults
 use Rattle.umarun.specs.declared.any_hall.AnyHall.{AnyHall}
+use Rattle.umarun.specs.Input.{OfInput}
 use Rattle.umarun.specs.Replaying.{HasHeadline, KeepsHeadline, LeavesHall, Replays, AreInput, AreRefused, RefusesTrace, most_bytes}
-use Rattle.umarun.specs.Stepping.{Plays, ArePlayed, RefusesText, RefusesStep}
+use Rattle.umarun.specs.Stepping.{Plays, ArePlayed, WritesOutput, WritesPart, RefusesText, RefusesStep}
 use Rattle.zone_stats.specs.declared.report.Report.{Report}
 
 -- no text is right and refused
@@ -38,22 +41,26 @@ pub replayed_not_refused : OneVerdict → (report : Report) (ended : AnyHall) (b
 replayed_not_refused verdict report ended bytes replays (inl long) = let within = replays.within in absurd (omega arith)
 replayed_not_refused verdict report ended bytes replays (inr refused) = input_not_refused verdict refused.0 bytes refused.1 (replays.within, (replays.trace, replays.text))
 
--- the bytes that were left are those that were read
-pub replays : (left : Option (List ℕ)) (read given : List ℕ) (trace : Trace) (report : Report) (ended : AnyHall) → IfSome left (λ all. read ≡ all) → given ≡ read → length read ≤ most_bytes
-    → IsTraceText given trace → StandsFor trace report → LeavesHall trace report ended → IfSome left (Replays report ended)
-replays None read given trace report ended all same within text stands hall = tt
-replays (Some left) read given trace report ended all same within text stands hall =
-    let P : List ℕ → Type 0 = λ bytes. Replays report ended bytes in
-    let Q : List ℕ → Type 0 = λ bytes. IsTraceText bytes trace in
-    subst P all (record { within = within; trace = trace; text = subst Q same text; stands = stands; hall = hall })
+-- what holds of the input holds of the bytes that the source had
+pub of_source : (Holds : List ℕ → Type 0) (bytes : List ℕ) → OfInput (Some bytes) Holds → Holds bytes
+of_source Holds bytes input = subst Holds input.are input.holds
 
-pub headlines : (left : Option (List ℕ)) (read given : List ℕ) (trace : Trace) (report : Report) (ended : AnyHall) → IfSome left (λ all. read ≡ all) → given ≡ read
-    → IsTraceText given trace → HasHeadline trace report ended → IfSome left (KeepsHeadline report ended)
-headlines None read given trace report ended all same text headline = tt
-headlines (Some left) read given trace report ended all same text headline =
-    let P : List ℕ → Type 0 = λ bytes. KeepsHeadline report ended bytes in
+-- the input is what was read
+pub replays : (left : Option (List ℕ)) (read given : List ℕ) (trace : Trace) (report : Report) (ended : AnyHall) → IfSome left (λ all. read ≡ all) → given ≡ read → length read ≤ most_bytes
+    → IsTraceText given trace → IsValid trace → StandsFor trace report → LeavesHall trace report ended → HasHeadline trace report ended → OfInput left (Replays report ended)
+replays left read given trace report ended all same within text valid stands hall headline =
     let Q : List ℕ → Type 0 = λ bytes. IsTraceText bytes trace in
-    subst P all (record { trace = trace; text = subst Q same text; headline = headline })
+    let made : Replays report ended read = record { within = within; trace = trace; text = subst Q same text; valid = valid; stands = stands; hall = hall; headline = headline } in
+    record { bytes = read; are = all; holds = made }
+
+-- the trace of the headline is the one that was replayed
+pub keeps_headline : (left : Option (List ℕ)) (report : Report) (ended : AnyHall) → OfInput left (Replays report ended) → KeepsHeadline left report ended
+keeps_headline None report ended input =
+    let done = input.holds in
+    record { trace = done.trace; valid = done.valid; text = tt; headline = done.headline }
+keeps_headline (Some bytes) report ended input =
+    let done : Replays report ended bytes = of_source (λ b. Replays report ended b) bytes input in
+    record { trace = done.trace; valid = done.valid; text = done.text; headline = done.headline }
 
 bad_by : {T : Type 0} (test : Test) (why : ParseRefused) (fault : Fault) (refused : TraceRefused) (bytes : List ℕ) → ((r : TraceRefused) → ◌≡◌ {A = Result T ParseRefused} (Err why) (Err (parsing.Trace r)) → IsRefusedAt test bytes r.line r.kind)
     → fault ≡ parse_fault why → fault ≡ faults.Trace refused → IsRefusedAt test bytes refused.line refused.kind
@@ -64,12 +71,11 @@ bad_by test (parsing.Trace r) fault refused bytes bad by is =
 bad_by test parsing.Memory fault refused bytes bad by is = absurd cc
 
 pub refuses : (left : Option (List ℕ)) (read given : List ℕ) (why : ParseRefused) (fault : Fault) (refused : TraceRefused) → IfSome left (λ all. read ≡ all) → given ≡ read → length read ≤ most_bytes
-    → ((r : TraceRefused) → ◌≡◌ {A = Result Trace ParseRefused} (Err why) (Err (parsing.Trace r)) → IsRefusedAt trace_test given r.line r.kind) → fault ≡ parse_fault why → fault ≡ faults.Trace refused → IfSome left (RefusesTrace refused)
-refuses None read given why fault refused all same within bad by is = tt
-refuses (Some left) read given why fault refused all same within bad by is =
-    let P : List ℕ → Type 0 = λ bytes. RefusesTrace refused bytes in
+    → ((r : TraceRefused) → ◌≡◌ {A = Result Trace ParseRefused} (Err why) (Err (parsing.Trace r)) → IsRefusedAt trace_test given r.line r.kind) → fault ≡ parse_fault why → fault ≡ faults.Trace refused → OfInput left (RefusesTrace refused)
+refuses left read given why fault refused all same within bad by is =
     let Q : List ℕ → Type 0 = λ bytes. IsRefusedAt trace_test bytes refused.line refused.kind in
-    subst P all (record { within = within; why = subst Q same (bad_by trace_test why fault refused given bad by is) })
+    let made : RefusesTrace refused read = record { within = within; why = subst Q same (bad_by trace_test why fault refused given bad by is) } in
+    record { bytes = read; are = all; holds = made }
 
 -- no text is refused at two lines, or for two reasons
 abbrev pub OneLine : Type 0
@@ -87,14 +93,14 @@ one_refusal line kind refused other bytes refuses again =
     same_refusal refused other (line trace_test bytes refused.line other.line refused.kind other.kind refuses.why again.why) (kind trace_test bytes refused.line other.line refused.kind other.kind refuses.why again.why)
 
 -- bytes that were replayed are none that are refused
-pub none_refused : ((report : Report) (ended : AnyHall) (bytes : List ℕ) → Replays report ended bytes → AreRefused bytes → ⊥) → (report : Report) (ended : AnyHall) (left : Option (List ℕ)) → IfSome left (Replays report ended) → IsSomeAnd left AreRefused → ⊥
+pub none_refused : ((report : Report) (ended : AnyHall) (bytes : List ℕ) → Replays report ended bytes → AreRefused bytes → ⊥) → (report : Report) (ended : AnyHall) (left : Option (List ℕ)) → OfInput left (Replays report ended) → IsSomeAnd left AreRefused → ⊥
 none_refused law report ended None replays refused = refused
-none_refused law report ended (Some bytes) replays refused = law report ended bytes replays refused
+none_refused law report ended (Some bytes) replays refused = law report ended bytes (of_source (λ b. Replays report ended b) bytes replays) refused
 
 pub none_named : ((report : Report) (ended : AnyHall) (bytes : List ℕ) → Replays report ended bytes → AreRefused bytes → ⊥) → (report : Report) (ended : AnyHall) (left : Option (List ℕ)) (refused : TraceRefused)
-    → IfSome left (Replays report ended) → IsSomeAnd left (RefusesTrace refused) → ⊥
+    → OfInput left (Replays report ended) → IsSomeAnd left (RefusesTrace refused) → ⊥
 none_named law report ended None refused replays refuses = refuses
-none_named law report ended (Some bytes) refused replays refuses = law report ended bytes replays (inr (refused, refuses))
+none_named law report ended (Some bytes) refused replays refuses = law report ended bytes (of_source (λ b. Replays report ended b) bytes replays) (inr (refused, refuses))
 
 -- the text of a trace ends by want of memory, where reading didn't fail
 pub replay_ends : (left rest : Option (List ℕ)) (fault : Fault) (fails free : Type 0) → ((refused : TraceRefused) (bytes : List ℕ) → RefusesTrace refused bytes → AreInput bytes → ⊥)
@@ -102,7 +108,7 @@ pub replay_ends : (left rest : Option (List ℕ)) (fault : Fault) (fails free : 
 replay_ends None rest fault fails free law ends unread input = absurd input
 replay_ends (Some bytes) rest faults.Usage fails free law ends unread input = absurd (ends.command refl)
 replay_ends (Some bytes) rest (faults.TooLong most) fails free law ends unread input = let more = (ends.too_long most refl).1 in let within = input.0 in absurd (omega arith)
-replay_ends (Some bytes) rest (faults.Trace why) fails free law ends unread input = absurd (law why bytes (ends.refused why refl) input)
+replay_ends (Some bytes) rest (faults.Trace why) fails free law ends unread input = absurd (law why bytes (of_source (λ b. RefusesTrace why b) bytes (ends.refused why refl)) input)
 replay_ends (Some bytes) rest (faults.Step line why) fails free law ends unread input = absurd (ends.no_step line why refl)
 replay_ends (Some bytes) rest faults.Read fails free law ends unread input = absurd (unread (ends.read refl))
 replay_ends (Some bytes) rest faults.Write fails free law ends unread input = absurd (ends.unwritten refl)
@@ -115,11 +121,18 @@ pub replay_names : (left rest : Option (List ℕ)) (fault : Fault) (refused : Tr
 replay_names None rest fault refused fails free law ends unread refuses = absurd refuses
 replay_names (Some bytes) rest faults.Usage refused fails free law ends unread refuses = absurd (ends.command refl)
 replay_names (Some bytes) rest (faults.TooLong most) refused fails free law ends unread refuses = let more = (ends.too_long most refl).1 in let within = refuses.within in absurd (omega arith)
-replay_names (Some bytes) rest (faults.Trace why) refused fails free law ends unread refuses = inl (ap faults.Trace (law why refused bytes (ends.refused why refl) refuses))
+replay_names (Some bytes) rest (faults.Trace why) refused fails free law ends unread refuses = inl (ap faults.Trace (law why refused bytes (of_source (λ b. RefusesTrace why b) bytes (ends.refused why refl)) refuses))
 replay_names (Some bytes) rest (faults.Step line why) refused fails free law ends unread refuses = absurd (ends.no_step line why refl)
 replay_names (Some bytes) rest faults.Read refused fails free law ends unread refuses = absurd (unread (ends.read refl))
 replay_names (Some bytes) rest faults.Write refused fails free law ends unread refuses = absurd (ends.unwritten refl)
 replay_names (Some bytes) rest faults.Memory refused fails free law ends unread refuses = inr refl
+
+-- the refusal that a run ends with is the one that `replay` answered
+pub refused_by : (left rest : Option (List ℕ)) (fault : Fault) (fails free : Type 0) → AnswersReplay (Err fault) left rest fails free
+    → (end : Option Fault) → end ≡ Some fault → (why : TraceRefused) → end ≡ Some (faults.Trace why) → OfInput left (RefusesTrace why)
+refused_by left rest fault fails free ends end is why trace =
+    let same : fault ≡ faults.Trace why = cc in
+    ends.refused why (ap Err same)
 
 -- ---- what `steps` does with the bytes
 
@@ -136,14 +149,13 @@ step_not_played one nothing line refused bytes refuses played =
     let at = subst P same refuses.step in
     nothing played.1.schedule played.0 played.1.output at.0 at.1.0 refused at.1.2
 
--- the bytes that were left are those that were read
+-- the input is what was read
 pub plays : (left : Option (List ℕ)) (read given : List ℕ) (schedule : Schedule) (printed : List ℕ) → IfSome left (λ all. read ≡ all) → given ≡ read → length read ≤ most_bytes
-    → IsScheduleText given schedule → IsOutput schedule printed → IfSome left (Plays printed)
-plays None read given schedule printed all same within text output = tt
-plays (Some left) read given schedule printed all same within text output =
-    let P : List ℕ → Type 0 = λ bytes. Plays printed bytes in
+    → IsScheduleText given schedule → IsOutput schedule printed → OfInput left (Plays printed)
+plays left read given schedule printed all same within text output =
     let Q : List ℕ → Type 0 = λ bytes. IsScheduleText bytes schedule in
-    subst P all (record { within = within; schedule = schedule; text = subst Q same text; output = output })
+    let made : Plays printed read = record { within = within; schedule = schedule; text = subst Q same text; output = output } in
+    record { bytes = read; are = all; holds = made }
 
 step_by : (schedule : Schedule) (why : ScheduleRefused) (fault : Fault) (line : ℕ) (refused : StepRefused) → RefusesSchedule schedule why
     → fault ≡ schedule_fault why → fault ≡ faults.Step line refused → RefusesSchedule schedule (refusals.Step line refused)
@@ -157,20 +169,18 @@ step_by schedule refusals.Memory fault line refused bad by is = absurd cc
 
 pub refuses_step : (left : Option (List ℕ)) (read given : List ℕ) (schedule : Schedule) (why : ScheduleRefused) (fault : Fault) (line : ℕ) (refused : StepRefused)
     → IfSome left (λ all. read ≡ all) → given ≡ read → length read ≤ most_bytes
-    → IsScheduleText given schedule → RefusesSchedule schedule why → fault ≡ schedule_fault why → fault ≡ faults.Step line refused → IfSome left (RefusesStep line refused)
-refuses_step None read given schedule why fault line refused all same within text bad by is = tt
-refuses_step (Some left) read given schedule why fault line refused all same within text bad by is =
-    let P : List ℕ → Type 0 = λ bytes. RefusesStep line refused bytes in
+    → IsScheduleText given schedule → RefusesSchedule schedule why → fault ≡ schedule_fault why → fault ≡ faults.Step line refused → OfInput left (RefusesStep line refused)
+refuses_step left read given schedule why fault line refused all same within text bad by is =
     let Q : List ℕ → Type 0 = λ bytes. IsScheduleText bytes schedule in
-    subst P all (record { within = within; schedule = schedule; text = subst Q same text; step = step_by schedule why fault line refused bad by is })
+    let made : RefusesStep line refused read = record { within = within; schedule = schedule; text = subst Q same text; step = step_by schedule why fault line refused bad by is } in
+    record { bytes = read; are = all; holds = made }
 
 pub refuses_text : (left : Option (List ℕ)) (read given : List ℕ) (why : ParseRefused) (fault : Fault) (refused : TraceRefused) → IfSome left (λ all. read ≡ all) → given ≡ read → length read ≤ most_bytes
-    → ((r : TraceRefused) → ◌≡◌ {A = Result Schedule ParseRefused} (Err why) (Err (parsing.Trace r)) → IsRefusedAt schedule_test given r.line r.kind) → fault ≡ parse_fault why → fault ≡ faults.Trace refused → IfSome left (RefusesText refused)
-refuses_text None read given why fault refused all same within bad by is = tt
-refuses_text (Some left) read given why fault refused all same within bad by is =
-    let P : List ℕ → Type 0 = λ bytes. RefusesText refused bytes in
+    → ((r : TraceRefused) → ◌≡◌ {A = Result Schedule ParseRefused} (Err why) (Err (parsing.Trace r)) → IsRefusedAt schedule_test given r.line r.kind) → fault ≡ parse_fault why → fault ≡ faults.Trace refused → OfInput left (RefusesText refused)
+refuses_text left read given why fault refused all same within bad by is =
     let Q : List ℕ → Type 0 = λ bytes. IsRefusedAt schedule_test bytes refused.line refused.kind in
-    subst P all (record { within = within; at = subst Q same (bad_by schedule_test why fault refused given bad by is) })
+    let made : RefusesText refused read = record { within = within; at = subst Q same (bad_by schedule_test why fault refused given bad by is) } in
+    record { bytes = read; are = all; holds = made }
 
 -- a schedule that is played ends by want of memory, or well, where reading didn't fail
 pub steps_ends : (left rest : Option (List ℕ)) (fault : Fault) (fails : Type 0)
@@ -181,8 +191,36 @@ steps_ends None rest fault fails text step ends unread played = absurd played
 steps_ends (Some bytes) rest faults.Usage fails text step ends unread played = absurd (ends.command refl)
 steps_ends (Some bytes) rest (faults.TooLong most) fails text step ends unread played =
     let more = (ends.too_long most refl).1 in let within = played.1.within in absurd (omega arith)
-steps_ends (Some bytes) rest (faults.Trace why) fails text step ends unread played = absurd (text why bytes (ends.refused why refl) played)
-steps_ends (Some bytes) rest (faults.Step line why) fails text step ends unread played = absurd (step line why bytes (ends.step line why refl) played)
+steps_ends (Some bytes) rest (faults.Trace why) fails text step ends unread played = absurd (text why bytes (of_source (λ b. RefusesText why b) bytes (ends.refused why refl)) played)
+steps_ends (Some bytes) rest (faults.Step line why) fails text step ends unread played = absurd (step line why bytes (of_source (λ b. RefusesStep line why b) bytes (ends.step line why refl)) played)
 steps_ends (Some bytes) rest faults.Read fails text step ends unread played = absurd (unread (ends.read refl))
 steps_ends (Some bytes) rest faults.Write fails text step ends unread played = absurd (ends.unwritten refl)
 steps_ends (Some bytes) rest faults.Memory fails text step ends unread played = refl
+
+-- the refusals that a run ends with are those that `steps` answered
+pub text_refused_by : (left rest : Option (List ℕ)) (fault : Fault) (fails : Type 0) → AnswersSteps (Err fault) left rest fails
+    → (end : Option Fault) → end ≡ Some fault → (why : TraceRefused) → end ≡ Some (faults.Trace why) → OfInput left (RefusesText why)
+text_refused_by left rest fault fails ends end is why trace =
+    let same : fault ≡ faults.Trace why = cc in
+    ends.refused why (ap Err same)
+
+pub step_refused_by : (left rest : Option (List ℕ)) (fault : Fault) (fails : Type 0) → AnswersSteps (Err fault) left rest fails
+    → (end : Option Fault) → end ≡ Some fault → (line : ℕ) (why : StepRefused) → end ≡ Some (faults.Step line why) → OfInput left (RefusesStep line why)
+step_refused_by left rest fault fails ends end is line why step =
+    let same : fault ≡ faults.Step line why = cc in
+    ends.step line why (ap Err same)
+
+-- what is written is what the schedule of the input prints
+pub writes_output : (left held holds : Option (List ℕ)) (fault : Option Fault) (printed text : List ℕ) → OfInput left (Plays printed) → text ≡ printed
+    → IfNone fault (Adds held text holds) → IfNone fault (OfInput left (WritesOutput held holds))
+writes_output left held holds None printed text input same adds =
+    let P : List ℕ → Type 0 = λ t. Adds held t holds in
+    let made : WritesOutput held holds input.bytes = record { printed = printed; plays = input.holds; adds = subst P same adds } in
+    record { bytes = input.bytes; are = input.are; holds = made }
+writes_output left held holds (Some fault) printed text input same adds = tt
+
+pub writes_part : (left held holds : Option (List ℕ)) (printed text : List ℕ) → OfInput left (Plays printed) → text ≡ printed → AddsPart held text holds → OfInput left (WritesPart held holds)
+writes_part left held holds printed text input same adds =
+    let P : List ℕ → Type 0 = λ t. AddsPart held t holds in
+    let made : WritesPart held holds input.bytes = record { printed = printed; plays = input.holds; adds = subst P same adds } in
+    record { bytes = input.bytes; are = input.are; holds = made }

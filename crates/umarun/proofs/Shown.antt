@@ -4,6 +4,7 @@ use Rattle.std.specs.Prelude.{IfNone, IfSome}
 use Rattle.command_line.specs.declared.command.Command.{Command}
 use Rattle.command_line.specs.declared.command.Command.TheVariants.{Bulk}
 use Rattle.umarun.specs.Summary.{summary_text}
+use Rattle.umarun.specs.declared.any_hall.AnyHall.{AnyHall}
 use Rattle.umarun.specs.declared.fault.Fault.{Fault}
 use Rattle.zone_stats.specs.declared.report.Report.{Report}
 
@@ -19,6 +20,14 @@ shown_if text_of Shows fault report made text is same shows =
     let P : Option Report → Type 0 = λ o. IfNone fault (IfSome o (λ r. Shows (text_of r))) in
     let Q : List ℕ → Type 0 = λ t. IfNone fault (Shows t) in
     subst P (sym is) (subst Q same shows)
+
+-- what holds of a report and its hall
+pub shown_both : (Holds : Report → AnyHall → Type 0) (report : Option Report) (hall : Option AnyHall) (made : Report) (ended : AnyHall) → report ≡ Some made → hall ≡ Some ended
+    → Holds made ended → IfSome report (λ r. IfSome hall (λ h. Holds r h))
+shown_both Holds report hall made ended reports leaves holds =
+    let P : Option Report → Type 0 = λ o. IfSome o (λ r. IfSome hall (λ h. Holds r h)) in
+    let Q : Option AnyHall → Type 0 = λ o. IfSome o (λ h. Holds made h) in
+    subst P (sym reports) (subst Q (sym leaves) holds)
 
 -- a command has one seed, one count of workers and one of steps
 pub same_summary : (seed workers ops s w o : ℕ) → ◌≡◌ {A = Option Command} (Some (Bulk s w o)) (Some (Bulk seed workers ops)) → (report : Report) → summary_text seed workers ops report ≡ summary_text s w o report

@@ -1,5 +1,5 @@
 -- What the calls answer of which `run` is made (own).
-use Rattle.std.specs.Prelude.{◌≡◌, ◌≤◌, ℕ, List, Option, Result, Vec, length, IfSome, IfOk, OnOk, IsErrOf}
+use Rattle.std.specs.Prelude.{◌≡◌, ◌≤◌, ℕ, List, Option, Result, Vec, length, IfOk, OnOk, IsErrOf}
 use Rattle.std.specs.declared.alloc.Global.{Global}
 use Rattle.smr_core.specs.declared.step_refused.StepRefused.{StepRefused}
 use Rattle.text_lines.specs.TextLines.{IsRefusedAt}
@@ -14,7 +14,8 @@ use Rattle.trace_text.specs.declared.trace.Trace.{Trace}
 use Rattle.uma_io.specs.Source.{Exhausts, HasMoreThan}
 use Rattle.uma_replay.specs.Report.{StandsFor}
 use Rattle.umarun.specs.Bulk.{ReplaysMade}
-use Rattle.umarun.specs.Replaying.{HasHeadline, KeepsHeadline, LeavesHall, Replays, RefusesTrace, most_bytes}
+use Rattle.umarun.specs.Input.{OfInput}
+use Rattle.umarun.specs.Replaying.{HasHeadline, LeavesHall, Replays, RefusesTrace, most_bytes}
 use Rattle.umarun.specs.Stepping.{Plays, RefusesText, RefusesStep}
 use Rattle.umarun.specs.Summary.{summary_text}
 use Rattle.umarun.specs.declared.any_hall.AnyHall.{AnyHall}
@@ -38,28 +39,27 @@ pub record ReadsTrace (bytes : List ℕ) (result : Result Trace ParseRefused) : 
   pub few : IfOk result (λ trace. length (lines_of trace.rounds) ≤ length bytes)
   pub refused : (refused : TraceRefused) → IsErrOf result (parsing.Trace refused) → IsRefusedAt trace_test bytes refused.line refused.kind
 
--- A report with its hall and its text, of all that the source had; or the fault that ended it, and why: no step of a schedule, no word and no writing.
+-- The report, its hall and the report's text, for the trace that was read, with nothing left in the source; or the fault that ended the command, and why. The fault is no step of a schedule, no word and no writing.
 pub record AnswersReplay (result : Result (Replayed × Vec ℕ Global) Fault) (left rest : Option (List ℕ)) (read_fails is_free : Type 0) : Type 0 where
-  pub replays : IfOk result (λ done. IfSome left (Replays done.0.report done.0.ended))
-  pub headline : IfOk result (λ done. IfSome left (KeepsHeadline done.0.report done.0.ended))
+  pub replays : IfOk result (λ done. OfInput left (Replays done.0.report done.0.ended))
   pub free : is_free → IfOk result (λ done. done.0.report.gave_up ≡ 0)
   pub text : IfOk result (λ done. done.1.items ≡ report_text done.0.report)
   pub end : OnOk result (Exhausts left rest)
   pub read : IsErrOf result faults.Read → read_fails
   pub too_long : (most : ℕ) → IsErrOf result (faults.TooLong most) → (most ≡ most_bytes) × HasMoreThan most_bytes left
-  pub refused : (refused : TraceRefused) → IsErrOf result (faults.Trace refused) → IfSome left (RefusesTrace refused)
+  pub refused : (refused : TraceRefused) → IsErrOf result (faults.Trace refused) → OfInput left (RefusesTrace refused)
   pub no_step : (line : ℕ) (refused : StepRefused) → IsErrOf result (faults.Step line refused) → ⊥
   pub command : IsErrOf result faults.Usage → ⊥
   pub unwritten : IsErrOf result faults.Write → ⊥
 
--- What the schedule prints that all that the source had is the text of; or the fault that ended it, and why: no word and no writing.
+-- What the schedule that was read prints, with nothing left in the source; or the fault that ended the command, and why. The fault is no word and no writing.
 pub record AnswersSteps (result : Result (Vec ℕ Global) Fault) (left rest : Option (List ℕ)) (read_fails : Type 0) : Type 0 where
-  pub plays : IfOk result (λ printed. IfSome left (Plays printed.items))
+  pub plays : IfOk result (λ printed. OfInput left (Plays printed.items))
   pub end : OnOk result (Exhausts left rest)
   pub read : IsErrOf result faults.Read → read_fails
   pub too_long : (most : ℕ) → IsErrOf result (faults.TooLong most) → (most ≡ most_bytes) × HasMoreThan most_bytes left
-  pub refused : (refused : TraceRefused) → IsErrOf result (faults.Trace refused) → IfSome left (RefusesText refused)
-  pub step : (line : ℕ) (refused : StepRefused) → IsErrOf result (faults.Step line refused) → IfSome left (RefusesStep line refused)
+  pub refused : (refused : TraceRefused) → IsErrOf result (faults.Trace refused) → OfInput left (RefusesText refused)
+  pub step : (line : ℕ) (refused : StepRefused) → IsErrOf result (faults.Step line refused) → OfInput left (RefusesStep line refused)
   pub command : IsErrOf result faults.Usage → ⊥
   pub unwritten : IsErrOf result faults.Write → ⊥
 

@@ -8,6 +8,7 @@ use Rattle.uma_io.specs.Sink.{Adds, AddsPart}
 use Rattle.uma_io.specs.Source.{Exhausts, HasMoreThan}
 use Rattle.umarun.specs.Bulk.{ReplaysMade}
 use Rattle.umarun.specs.Ending.{makes_report, reads_input, status_at}
+use Rattle.umarun.specs.Input.{OfInput}
 use Rattle.umarun.specs.Making.{made_text}
 use Rattle.umarun.specs.Replaying.{Replays, AreInput, AreRefused, RefusesTrace, most_bytes}
 use Rattle.umarun.specs.Stepping.{ArePlayed, WritesOutput, WritesPart, RefusesText, RefusesStep}
@@ -38,22 +39,24 @@ pub record WritesAtEnd {K : Type 0} (fault : Option Fault) (old new : K) (fails 
   pub unwritten : IsSome fault → fault ≢ Some faults.Write → new ≡ old
   pub write : fault ≡ Some faults.Write → fails
 
--- `replay`: a report stands for the trace that the bytes read are the text of, and for the zones, clock, names, workers and censuses of its hall; its text is written, and nothing else. A text is refused only at its first bad line, for the first thing that is wrong with it. So an input that is refused gives no report but that refusal, and each other one is replayed, or memory was wanting, where nothing of the outside failed.
+-- `replay`: where there is a report, the input is the text of a valid trace. The report stands for this trace, and for the zones, clock, names, workers and censuses of the hall, and the headline holds of them. The report's text is written, and nothing else. A text is refused only at its first bad line, for the first thing that is wrong with it.
+--
+-- Where the source reports its bytes, each input that is refused gives no report but that refusal, and each other one is replayed, unless memory was wanting or a stream failed.
 pub record DoesReplay (end : Finish) (left held holds : Option (List ℕ)) (read_fails write_fails : Type 0) : Type 0 where
-  pub replays : IfSome end.report (λ report. IfSome end.hall (λ ended. IfSome left (Replays report ended)))
+  pub replays : IfSome end.report (λ report. IfSome end.hall (λ ended. OfInput left (Replays report ended)))
   pub written : IfNone end.fault (IfSome end.report (λ report. Adds held (report_text report) holds))
   pub part : end.fault ≡ Some faults.Write → IfSome end.report (λ report. AddsPart held (report_text report) holds)
-  pub refused : (why : TraceRefused) → end.fault ≡ Some (faults.Trace why) → IfSome left (RefusesTrace why)
+  pub refused : (why : TraceRefused) → end.fault ≡ Some (faults.Trace why) → OfInput left (RefusesTrace why)
   pub names : (why : TraceRefused) → IsSomeAnd left (RefusesTrace why) → ¬ read_fails → (end.fault ≡ Some (faults.Trace why)) ⊎ (end.fault ≡ Some faults.Memory)
   pub refuses : IsSomeAnd left AreRefused → IsNone end.report
   pub complete : IsSomeAnd left AreInput → ¬ read_fails → ¬ write_fails → (end.fault ≡ None) ⊎ (end.fault ≡ Some faults.Memory)
 
--- `steps`: what the schedule prints that the bytes read are the text of is written, and nothing else. A text is refused only at its first bad line, and a schedule at the first line whose step is refused. So each schedule none of whose steps is refused is played, or memory was wanting, where nothing of the outside failed.
+-- `steps`: where there is no fault, the input is the text of a schedule, and what this schedule prints is written, and nothing else. A text is refused only at its first bad line, and a schedule only at the first line whose step is refused. Where the source reports its bytes, each schedule none of whose steps is refused is played, unless memory was wanting or a stream failed.
 pub record DoesSteps (end : Finish) (left held holds : Option (List ℕ)) (read_fails write_fails : Type 0) : Type 0 where
-  pub written : IfNone end.fault (IfSome left (WritesOutput held holds))
-  pub part : end.fault ≡ Some faults.Write → IfSome left (WritesPart held holds)
-  pub refused : (why : TraceRefused) → end.fault ≡ Some (faults.Trace why) → IfSome left (RefusesText why)
-  pub step : (line : ℕ) (why : StepRefused) → end.fault ≡ Some (faults.Step line why) → IfSome left (RefusesStep line why)
+  pub written : IfNone end.fault (OfInput left (WritesOutput held holds))
+  pub part : end.fault ≡ Some faults.Write → OfInput left (WritesPart held holds)
+  pub refused : (why : TraceRefused) → end.fault ≡ Some (faults.Trace why) → OfInput left (RefusesText why)
+  pub step : (line : ℕ) (why : StepRefused) → end.fault ≡ Some (faults.Step line why) → OfInput left (RefusesStep line why)
   pub complete : IsSomeAnd left ArePlayed → ¬ read_fails → ¬ write_fails → (end.fault ≡ None) ⊎ (end.fault ≡ Some faults.Memory)
 
 -- `gen`: the canonical text of the trace that the numbers give is written, and nothing else, or memory was wanting, where writing didn't fail.

@@ -1,6 +1,7 @@
 pub mod Bulk
 pub mod Causes
 pub mod Ending
+pub mod Input
 pub mod Making
 pub mod Replaying
 pub mod Stepping

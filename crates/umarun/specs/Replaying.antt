@@ -1,9 +1,10 @@
 -- What the command `replay` does with the bytes that it reads (own).
-use Rattle.std.specs.Prelude.{◌≡◌, ◌<◌, ◌≤◌, ◌⊎◌, ℕ, List, length}
+use Rattle.std.specs.Prelude.{◌≡◌, ◌<◌, ◌≤◌, ◌⊎◌, ℕ, List, Option, IfSome, length}
 use Rattle.text_lines.specs.TextLines.{IsRefusedAt}
 use Rattle.text_lines.specs.declared.refused.TraceRefused.{TraceRefused}
 use Rattle.trace_text.specs.declared.trace.Trace.{Trace}
 use Rattle.trace_text.specs.Grammar.{IsTraceText, trace_test}
+use Rattle.trace_text.specs.Valid.{IsValid}
 use Rattle.smr_clock.specs.Belongs.{setup_of}
 use Rattle.umarun.specs.Caches.{plan_for}
 use Rattle.trace_play.specs.contracts.plain_names.PlainNamesNameCalls.TheImpl.{ghosts as plain_names}
@@ -24,23 +25,26 @@ abbrev pub LeavesHall : Trace → Report → AnyHall → Type 0
 LeavesHall trace report (Plain hall) = HallStands plain_names trace report hall × ((setup_of hall.clock).plan ≡ (0, 0))
 LeavesHall trace report (Named hall) = HallStands cache_names trace report hall × ((setup_of hall.clock).plan ≡ plan_for trace.head)
 
--- The bytes are the text of a trace, at most so many. The report stands for the trace, and for the hall that the trace's lines left.
-pub record Replays (report : Report) (ended : AnyHall) (bytes : List ℕ) : Type 0 where
-  pub within : length bytes ≤ most_bytes
-  pub trace : Trace
-  pub text : IsTraceText bytes trace
-  pub stands : StandsFor trace report
-  pub hall : LeavesHall trace report ended
-
 -- the headline holds of the report and of what the trace's lines left
 abbrev pub HasHeadline : Trace → Report → AnyHall → Type 0
 HasHeadline trace report (Plain hall) = Headline plain_names trace report hall
 HasHeadline trace report (Named hall) = Headline cache_names trace report hall
 
--- the same, of the trace that the bytes are the text of
-pub record KeepsHeadline (report : Report) (ended : AnyHall) (bytes : List ℕ) : Type 0 where
+-- The bytes, at most so many, are the text of a valid trace. The report stands for this trace and for the hall that its lines left, and the headline holds of all three.
+pub record Replays (report : Report) (ended : AnyHall) (bytes : List ℕ) : Type 0 where
+  pub within : length bytes ≤ most_bytes
   pub trace : Trace
   pub text : IsTraceText bytes trace
+  pub valid : IsValid trace
+  pub stands : StandsFor trace report
+  pub hall : LeavesHall trace report ended
+  pub headline : HasHeadline trace report ended
+
+-- The headline holds of the report and of its hall, for a valid trace. Where the source reports its bytes, they are the text of this trace.
+pub record KeepsHeadline (left : Option (List ℕ)) (report : Report) (ended : AnyHall) : Type 0 where
+  pub trace : Trace
+  pub valid : IsValid trace
+  pub text : IfSome left (λ bytes. IsTraceText bytes trace)
   pub headline : HasHeadline trace report ended
 
 -- the bytes are the text of a trace, at most so many

@@ -21,13 +21,13 @@ pub record Plays (printed bytes : List ℕ) : Type 0 where
 abbrev pub ArePlayed : List ℕ → Type 0
 ArePlayed bytes = (printed : List ℕ) × Plays printed bytes
 
--- what the sink holds is what it held before, and what the schedule prints
+-- the sink holds what it held before, and behind it what the schedule of the bytes prints
 pub record WritesOutput (before after : Option (List ℕ)) (bytes : List ℕ) : Type 0 where
   pub printed : List ℕ
   pub plays : Plays printed bytes
   pub adds : Adds before printed after
 
--- a front of what the schedule prints was written
+-- behind it a front of what that schedule prints
 pub record WritesPart (before after : Option (List ℕ)) (bytes : List ℕ) : Type 0 where
   pub printed : List ℕ
   pub plays : Plays printed bytes

@@ -37,11 +37,11 @@ pub fn run<R: Threads + Wait + Sync, S: Source, K: Sink, G: Gate + Sync>(
         (S.bytes_left source.old) (S.bytes_left source.new) (Rose (S.fault_count source.old) (S.fault_count source.new)) }
     ensures writes { WritesAtEnd result.fault sink.old sink.new (Rose (K.fault_count sink.old) (K.fault_count sink.new)) }
 
-    // The headline: `Headline` of uma_replay has its sentence, and a field for each clause of it. Of `replay` it is said for the
-    // trace that the bytes read are the text of, and of `bulk` for the trace that the numbers give. Under a free gate no
-    // operation gave up waiting.
-    ensures headline { command_of (map string_bytes words.now) ≡ Some Command.Replay → IfSome result.report (λ report.
-        IfSome result.hall (λ ended. IfSome (S.bytes_left source.old) (KeepsHeadline report ended))) }
+    // The headline: `Headline` of uma_replay has its sentence, and a field for each clause of it. For `replay` it holds for a
+    // valid trace, which is the one that the bytes read are the text of where the source reports them, and for `bulk` for the
+    // trace that the numbers give. Under a free gate no operation gave up waiting.
+    ensures headline { command_of (map string_bytes words.now) ≡ Some Command.Replay
+        → IfSome result.report (λ report. IfSome result.hall (KeepsHeadline (S.bytes_left source.old) report)) }
     ensures bulk_headline { (seed workers ops : ℕ) → command_of (map string_bytes words.now) ≡ Some (Command.Bulk seed workers ops)
         → IfSome result.report (λ report. IfSome result.hall (HasHeadline (trace_of seed workers ops) report)) }
     ensures free { G.is_free gate.now → IfSome result.report (λ report. report.gave_up ≡ 0) }

@@ -2,13 +2,12 @@ use Rattle.std.proofs.Common.{rules, ◌≡◌, ◌≤◌, length, sym, ◌∙�
 use Rattle.std.proofs.lemmas.Result.{err_from_is_err_and}
 use Rattle.umarun.specs.declared.fault.Fault.TheVariants as faults
 use Rattle.umarun.specs.Replaying.{most_bytes}
-use Rattle.umarun.proofs.Outcomes.{headlines, refuses, replays}
+use Rattle.umarun.proofs.Outcomes.{refuses, replays}
 use Rattle.umarun.proofs.replaying.replay.Goals as goal
 
 pub returns-in_err-trace : goal.returns-in_err-trace
 returns-in_err-trace g c = record {
   replays = search rules;
-  headline = search rules;
   free = search rules;
   text = search rules;
   end = search rules;
@@ -33,10 +32,8 @@ returns g c =
     record {
       replays =
           replays left c.in_ok-bytes.bytes.items c.deref.result.now c.in_ok-trace.trace played.report played.ended
-          c.in_ok-bytes.ensures.all c.deref.ensures.value within c.in_ok-trace.ensures.read c.in_ok-played.ensures.stands c.in_ok-played.ensures.hall;
-      headline =
-          headlines left c.in_ok-bytes.bytes.items c.deref.result.now c.in_ok-trace.trace played.report played.ended
-          c.in_ok-bytes.ensures.all c.deref.ensures.value c.in_ok-trace.ensures.read c.in_ok-played.ensures.headline;
+          c.in_ok-bytes.ensures.all c.deref.ensures.value within c.in_ok-trace.ensures.read c.in_ok-trace.ensures.valid
+          c.in_ok-played.ensures.stands c.in_ok-played.ensures.hall c.in_ok-played.ensures.headline;
       free = search rules;
       text = search rules;
       end = search rules;
@@ -55,7 +52,6 @@ returns-in_err-text g c =
     let memory : passed.0 ≡ faults.Memory = passed.2 in
     record {
       replays = search rules;
-      headline = search rules;
       free = search rules;
       text = search rules;
       end = search rules;

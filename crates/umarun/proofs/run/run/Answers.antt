@@ -6,11 +6,23 @@ use Rattle.uma_io.specs.Sink.{Adds, AddsPart}
 use Rattle.umarun.specs.declared.fault.Fault.{Fault}
 use Rattle.umarun.specs.declared.finish.Finish.{Finish}
 use Rattle.umarun.specs.Summary.{summary_text}
-use Rattle.umarun.proofs.Outcomes.{none_named, none_refused, replay_ends, replay_names, steps_ends}
-use Rattle.umarun.proofs.Shown.{not_some, same_summary, shown, shown_if}
+use Rattle.umarun.proofs.Outcomes.{keeps_headline, none_named, none_refused, refused_by, replay_ends, replay_names, step_refused_by, steps_ends, text_refused_by, writes_output, writes_part}
+use Rattle.umarun.proofs.Shown.{not_some, same_summary, shown, shown_both, shown_if}
+use Rattle.umarun.specs.Input.{OfInput}
+use Rattle.umarun.specs.Replaying.{KeepsHeadline, Replays}
+use Rattle.umarun.specs.declared.any_hall.AnyHall.{AnyHall}
 use Rattle.zone_stats.specs.ReportText.{report_text}
 use Rattle.zone_stats.specs.declared.report.Report.{Report}
 use Rattle.umarun.proofs.run.run.Goals as goal
+
+-- the headline holds of the report and the hall of the replay
+pub returns-in-Ok-clause-headline : goal.returns-in-Ok-clause-headline
+returns-in-Ok-clause-headline g c = λ is.
+    let left = g.S.Source.bytes_left c.args.source.now in
+    let Keeps : Report → AnyHall → Type 0 = λ report ended. KeepsHeadline left report ended in
+    let played = c.in-Ok.played in
+    shown_both Keeps c.reported.result.report c.reported.result.hall played.report played.ended c.reported.ensures.report c.reported.ensures.hall
+    (keeps_headline left played.report played.ended c.in-Ok.ensures.replays)
 
 pub returns-in-Ok-clause-replay : goal.returns-in-Ok-clause-replay
 returns-in-Ok-clause-replay g c = λ is.
@@ -19,10 +31,11 @@ returns-in-Ok-clause-replay g c = λ is.
     let holds = g.K.Sink.bytes_held c.reported.new.sink in
     let All : List ℕ → Type 0 = λ text. Adds held text holds in
     let Part : List ℕ → Type 0 = λ text. AddsPart held text holds in
+    let Done : Report → AnyHall → Type 0 = λ report ended. OfInput left (Replays report ended) in
     let text = c.deref.ensures.value ∙ c.in-Ok.ensures.text in
     let played = c.in-Ok.played in
     record {
-      replays = search rules;
+      replays = shown_both Done c.reported.result.report c.reported.result.hall played.report played.ended c.reported.ensures.report c.reported.ensures.hall c.in-Ok.ensures.replays;
       written = shown_if (λ (r : Report). report_text r) All c.reported.result.fault c.reported.result.report played.report c.deref.result.now c.reported.ensures.report text c.reported.ensures.writes.all;
       part = λ fault. shown (λ (r : Report). report_text r) Part c.reported.result.report played.report c.deref.result.now c.reported.ensures.report text (c.reported.ensures.writes.part fault);
       refused = search rules;
@@ -41,7 +54,7 @@ returns-in-Err-clause-replay g c = λ is.
       replays = search rules;
       written = search rules;
       part = search rules;
-      refused = search rules;
+      refused = λ why trace. refused_by left rest c.in-Err.fault fails (g.G.Gate.is_free c.args.gate.now) c.in-Err.ensures c.refused-in-Err.result.fault fault why trace;
       names = λ why refuses unread.
           elim (replay_names left rest c.in-Err.fault why fails (g.G.Gate.is_free c.args.gate.now) c.replayed_or_refused.ensures.one c.in-Err.ensures unread refuses) [
             | inl named ↦ inl (fault ∙ ap Some named)
@@ -53,25 +66,33 @@ returns-in-Err-clause-replay g c = λ is.
 
 pub returns-in-Err-steps-clause-steps : goal.returns-in-Err-steps-clause-steps
 returns-in-Err-steps-clause-steps g c = λ is.
+    let left = g.S.Source.bytes_left c.args.source.now in
+    let rest = g.S.Source.bytes_left c.steps.new.source in
+    let fails = Rose (g.S.Source.fault_count c.args.source.now) (g.S.Source.fault_count c.steps.new.source) in
+    let end = c.refused-in-Err-steps.result.fault in
+    let fault : end ≡ Some c.in-Err-steps.fault = ap (λ (finish : Finish). finish.fault) c.refused-in-Err-steps.ensures in
     record {
       written = search rules;
       part = search rules;
-      refused = search rules;
-      step = search rules;
+      refused = λ why trace. text_refused_by left rest c.in-Err-steps.fault fails c.in-Err-steps.ensures end fault why trace;
+      step = λ line why step. step_refused_by left rest c.in-Err-steps.fault fails c.in-Err-steps.ensures end fault line why step;
       complete = λ played unread unwritten.
-          let left = g.S.Source.bytes_left c.args.source.now in
-          let rest = g.S.Source.bytes_left c.steps.new.source in
-          let fails = Rose (g.S.Source.fault_count c.args.source.now) (g.S.Source.fault_count c.steps.new.source) in
           let memory = steps_ends left rest c.in-Err-steps.fault fails c.played_or_refused.ensures.text c.played_or_refused.ensures.step c.in-Err-steps.ensures unread played in
-          inr (ap (λ (finish : Finish). finish.fault) c.refused-in-Err-steps.ensures ∙ ap Some memory);
+          inr (fault ∙ ap Some memory);
     }
 
 -- The text of a schedule is written whole where writing didn't fail.
 pub returns-in-Ok-steps-clause-steps : goal.returns-in-Ok-steps-clause-steps
 returns-in-Ok-steps-clause-steps g c = λ is.
+    let left = g.S.Source.bytes_left c.args.source.now in
+    let held = g.K.Sink.bytes_held c.args.sink.now in
+    let holds = g.K.Sink.bytes_held c.written.new.sink in
+    let shown = c.deref-in-Ok-steps.result.now in
+    let printed = c.in-Ok-steps.text.items in
+    let same : shown ≡ printed = c.deref-in-Ok-steps.ensures.value in
     record {
-      written = search rules;
-      part = search rules;
+      written = writes_output left held holds c.written.result.fault printed shown c.in-Ok-steps.ensures.plays same c.written.ensures.writes.all;
+      part = λ fault. writes_part left held holds printed shown c.in-Ok-steps.ensures.plays same (c.written.ensures.writes.part fault);
       refused = search rules;
       step = search rules;
       complete = λ played unread unwritten. inl (c.written.ensures.writes.complete unwritten);
