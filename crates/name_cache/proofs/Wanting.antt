@@ -60,10 +60,10 @@ none_before (x ∷ xs) ys none = absurd (cc)
 
 module _ {T H P : Type 0} {g h : _} where
   -- a flush of an empty shelf sends nothing
-  pub nothing_sent : (them : ZoneDomains T H P g h) (copied : P → P) (was is : List (Shelved T H P g h)) (sent sent' : List (List (Shelved T H P g h))) (v : View P) → was ≡ [] → IsFlushed them copied was is sent sent' v → sent' ≡ sent
-  nothing_sent them copied was is sent sent' v none flushed =
+  pub nothing_sent : (them : ZoneDomains T H P g h) (own : ℕ) (copied : P → P) (was is : List (Shelved T H P g h)) (sent sent' : List (List (Shelved T H P g h))) (v : View P) → was ≡ [] → IsFlushed them own copied was is sent sent' v → sent' ≡ sent
+  nothing_sent them own copied was is sent sent' v none flushed =
       let flushes = flushed.flushes in
-      let tries : TryEach copied v [] flushes.tried flushed.left = subst (λ (l : List (Shelved T H P g h)). TryEach copied v l flushes.tried flushed.left) none flushes.tries in
+      let tries : TryEach copied v [] flushes.tried flushes.mid = subst (λ (l : List (Shelved T H P g h)). TryEach copied v l flushes.tried flushes.mid) none flushes.tries in
       let put : flushes.puts.put ≡ [] = none_before flushes.puts.put is (sym flushes.puts.split ∙ tries.0) in
       let each : SentEach them sent [] sent' = subst (λ (l : List (Shelved T H P g h)). SentEach them sent l sent') put flushes.puts.each in
       each

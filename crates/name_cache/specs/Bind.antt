@@ -4,7 +4,7 @@ use Rattle.smr_clock.specs.declared.view.View.{View}
 use Rattle.zone_stats.specs.declared.ledger.SeatLedger.{SeatLedger}
 use Rattle.zone_stats.specs.LedgerSteps.{HasRoom}
 use Rattle.uma_life.specs.Live.{live_no, live_ticket}
-use Rattle.uma_seat.specs.Seat.{usable_of, shelf_of, ledger_of, KeepsFreed}
+use Rattle.uma_seat.specs.Seat.{seat_domain, usable_of, shelf_of, ledger_of, KeepsFreed}
 use Rattle.uma_zone.specs.declared.alloc_ask.AllocRefused.{AllocRefused}
 use Rattle.uma_zone.specs.declared.alloc_ask.AllocRefused.TheVariants.{Refused, Memory as NoMemory}
 use Rattle.uma_zone.specs.Flushed.{HasLastOf}
@@ -97,7 +97,7 @@ pub record WantsMemory (old new : EntrySeat) : Type 0 where
 
 -- The seat was flushed, as far as memory was there: each bucket of its shelf is in an inbox or a list, or on the shelf still. The pass knows nothing more.
 pub record IsOnlyFlushed (zone : ZoneOfEntries) (old new : EntrySeat) (v v' : View Part) : Type 0 where
-  pub flushed : IsFlushed (lists_of zone) told (shelf_of old) (shelf_of new) (sent_of old) (sent_of new) v
+  pub flushed : IsFlushed (lists_of zone) (seat_domain old) told (shelf_of old) (shelf_of new) (sent_of old) (sent_of new) v
   pub unheard : v'.host ≡ v.host
 
 -- Why the key isn't bound, in this order of tests: memory was wanting, or the zone's one fetch was refused, as the zone says; the entry isn't ripe; the row is worn.

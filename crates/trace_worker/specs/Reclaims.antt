@@ -7,7 +7,7 @@ use Rattle.uma_reclaim.specs.Cached.{cached_in}
 use Rattle.uma_reclaim.specs.Given.{AreGiven, GivesEach}
 use Rattle.uma_reclaim.specs.Reclaimed.{AreSettled, ComesFrom, DrainsEach, TrimsEach}
 use Rattle.uma_seat.specs.declared.seat.SeatCache.{SeatCache}
-use Rattle.uma_seat.specs.Seat.{usable_of, spares_of, shelf_of, HasNoCross, IsSameSeat, KeepsTop, KeepsPlain, KeepsFreed, KeepsCounts, KeepsMisses}
+use Rattle.uma_seat.specs.Seat.{seat_domain, usable_of, spares_of, shelf_of, HasNoCross, IsSameSeat, KeepsTop, KeepsPlain, KeepsFreed, KeepsCounts, KeepsMisses}
 use Rattle.uma_zone.specs.KegStates.{FreesSlabsOf}
 use Rattle.uma_zone.specs.OwnDomain.{IsFlushed as IsShelfFlushed}
 use Rattle.uma_zone.specs.Ports.{sent_of}
@@ -40,9 +40,9 @@ module _ {T H P : Type 0} {g h : _} where
     pub no_cross : HasNoCross new
 
 module _ {H P : Type 0} {h : Ghosts H P} where
-  -- The seat's shelf went to the domains by a pass whose view was v before, each domain of the zone was settled, and then gave up these buckets, take by take; all items of them came back to the zone's keg.
+  -- The seat was flushed by a pass whose view was v before, so its shelf went to the domains. Each domain of the zone was settled, and then gave up these buckets, take by take; all items of them came back to the zone's keg.
   pub record GivesTakes (zone : CountedZone H P h) (Own : List (List (TakenBucket Counted H P counted_body h)) → Type 0) (v : View P) (old new : CountedSeat H P h) : Type 0 where
-    pub shelf : IsShelfFlushed (lists_of zone) h.copied (shelf_of old) (shelf_of new) (sent_of old) (sent_of new) v
+    pub shelf : IsShelfFlushed (lists_of zone) (seat_domain old) h.copied (shelf_of old) (shelf_of new) (sent_of old) (sent_of new) v
     pub settled : AreSettled zone h.copied
     pub takes : List (List (TakenBucket Counted H P counted_body h))
     pub from : ComesFrom zone takes

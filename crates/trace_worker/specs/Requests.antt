@@ -37,11 +37,11 @@ module _ {H P : Type 0} {h : Ghosts H P} where
     pub plain : plain_of new ≡ plain_ready old
     pub freed : KeepsFreed old new
 
-  -- What a request did by a pass whose view was v before and v' after. Where an item was usable it did nothing by it, and pushed nothing. Else the oldest buckets of the shelf went by the seat's ports to their domains, each loose one having tried once, and the seat's own domain was settled. The pass took in one note at most.
+  -- What a request did by a pass whose view was v before and v' after. Where an item was usable it did nothing by it, and pushed nothing. Else the seat was flushed: each loose bucket of its shelf tried once to be sealed, then each loose one in the list of its own domain did, and then the oldest buckets of the shelf went by the seat's ports to their domains. After that its own domain was settled. The pass took in one note at most.
   pub record Reaches (zone : CountedZone H P h) (v : View P) (old new : CountedSeat H P h) (v' : View P) : Type 0 where
     pub host : TakesInNote h.merged v.host v'.host
     pub shelf : HasLastOf (shelf_of old) (shelf_of new)
-    pub flushed : usable_of old ≡ [] → IsFlushed (lists_of zone) h.copied (shelf_of old) (shelf_of new) (sent_of old) (sent_of new) v
+    pub flushed : usable_of old ≡ [] → IsFlushed (lists_of zone) (seat_domain old) h.copied (shelf_of old) (shelf_of new) (sent_of old) (sent_of new) v
     pub settled : usable_of old ≡ [] → IsSettled (lists_of zone) (seat_domain old) h.copied
     pub unpushed : usable_of old ≢ [] → KeepsPorts old new
     pub unseen : usable_of old ≢ [] → v' ≡ v
@@ -85,11 +85,11 @@ module _ {H P : Type 0} {h : Ghosts H P} where
     pub made : MakesReady old ready
     pub released : Releases zone ready item new
 
-  -- How the seat was made ready, by a pass whose view was v before and v' after. Where a spare bucket was there nothing was done. Else the whole shelf went by the seat's ports to its domains, each loose bucket having tried once, and there are two spare buckets.
+  -- How the seat was made ready, by a pass whose view was v before and v' after. Where a spare bucket was there nothing was done. Else each loose bucket of the shelf tried once to be sealed, then each loose one in the list of the seat's own domain did, then the whole shelf went by the seat's ports to its domains, and there are two spare buckets.
   pub record ReadiesSeat (zone : CountedZone H P h) (v : View P) (old ready : CountedSeat H P h) (v' : View P) : Type 0 where
     pub host : v'.host ≡ v.host
     pub nothing : 0 < length (spares_of old) → v' ≡ v
-    pub flushes : length (spares_of old) ≡ 0 → Flushes (lists_of zone) h.copied (shelf_of old) (shelf_of ready) (sent_of old) (sent_of ready) v v'
+    pub flushes : length (spares_of old) ≡ 0 → Flushes (lists_of zone) (seat_domain old) h.copied (shelf_of old) (shelf_of ready) (sent_of old) (sent_of ready) v v'
     pub flushed : length (spares_of old) ≡ 0 → shelf_of ready ≡ []
     pub two : length (spares_of old) ≡ 0 → length (spares_of ready) ≡ 2
 

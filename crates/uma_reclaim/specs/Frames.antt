@@ -5,7 +5,7 @@ use Rattle.smr_clock.specs.declared.pass.Pass.{Pass}
 use Rattle.smr_clock.specs.declared.view.View.{View}
 use Rattle.smr_clock.specs.Belongs.{IsPassOf, clock_id, view}
 use Rattle.uma_seat.specs.declared.seat.SeatCache.{SeatCache}
-use Rattle.uma_seat.specs.Seat.{spares_of, shelf_of, IsSameSeat, KeepsFreed, KeepsCounts, KeepsMisses}
+use Rattle.uma_seat.specs.Seat.{seat_domain, spares_of, shelf_of, IsSameSeat, KeepsFreed, KeepsCounts, KeepsMisses}
 use Rattle.uma_zone.specs.declared.zone.Zone.{Zone}
 use Rattle.uma_zone.specs.Frames.{GoesOn, KeepsPass, KeepsItems, KeepsButUsable}
 use Rattle.uma_zone.specs.OwnDomain.{IsFlushed}
@@ -39,10 +39,10 @@ module _ {T K H P : Type 0} {g k h : _} where
 
   -- ---- what it leaves
 
-  -- The seat is of the zone still. Its shelf went to the domains by a pass that had this view before, and its spare buckets stay.
+  -- The seat is of the zone still. It was flushed by a pass that had this view before, so its shelf went to the domains, and its spare buckets stay.
   pub record FlushesShelf (zone : Zone T K H P g k h) (copied : P → P) (v : View P) (old new : SeatCache T H P g h) : Type 0 where
     pub seat : IsSeatOf zone new
-    pub flushes : IsFlushed (lists_of zone) copied (shelf_of old) (shelf_of new) (sent_of old) (sent_of new) v
+    pub flushes : IsFlushed (lists_of zone) (seat_domain old) copied (shelf_of old) (shelf_of new) (sent_of old) (sent_of new) v
     pub spares : spares_of new ≡ spares_of old
 
   -- a flush leaves the host's part of the pass, and all items of the seat

@@ -50,7 +50,7 @@ module _ {T K H P : Type 0} {g k h : _} where
     pub each : length takes ≡ zone_domains zone
     pub of_zone : All (All (IsFromZone zone)) takes
 
-  -- These buckets are what one take from the domain of this number brought: what wasn't in use since its last mark, or each candidate.
+  -- These buckets are what one take from the domain of this number brought: what wasn't in use since its last trim, or each candidate.
   pub record IsTakenAt (zone : Zone T K H P g k h) (extent : Extent) (number : ℕ) (buckets : List (TakenBucket T H P g h)) : Type 0 where
     pub domain : Domain T H P g h
     pub named : zone_domain zone number ≡ Some domain

@@ -1,4 +1,4 @@
--- The least and the greatest count since a mark.
+-- The least and the greatest count since a trim.
 use Rattle.std.proofs.Common.{◌≡◌, ◌≤◌, ℕ, min, max, List, [], ◌∷◌, ◌++◌, fold, inl, inr, refl, sym, subst, arith}
 use Rattle.std.specs.List.{Contains}
 use Rattle.std.proofs.lemmas.Bool.{cases_lt}
@@ -8,7 +8,7 @@ use Rattle.smr_clock.specs.declared.host.Host.{Ghosts as HostGhosts}
 use Rattle.uma_life.specs.declared.body.Body.{Ghosts}
 use Rattle.uma_domain.specs.declared.working.Working.{Working}
 use Rattle.uma_domain.specs.Working.{after, begun}
-use Rattle.uma_zone.specs.WorkingLaw.{Move, counts_after, counted, since_mark, IsLeast, IsGreatest, TellsExtremes, IsFarthest, CountsMoves}
+use Rattle.uma_zone.specs.WorkingLaw.{Move, counts_after, counted, since_trim, IsLeast, IsGreatest, TellsExtremes, IsFarthest, CountsMoves}
 
 least_more : (n m : ℕ) (ns : List ℕ) → IsLeast n ns → IsLeast (min n m) (ns ++ m ∷ [])
 least_more n m ns was = elim (cases_lt n m) [
@@ -68,8 +68,8 @@ pub is_farthest : IsFarthest
 is_farthest start moves one other of_one of_other =
     let both = tells_extremes start moves in
     let all = start ∷ counts_after start moves in
-    let low = All-contains (λ k. (since_mark start moves).least ≤ k) all other both.0.below of_other in
-    let high = All-contains (λ k. k ≤ (since_mark start moves).greatest) all one both.1.above of_one in
+    let low = All-contains (λ k. (since_trim start moves).least ≤ k) all other both.0.below of_other in
+    let high = All-contains (λ k. k ≤ (since_trim start moves).greatest) all one both.1.above of_one in
     omega (arith, low, high)
 
 pub counts_moves : {T H P : Type 0} {g : Ghosts T} {h : HostGhosts H P} → CountsMoves T H P g h

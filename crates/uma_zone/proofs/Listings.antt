@@ -1,11 +1,11 @@
 -- What a flush did to the lists of a zone's domains.
-use Rattle.std.proofs.Common.{◌≡◌, ◌≤◌, List, [], ◌∷◌, ◌++◌, length, Option, Some, None, IfSome, IfNone, refl, sym, ap, ◌∙◌, subst, arith}
+use Rattle.std.proofs.Common.{◌≡◌, ◌≤◌, ℕ, List, [], ◌∷◌, ◌++◌, length, Option, Some, None, IfSome, IfNone, refl, sym, ap, ◌∙◌, subst, arith}
 use Rattle.std.proofs.lemmas.List.{append-nil}
 use Rattle.smr_clock.specs.declared.view.View.{View}
 use Rattle.uma_bucket.specs.declared.shelved.Shelved.{Shelved}
 use Rattle.uma_zone.specs.declared.domains.ZoneDomains.{ZoneDomains}
 use Rattle.uma_zone.specs.Flushed.{TakesTried, in_order}
-use Rattle.uma_zone.specs.OwnDomain.{SentEach, PutsFirst, TryEach, Flushes, IsFlushed}
+use Rattle.uma_zone.specs.OwnDomain.{SentEach, PutsFirst, TryEach, TriesLoose, Flushes, IsFlushed}
 
 -- a list that isn't longer than none is empty
 none_long : {X : Type 0} (xs : List X) → length xs ≤ 0 → xs ≡ []
@@ -65,12 +65,18 @@ module _ {T H P : Type 0} {g h : _} where
       let all : was ≡ first.oldest ∷ second.oldest ∷ [] = first.taken ∙ ap (λ (l : List (Shelved T H P g h)). first.oldest ∷ l) (second.taken ∙ ap (λ (l : List (Shelved T H P g h)). second.oldest ∷ l) none_left) in
       subst (λ (l : List (Shelved T H P g h)). TryEach copied v l (o ∷ n ∷ []) v') (sym all) (o, n ∷ [], mid_v, refl, first.tries, (n, [], v', refl, second.tries, (refl, refl)))
 
+  -- the same tries, of the domain by its other name
+  pub tries_of : (them : ZoneDomains T H P g h) (copied : P → P) (v v' : View P) (number own : ℕ) → number ≡ own → TriesLoose them number copied v v' → TriesLoose them own copied v v'
+  tries_of them copied v v' number own same tries = subst (λ (n : ℕ). TriesLoose them n copied v v') same tries
+
   -- the same flush of a seat that is as that left it
-  pub flushes_still : (them : ZoneDomains T H P g h) (copied : P → P) (was is is' : List (Shelved T H P g h)) (sent sent' sent'' : List (List (Shelved T H P g h))) (v left : View P) → is' ≡ is → sent'' ≡ sent' → Flushes them copied was is sent sent' v left
-      → Flushes them copied was is' sent sent'' v left
-  flushes_still them copied was is is' sent sent' sent'' v left same pushed flushes = record {
+  pub flushes_still : (them : ZoneDomains T H P g h) (own : ℕ) (copied : P → P) (was is is' : List (Shelved T H P g h)) (sent sent' sent'' : List (List (Shelved T H P g h))) (v left : View P) → is' ≡ is → sent'' ≡ sent' → Flushes them own copied was is sent sent' v left
+      → Flushes them own copied was is' sent sent'' v left
+  flushes_still them own copied was is is' sent sent' sent'' v left same pushed flushes = record {
     tried = flushes.tried;
+    mid = flushes.mid;
     tries = flushes.tries;
+    loose = flushes.loose;
     puts = record {
       put = flushes.puts.put;
       split = flushes.puts.split ∙ ap (λ (l : List (Shelved T H P g h)). flushes.puts.put ++ l) (sym same);
@@ -79,13 +85,15 @@ module _ {T H P : Type 0} {g h : _} where
   }
 
   -- the seat was flushed, and is as that left it
-  pub still_flushed : (them : ZoneDomains T H P g h) (copied : P → P) (was is is' : List (Shelved T H P g h)) (sent sent' sent'' : List (List (Shelved T H P g h))) (v : View P) → is' ≡ is → sent'' ≡ sent' → IsFlushed them copied was is sent sent' v
-      → IsFlushed them copied was is' sent sent'' v
-  still_flushed them copied was is is' sent sent' sent'' v same pushed flushed = record { left = flushed.left; flushes = flushes_still them copied was is is' sent sent' sent'' v flushed.left same pushed flushed.flushes }
+  pub still_flushed : (them : ZoneDomains T H P g h) (own : ℕ) (copied : P → P) (was is is' : List (Shelved T H P g h)) (sent sent' sent'' : List (List (Shelved T H P g h))) (v : View P) → is' ≡ is → sent'' ≡ sent' → IsFlushed them own copied was is sent sent' v
+      → IsFlushed them own copied was is' sent sent'' v
+  still_flushed them own copied was is is' sent sent' sent'' v same pushed flushed =
+      record { left = flushed.left; flushes = flushes_still them own copied was is is' sent sent' sent'' v flushed.left same pushed flushed.flushes }
 
   -- the same of a seat that is as it was before, and as it is after
-  pub flushed_between : (them : ZoneDomains T H P g h) (copied : P → P) (was was' is is' : List (Shelved T H P g h)) (sent start sent' sent'' : List (List (Shelved T H P g h))) (v : View P) → was ≡ was' → is' ≡ is → sent ≡ start → sent'' ≡ sent'
-      → IsFlushed them copied was is sent sent' v → IsFlushed them copied was' is' start sent'' v
-  flushed_between them copied was was' is is' sent start sent' sent'' v before same begun pushed flushed =
-      let of_shelf : IsFlushed them copied was' is sent sent' v = subst (λ (l : List (Shelved T H P g h)). IsFlushed them copied l is sent sent' v) before flushed in
-      still_flushed them copied was' is is' start sent' sent'' v same pushed (subst (λ (s : List (List (Shelved T H P g h))). IsFlushed them copied was' is s sent' v) begun of_shelf)
+  pub flushed_between : (them : ZoneDomains T H P g h) (number own : ℕ) (copied : P → P) (was was' is is' : List (Shelved T H P g h)) (sent start sent' sent'' : List (List (Shelved T H P g h))) (v : View P) → number ≡ own → was ≡ was' → is' ≡ is → sent ≡ start → sent'' ≡ sent'
+      → IsFlushed them number copied was is sent sent' v → IsFlushed them own copied was' is' start sent'' v
+  flushed_between them number own copied was was' is is' sent start sent' sent'' v here before same begun pushed flushed =
+      let of_own : IsFlushed them own copied was is sent sent' v = subst (λ (n : ℕ). IsFlushed them n copied was is sent sent' v) here flushed in
+      let of_shelf : IsFlushed them own copied was' is sent sent' v = subst (λ (l : List (Shelved T H P g h)). IsFlushed them own copied l is sent sent' v) before of_own in
+      still_flushed them own copied was' is is' start sent' sent'' v same pushed (subst (λ (s : List (List (Shelved T H P g h))). IsFlushed them own copied was' is s sent' v) begun of_shelf)

@@ -1,11 +1,14 @@
 -- Domains that are settled one after another.
-use Rattle.std.proofs.Common.{◌≡◌, ◌+◌, ℕ, suc, Result, Ok, Err, OnOk, OnErr, IfErr, refl, ap, subst, arith}
+use Rattle.std.proofs.Common.{◌≡◌, ◌<◌, ◌+◌, ℕ, suc, length, Result, Ok, Err, OnOk, OnErr, IfErr, inl, inr, refl, ap, subst, arith}
 use Rattle.smr_clock.specs.declared.view.View.{View}
 use Rattle.uma_zone.specs.declared.domains.ZoneDomains.{ZoneDomains}
 use Rattle.zone_stats.specs.declared.refusal.Refusal.TheVariants.{Ctor}
 use Rattle.uma_zone.specs.declared.alloc_ask.AllocRefused.{AllocRefused}
 use Rattle.uma_zone.specs.declared.alloc_ask.AllocRefused.TheVariants.{Refused, Memory}
+use Rattle.uma_seat.specs.declared.seat.SeatCache.{SeatCache}
+use Rattle.uma_seat.specs.Seat.{seat_domain, shelf_of}
 use Rattle.uma_zone.specs.OwnDomain.{Settles, IsSettled, SettlesFirst}
+use Rattle.uma_zone.specs.Stopped.{SettlesInPart, StopsToLook}
 
 -- the same Err of another value's type
 pub as_err : {A B E : Type 0} (e m : E) → Path (Result A E) (Err e) (Err m) → Path (Result B E) (Err e) (Err m)
@@ -46,3 +49,12 @@ module _ {T H P : Type 0} {g h : _} where
 
   pub settled_of : (them : ZoneDomains T H P g h) (copied : P → P) (number own : ℕ) → number ≡ own → IsSettled them number copied → IsSettled them own copied
   settled_of them copied number own same settled = subst (λ (n : ℕ). IsSettled them n copied) same settled
+
+  -- where memory was wanting for the flush
+  pub stays_of : (them : ZoneDomains T H P g h) (old new : SeatCache T H P g h) → 0 < length (shelf_of new) → StopsToLook them old new
+  stays_of them old new some = record { how = inl some }
+
+  -- where memory was wanting for the settle of the domain that a seat is of
+  pub stopped_own : {E : Type 0} (them : ZoneDomains T H P g h) (number : ℕ) (old new : SeatCache T H P g h) (result : Result (Unit {0}) E) → number ≡ seat_domain old → OnErr result (SettlesInPart them number) → OnErr result (StopsToLook them old new)
+  stopped_own them number old new (Ok x) same part = tt
+  stopped_own them number old new (Err e) same part = record { how = inr (subst (λ (n : ℕ). SettlesInPart them n) same part) }

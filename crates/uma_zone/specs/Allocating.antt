@@ -51,7 +51,7 @@ module _ {T K H P : Type 0} {g k h : _} where
 
   -- Where no item was usable the seat was flushed, by a pass whose view was v before and v' after, and its own domain settled unless memory was wanting. Where one was, its shelf, its ports and the pass are as they were.
   pub record FlushesIfEmpty {A : Type 0} (zone : Zone T K H P g k h) (copied : P → P) (v : View P) (old : SeatCache T H P g h) (end : Result A AllocRefused) (new : SeatCache T H P g h) (v' : View P) : Type 0 where
-    pub flushed : usable_of old ≡ [] → IsFlushed zone.domains copied (shelf_of old) (shelf_of new) (sent_of old) (sent_of new) v
+    pub flushed : usable_of old ≡ [] → IsFlushed zone.domains (seat_domain old) copied (shelf_of old) (shelf_of new) (sent_of old) (sent_of new) v
     pub settled : usable_of old ≡ [] → (end ≡ Err Memory → ⊥) → IsSettled zone.domains (seat_domain old) copied
     pub unflushed : usable_of old ≢ [] → KeepsRack old new
     pub unpushed : usable_of old ≢ [] → KeepsPorts old new
@@ -60,7 +60,7 @@ module _ {T K H P : Type 0} {g k h : _} where
   -- the seat was flushed so, and its own domain settled unless memory was wanting
   pub record FlushesToFill {A : Type 0} (zone : Zone T K H P g k h) (copied : P → P) (v : View P) (old : SeatCache T H P g h) (end : Result A AllocRefused) (new : SeatCache T H P g h) : Type 0 where
     pub shelf : HasLastOf (shelf_of old) (shelf_of new)
-    pub flushed : IsFlushed zone.domains copied (shelf_of old) (shelf_of new) (sent_of old) (sent_of new) v
+    pub flushed : IsFlushed zone.domains (seat_domain old) copied (shelf_of old) (shelf_of new) (sent_of old) (sent_of new) v
     pub settled : (end ≡ Err Memory → ⊥) → IsSettled zone.domains (seat_domain old) copied
 
   -- ---- what is left as it was

@@ -5,7 +5,7 @@ use Rattle.smr_clock.specs.declared.pass.Pass.{Pass}
 use Rattle.smr_clock.specs.Belongs.{view}
 use Rattle.uma_bucket.specs.declared.shelved.Shelved.{Shelved}
 use Rattle.uma_seat.specs.declared.seat.SeatCache.{SeatCache}
-use Rattle.uma_seat.specs.Seat.{seat_home, seat_clock, spares_of, shelf_of, KeepsRack, KeepsPorts}
+use Rattle.uma_seat.specs.Seat.{seat_home, seat_clock, seat_domain, spares_of, shelf_of, KeepsRack, KeepsPorts}
 use Rattle.uma_zone.specs.declared.domains.ZoneDomains.{ZoneDomains}
 use Rattle.uma_zone.specs.Domains.{domains_home, domains_clock}
 use Rattle.uma_zone.specs.Flushed.{bound_of, HasLastOf, TakesTried, CanBePut, in_order}
@@ -25,7 +25,7 @@ module _ {T H P : Type 0} {g h : _} where
     pub some_stay : OnErr result (0 < length (shelf_of s'))
     pub spares : spares_of s' ≡ spares_of s
     pub kept : KeepsItems s s'
-    pub flushes : Flushes them copied (shelf_of s) (shelf_of s') (sent_of s) (sent_of s') (view p) (view p')
+    pub flushes : Flushes them (seat_domain s) copied (shelf_of s) (shelf_of s') (sent_of s) (sent_of s') (view p) (view p')
 
   -- The same, and spare buckets were made until there are two. Where memory was wanting, fewer were made or none, and the shelf has the last buckets that it had, or none.
   pub record MakesRoom {E : Type 0} (IsOfZone : SeatCache T H P g h → Type 0) (them : ZoneDomains T H P g h) (copied : P → P) (by : Clock H P) (p : Pass H P h) (s : SeatCache T H P g h) (result : Result (Unit {0}) E) (p' : Pass H P h) (s' : SeatCache T H P g h) : Type 0 where
@@ -36,7 +36,7 @@ module _ {T H P : Type 0} {g h : _} where
     pub spares : length (spares_of s) ≤ length (spares_of s')
     pub stay : OnErr result (HasLastOf (shelf_of s) (shelf_of s'))
     pub kept : KeepsItems s s'
-    pub flushes : Flushes them copied (shelf_of s) (shelf_of s') (sent_of s) (sent_of s') (view p) (view p')
+    pub flushes : Flushes them (seat_domain s) copied (shelf_of s) (shelf_of s') (sent_of s) (sent_of s') (view p) (view p')
 
   -- ---- from the shelf
 

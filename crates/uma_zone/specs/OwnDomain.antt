@@ -50,25 +50,32 @@ module _ {T H P : Type 0} {g h : _} where
     pub split : was ≡ put ++ is
     pub each : SentEach them sent put sent'
 
-  -- A flush of a seat, whose shelf had these buckets and has those, and whose ports pushed this before and that after. Each loose bucket of the shelf was tried once to be sealed; after that the oldest buckets of the shelf went to their domains, and the others stay.
-  pub record Flushes (them : ZoneDomains T H P g h) (copied : P → P) (was is : List (Shelved T H P g h)) (sent sent' : List (List (Shelved T H P g h))) (v v' : View P) : Type 0 where
-    pub tried : List (Shelved T H P g h)
-    pub tries : TryEach copied v was tried v'
-    pub puts : PutsFirst them tried is sent sent'
-
-  -- the seat was flushed so, by a pass whose view was v before
-  pub record IsFlushed (them : ZoneDomains T H P g h) (copied : P → P) (was is : List (Shelved T H P g h)) (sent sent' : List (List (Shelved T H P g h))) (v : View P) : Type 0 where
-    pub left : View P
-    pub flushes : Flushes them copied was is sent sent' v left
-
-  -- ---- a settle
-
   -- each loose bucket that the domain of this number lists was tried once to be sealed
   pub record TriesListed (them : ZoneDomains T H P g h) (number : ℕ) (copied : P → P) (v v' : View P) : Type 0 where
     pub domain : Domain T H P g h
     pub named : domain_at them number ≡ Some domain
     pub count : ℕ
     pub seals : SealsLoose domain copied v count v'
+
+  -- In an SMR zone each loose bucket that the domain of this number lists was tried once to be sealed, by a pass whose view was v before and v' after. In any other zone the pass did nothing.
+  pub record TriesLoose (them : ZoneDomains T H P g h) (number : ℕ) (copied : P → P) (v v' : View P) : Type 0 where
+    pub listed : domains_smr them ≡ true → TriesListed them number copied v v'
+    pub none_listed : domains_smr them ≡ false → v' ≡ v
+
+  -- A flush of a seat, whose shelf had these buckets and has those, whose ports pushed this before and that after, and whose own domain has this number, in three steps. First each loose bucket of the shelf tried once to be sealed. Then each loose one that its own domain lists did. Then the oldest buckets of the shelf, as the first step left them, went to their domains; the others stay.
+  pub record Flushes (them : ZoneDomains T H P g h) (own : ℕ) (copied : P → P) (was is : List (Shelved T H P g h)) (sent sent' : List (List (Shelved T H P g h))) (v v' : View P) : Type 0 where
+    pub tried : List (Shelved T H P g h)
+    pub mid : View P
+    pub tries : TryEach copied v was tried mid
+    pub loose : TriesLoose them own copied mid v'
+    pub puts : PutsFirst them tried is sent sent'
+
+  -- the seat, whose own domain has this number, was flushed so, by a pass whose view was v before
+  pub record IsFlushed (them : ZoneDomains T H P g h) (own : ℕ) (copied : P → P) (was is : List (Shelved T H P g h)) (sent sent' : List (List (Shelved T H P g h))) (v : View P) : Type 0 where
+    pub left : View P
+    pub flushes : Flushes them own copied was is sent sent' v left
+
+  -- ---- a settle
 
   -- The inbox of the domain of this number was settled into its lists, and in an SMR zone each loose bucket that they had then was tried once to be sealed, by a pass whose view was v before and v' after.
   pub record Settles (them : ZoneDomains T H P g h) (number : ℕ) (copied : P → P) (v v' : View P) : Type 0 where

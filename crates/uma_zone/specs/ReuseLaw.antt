@@ -55,7 +55,7 @@ module _ {T : Type 0} {g : _} where
 
 -- ---- the calls
 
--- A later try that sealed a loose bucket, by a pass whose view was v before and v' after, as the clauses of a settle (`Tries`) and of a flush (`TriesOnce`) tell it.
+-- A later try that sealed a loose bucket, by a pass whose view was v before and v' after, as the clauses of a settle (`Tries`) and of a flush (`TriesOnce` for the shelf, `Tries` for the list of the seat's domain) report it.
 pub record Seal (T H P : Type 0) (g h : _) (copied : P → P) : Type 0 where
   pub loose : Loose T g
   pub sealed : Sealed T H P g h
@@ -63,7 +63,7 @@ pub record Seal (T H P : Type 0) (g h : _) (copied : P → P) : Type 0 where
   pub v' : View P
   pub seals : Seals copied v loose sealed v'
 
--- A free by `free_smr` on the seat of this number, a try that sealed, a request with the look or the fetch that it made, or a call by which items only go to the keg, as a trim and a drain. A refused try, a flush and a settle move buckets alone, and are no step.
+-- A free by `free_smr` on the seat of this number, a try that sealed, a request with the look or the fetch that it made, or a call by which items only go to the keg, as a trim and a drain. A refused try is no step, nor are a flush and a settle but for the tries that seal: they move buckets alone.
 pub data Step (T H P : Type 0) (g h : _) (copied : P → P) : Type 0 where
   Frees : ℕ → SmrFree T H P g h copied → Step T H P g h copied
   Tries : Seal T H P g h copied → Step T H P g h copied

@@ -1,8 +1,10 @@
--- Own: how far a settle of a zone's domains came, where memory was wanting.
-use Rattle.std.specs.Prelude.{◌≡◌, ◌<◌, ℕ, Some}
+-- Own: how far a settle of a zone's domains came, or a flush before it, where memory was wanting.
+use Rattle.std.specs.Prelude.{◌≡◌, ◌<◌, ◌⊎◌, ℕ, Some, length}
 use Rattle.smr_clock.specs.declared.view.View.{View}
 use Rattle.uma_domain.specs.declared.domain.Domain.{Domain}
 use Rattle.uma_domain.specs.UnderLock.{SettlesPart}
+use Rattle.uma_seat.specs.declared.seat.SeatCache.{SeatCache}
+use Rattle.uma_seat.specs.Seat.{seat_domain, shelf_of}
 use Rattle.uma_zone.specs.declared.domains.ZoneDomains.{ZoneDomains}
 use Rattle.uma_zone.specs.Domains.{domain_at, domain_count}
 use Rattle.uma_zone.specs.OwnDomain.{SettlesFirst}
@@ -20,3 +22,7 @@ module _ {T H P : Type 0} {g h : _} where
     pub few : count < domain_count them
     pub before : SettlesFirst them copied v count v'
     pub here : SettlesInPart them count
+
+  -- Memory was wanting for a flush of the seat, a bucket of whose shelf is there still, or for the settle of its own domain behind that.
+  pub record StopsToLook (them : ZoneDomains T H P g h) (old new : SeatCache T H P g h) : Type 0 where
+    pub how : (0 < length (shelf_of new)) ⊎ SettlesInPart them (seat_domain old)

@@ -1,4 +1,4 @@
--- Own: a law of a domain's working set, which is the greatest less the least count of items that it listed since its last mark.
+-- Own: a law of a domain's working set, which is the greatest less the least count of items that it listed since its last trim.
 use Rattle.std.specs.Prelude.{◌≡◌, ◌≤◌, ◌+◌, ◌-◌, ℕ, List, [], ◌∷◌, fold}
 use Rattle.std.specs.List.{All, Contains}
 use Rattle.smr_clock.specs.declared.host.Host.{Ghosts as HostGhosts}
@@ -29,12 +29,12 @@ abbrev pub counts_after : ℕ → List Move → List ℕ
 counts_after count [] = []
 counts_after count (move ∷ moves) = moved count move ∷ counts_after (moved count move) moves
 
--- how a domain counts a move, and a run of them since a mark
+-- how a domain counts a move, and a run of them since a trim
 abbrev pub counted : Working → Move → Working
 counted working move = after working (moved working.count move)
 
-abbrev pub since_mark : ℕ → List Move → Working
-since_mark start moves = fold counted (begun start) moves
+abbrev pub since_trim : ℕ → List Move → Working
+since_trim start moves = fold counted (begun start) moves
 
 -- the least of these numbers
 pub record IsLeast (n : ℕ) (ns : List ℕ) : Type 0 where
@@ -46,13 +46,13 @@ pub record IsGreatest (n : ℕ) (ns : List ℕ) : Type 0 where
   pub one : Contains ns n
   pub above : All (λ m. m ≤ n) ns
 
--- The least and the greatest count are the extremes of all that stood since the mark, that of the mark too.
+-- The least and the greatest count are the extremes of all that stood since the trim, that of the trim too.
 abbrev pub TellsExtremes : Type 0
-TellsExtremes = (start : ℕ) (moves : List Move) → IsLeast (since_mark start moves).least (start ∷ counts_after start moves) × IsGreatest (since_mark start moves).greatest (start ∷ counts_after start moves)
+TellsExtremes = (start : ℕ) (moves : List Move) → IsLeast (since_trim start moves).least (start ∷ counts_after start moves) × IsGreatest (since_trim start moves).greatest (start ∷ counts_after start moves)
 
 -- So no two of them were further apart than the working set.
 abbrev pub IsFarthest : Type 0
-IsFarthest = (start : ℕ) (moves : List Move) (one other : ℕ) → Contains (start ∷ counts_after start moves) one → Contains (start ∷ counts_after start moves) other → one - other ≤ working_set (since_mark start moves)
+IsFarthest = (start : ℕ) (moves : List Move) (one other : ℕ) → Contains (start ∷ counts_after start moves) one → Contains (start ∷ counts_after start moves) other → one - other ≤ working_set (since_trim start moves)
 
 -- A domain counts so: each put of a bucket, and each take by a look, is the move of the bucket's items.
 pub record CountsMoves (T H P : Type 0) (g : Ghosts T) (h : HostGhosts H P) : Type 0 where

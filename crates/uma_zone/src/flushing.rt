@@ -17,10 +17,12 @@ use uma_seat::{SeatCache, try_to_seal};
 impl<T: Body + Drop, H: Host> ZoneDomains<T, H> {
     /// Takes the buckets of the seat's shelf to their domains, oldest first.
     ///
-    /// Before that each loose bucket of the shelf tries once to be sealed. A bucket goes to the inbox of its domain, without
-    /// that domain's lock; where the inbox hands it back it goes to the list. Where the list has no memory for it either, or
-    /// would hold 2^32 items or more, that bucket and those behind it stay on the shelf, and at least one is there then.
-    /// A domain's lock is taken only for a bucket that an inbox hands back; a push may wait for another push.
+    /// Before that each loose bucket of the shelf tries once to be sealed, and then each loose one that the seat's own domain
+    /// lists does, oldest first. A bucket goes to the inbox of its domain, without that domain's lock; where the inbox returns
+    /// it, it goes to the list. Where the list has no memory for it either, or would hold 2^32 items or more, that bucket and
+    /// those behind it stay on the shelf, and at least one is there then.
+    /// In an SMR zone this blocks on the lock of the seat's own domain. In a plain zone a domain's lock is taken only for a
+    /// bucket that an inbox returns. A push may wait for another push.
     pub(crate) fn flush<R: Wait>(
         &self,
         rt: &R,
@@ -33,6 +35,7 @@ impl<T: Body + Drop, H: Host> ZoneDomains<T, H> {
     {
         let oldest = take_tried(clock, pass, seat);
         let newest = take_tried(clock, pass, seat);
+        self.try_listed(rt, clock, pass, seat.domain());
         self.put_in_order(rt, seat, oldest, newest)
     }
 

@@ -36,8 +36,8 @@ pub fn trims_keep_the_working_set<T: Body, H: Host>()
     ensures drains { DrainsLoseNone T H H.Part T.Body H.Host }
 {}
 
-/// Over any run of puts and takes since a domain's last mark, the least and the greatest count of items that it keeps are the
-/// extremes of how many were listed after each of them, and at the mark. So no two of those counts were further apart than
+/// Over any run of puts and takes since a domain's last trim, the least and the greatest count of items that it keeps are the
+/// extremes of how many were listed after each of them, and at the trim. So no two of those counts were further apart than
 /// the working set. A domain counts each put of a bucket, and each take by a look, as such a move.
 pub fn the_working_set_is_how_far_the_count_moved<T: Body, H: Host>()
     ensures extremes { TellsExtremes }

@@ -6,9 +6,11 @@
 //! asked has it counted.
 //!
 //! After FreeBSD's uma(9), each memory domain of a zone keeps full buckets for whoever runs empty. A seat keeps up to two
-//! full buckets on its shelf, since a free waits for nobody. A `ZoneDomains::flush` takes them by the seat's ports to the
-//! inboxes of their domains, without a lock; a `ZoneDomains::settle` takes an inbox into the domain's lists, and a
-//! `ZoneDomains::look` one bucket from those of the seat's own domain.
+//! full buckets on its shelf, since a free waits for nobody. A `ZoneDomains::flush` has the loose buckets of the shelf, and
+//! then those that the seat's own domain lists, try once to be sealed, and takes the shelf by the seat's ports to the
+//! inboxes of their domains. It takes a lock, that of the own domain, for the second of these steps alone, which a plain
+//! zone leaves out. A `ZoneDomains::settle` takes an inbox into the domain's lists, and a `ZoneDomains::look` one bucket
+//! from those of the seat's own domain.
 //!
 //! # Choices
 //!
@@ -41,6 +43,9 @@
 //! - The kit's queue holds what may be dropped, so what pushes or settles has the bound `T: Drop`, and no type keeps its body
 //!   from dropping a bucket. Where each bucket of a shelf went is a clause (`flushes`): to what the seat's port pushed, which the
 //!   port's view lists, to its domain's list, or back on the shelf.
+//! - A flush's clause orders its tries by the views of the pass, the shelf's before the list's, and says that the shelf's
+//!   buckets go as the tries left them. No clause orders a put against a try of the list: views and ports have no common
+//!   order. It would show only where an inbox returns a loose bucket, which the list then has.
 //! - Of which inbox a seat's ports are stands beside the domains (`HasPorts`), since whoever is lent one could leave another.
 //! - `primary` makes the keg first, and still tests bucket and domains where memory was wanting for it, so that a number
 //!   out of its range is always named.

@@ -13,9 +13,10 @@ impl<T: Body + Drop, K: Hooks<T>, H: Host> Zone<T, K, H> {
     ghost use Rattle.uma_zone.specs.Zone.{zone_clock, IsSeatOf};
 
     /// Takes the buckets of the seat's shelf to the inboxes of their domains, oldest first, or to the lists where an inbox
-    /// hands one back. Before that each loose bucket of the shelf tries once to be sealed. After `Memory` each bucket of the
-    /// shelf is in an inbox or a list, or on the shelf still. A domain's lock is taken only for a bucket that an inbox
-    /// hands back; a push may wait for another push.
+    /// returns one. Before that each loose bucket of the shelf tries once to be sealed, and then each loose one that the
+    /// seat's own domain lists does, oldest first. After `Memory` each bucket of the shelf is in an inbox or a list, or on the
+    /// shelf still. In an SMR zone this blocks on the lock of the seat's own domain. In a plain zone a domain's lock is taken
+    /// only for a bucket that an inbox returns. A push may wait for another push.
     pub fn flush<R: Wait>(
         &self,
         rt: &R,

@@ -62,8 +62,15 @@ impl<T: Body + Drop, H: Host> ZoneDomains<T, H> {
 }
 
 impl<T: Body, H: Host> ZoneDomains<T, H> {
-    // In an SMR zone each loose bucket that the domain lists tries once to be sealed.
-    fn try_listed<R: Wait>(&self, rt: &R, clock: &Clock<H>, pass: &mut Pass<H>, domain: u8)
+    /// In an SMR zone each loose bucket that the domain lists tries once to be sealed, oldest first, under the domain's lock.
+    /// A plain zone lists none, and takes no lock for this.
+    pub(crate) fn try_listed<R: Wait>(
+        &self,
+        rt: &R,
+        clock: &Clock<H>,
+        pass: &mut Pass<H>,
+        domain: u8,
+    )
         requires { CanSettle self.now clock.now pass.old domain }
         ensures { TriesOwn self.now domain H.copied clock.now pass.old pass.new }
     {

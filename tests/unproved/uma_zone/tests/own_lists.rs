@@ -76,3 +76,26 @@ fn a_settle_tries_the_loose_buckets_of_its_domain_alone(rt: HostRuntime) -> Resu
     assert_eq!(rt; (zone.hands(), zone.sums(&rt)?.deferred), ((7, 7), 8));
     Ok(())
 }
+
+#[test]
+fn a_flush_tries_the_loose_buckets_of_its_domain_alone(rt: HostRuntime) -> Result<(), Fail> {
+    let mut zone = SeatedZone::in_domain(&rt, rt.alloc(), 2, true, 1)?;
+    zone.free_four_of(&rt, rt.alloc(), 0, 1)?;
+    zone.free_four_of(&rt, rt.alloc(), 4, 0)?;
+    zone.make_room(&rt, rt.alloc())?;
+    zone.free_four_of(&rt, rt.alloc(), 8, 0)?;
+    zone.free_four_of(&rt, rt.alloc(), 12, 1)?;
+    zone.flush(&rt)?;
+    // One bucket of each domain is listed loose, and the look makes room for both.
+    assert!(rt; zone.look(&rt)?);
+    assert_eq!(rt; zone.alloc_four(), Some(3));
+    assert_eq!(rt; zone.hands(), (5, 5));
+    zone.push(&rt)?;
+    assert_eq!(rt; zone.hands(), (5, 7));
+    zone.push(&rt)?;
+    assert_eq!(rt; zone.hands(), (5, 7));
+    assert!(rt; zone.look(&rt)?);
+    assert_eq!(rt; zone.alloc_four(), Some(15));
+    assert_eq!(rt; (zone.count(&rt, 0), zone.count(&rt, 1)), (8, 0));
+    Ok(())
+}

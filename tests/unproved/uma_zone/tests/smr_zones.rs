@@ -93,9 +93,7 @@ fn a_later_flush_seals_what_stayed_loose(rt: HostRuntime) -> Result<(), Fail> {
 }
 
 #[test]
-fn make_room_leaves_what_is_listed_loose_and_a_settle_seals_it(
-    rt: HostRuntime,
-) -> Result<(), Fail> {
+fn make_room_seals_what_its_domain_lists_loose(rt: HostRuntime) -> Result<(), Fail> {
     let mut zone = SeatedZone::new(&rt, rt.alloc(), 1, true)?;
     zone.free_four(&rt, rt.alloc(), 0)?;
     zone.free_four(&rt, rt.alloc(), 4)?;
@@ -103,13 +101,57 @@ fn make_room_leaves_what_is_listed_loose_and_a_settle_seals_it(
     zone.free_four(&rt, rt.alloc(), 8)?;
     zone.make_room(&rt, rt.alloc())?;
     zone.settle(&rt)?;
+    // The third bucket is listed loose, and the window is full.
+    zone.make_room(&rt, rt.alloc())?;
     assert_eq!(rt; (zone.spare(), zone.hands()), (2, (1, 5)));
     // The poll of the look brings the read hand up.
     assert!(rt; zone.look(&rt)?);
     assert_eq!(rt; (zone.spare(), zone.hands()), (2, (5, 5)));
+    assert_eq!(rt; zone.alloc_four(), Some(3));
     zone.make_room(&rt, rt.alloc())?;
-    assert_eq!(rt; (zone.spare(), zone.hands()), (2, (5, 5)));
-    zone.settle(&rt)?;
     assert_eq!(rt; (zone.spare(), zone.hands()), (2, (5, 7)));
+    // No loose bucket is left for another flush or a settle.
+    zone.flush(&rt)?;
+    assert_eq!(rt; zone.hands(), (5, 7));
+    assert!(rt; zone.look(&rt)?);
+    assert_eq!(rt; zone.alloc_four(), Some(7));
+    assert!(rt; zone.look(&rt)?);
+    assert_eq!(rt; zone.alloc_four(), Some(11));
+    assert_eq!(rt; (zone.count(&rt, 0), zone.hands()), (0, (7, 7)));
+    Ok(())
+}
+
+#[test]
+fn a_flush_tries_the_shelf_before_the_list(rt: HostRuntime) -> Result<(), Fail> {
+    let mut zone = SeatedZone::new(&rt, rt.alloc(), 1, true)?;
+    zone.free_four(&rt, rt.alloc(), 0)?;
+    zone.free_four(&rt, rt.alloc(), 4)?;
+    zone.make_room(&rt, rt.alloc())?;
+    zone.free_four(&rt, rt.alloc(), 8)?;
+    zone.flush(&rt)?;
+    zone.make_room(&rt, rt.alloc())?;
+    // The window is used up: the third bucket is listed loose, and the fourth is loose on the shelf.
+    zone.free_four(&rt, rt.alloc(), 12)?;
+    assert!(rt; zone.look(&rt)?);
+    assert_eq!(rt; zone.alloc_four(), Some(3));
+    zone.free_four(&rt, rt.alloc(), 16)?;
+    assert_eq!(rt; zone.hands(), (5, 7));
+    // There is room for one more advance, which is the shelf's.
+    zone.push(&rt)?;
+    assert_eq!(rt; zone.hands(), (5, 9));
+    zone.settle(&rt)?;
+    assert!(rt; zone.look(&rt)?);
+    assert_eq!(rt; zone.alloc_four(), Some(7));
+    assert!(rt; zone.look(&rt)?);
+    assert_eq!(rt; zone.alloc_four(), Some(15));
+    assert!(rt; zone.look(&rt)?);
+    assert_eq!(rt; zone.alloc_four(), Some(19));
+    assert!(rt; !zone.look(&rt)?);
+    assert_eq!(rt; (zone.count(&rt, 0), zone.hands()), (4, (9, 9)));
+    // The next flush seals what is listed.
+    zone.push(&rt)?;
+    assert_eq!(rt; zone.hands(), (9, 11));
+    assert!(rt; zone.look(&rt)?);
+    assert_eq!(rt; zone.alloc_four(), Some(11));
     Ok(())
 }

@@ -2,7 +2,7 @@ use Rattle.std.proofs.Common.{sum_by, fold, flat_map, ap, subst, ◌∙◌, inl,
 use Rattle.std.specs.declared.vec.Vec.{Vec}
 use Rattle.smr_clock.specs.Belongs.{view}
 use Rattle.uma_seat.specs.Rack.{spares_in, shelf_in}
-use Rattle.uma_seat.specs.Seat.{shelf_of}
+use Rattle.uma_seat.specs.Seat.{seat_domain, shelf_of}
 use Rattle.uma_zone.specs.Ports.{pushed_by, sent_of}
 use Rattle.uma_zone.proofs.Listings.{still_flushed}
 use Rattle.uma_reclaim.specs.declared.extent.Extent.TheVariants.{All as All'}
@@ -51,7 +51,7 @@ returns-clause-kept g c =
       shelf = record {
         seat = given.seat;
         flushes =
-            still_flushed _ g.H.Host.copied _ (shelf_of c.flush_and_settle.new.seat) (shelf_of c.give_cached-given.new.seat) _ (sent_of c.flush_and_settle.new.seat) (sent_of c.give_cached-given.new.seat) _ (ap shelf_in later.rack)
+            still_flushed _ (seat_domain c.args.seat.now) g.H.Host.copied _ (shelf_of c.flush_and_settle.new.seat) (shelf_of c.give_cached-given.new.seat) _ (sent_of c.flush_and_settle.new.seat) (sent_of c.give_cached-given.new.seat) _ (ap shelf_in later.rack)
             (ap (λ (v : Vec _ _). pushed_by v.items) later.ports) first.shelf.flushes;
         spares = ap spares_in later.rack ∙ first.shelf.spares;
       };

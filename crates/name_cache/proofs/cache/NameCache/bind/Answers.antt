@@ -4,7 +4,7 @@ use Rattle.smr_clock.specs.Belongs.{view}
 use Rattle.zone_stats.specs.declared.ledger.SeatLedger.{SeatLedger}
 use Rattle.zone_stats.specs.LedgerSteps.{HasRoom, CountsAlloc}
 use Rattle.uma_seat.specs.Counts.{ledger_in}
-use Rattle.uma_seat.specs.Seat.{ledger_of, spares_of, shelf_of}
+use Rattle.uma_seat.specs.Seat.{ledger_of, seat_domain, spares_of, shelf_of}
 use Rattle.uma_zone.specs.Flushed.{HasLastOf}
 use Rattle.uma_zone.specs.Ports.{sent_of}
 use Rattle.uma_zone.specs.Zone.{lists_of}
@@ -197,7 +197,7 @@ returns-in_err-receipt-clause-flushed g c memory =
     let none = flushed_still (shelf_of one) (shelf_of two) shelf c.rebind.ensures.kept.seat.shelf in
     let wants = c.in_err-receipt.ensures.memory (same_err c.from_residual.result p.0 _ _ p.1 p.2 memory) in
     record {
-      flushed = still_flushed (lists_of (cache_zone c.args.self.now)) told (shelf_of c.args.seat.now) (shelf_of one) (shelf_of two) (sent_of c.args.seat.now) (sent_of one) (sent_of two) (view c.args.pass.now) (none ∙ sym shelf)
+      flushed = still_flushed (lists_of (cache_zone c.args.self.now)) (seat_domain c.args.seat.now) told (shelf_of c.args.seat.now) (shelf_of one) (shelf_of two) (sent_of c.args.seat.now) (sent_of one) (sent_of two) (view c.args.pass.now) (none ∙ sym shelf)
           (wants.unsent shelf) (record { left = view c.make_room.new.pass; flushes = c.make_room.ensures.flushes });
       unheard = wants.unheard ∙ c.make_room.ensures.pass.host;
     }

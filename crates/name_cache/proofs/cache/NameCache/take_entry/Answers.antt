@@ -1,7 +1,7 @@
 use Rattle.std.proofs.Common.{rules, Err, ap}
 use Rattle.std.proofs.lemmas.Result.{err_from_is_err_and}
 use Rattle.smr_clock.specs.Belongs.{view}
-use Rattle.uma_seat.specs.Seat.{shelf_of}
+use Rattle.uma_seat.specs.Seat.{seat_domain, shelf_of}
 use Rattle.uma_zone.specs.Ports.{sent_of}
 use Rattle.uma_zone.specs.Zone.{lists_of}
 use Rattle.name_rows.specs.Records.{told}
@@ -41,7 +41,7 @@ returns-in_err-live-clause-memory g c memory =
     let why = memory_of c.from_residual.result p.0 c.in_err-live.field-0.0 p.1 p.2 memory in
     let wants = none_usable (cache_zone c.args.self.now) c.args.seat.now c.alloc.new.seat c.in_err-live.field-0.0 why c.in_err-live.ensures.refused in
     record {
-      unsent = λ none. nothing_sent (lists_of (cache_zone c.args.self.now)) told (shelf_of c.args.seat.now) (shelf_of c.alloc.new.seat) (sent_of c.args.seat.now) (sent_of c.alloc.new.seat) (view c.args.pass.now) none (c.alloc.ensures.flushes.flushed wants.empty);
+      unsent = λ none. nothing_sent (lists_of (cache_zone c.args.self.now)) (seat_domain c.args.seat.now) told (shelf_of c.args.seat.now) (shelf_of c.alloc.new.seat) (sent_of c.args.seat.now) (sent_of c.alloc.new.seat) (view c.args.pass.now) none (c.alloc.ensures.flushes.flushed wants.empty);
       unheard = c.in_err-live.ensures.unheard (ap Err why);
     }
 

@@ -11,8 +11,8 @@ returns g c = record {
     named = c.get.ensures.named;
     count = c.in_ok-settle.field-0;
     settled = c.in_ok-settle.ensures.settled;
-    loose = c.try_listed.ensures.own;
-    no_loose = c.try_listed.ensures.no_own;
+    loose = c.try_listed.ensures.tries.listed;
+    no_loose = c.try_listed.ensures.tries.none_listed;
   };
   unseen = tt;
   part = tt;

@@ -2,7 +2,7 @@ use Rattle.std.proofs.Common.{Err, ap, refl, ◌∙◌}
 use Rattle.std.proofs.lemmas.Result.{err_from_is_err_and}
 use Rattle.std.specs.declared.vec.Vec.{Vec}
 use Rattle.uma_seat.specs.Rack.{shelf_in}
-use Rattle.uma_seat.specs.Seat.{shelf_of}
+use Rattle.uma_seat.specs.Seat.{seat_domain, shelf_of}
 use Rattle.uma_zone.specs.declared.alloc_ask.AllocRefused.{AllocRefused}
 use Rattle.uma_zone.specs.Ports.{pushed_by, sent_of}
 use Rattle.uma_zone.proofs.Listings.{flushed_between}
@@ -39,7 +39,7 @@ returns-clause-flushes g c =
     let before = c.in_ok-item.ensures.flushes in
     let kept = c.build.ensures.kept in
     record {
-      flushed = λ none. flushed_between _ g.H.Host.copied _ _ (shelf_of c.take.new.seat) _ _ _ (sent_of c.take.new.seat) _ _ refl (ap shelf_in kept.rack) refl (ap (λ (v : Vec _ _). pushed_by v.items) kept.ports) (before.flushed none);
+      flushed = λ none. flushed_between _ (seat_domain c.args.seat.now) (seat_domain c.args.seat.now) g.H.Host.copied _ _ (shelf_of c.take.new.seat) _ _ _ (sent_of c.take.new.seat) _ _ refl refl (ap shelf_in kept.rack) refl (ap (λ (v : Vec _ _). pushed_by v.items) kept.ports) (before.flushed none);
       settled = λ none _. before.settled none (not_err _ _);
       unflushed = λ some. kept.rack ∙ before.unflushed some;
       unpushed = λ some. kept.ports ∙ before.unpushed some;

@@ -4,7 +4,7 @@ use Rattle.smr_clock.specs.declared.view.View.{View}
 use Rattle.smr_clock.specs.Belongs.{view}
 use Rattle.std.specs.declared.vec.Vec.{Vec}
 use Rattle.uma_seat.specs.Rack.{shelf_in}
-use Rattle.uma_seat.specs.Seat.{shelf_of, top_bucket}
+use Rattle.uma_seat.specs.Seat.{seat_domain, shelf_of, top_bucket}
 use Rattle.uma_zone.specs.Ports.{pushed_by, sent_of}
 use Rattle.uma_zone.specs.Zone.{zone_smr, zone_hooks}
 use Rattle.uma_zone.proofs.Fills.{top_empty, told_by_look, found_some, fetched_some, fill_refused}
@@ -36,7 +36,7 @@ returns-clause-refused g c =
 pub returns-then-look-clause-flushes : goal.returns-then-look-clause-flushes
 returns-then-look-clause-flushes g c = record {
   shelf = none_left (shelf_of c.args.seat.now) (shelf_of c.look.new.seat) (c.look.ensures.kept.shelf ∙ c.in-Ok.ensures.flushed);
-  flushed = still_flushed _ g.H.Host.copied _ (shelf_of c.flush_to_look.new.seat) (shelf_of c.look.new.seat) _ (sent_of c.flush_to_look.new.seat) (sent_of c.look.new.seat) _ c.look.ensures.kept.shelf (ap (λ (v : Vec _ _). pushed_by v.items) c.look.ensures.kept.ports) c.flush_to_look.ensures.flushes;
+  flushed = still_flushed _ (seat_domain c.args.seat.now) g.H.Host.copied _ (shelf_of c.flush_to_look.new.seat) (shelf_of c.look.new.seat) _ (sent_of c.flush_to_look.new.seat) (sent_of c.look.new.seat) _ c.look.ensures.kept.shelf (ap (λ (v : Vec _ _). pushed_by v.items) c.look.ensures.kept.ports) c.flush_to_look.ensures.flushes;
   settled = λ _. c.in-Ok.ensures.settled;
 }
 
@@ -45,7 +45,7 @@ returns-clause-flushes g c =
     let rest = c.fetch.ensures.kept.rest in
     record {
       shelf = none_left (shelf_of c.args.seat.now) (shelf_of c.fetch.new.seat) (ap shelf_in rest.rack ∙ c.look.ensures.kept.shelf ∙ c.in-Ok.ensures.flushed);
-      flushed = still_flushed _ g.H.Host.copied _ (shelf_of c.flush_to_look.new.seat) (shelf_of c.fetch.new.seat) _ (sent_of c.flush_to_look.new.seat) (sent_of c.fetch.new.seat) _ (ap shelf_in rest.rack ∙ c.look.ensures.kept.shelf)
+      flushed = still_flushed _ (seat_domain c.args.seat.now) g.H.Host.copied _ (shelf_of c.flush_to_look.new.seat) (shelf_of c.fetch.new.seat) _ (sent_of c.flush_to_look.new.seat) (sent_of c.fetch.new.seat) _ (ap shelf_in rest.rack ∙ c.look.ensures.kept.shelf)
           (ap (λ (v : Vec _ _). pushed_by v.items) (rest.ports ∙ c.look.ensures.kept.ports)) c.flush_to_look.ensures.flushes;
       settled = λ _. c.in-Ok.ensures.settled;
     }

@@ -40,7 +40,7 @@ returns-in_err-fill-clause-flushes g c =
     let fill = c.in_err-fill.ensures.flushes in
     let told = err_from_is_err_and c.from_residual.result c.from_residual.ensures.1 in
     record {
-      flushed = λ _. flushed_between _ g.H.Host.copied _ _ (shelf_of c.fill.new.seat) _ _ _ (sent_of c.fill.new.seat) _ _ (ap shelf_in first.rack) refl (ap (λ (v : Vec _ _). pushed_by v.items) first.ports) refl fill.flushed;
+      flushed = λ _. flushed_between _ (seat_domain c.try_alloc.new.self) (seat_domain c.args.seat.now) g.H.Host.copied _ _ (shelf_of c.fill.new.seat) _ _ _ (sent_of c.fill.new.seat) _ _ (ap (λ (s : _). s.domain) first.same.0) (ap shelf_in first.rack) refl (ap (λ (v : Vec _ _). pushed_by v.items) first.ports) refl fill.flushed;
       settled = λ _ other.
           settled_of c.args.self.now.domains g.H.Host.copied (seat_domain c.try_alloc.new.self) (seat_domain c.args.seat.now) (ap (λ (s : _). s.domain) first.same.0) (fill.settled (λ same. other (told.1 ∙ ap (λ (e : AllocRefused). Err e) told.2 ∙ as_err _ _ same)));
       unflushed = λ some. absurd (some first.none);
@@ -54,7 +54,7 @@ returns-clause-flushes g c =
     let fill = c.in_ok-fill.ensures.flushes in
     let second = c.in-Some-try_alloc.ensures in
     record {
-      flushed = λ _. flushed_between _ g.H.Host.copied _ _ (shelf_of c.fill.new.seat) _ _ _ (sent_of c.fill.new.seat) _ _ (ap shelf_in first.rack) (ap shelf_in second.rack) (ap (λ (v : Vec _ _). pushed_by v.items) first.ports) (ap (λ (v : Vec _ _). pushed_by v.items) second.ports) fill.flushed;
+      flushed = λ _. flushed_between _ (seat_domain c.try_alloc.new.self) (seat_domain c.args.seat.now) g.H.Host.copied _ _ (shelf_of c.fill.new.seat) _ _ _ (sent_of c.fill.new.seat) _ _ (ap (λ (s : _). s.domain) first.same.0) (ap shelf_in first.rack) (ap shelf_in second.rack) (ap (λ (v : Vec _ _). pushed_by v.items) first.ports) (ap (λ (v : Vec _ _). pushed_by v.items) second.ports) fill.flushed;
       settled = λ _ _.
           settled_of c.args.self.now.domains g.H.Host.copied (seat_domain c.try_alloc.new.self) (seat_domain c.args.seat.now) (ap (λ (s : _). s.domain) first.same.0) (fill.settled (not_err _ _));
       unflushed = λ some. absurd (some first.none);
