@@ -64,6 +64,28 @@ fn a_lowered_limit_takes_nothing_away(rt: HostRuntime) -> Result<(), Fail> {
     Ok(())
 }
 
+/// A new limit gives up no slab and brings none in, and the former one is returned each time.
+#[test]
+fn a_new_limit_leaves_the_slabs(rt: HostRuntime) -> Result<(), Fail> {
+    let (clock, pass) = one_pass(rt.alloc(), 8)?;
+    let zone = zone(rt.alloc(), &clock, 1024, ZoneSet { limit: 8, ..PLAIN })?;
+    let mut one = new_worker(&rt, rt.alloc(), &zone, &clock, pass)?;
+    assert_eq!(rt; zone.prealloc(&rt, rt.alloc(), 12, 0)?, 3);
+    let all_free = zone.counts(&rt);
+    assert!(rt; all_free.slabs == 3 && all_free.free == 12);
+    assert_eq!(rt; zone.set_max(&rt, 2), 8);
+    assert_eq!(rt; zone.counts(&rt), all_free);
+    assert_eq!(rt; zone.set_max(&rt, 5), 2);
+    assert_eq!(rt; zone.counts(&rt), all_free);
+    // One slab is used, and two are wholly free.
+    assert_eq!(rt; one.request_many(&rt, rt.alloc(), 4)?, 0);
+    let used = zone.counts(&rt);
+    assert!(rt; used.slabs == 3 && used.free == 8);
+    assert_eq!(rt; zone.set_max(&rt, 0), 5);
+    assert_eq!(rt; zone.counts(&rt), used);
+    Ok(())
+}
+
 /// Deferred items count against the limit, and come back past a lowered one.
 #[test]
 fn deferred_items_come_back_past_a_lowered_limit(rt: HostRuntime) -> Result<(), Fail> {
