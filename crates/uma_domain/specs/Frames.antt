@@ -61,14 +61,6 @@ module _ {T H P : Type 0} {g h : _} where
     pub missed : missed_in new ≡ missed_in old
     pub identity : lists_identity new ≡ lists_identity old
 
-  -- all but the counts
-  pub record KeepsButWorking (old new : Lists T H P g h) : Type 0 where
-    pub plain : plain_in new ≡ plain_in old
-    pub loose : loose_in new ≡ loose_in old
-    pub sealed : sealed_in new ≡ sealed_in old
-    pub missed : missed_in new ≡ missed_in old
-    pub identity : lists_identity new ≡ lists_identity old
-
 module _ {H P : Type 0} {h : _} where
   -- the pass is of this clock, in the phase that it was in, and has seen what it had; what its host put into it is as it was
   pub record KeepsPass (clock : Clock H P) (old new : Pass H P h) : Type 0 where

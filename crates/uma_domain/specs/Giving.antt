@@ -10,7 +10,7 @@ use Rattle.uma_domain.specs.Trim.{Trims, TakesAll}
 use Rattle.uma_domain.specs.Working.{after, begun, working_set}
 
 module _ {T H P : Type 0} {g h : _} where
-  -- what the domain didn't use since the last mark is taken, and a new interval begins
+  -- what the domain didn't use since the last trim is taken, and a new interval begins
   pub record TrimsUnused (old : Lists T H P g h) (taken : Taken T H P g h) (new : Lists T H P g h) : Type 0 where
     pub trims : Trims (working_set (working_in old)) (working_in old).count (plain_in old) (sealed_in old) (taken_in taken) (plain_in new) (sealed_in new)
     pub begins : working_in new ≡ begun (listed (plain_in new) (loose_in new) (sealed_in new))

@@ -29,7 +29,7 @@ module _ {T H P : Type 0} {g h : _} where
   abbrev pub sealed_in : Lists T H P g h → List (Sealed T H P g h)
   sealed_in lists = lists.sealed.items
 
-  -- how many items are listed, and the least and the greatest such count since the last mark
+  -- how many items are listed, and the least and the greatest such count since the last trim
   abbrev pub working_in : Lists T H P g h → Working
   working_in lists = lists.working
 

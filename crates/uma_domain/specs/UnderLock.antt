@@ -19,7 +19,7 @@ use Rattle.uma_domain.specs.declared.lists.Lists.{Lists}
 use Rattle.uma_domain.specs.declared.locked.Locked.{Locked}
 use Rattle.uma_domain.specs.declared.taken.Taken.{Taken}
 use Rattle.uma_domain.specs.Domain.{domain_identity}
-use Rattle.uma_domain.specs.Frames.{KeepsAll, KeepsListed, KeepsButPlain, KeepsButLoose, KeepsButSealed, KeepsButPolled, KeepsButSealing, KeepsButCandidates, KeepsButWorking}
+use Rattle.uma_domain.specs.Frames.{KeepsAll, KeepsListed, KeepsButPlain, KeepsButLoose, KeepsButSealed, KeepsButPolled, KeepsButSealing, KeepsButCandidates}
 use Rattle.uma_domain.specs.Listed.{listed, plain_len, loose_len, sealed_len, ripe_len}
 use Rattle.uma_domain.specs.Lists.{lists_identity, plain_in, loose_in, sealed_in, working_in, missed_in}
 use Rattle.uma_domain.specs.Scans.{AllStay, TakesRipe}
@@ -146,7 +146,7 @@ module _ {T H P : Type 0} {g h : _} where
     pub tried : SealsEach copied (domain_identity domain).clock v (loose_in was) (sealed_in was) count (loose_in is) (sealed_in is) v'
     pub kept : KeepsButSealing was is
 
-  -- what wasn't in use since the last mark is taken, and a new interval begins
+  -- what wasn't in use since the last trim is taken, and a new interval begins
   pub record TakesUnused (domain : Domain T H P g h) (taken : Taken T H P g h) : Type 0 where
     pub was : Lists T H P g h
     pub is : Lists T H P g h
@@ -178,21 +178,13 @@ module _ {T H P : Type 0} {g h : _} where
     pub taken : IfOk result Takes
     pub unchanged : OnErr result (KeepsLists domain)
 
-  -- a new interval begins
-  pub record Marks (domain : Domain T H P g h) : Type 0 where
-    pub was : Lists T H P g h
-    pub is : Lists T H P g h
-    pub of_domain : AreListsOf domain was
-    pub begins : working_in is ≡ begun (working_in was).count
-    pub kept : KeepsButWorking was is
-
   -- so many items were listed
   pub record CountsListed (domain : Domain T H P g h) (count : ℕ) : Type 0 where
     pub was : Lists T H P g h
     pub of_domain : AreListsOf domain was
     pub all : count ≡ listed (plain_in was) (loose_in was) (sealed_in was)
 
-  -- so many items were listed at the least and at the most since the last mark
+  -- so many items were listed at the least and at the most since the last trim
   pub record TellsWorking (domain : Domain T H P g h) (least greatest : ℕ) : Type 0 where
     pub was : Lists T H P g h
     pub of_domain : AreListsOf domain was

@@ -10,7 +10,7 @@ after working count = record { count = count; least = min working.least count; g
 abbrev pub begun : ℕ → Working
 begun count = record { count = count; least = count; greatest = count }
 
--- how many items were in use since the last mark: the greatest count less the least
+-- how many items were in use since the last trim: the greatest count less the least
 abbrev pub working_set : Working → ℕ
 working_set working = working.greatest - working.least
 

@@ -197,7 +197,7 @@ impl<T: Body, H: Host> Domain<T, H> {
     ghost use Rattle.uma_domain.specs.Looks.{CanLook, CanPoll, IsNewShare, LooksUnderLock};
     ghost use Rattle.uma_domain.specs.Puts.{IsNewPort, PutsOrReturns};
     ghost use Rattle.uma_domain.specs.Tries.{CanSeal};
-    ghost use Rattle.uma_domain.specs.UnderLock.{PutsPlain, PutsLoose, PutsSealed, TakesPlain, FindsNoPlain, TakesOldestRipe, FindsNoneRipe, SealsLoose, TakesUnused, TakesEach, GivesUnderLock, Marks, CountsListed, TellsWorking};
+    ghost use Rattle.uma_domain.specs.UnderLock.{PutsPlain, PutsLoose, PutsSealed, TakesPlain, FindsNoPlain, TakesOldestRipe, FindsNoneRipe, SealsLoose, TakesUnused, TakesEach, GivesUnderLock, CountsListed, TellsWorking};
 
     /// The next port of the domain's inbox, which pushed nothing.
     pub fn port<R: Wait>(&self, rt: &R) -> Port<T, H>
@@ -276,7 +276,7 @@ impl<T: Body, H: Host> Domain<T, H> {
         guard.value.lists.seal_loose(clock, pass)
     }
 
-    /// Takes what the domain didn't use since the last mark, and begins a new interval.
+    /// Takes what the domain didn't use since the last trim, and begins a new interval.
     pub fn take_trim<R: Wait>(
         &self,
         rt: &R,
@@ -313,20 +313,12 @@ impl<T: Body, H: Host> Domain<T, H> {
         guard.value.lists.count()
     }
 
-    /// The least and the greatest count of items listed since the last mark.
+    /// The least and the greatest count of items listed since the last trim.
     pub fn working<R: Wait>(&self, rt: &R) -> (u64, u64)
         ensures bounded { (result.0 ≤ result.1) × (result.1 < 2 ^ 32) }
         ensures told { TellsWorking self.now result.0 result.1 }
     {
         let guard = self.lists.lock(rt);
         guard.value.lists.working()
-    }
-
-    /// Begins a new interval.
-    pub fn mark<R: Wait>(&self, rt: &R)
-        ensures marked { Marks self.now }
-    {
-        let mut guard = self.lists.lock(rt);
-        guard.value.lists.mark();
     }
 }

@@ -14,7 +14,7 @@
 //! - The inbox's taker lies under the lock beside the lists, and the type says that it is of the domain's inbox. A settle
 //!   makes room before it pops, since what was popped can't go back.
 //! - A bucket lies in the inbox without a domain's number: each domain has an inbox of its own.
-//! - `take_all` begins no new interval; only a trim and a mark do. The working set can be greater than what is listed; then
+//! - `take_all` begins no new interval; only a trim does. The working set can be greater than what is listed; then
 //!   a trim takes nothing.
 //! - `Taken` is a queue whose buckets are taken out one by one, and which is ended empty, since its buckets may not be
 //!   dropped.

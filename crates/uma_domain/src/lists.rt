@@ -43,7 +43,7 @@ pub struct Lists<T: Body, H: Host> {
 
 impl<T: Body, H: Host> Lists<T, H> {
     ghost use Rattle.std.specs.Prelude.{◌<◌, ◌^◌, [], false};
-    ghost use Rattle.uma_domain.specs.Frames.{KeepsAll, KeepsButPlain, KeepsButLoose, KeepsButSealed, KeepsButWorking};
+    ghost use Rattle.uma_domain.specs.Frames.{KeepsAll, KeepsButPlain, KeepsButLoose, KeepsButSealed};
     ghost use Rattle.uma_domain.specs.Listed.{plain_len, loose_len, sealed_len};
     ghost use Rattle.uma_domain.specs.Lists.{lists_identity, plain_in, loose_in, sealed_in, working_in, AreNew, HasItems, IsUnusedBook};
     ghost use Rattle.uma_domain.specs.Looks.{CanLook, CountsMiss, IsNewShare, TakesNewestPlain};
@@ -165,19 +165,11 @@ impl<T: Body, H: Host> Lists<T, H> {
         self.working.count
     }
 
-    /// The least and the greatest count of items listed since the last mark.
+    /// The least and the greatest count of items listed since the last trim.
     pub fn working(&self) -> (u64, u64)
         ensures pair { (result.0 ≡ (working_in self.now).least) × (result.1 ≡ (working_in self.now).greatest) }
         ensures bounded { (result.0 ≤ result.1) × (result.1 < 2 ^ 32) }
     {
         (self.working.least, self.working.greatest)
-    }
-
-    /// Begins a new interval: the least and the greatest count are the count.
-    pub fn mark(&mut self)
-        ensures working { working_in self.new ≡ begun (working_in self.old).count }
-        ensures kept { KeepsButWorking self.old self.new }
-    {
-        self.working = Working::at(self.working.count);
     }
 }

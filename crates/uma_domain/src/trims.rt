@@ -14,7 +14,7 @@ use uma_life::Body;
 
 /// What a domain gives back.
 impl<T: Body, H: Host> Lists<T, H> {
-    /// Takes what the domain didn't use since the last mark: the candidates, oldest first, while the items that remain are
+    /// Takes what the domain didn't use since the last trim: the candidates, oldest first, while the items that remain are
     /// at least the working set. Then a new interval begins. The candidates are the plain buckets, and then the sealed ones
     /// whose poll in this call says yes; one that is kept for the working set isn't polled. Where memory is wanting nothing
     /// changes, since the room for all buckets is taken first.

@@ -1,7 +1,7 @@
 ghost use Rattle.std.specs.Prelude.{◌≡◌, ◌≤◌};
 ghost use Rattle.uma_domain.specs.Working.{after, begun, working_set};
 
-/// How many items a domain lists, and the least and the greatest such count since the last mark. Each is below 2^32.
+/// How many items a domain lists, and the least and the greatest such count since the last trim. Each is below 2^32.
 #[derive(Clone, Copy, Debug, PartialEq, Eq)]
 pub struct Working {
     pub count: u64,
@@ -32,7 +32,7 @@ impl Working {
         }
     }
 
-    /// How many items were in use since the last mark.
+    /// How many items were in use since the last trim.
     pub(crate) fn set(&self) -> u64
         requires { self.now.least ≤ self.now.greatest }
         ensures { result ≡ working_set self.now }

@@ -12,7 +12,8 @@ fn what_a_drain_takes_is_in_the_working_set_of_the_next_trim(rt: HostRuntime) ->
     let domain = Domain::new(rt.alloc(), &clock, Snapshot::of(&book), 0, 1, false)?;
     put(&rt, rt.alloc(), &domain, &mut book, 0)?;
     put(&rt, rt.alloc(), &domain, &mut book, 1)?;
-    domain.mark(&rt);
+    // Both came since the beginning, so the trim leaves them.
+    assert_eq!(rt; domain.take_trim(&rt, rt.alloc(), &clock)?.len(), 0);
     assert_eq!(rt; (domain.count(&rt), domain.working(&rt)), (2, (2, 2)));
     assert_eq!(rt; domain.take_all(&rt, rt.alloc(), &clock)?.len(), 2);
     assert_eq!(rt; (domain.count(&rt), domain.working(&rt)), (0, (0, 2)));
@@ -42,17 +43,17 @@ fn a_trim_behind_a_drain_keeps_what_was_used_before_it(rt: HostRuntime) -> Resul
 }
 
 #[test]
-fn a_mark_of_an_empty_domain_begins_an_interval(rt: HostRuntime) -> Result<(), Fail> {
+fn a_trim_of_an_empty_domain_begins_an_interval(rt: HostRuntime) -> Result<(), Fail> {
     let mut book = Book::new(rt.alloc(), 8)?;
     let (clock, _, _) = two_seats(rt.alloc())?;
     let domain = Domain::new(rt.alloc(), &clock, Snapshot::of(&book), 0, 1, false)?;
-    domain.mark(&rt);
+    assert_eq!(rt; domain.take_trim(&rt, rt.alloc(), &clock)?.len(), 0);
     assert_eq!(rt; (domain.count(&rt), domain.working(&rt)), (0, (0, 0)));
     let mut share = domain.open_misses(&rt);
     put(&rt, rt.alloc(), &domain, &mut book, 0)?;
     assert_eq!(rt; take(&rt, &domain, &mut share), Some(0));
     assert_eq!(rt; (domain.count(&rt), domain.working(&rt)), (0, (0, 1)));
-    domain.mark(&rt);
+    assert_eq!(rt; domain.take_trim(&rt, rt.alloc(), &clock)?.len(), 0);
     assert_eq!(rt; (domain.count(&rt), domain.working(&rt)), (0, (0, 0)));
     Ok(())
 }

@@ -36,7 +36,9 @@ fn a_day_has_a_working_set(rt: HostRuntime) -> Result<(), Fail> {
     put(&rt, rt.alloc(), &domain, &mut book, 1)?;
     put(&rt, rt.alloc(), &domain, &mut book, 2)?;
     assert_eq!(rt; (domain.count(&rt), domain.working(&rt)), (3, (0, 3)));
-    domain.mark(&rt);
+    // All three came since the beginning, so the trim leaves them.
+    assert_eq!(rt; domain.take_trim(&rt, rt.alloc(), &clock)?.len(), 0);
+    assert_eq!(rt; domain.working(&rt), (3, 3));
     // The newest first.
     assert_eq!(rt; take(&rt, &domain, &mut share), Some(2));
     put(&rt, rt.alloc(), &domain, &mut book, 3)?;
