@@ -1,13 +1,15 @@
 -- What the steps of a publish make of one slot.
-use Rattle.std.proofs.Common.{◌≡◌, ℕ, ◌<◌, ◌≤◌, length, get_or-set_same, get_or-set_other, refl, ap, ◌∙◌}
+use Rattle.std.proofs.Common.{◌≡◌, ℕ, ◌<◌, ◌≤◌, length, get_or-set_same, get_or-set_other, refl, sym, ap, ◌∙◌, subst, inl, inr}
 use Rattle.std.proofs.Math.Nat.{le_refl}
+use Rattle.smr_clock.specs.declared.setup.Setup.{Setup}
 use Rattle.smr_clock.specs.declared.view.View.{View}
+use Rattle.smr_clock.specs.SafeReuse.{KnownStaysOver}
 use Rattle.smr_objects.specs.declared.records.SlotView.{SlotView}
 use Rattle.smr_objects.specs.declared.records.CellView.{CellView}
 use Rattle.smr_objects.specs.declared.part.Part.{Part}
 use Rattle.smr_objects.specs.Cells.{fresh_slot, slot_at}
 use Rattle.smr_objects.specs.Steps.{with_slot}
-use Rattle.smr_hold.specs.Publishing.{cell_in, slot_in, Touches}
+use Rattle.smr_hold.specs.Publishing.{cell_in, slot_in, GivesStamp, IsStampOf, IsOverFrom, IsUnseen, Touches}
 
 -- ---- one slot is changed
 
@@ -28,3 +30,21 @@ module _ (v w : View Part) (slot : ℕ) (f : SlotView → SlotView) (is : cell_i
 
 pub untouched : (slot : ℕ) (v : View Part) → Touches slot v v
 untouched slot v = record { records = refl; number = refl; value = refl; others = λ n other. refl; seen = le_refl v.holder.seen; floor = le_refl v.holder.floor }
+
+-- ---- the stamp of a slot that is closed
+
+module _ (slot stamp read : ℕ) (v u w : View Part) (same : w.holder.seen ≡ u.holder.seen) where
+  -- it is the slot's, or was given to it, whatever the cell has loaded of the read hand since
+  stamp_still : IsStampOf slot v u stamp → IsStampOf slot v w stamp
+  stamp_still (inl had) = inl had
+  stamp_still (inr given) =
+      let g = given.1 in
+      let gives : GivesStamp v w stamp = record { write = g.write; two_above = g.two_above; not_lower = g.not_lower; seen = subst (λ (n : ℕ). g.write ≤ n) (sym same) g.seen } in
+      inr (given.0, gives)
+
+  -- the cell knows the read hand that was found, which is not below the stamp
+  pub unseen_now : ((a : Setup) → KnownStaysOver Part a) → IsStampOf slot v u stamp → stamp ≤ read → w.holder.floor ≡ read → IsUnseen slot v w
+  unseen_now law given expired floor =
+      let known : stamp ≤ w.holder.floor = subst (λ (n : ℕ). stamp ≤ n) (sym floor) expired in
+      let over : IsOverFrom w stamp = λ now following id clocked run there. law w.setup now following id w stamp clocked run there known in
+      inr (stamp, stamp_still given, over)

@@ -1,7 +1,12 @@
 -- What a publish comes to: what becomes of each slot that it tries, and what it publishes where.
-use Rattle.std.specs.Prelude.{◌≡◌, ◌≢◌, ℕ, ◌+◌, ◌-◌, ◌^◌, ◌<◌, ◌≤◌, ◌⊎◌, ◌∷◌, Option, Some}
+use Rattle.std.specs.Prelude.{◌≡◌, ◌≢◌, ℕ, ◌+◌, ◌-◌, ◌^◌, ◌<◌, ◌≤◌, ◌⊎◌, List, ◌∷◌, Option, Some}
+use mathlib.Core.Option.{some}
+use lib.ListN.{get_elem?}
 use Rattle.smr_clock.specs.declared.clock.Clock.{Clock}
 use Rattle.smr_clock.specs.declared.view.View.{View}
+use Rattle.smr_clock.specs.Clocked.{Clocked}
+use Rattle.smr_clock.specs.Moments.{Moment, Run}
+use Rattle.smr_clock.specs.SafeReuse.{StaysOver}
 use Rattle.smr_objects.specs.declared.objects.Objects.{Objects}
 use Rattle.smr_objects.specs.declared.cell.Cell.{Cell}
 use Rattle.smr_objects.specs.declared.records.Record.{Record}
@@ -69,11 +74,22 @@ pub record SlotWaits (slot : ℕ) (cause : SlotCause) (v w : View Part) : Type 0
   pub touches : Touches slot v w
   pub because : CauseIs slot cause v w
 
+-- From each moment on at which the cell's seat knows this much, over every run of steps, no section is open whose mark is below the stamp.
+abbrev pub IsOverFrom : View Part → ℕ → Type 0
+IsOverFrom knows stamp =
+    (now : Moment Part) (following : List (Moment Part)) (id : ℕ)
+    → Clocked knows.setup now.0 now.1 → Run knows.setup now following → get_elem? now.1 id ≡ some knows → StaysOver now following stamp
+
+-- The slot was closed before, or is closed now that no section is open whose mark is below its stamp, by the law of stamps (smr_objects, `stamped_slots_stand`).
+abbrev pub IsUnseen : ℕ → View Part → View Part → Type 0
+IsUnseen slot v w = ((slot_in v slot).state ≡ Closed) ⊎ ((stamp : ℕ) × IsStampOf slot v w stamp × IsOverFrom w stamp)
+
 -- one slot, which isn't the current one, is closed
 pub record SlotFrees (slot : ℕ) (v w : View Part) : Type 0 where
   pub touches : Touches slot v w
   pub closed : (slot_in w slot).state ≡ Closed
   pub idle : current_in v ≢ Some slot
+  pub unseen : IsUnseen slot v w
 
 -- The slots below k wait, each for its cause. No value, no record and no other slot is changed.
 pub record Waits (k : ℕ) (causes : ℕ → SlotCause) (v w : View Part) : Type 0 where

@@ -6,6 +6,7 @@ ghost use Rattle.smr_hold.specs.Publishing.{SettlesStamp, SlotFrees, SlotWaits};
 use crate::slot_cause::SlotCause;
 use crate::slot_causes::SlotCauses;
 use smr_clock::Clock;
+use smr_objects::laws::stamped_slots_stand;
 use smr_objects::{Cell, Objects, close_slot, load_read, stamp_slot};
 
 /// The stamp of a slot that is neither closed nor current. Where it has none it is stamped first.
@@ -24,7 +25,8 @@ pub(crate) fn settle_stamp(clock: &Clock<Objects>, cell: &mut Cell, slot: u32) -
     stamp
 }
 
-/// Closes a slot that isn't the current one where it can be: it is closed then, or waits for the cause.
+/// Closes a slot that isn't the current one where it can be: it is closed then, or waits for the cause. From the closing on
+/// no section is open whose mark is below its stamp ([`stamped_slots_stand`]).
 pub(crate) fn free_slot(clock: &Clock<Objects>, cell: &mut Cell, slot: u32) -> Result<(), SlotCause>
     requires { OwnsSlot clock.now cell.old slot }
     ensures here { IsCellOf clock.now cell.new }
@@ -46,5 +48,6 @@ pub(crate) fn free_slot(clock: &Clock<Objects>, cell: &mut Cell, slot: u32) -> R
     if holds > 0 {
         return Err(SlotCause::Held { holds });
     }
+    stamped_slots_stand();
     Ok(())
 }

@@ -50,6 +50,9 @@ fn put(clock: &Clock<Objects>, cell: &mut Cell, slot: u32, value: u64) -> u64
 /// open is stamped, where it has no stamp, and closed where its stamp has expired and nobody holds it. The former current
 /// slot is stamped: two above the write hand loaded in this call. Takes no memory, and waits for nobody.
 ///
+/// While a section is open whose mark is below a slot's stamp, no value is written there: the slot is closed only where its
+/// stamp has expired, and from then on no such section is open ([`smr_objects::laws::stamped_slots_stand`]).
+///
 /// # Errors
 ///
 /// `Worn` exactly where the version is 2^44 - 1; `Crowded` exactly where no slot could be used, with a cause for each. No
