@@ -40,8 +40,7 @@ class Trace:
         self.ops, self.refused = [], []
         self.held, self.open, self.away, self.behind_round = {}, set(), set(), False
         self.counts = dict.fromkeys(["enter", "look", "look outside", "bind", "unbind"], 0)
-        for _ in range(self.random.randrange(20, 500)):
-            line = self.draw_line()
+        for line in self.draw_lines():
             kind = self.first_fault(line.split())
             if kind is None:
                 self.ops.append(line)
@@ -64,6 +63,10 @@ class Trace:
             for number in range(below(3)):
                 self.zones.append(Zone(f"z{place}s{number}", primary, primary.size, primary.slabs, 4, limit(), 0, pick(kinds)))
         self.limits = {zone.name: zone.limit for zone in self.zones}
+
+    def draw_lines(self):
+        for _ in range(self.random.randrange(20, 500)):
+            yield self.draw_line()
 
     def draw_line(self):
         words = BETWEEN if self.behind_round else WORDS
@@ -232,3 +235,82 @@ class Trace:
         keeps("refused binds", row["fail"] <= refused and binds <= row["req"])
         keeps("names bound", 0 <= ctors - dtors - deferred <= self.names[0])
         keeps("entries", row["used"] + row["free"] == slabs * 64 == inits - finis and slabs <= self.names[1])
+
+
+class LooseTrace(Trace):
+    """A trace of one worker at a time whose freed buckets often stay loose: the window is small, and a section stays open while
+    buckets fill. No schedule changes its table, which plain_model.py works out."""
+
+    def draw_head(self):
+        pick, below = self.random.choice, self.random.randrange
+        self.version, self.workers, self.domains = 3, pick([1, 1, 1, 2, 4]), pick([1, 2, 2, 4])
+        self.start, self.window = pick([1, 1, 3, 4294967291, 4294967295, 4294967295, 2**63 - 1 - 2 * below(30)]), pick([4, 6, 8])
+        self.clock, self.names, self.zones = True, None, []
+        kind, bucket, limit = lambda: pick(["smr"] * 5 + ["plain"]), lambda: pick([4, 4, 4, 5, 8]), lambda: pick([0] * 8 + [9, 40])
+        for place in range(pick([1, 1, 1, 2])):
+            size, slabs = pick([(4096, 99), (1024, 40), (1024, 40), (512, 9), (256, 16), (64, 2)])
+            primary = Zone(f"z{place}", None, size, slabs, bucket(), limit(), pick([0, 0, 3]), kind())
+            self.zones.append(primary)
+            for number in range(pick([0, 0, 0, 0, 1, 2])):
+                self.zones.append(Zone(f"z{place}s{number}", primary, size, slabs, bucket(), limit(), 0, kind()))
+        self.limits = {zone.name: zone.limit for zone in self.zones}
+        self.turn, self.slots = 0, 64
+
+    def draw_lines(self):
+        """Runs of lines: requests, frees that fill more buckets than the window has room for, a request or a reclaim that looks at them
+        and lets the read hand move, and frees. It ends there, since the next look makes up for much that went wrong before."""
+        below, pick = self.random.randrange, self.random.choice
+        for _ in range(below(1, 4)):
+            self.zone, most = pick(self.zones).name, 2 * self.window + below(8, 24)
+            yield from self.draw_run(8, most)
+            yield from self.draw_run(pick([0, 0, 3]), most - below(16))
+            self.zone = pick([self.zone, pick(self.zones).name])
+            yield from [f"exit {self.turn}"] * below(2)
+            yield from self.draw_run(8, below(6)) if below(3) else [f"{pick(['trim', 'drain', 'drainseat'])} {self.turn} {self.zone}"]
+            yield from self.draw_run(0, below(16))
+
+    def draw_run(self, asks, lines):
+        self.asks = asks
+        for _ in range(lines):
+            yield self.draw_line()
+
+    def draw_line(self):
+        """A line of the worker whose turn it is."""
+        worker, drawn = self.turn, self.random.random
+        if self.behind_round and drawn() < 0.4:
+            return self.draw_between()
+        if str(worker) in self.away and drawn() < 0.9:
+            return f"back {worker}"
+        if drawn() < 0.03:
+            return f"exit {worker}" if str(worker) in self.open else f"enter {worker}"
+        if drawn() < 0.03:
+            return self.draw_other(worker, self.random.choice(self.zones).name)
+        slot, is_held = self.slot(worker, self.random.randrange(8) >= self.asks)
+        if is_held:
+            return f"free {worker} {slot}"
+        more = self.random.choice([""] * 16 + [" arg 7", " reserve", " reserve", " arg 9 reserve"])
+        return f"alloc {worker} {self.zone} {slot}{more}"
+
+    def slot(self, worker, wanted):
+        """A slot of the worker, and whether it holds anything: that it does, or that it doesn't, is wanted."""
+        for _ in range(8):
+            slot = self.random.randrange(self.slots)
+            is_held = (str(worker), str(slot)) in self.held
+            if is_held == wanted:
+                break
+        return slot, is_held
+
+    def draw_between(self):
+        giver, taker = self.random.randrange(self.workers), self.random.randrange(self.workers)
+        if self.random.randrange(6):
+            return f"give {giver} {self.slot(giver, True)[0]} {taker} {self.slot(taker, False)[0]}"
+        return f"setmax {self.zone} {self.random.choice([0, 0, 5, 30])}"
+
+    def draw_other(self, worker, zone):
+        word = self.random.choice(["trim", "drain", "drainseat", "prealloc", "away", "round", "round", "round"])
+        if word == "round":
+            self.turn = self.random.randrange(self.workers)
+            return word
+        if word == "prealloc":
+            return f"prealloc {worker} {zone} {self.random.randrange(9)}"
+        return f"{word} {worker}" + (f" {zone}" if word in IN_ZONE else "")
