@@ -1,5 +1,5 @@
 -- A goal two above the write hand covers each section that is open while the hand stands there: a mark is never above the hand.
-use Rattle.std.proofs.Common.{◌≡◌, ℕ, ◌+◌, ◌≤◌, arith}
+use Rattle.std.proofs.Common.{◌≡◌, ℕ, ◌+◌, ◌≤◌, ◌∙◌, ap, arith}
 use Rattle.smr_core.specs.declared.phase.Phase.TheVariants as phase
 use Rattle.smr_core.specs.ClockState.{write_hand}
 use Rattle.smr_core.proofs.KindLemmas.{in_phase}
@@ -36,3 +36,7 @@ loads_write v u w read write f seen more =
           };
       seen = omega arith;
     }
+
+-- a pass that is as it was has seen what it had seen
+pub seen_same : {P : Type 0} (u w : View P) (write : ℕ) → u.holder.seen ≡ write → w ≡ u → w.holder.seen ≡ write
+seen_same u w write seen same = ap (λ (v : View _). v.holder.seen) same ∙ seen

@@ -10,7 +10,7 @@ use Rattle.smr_deferred.specs.declared.pace.Pace.{Pace}
 use Rattle.smr_deferred.specs.Asked.{asked_goal, asked_knows}
 use Rattle.smr_deferred.specs.Numbers.{Numbers, one_answered, one_retired, one_pushed, IsDue}
 use Rattle.smr_deferred.specs.Pass.{KnowsMore}
-use Rattle.smr_deferred.specs.Pace.{limit_in, moved_in, asked_in, refused_in, numbers_of}
+use Rattle.smr_deferred.specs.Pace.{limit_in, moved_in, asked_in, refused_in, numbers_of, IsUsed}
 
 -- v is the pass's view when the advance began, and v' after it. `moved` is two above the write hand that the list had loaded before it, and n are the numbers before it.
 module _ {H P : Type 0} {g : Ghosts H P} where
@@ -53,16 +53,18 @@ module _ {H P : Type 0} {g : Ghosts H P} where
     pub due : IsDue (limit_in was) (one_retired (numbers_of was)) → AdvancesOnce copied v moved (one_retired (numbers_of was)) was is v'
     pub not_due : (IsDue (limit_in was) (one_retired (numbers_of was)) → ⊥) → Rests (one_retired (numbers_of was)) was is × (v' ≡ v)
 
-  -- So it does, from where the pass stands after what it may have loaded for it.
+  -- So it does, from where the pass stands after the note that a list takes at its first use.
   pub record PacesFrom (copied : P → P) (v : View P) (moved : ℕ) (was is : Pace H P g) (v' : View P) : Type 0 where
     pub begun : View P
     pub more : KnowsMore v begun
+    pub once : IsUsed was → begun ≡ v
     pub paces : Paces copied begun moved was is v'
 
-  -- A push counts itself, and advances once.
+  -- A push counts itself, and advances once, likewise.
   pub record PushesFrom (copied : P → P) (v : View P) (moved : ℕ) (was is : Pace H P g) (v' : View P) : Type 0 where
     pub begun : View P
     pub more : KnowsMore v begun
+    pub once : IsUsed was → begun ≡ v
     pub advances : AdvancesOnce copied begun moved (one_pushed (numbers_of was)) was is v'
 
 -- the refusal, if the advance was refused

@@ -8,7 +8,7 @@ use Rattle.smr_clock.specs.Belongs.{TableId, IsPassOf, clock_id, view}
 use Rattle.smr_deferred.specs.declared.pace.Pace.{Pace}
 use Rattle.smr_deferred.specs.Advancing.{Rests}
 use Rattle.smr_deferred.specs.Numbers.{Numbers}
-use Rattle.smr_deferred.specs.Pace.{numbers_of, IsOfClock}
+use Rattle.smr_deferred.specs.Pace.{numbers_of, IsOfClock, IsUsed}
 use Rattle.smr_deferred.specs.Pass.{KnowsMore, Stays}
 
 module _ {H P : Type 0} {g : Ghosts H P} where
@@ -25,11 +25,12 @@ module _ {H P : Type 0} {g : Ghosts H P} where
     pub mine : IsOfClock (clock_id clock) is
     pub same : view new ≡ view old
 
-  -- The list is of the clock from now on, and nothing else of it changes; the pass may have loaded the write hand.
+  -- The list is of the clock from now on, and nothing else of it changes; the pass may have loaded the write hand, but not for a list that was used before, which has its note.
   pub record Settles (clock : Clock H P) (old new : Pass H P g) (was is : Pace H P g) : Type 0 where
     pub here : IsPassOf clock new
     pub mine : IsOfClock (clock_id clock) is
     pub more : KnowsMore (view old) (view new)
+    pub once : IsUsed was → view new ≡ view old
     pub rests : Rests (numbers_of was) was is
 
   -- The numbers are these now, and nothing else changes.

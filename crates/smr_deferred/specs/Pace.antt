@@ -1,5 +1,5 @@
 -- What a list keeps of its advances. Own.
-use Rattle.std.specs.Prelude.{◌≡◌, ◌≤◌, ◌+◌, ℕ, Option, None}
+use Rattle.std.specs.Prelude.{◌≡◌, ◌≤◌, ◌+◌, ℕ, Option, None, IsSome}
 use Rattle.std.specs.Option.{ForSome}
 use Rattle.smr_clock.specs.declared.setup.Setup.{Setup}
 use Rattle.smr_clock.specs.declared.refused.AdvanceRefused.{AdvanceRefused}
@@ -37,6 +37,10 @@ module _ {H P : Type 0} {g : Ghosts H P} where
 
   abbrev pub numbers_of : Pace H P g → Numbers
   numbers_of pace = numbers_in pace.counts
+
+  -- It was used before: it has the note by which its clock is known.
+  abbrev pub IsUsed : Pace H P g → Type 0
+  IsUsed pace = IsSome pace.home
 
   -- what is kept of any clock is of this one
   pub record IsOfClock (clock : TableId × Setup) (pace : Pace H P g) : Type 0 where

@@ -8,26 +8,29 @@ use Rattle.smr_deferred.specs.declared.retire_list.RetireList.{RetireList}
 use Rattle.smr_deferred.specs.Advancing.{AdvancesOnce, Paces}
 use Rattle.smr_deferred.specs.Goals.{CoversOpen}
 use Rattle.smr_deferred.specs.Numbers.{one_pushed}
+use Rattle.smr_deferred.specs.Pace.{IsUsed}
 use Rattle.smr_deferred.specs.Pass.{LoadsWrite}
 use Rattle.smr_deferred.specs.Retired.{retired}
 use Rattle.smr_deferred.specs.RetireList.{listed, pace_of, counts_of, IsFull, IsSame}
 
 module _ {T H P : Type 0} {g : Ghosts H P} where
-  -- The value is the newest, with the goal two above the write hand that was loaded for it, and its goal covers each section open then. Then the list advances, where that is due.
+  -- The value is the newest, with the goal two above the write hand that was loaded for it, and its goal covers each section open then. Then the list advances, where that is due. A list takes one note for its clock, at its first use: the pass of a list that was used before has seen no more than that write hand when the advance begins.
   pub record Retires (copied : P → P) (v : View P) (value : T) (was is : RetireList T H P g) (v' : View P) : Type 0 where
     pub write : ℕ
     pub begun : View P
     pub load : LoadsWrite v write begun
+    pub once : IsUsed (pace_of was) → begun.holder.seen ≡ write
     pub room : write + 2 < 2 ^ 63
     pub newest : listed is ≡ listed was ++ retired value (write + 2) ∷ []
     pub covers : CoversOpen P v.setup write (write + 2)
     pub paces : Paces copied begun (write + 2) (pace_of was) (pace_of is) v'
 
-  -- The list loads the write hand and advances once. Its values stay.
+  -- The list loads the write hand and advances once, and takes no note but at its first use. Its values stay.
   pub record Pushes (copied : P → P) (v : View P) (was is : RetireList T H P g) (v' : View P) : Type 0 where
     pub write : ℕ
     pub begun : View P
     pub load : LoadsWrite v write begun
+    pub once : IsUsed (pace_of was) → begun.holder.seen ≡ write
     pub stay : listed is ≡ listed was
     pub advance : AdvancesOnce copied begun (write + 2) (one_pushed (counts_of was)) (pace_of was) (pace_of is) v'
 

@@ -85,3 +85,25 @@ fn a_bucket_stays_loose_while_the_window_is_used_up(rt: HostRuntime) -> Result<(
     assert_eq!(rt; (sealed.len(), sealed.goal.tag().raw), (4, 5));
     Ok(())
 }
+
+#[test]
+fn a_seal_loads_the_write_hand_though_its_pass_is_behind(rt: HostRuntime) -> Result<(), Fail> {
+    let mut book = PlainBook::new(rt.alloc(), 8)?;
+    let bucket = Bucket::make(rt.alloc(), 4)?;
+    let loose = filled(&rt, rt.alloc(), &mut book, bucket, [0, 1, 2, 3])?;
+    let (clock, mut ahead, mut behind) = two_seats(rt.alloc(), 1)?;
+    clock.advance(&mut ahead)?;
+    // The mark of this section is 3. The pass that seals has seen 1, by which the goal would be 3 too.
+    clock.enter(&mut ahead)?;
+    let Ok(sealed) = loose.seal(&clock, &mut behind) else {
+        panic!(rt; "no room")
+    };
+    assert_eq!(rt; sealed.goal.tag().raw, 5);
+    assert_eq!(rt; clock.hands(&mut behind), (1, 5));
+    let Err(sealed) = sealed.try_open(&clock) else {
+        panic!(rt; "a section may see it")
+    };
+    clock.exit(&mut ahead);
+    assert!(rt; sealed.try_open(&clock).is_ok());
+    Ok(())
+}

@@ -110,3 +110,34 @@ fn the_third_full_bucket_stays_loose_while_the_window_is_used_up(
     clock.exit(&mut reader);
     Ok(())
 }
+
+#[test]
+fn a_free_seals_by_the_write_hand_though_its_pass_is_behind(rt: HostRuntime) -> Result<(), Fail> {
+    let mut book = Book::new(rt.alloc(), 4)?;
+    let (clock, mut ahead, mut behind) = two_seats(rt.alloc(), 1)?;
+    let mut seat = smr_seat(rt.alloc(), &clock, &book)?;
+    clock.advance(&mut ahead)?;
+    // The mark of this section is 3. The pass that frees has seen 1, by which the goal would be 3 too.
+    clock.enter(&mut ahead)?;
+    for no in 0..4 {
+        free(
+            &rt,
+            rt.alloc(),
+            &mut book,
+            &mut seat,
+            &clock,
+            &mut behind,
+            no,
+        )?;
+    }
+    assert_eq!(rt; clock.hands(&mut behind), (1, 5));
+    let Some(Shelved::Sealed { bucket, .. }) = seat.take_shelf() else {
+        panic!(rt; "not sealed")
+    };
+    let Err(bucket) = bucket.try_open(&clock) else {
+        panic!(rt; "a section may see it")
+    };
+    clock.exit(&mut ahead);
+    assert!(rt; bucket.try_open(&clock).is_ok());
+    Ok(())
+}

@@ -1,4 +1,4 @@
-use Rattle.std.proofs.Common.{rules, inl, ap, ◌∙◌}
+use Rattle.std.proofs.Common.{rules, ap, ◌∙◌}
 use Rattle.smr_core.specs.declared.holder.Holder.{Holder}
 use Rattle.smr_objects.specs.CellViews.{cell_view}
 use Rattle.smr_hold.proofs.FreeLemmas.{unseen_now}

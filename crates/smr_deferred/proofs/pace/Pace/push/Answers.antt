@@ -11,6 +11,7 @@ returns-clause-advances g c =
     record {
       begun = view c.settle.new.pass;
       more = c.settle.ensures.more;
+      once = c.settle.ensures.once;
       advances =
           advances_since _ _ _ c.args.self.now c.count_push.new.self _ _ _
           (rests_twice one_pushed c.args.self.now c.settle.new.self c.count_push.new.self c.settle.ensures.rests c.count_push.ensures.rests)

@@ -21,6 +21,7 @@ returns-then-is_due-clause-paces g c =
     record {
       begun = view c.settle.new.pass;
       more = c.settle.ensures.more;
+      once = c.settle.ensures.once;
       paces =
           paces_due g.H.Host.copied (view c.settle.new.pass) c.args.goal c.args.self.now c.count_value.new.self _ (view c.advance.new.pass)
           (rests_twice one_retired c.args.self.now c.settle.new.self c.count_value.new.self c.settle.ensures.rests c.count_value.ensures.rests)
@@ -33,6 +34,7 @@ returns-else-is_due-clause-paces g c =
     record {
       begun = view c.settle.new.pass;
       more = c.settle.ensures.more;
+      once = c.settle.ensures.once;
       paces =
           paces_not_due _ _ _ c.args.self.now c.count_value.new.self
           (rests_twice one_retired c.args.self.now c.settle.new.self c.count_value.new.self c.settle.ensures.rests c.count_value.ensures.rests)

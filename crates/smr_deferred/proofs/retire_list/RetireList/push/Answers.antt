@@ -1,5 +1,5 @@
 use Rattle.std.proofs.Common.{refl}
-use Rattle.smr_deferred.proofs.Covered.{loads_write}
+use Rattle.smr_deferred.proofs.Covered.{loads_write, seen_same}
 use Rattle.smr_deferred.proofs.retire_list.RetireList.push.Goals as goal
 
 pub returns-clause-pushed : goal.returns-clause-pushed
@@ -9,6 +9,7 @@ returns-clause-pushed g c =
       write = c.hands-write.result.1;
       begun = advances.begun;
       load = loads_write _ _ _ c.hands-write.result.0 c.hands-write.result.1 c.hands-write.ensures.write c.hands-write.ensures.seen advances.more;
+      once = λ used. seen_same _ _ _ c.hands-write.ensures.seen (advances.once used);
       stay = refl;
       advance = advances.advances;
     }
