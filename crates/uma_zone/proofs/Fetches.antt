@@ -31,23 +31,32 @@ module _ {T K H P : Type 0} {g k h : _} where
   ]
   names_of zone keg hooks ask (Ctor code) here ours kept slabs found = found
 
+  -- what a fetch asks for, as the seat after it tells
+  asked : (zone : Zone T K H P g k h) (old new : SeatCache T H P g h) (ask : FetchAsk)
+      → ask.zone ≡ zone_index zone → ask.most ≡ (top_of old).room → (top_of new).room ≡ (top_of old).room → ask.domain ≡ seat_domain old → IsSameSeat old new
+      → ask ≡ record { zone = zone_index zone; most = (top_of new).room; reserve = ask.reserve; domain = seat_domain new }
+  asked zone old new ask here most room own same =
+      let many = most ∙ sym room in
+      let near = own ∙ sym (ap (λ (s : _). s.domain) same.0) in
+      λ i. record { zone = here i; most = many i; reserve = ask.reserve; domain = near i }
+
   -- a fetch that was refused turns its request away, by the numbers of the zone
   pub turned_away : (zone : Zone T K H P g k h) (old new : SeatCache T H P g h) (keg is : Keg T K g k) (ask : FetchAsk) (end : Result ℕ FetchRefused) (refusal : Refusal)
-      → ask.zone ≡ zone_index zone → table_in keg ≡ (zone_home zone).book → reserve_in keg ≡ zone_reserve zone → (places_in keg).cap ≡ zone_cap zone
+      → table_in keg ≡ (zone_home zone).book → reserve_in keg ≡ zone_reserve zone → (places_in keg).cap ≡ zone_cap zone
+      → ask.zone ≡ zone_index zone → ask.most ≡ (top_of old).room → (top_of new).room ≡ (top_of old).room → ask.domain ≡ seat_domain old → IsSameSeat old new
       → OnErr end ((top_of new).items ≡ []) → fetches_of new ≡ fetches_of old ++ fetch_cause end ∷ [] → CountsEnd (ledger_of old) (ledger_of new) (end_of end) → IfErr end (RefusesFetch keg (zone_hooks zone) ask is) → IfErr end (NamesWhatItFound keg (zone_hooks zone) ask) → end ≡ Err (Refused refusal)
       → FetchTurnsAway zone ask.reserve refusal old new
-  turned_away zone old new keg is ask end refusal here book kept slabs none listed counted refused named ended = record {
+  turned_away zone old new keg is ask end refusal book kept slabs here most room own same none listed counted refused named ended = record {
     none = subst (λ (r : Result ℕ FetchRefused). OnErr r ((top_of new).items ≡ [])) ended none;
     fetches = subst (λ (r : Result ℕ FetchRefused). fetches_of new ≡ fetches_of old ++ fetch_cause r ∷ []) ended listed;
     counted = subst (λ (r : Result ℕ FetchRefused). CountsEnd (ledger_of old) (ledger_of new) (end_of r)) ended counted;
     one = record {
       was = keg;
       is = is;
-      ask = ask;
       of_zone = book;
-      for_zone = here;
-      right = refl;
-      refuses = subst (λ (r : Result ℕ FetchRefused). IfErr r (RefusesFetch keg (zone_hooks zone) ask is)) ended refused;
+      kept = kept;
+      refuses = subst (λ (a : FetchAsk). RefusesFetch keg (zone_hooks zone) a is (Refused refusal)) (asked zone old new ask here most room own same)
+          (subst (λ (r : Result ℕ FetchRefused). IfErr r (RefusesFetch keg (zone_hooks zone) ask is)) ended refused);
     };
     names = names_of zone keg (zone_hooks zone) ask refusal here refl kept slabs (subst (λ (r : Result ℕ FetchRefused). IfErr r (NamesWhatItFound keg (zone_hooks zone) ask)) ended named);
   }
@@ -62,10 +71,6 @@ module _ {T K H P : Type 0} {g k h : _} where
       let into : FetchesInto was (zone_hooks zone) ask count [] (top_of new).items is = subst (λ (r : Result ℕ FetchRefused). IfOk r (λ n. FetchesInto was (zone_hooks zone) ask n [] (top_of new).items is)) ended fetched in
       let items : List (Cached T g) = (top_of new).items in
       let all : items ≡ into.items = into.pushed in
-      let asked : ask ≡ record { zone = zone_index zone; most = (top_of new).room; reserve = ask.reserve; domain = seat_domain new } =
-      let many = most ∙ sym room in
-      let near = own ∙ sym (ap (λ (s : _). s.domain) same.0) in
-      λ i. record { zone = here i; most = many i; reserve = ask.reserve; domain = near i } in
       record {
         some = subst (λ (l : List (Cached T g)). 1 ≤ length l) (sym all) into.fetches.some;
         one = record {
@@ -73,7 +78,7 @@ module _ {T K H P : Type 0} {g k h : _} where
           is = is;
           of_zone = book;
           kept = kept;
-          fetches = subst (λ (a : FetchAsk). Fetches was (zone_hooks zone) a items is) asked (subst (λ (l : List (Cached T g)). Fetches was (zone_hooks zone) ask l is) (sym all) into.fetches);
+          fetches = subst (λ (a : FetchAsk). Fetches was (zone_hooks zone) a items is) (asked zone old new ask here most room own same) (subst (λ (l : List (Cached T g)). Fetches was (zone_hooks zone) ask l is) (sym all) into.fetches);
         };
         fetches = subst (λ (r : Result ℕ FetchRefused). fetches_of new ≡ fetches_of old ++ fetch_cause r ∷ []) ended listed
             ∙ ap (λ (n : ℕ). fetches_of old ++ cause 6 n 0 ∷ []) (sym (ap length all ∙ into.counted));

@@ -16,7 +16,6 @@ use Rattle.uma_bucket.specs.Loose.{loose_items}
 use Rattle.uma_bucket.specs.Ripe.{ripe_bucket, ripe_goal, ripe_knows, IsRipeAt, IsOverFrom}
 use Rattle.uma_domain.specs.Lists.{IsRaised}
 use Rattle.uma_keg.specs.declared.keg.Keg.{Keg}
-use Rattle.uma_keg.specs.declared.fetch_ask.FetchAsk.{FetchAsk}
 use Rattle.uma_keg.specs.declared.fetch_refused.FetchRefused.TheVariants.{Refused as RefusedFetch}
 use Rattle.uma_keg.specs.Fetched.{Fetches, RefusesFetch}
 use Rattle.uma_keg.specs.Keg.{table_in, reserve_in}
@@ -53,15 +52,13 @@ module _ {T K H P : Type 0} {g k h : _} where
     pub kept : reserve_in was ≡ zone_reserve zone
     pub fetches : Fetches was (zone_hooks zone) (record { zone = zone_index zone; most = (top_of new).room; reserve = reserve; domain = seat_domain new }) items is
 
-  -- One fetch of the zone's keg, as that stood under its lock, was refused so: for this zone and by its hooks, and with the right to the keg's reserve or without it. So the numbers that the refusal tells are those that this fetch found.
-  pub record IsOneRefusal (zone : Zone T K H P g k h) (reserve : Bool) (refusal : Refusal) : Type 0 where
+  -- One fetch of the zone's keg, as that stood under its lock, was refused so. It was made as one that gives items is: for this zone and by its hooks, for the seat's domain, for as many items as the allocation bucket has room for, and with the right to the keg's reserve or without it. So the numbers that the refusal names are those that this fetch found.
+  pub record IsOneRefusal (zone : Zone T K H P g k h) (reserve : Bool) (refusal : Refusal) (new : SeatCache T H P g h) : Type 0 where
     pub was : Keg T K g k
     pub is : Keg T K g k
-    pub ask : FetchAsk
     pub of_zone : table_in was ≡ (zone_home zone).book
-    pub for_zone : ask.zone ≡ zone_index zone
-    pub right : ask.reserve ≡ reserve
-    pub refuses : RefusesFetch was (zone_hooks zone) ask is (RefusedFetch refusal)
+    pub kept : reserve_in was ≡ zone_reserve zone
+    pub refuses : RefusesFetch was (zone_hooks zone) (record { zone = zone_index zone; most = (top_of new).room; reserve = reserve; domain = seat_domain new }) is (RefusedFetch refusal)
 
   -- No item was usable, the look at the lists of the seat's own domain found nothing, and the one fetch of the request, with that right to the reserve, gave just these.
   pub record FetchesSome (zone : Zone T K H P g k h) (reserve : Bool) (old : SeatCache T H P g h) (items : List (Cached T g)) (new : SeatCache T H P g h) : Type 0 where
@@ -150,7 +147,7 @@ module _ {T K H P : Type 0} {g k h : _} where
     pub missed : IsRaised (misses_of old) (misses_of new)
     pub fetches : fetches_of new ≡ fetches_of old ++ refusal_cause refusal ∷ []
     pub counted : CountsTurned (ledger_of old) (ledger_of new) refusal
-    pub one : IsOneRefusal zone reserve refusal
+    pub one : IsOneRefusal zone reserve refusal new
     pub names : Names zone reserve refusal
 
   -- why no item was taken, and what that did to the seat

@@ -31,7 +31,7 @@ module _ {T K H P : Type 0} {g k h : _} where
     pub none : (top_of new).items ≡ []
     pub fetches : fetches_of new ≡ fetches_of old ++ refusal_cause refusal ∷ []
     pub counted : CountsTurned (ledger_of old) (ledger_of new) refusal
-    pub one : IsOneRefusal zone reserve refusal
+    pub one : IsOneRefusal zone reserve refusal new
     pub names : Names zone reserve refusal
 
   -- why no item came

@@ -60,8 +60,8 @@ module _ (zone : ZoneOfEntries) (no_reserve : zone_reserve zone ≡ 0) where
   IsTurnedBack rows key v old v' new = ((read stamp : ℕ) × FindsUnripe zone rows key v old read stamp v' new) ⊎ ((row version : ℕ) × FindsWorn zone rows key v old row version v' new)
 
   pub refusal_counts : (rows key : ℕ) (v v' : View Part) (old new : EntrySeat) (refused : BindRefused) → RefusesToBind zone rows key v old v' new refused → refused ≢ Memory
-      → BindCounts (zone_cap zone) (λ (refusal : Refusal). IsOneRefusal zone false refusal) (IsTurnedBack rows key v old v' new) false (ledger_of old) (ledger_of new)
-  refusal_counts rows key v v' old new (Zone refusal) turned other = inl (record { refusal = refusal; turned = turned.turned.counted; fits = fits refusal turned.turned.names; found = turned.turned.one })
+      → BindCounts (zone_cap zone) (λ (refusal : Refusal). (seat : EntrySeat) × IsOneRefusal zone false refusal seat) (IsTurnedBack rows key v old v' new) false (ledger_of old) (ledger_of new)
+  refusal_counts rows key v v' old new (Zone refusal) turned other = inl (record { refusal = refusal; turned = turned.turned.counted; fits = fits refusal turned.turned.names; found = (_, turned.turned.one) })
   refusal_counts rows key v v' old new (Worn row version) worn other = inr (given_back _ v' old new worn.handed worn.freed (inr (row, version, worn)) worn.back)
   refusal_counts rows key v v' old new (Unripe read stamp) unripe other = inr (given_back _ v' old new unripe.handed unripe.freed (inl (read, stamp, unripe)) unripe.back)
   refusal_counts rows key v v' old new Memory wants other = absurd (other refl)

@@ -56,7 +56,7 @@ pub record CameIn (kept : TraceCache) (tickets : List Ticket) : Type 0 where
 
 -- one fetch from its keg was refused so, by the numbers that it found
 abbrev pub IsFoundIn : TraceCache → Refusal → Type 0
-IsFoundIn kept refusal = IsOneRefusal (cache_zone kept.cache) false refusal
+IsFoundIn kept refusal = (seat : EntrySeat) × IsOneRefusal (cache_zone kept.cache) false refusal seat
 
 -- A bind of the key got an entry that isn't ripe, or that its row, which is worn, can't take, and freed it again.
 abbrev pub TurnsBackIn : TraceCache → ℕ → View Part → EntrySeat → View Part → EntrySeat → Type 0

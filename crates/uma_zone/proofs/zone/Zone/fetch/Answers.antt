@@ -80,4 +80,6 @@ returns-in-Err-Refused-clause-refused g c =
     let ask : FetchAsk = record { zone = zone.index; most = c.size.result; reserve = _; domain = c.domain.result } in
     let done = c.fetch.ensures in
     let locked = c.lock-guard.ensures in
-    turned_away zone c.args.seat.now c.fetch.new.seat (keg_in c.lock-guard.result.value) (keg_in c.fetch.new.self) ask c.fetch.result c.in-Err-Refused.refusal refl locked.numbers locked.reserve locked.cap done.none done.share done.ledger done.refused done.names (c.in-Err-Refused.is ∙ ap Err c.in-Err-Refused.field-0-is)
+    let lent = ap size_of c.lend_empty.ensures.bucket in
+    turned_away zone c.args.seat.now c.fetch.new.seat (keg_in c.lock-guard.result.value) (keg_in c.fetch.new.self) ask c.fetch.result c.in-Err-Refused.refusal locked.numbers locked.reserve locked.cap
+    refl (c.size.ensures.size ∙ lent) (done.top_room ∙ lent) c.domain.ensures done.rest.same done.none done.share done.ledger done.refused done.names (c.in-Err-Refused.is ∙ ap Err c.in-Err-Refused.field-0-is)
