@@ -24,14 +24,14 @@ SIZES, NO_SLOT, NO_SLAB, END = "size", "slot", "slab", "end"
 
 
 class Zone:
-    """A zone, with how many of its items each worker has, at most had in this round, and are freed in it."""
+    """A zone, with how many of its items each worker has, at most had in this round, are freed in it, and wait for its end."""
 
     def __init__(self, size, workers, domains, limit, smr):
         self.size, self.name, self.limit, self.smr = size, f"malloc-{size}", limit, smr
         self.workers, self.domains = workers, domains
         self.per_slab = min(256, SLAB_BYTES // size)
         self.bucket = max(4, min(64, 16384 // size))
-        self.requests = self.frees = self.live = self.peaks = self.needed = 0
+        self.requests = self.frees = self.waiting = self.live = self.peaks = self.needed = 0
         self.own, self.peak = [0] * workers, [0] * workers
         self.asks = False
         # What the seats of all workers may hold, of each domain; what they may fetch beyond what they ask for; and the bounds that follow.
@@ -52,8 +52,9 @@ class Zone:
     def may_ask(self, worker):
         return self.fits(self.requests + 1, self.peaks + (self.own[worker] == self.peak[worker]), self.frees)
 
-    def may_ask_after_round(self):
-        return self.fits(self.requests + 1, self.live + 1, 0)
+    def may_ask_after_rounds(self):
+        """Whether that helps: a round ends the wait of blocks, and the next one has fewer live."""
+        return self.fits(self.requests + 1, self.live - self.waiting + 1, 0)
 
     def may_free(self):
         return not self.asks or self.fits(self.requests, self.peaks, self.frees + 1)
@@ -78,7 +79,7 @@ class Zone:
         if self.asks:
             self.needed = max(self.needed, self.outside())
         self.peak, self.peaks = self.own[:], self.live
-        self.frees, self.asks = 0, False
+        self.frees, self.waiting, self.asks = 0, 0, False
 
     def line(self):
         slabs = min(MOST_SLABS, self.needed // self.per_slab + 1)
@@ -247,7 +248,7 @@ class TraceMaker:
     def make_room(self, worker, zone):
         """Ends rounds until the zone has room for one more item whatever the schedule is."""
         for _ in range(2):
-            if zone.may_ask_after_round() and self.has_room():
+            if zone.may_ask_after_rounds() and self.has_room():
                 self.end_round()
             if zone.may_ask(worker):
                 return True
@@ -271,6 +272,7 @@ class TraceMaker:
             owner, slot, zone = block
             if owner != worker:
                 self.waiting.append((owner, slot, worker, zone))
+                zone.waiting += 1
             else:
                 if not zone.may_free():
                     self.end_round()
