@@ -41,7 +41,7 @@ returns-in-Ok-clause-replay g c = λ is.
       refused = search rules;
       names = λ why refuses unread. absurd (none_named c.replayed_or_refused.ensures.report played.report played.ended left why c.in-Ok.ensures.replays refuses);
       refuses = λ refused. absurd (none_refused c.replayed_or_refused.ensures.report played.report played.ended left c.in-Ok.ensures.replays refused);
-      complete = search rules;
+      complete = λ input unread unwritten. inl (c.reported.ensures.writes.complete unwritten);
     }
 
 pub returns-in-Err-clause-replay : goal.returns-in-Err-clause-replay
@@ -99,6 +99,24 @@ returns-in-Ok-steps-clause-steps g c = λ is.
     }
 
 -- there is no fault but that of writing
+pub returns-in-Ok-clause-writes : goal.returns-in-Ok-clause-writes
+returns-in-Ok-clause-writes g c = record {
+  unwritten = λ some other. elim c.reported.ensures.writes.cause [
+    | inl none ↦ absurd (not_some (subst (λ (fault : Option Fault). IsSome fault) none some))
+    | inr write ↦ absurd (other write)
+  ];
+  write = c.reported.ensures.writes.write;
+}
+
+pub returns-in-Ok-steps-clause-writes : goal.returns-in-Ok-steps-clause-writes
+returns-in-Ok-steps-clause-writes g c = record {
+  unwritten = λ some other. elim c.written.ensures.writes.cause [
+    | inl none ↦ absurd (not_some (subst (λ (fault : Option Fault). IsSome fault) none some))
+    | inr write ↦ absurd (other write)
+  ];
+  write = c.written.ensures.writes.write;
+}
+
 pub returns-in-Ok-made_text-clause-writes : goal.returns-in-Ok-made_text-clause-writes
 returns-in-Ok-made_text-clause-writes g c = record {
   unwritten = λ some other. elim c.written-in-Ok-made_text.ensures.writes.cause [
