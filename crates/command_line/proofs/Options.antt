@@ -4,11 +4,11 @@ use Rattle.std.proofs.lemmas.Bool.{eqb-true}
 use Rattle.std.proofs.lemmas.Fmt.{decimal_is_IsNumeral}
 use Rattle.std.specs.Str.Parse.{AllDigits}
 use Rattle.std.specs.List.{list_any}
-use Rattle.text_lines.proofs.Numbers.{IsNumber-from_number_of}
-use Rattle.text_lines.specs.Fields.{◌>>=◌, number_in, number_or_wrong, number_within, ranged}
-use Rattle.text_lines.specs.Number.{number_of}
-use Rattle.text_lines.specs.declared.refused.TraceKind.{TraceKind}
-use Rattle.text_lines.specs.declared.refused.TraceKind.TheVariants.{Number}
+use Rattle.trace_lines.proofs.Numbers.{IsNumber-from_number_of}
+use Rattle.trace_lines.specs.Fields.{◌>>=◌, number_in, number_or_wrong, number_within, ranged}
+use Rattle.trace_lines.specs.Number.{number_of}
+use Rattle.trace_lines.specs.declared.refused.TraceKind.{TraceKind}
+use Rattle.trace_lines.specs.declared.refused.TraceKind.TheVariants.{Number}
 use Rattle.command_line.specs.Commands.{command_named, command_of, command_with, numbers}
 use Rattle.command_line.specs.Reading.{is_option}
 

@@ -11,7 +11,7 @@ use Rattle.clap.specs.Walk.{idle, nothing_held, rows_after, subcommand_met}
 use Rattle.clap.specs.Words.{Row, Shape, Text, fault_of, first_of, subcommand_of}
 use Rattle.clap.specs.declared.error.kind.ErrorKind.{ErrorKind}
 use Rattle.clap.specs.declared.error.kind.ErrorKind.TheVariants.{InvalidSubcommand, MissingRequiredArgument, MissingSubcommand, UnknownArgument}
-use Rattle.text_lines.specs.declared.refused.TraceKind.{TraceKind}
+use Rattle.trace_lines.specs.declared.refused.TraceKind.{TraceKind}
 use Rattle.command_line.proofs.Levels.{entered_is, named, names, no_words, unnamed}
 use Rattle.command_line.proofs.Numbered.{bare, bare_more, bare_none, ops_are, seed_is, three, three_all, three_more, three_none, three_one, three_two, workers_are}
 use Rattle.command_line.proofs.PlainWords.{IsPlain, is_plain}

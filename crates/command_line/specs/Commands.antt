@@ -1,8 +1,8 @@
 -- The commands of the program, as the words after its name spell them (own).
 use Rattle.std.specs.Prelude.{List, [], ◌∷◌, ℕ, ◌≤◌, Option, Some, None, Result, Ok, Err, codes, if◌then◌else◌}
 use Rattle.std.specs.Str.{bytes_eq}
-use Rattle.text_lines.specs.Fields.{◌>>=◌, number_in, number_within}
-use Rattle.text_lines.specs.declared.refused.TraceKind.{TraceKind}
+use Rattle.trace_lines.specs.Fields.{◌>>=◌, number_in, number_within}
+use Rattle.trace_lines.specs.declared.refused.TraceKind.{TraceKind}
 use Rattle.command_line.specs.declared.command.Command.{Command}
 use Rattle.command_line.specs.declared.command.Command.TheVariants as commands
 

@@ -4,7 +4,7 @@ ghost use Rattle.command_line.specs.Commands.{AreNumbers, HasRanges, command_mad
 ghost use Rattle.command_line.specs.Reading.{command_met};
 
 use clap::ArgMatches;
-use text_lines::{TraceKind, number_in, number_within};
+use trace_lines::{TraceKind, number_in, number_within};
 
 /// The most workers of a trace that a seed gives.
 const MOST_WORKERS: u64 = 16;

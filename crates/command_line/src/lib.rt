@@ -1,7 +1,15 @@
-//! The command line: what the words after the program's name ask for.
+//! The command line of umarun: what the words after the program's name ask for.
 //!
-//! `clap` takes the commands and their positional words, all as texts, once a word that begins with `-` is refused; so there are
-//! no options. The numbers are read by the number rule of every text. Nothing is printed here, and clap adds nothing of its own.
+//! ```
+//! let command = command_in(alloc, &words)?;       // Usage, or want of memory
+//! ```
+//!
+//! # What is promised
+//!
+//! - The command is that of the words, and `Usage` comes only if they are none (`command_in`: `command`, `usage`).
+//! - The numbers of a command are in their ranges (`ranges`).
+//!
+//! `clap` takes the commands and their positional words, all as texts. There are no options: a word that begins with `-` is refused first.
 #![tactic(auto)]
 
 mod command;

@@ -5,7 +5,7 @@ use mathlib.Core.Option.{some, some-injective, some-ne-none}
 use lib.ListN.{get_elem?}
 use Rattle.atomic_table.specs.Table.{State, Me, Allows, Splits, Joins, keeps}
 use Rattle.atomic_table.proofs.Lists.{at_set, at_longer, set_else}
-use Rattle.deed_book.specs.declared.book_rule.View.{View}
+use Rattle.deed_book.specs.declared.book.View.{View}
 use Rattle.deed_book.specs.Views.{book_view, deed_view, spent, spelled_by, naming, unnamed, named_deed, accepting, putting_home}
 use Rattle.deed_book.specs.BookLaw.{IsOutside, HasDeed, BookLaw, PutsHome}
 use Rattle.deed_book.proofs.Lists.{set_there, here_after_snoc, slice_get-set_here, slice_get-set_else}

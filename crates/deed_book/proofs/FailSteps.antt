@@ -7,8 +7,8 @@ use native.Mathlib.Decide.{ℕ_discrete}
 use lib.ListN.{get_elem?}
 use Rattle.atomic_table.specs.Table.{State, Me, Allows, Splits, Joins, keeps}
 use Rattle.atomic_table.proofs.Lists.{at_longer, set_else}
-use Rattle.deed_book.specs.declared.cause.Cause.{Cause}
-use Rattle.deed_book.specs.declared.fail_rule.FailView.{FailView}
+use Rattle.deed_book.specs.declared.deed.Cause.{Cause}
+use Rattle.deed_book.specs.declared.fail_book.FailView.{FailView}
 use Rattle.deed_book.specs.FailViews.{cause, share_view, unraised, storing_first, storing_second, raising, settled, split_off, joining_in}
 use Rattle.deed_book.specs.FailBookLaw.{FailBookLaw, AddsUp, is_cause}
 use Rattle.deed_book.proofs.Lists.{set_there, sum_by-set_at}

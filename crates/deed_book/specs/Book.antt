@@ -1,8 +1,8 @@
 -- Own: what contracts see of a book.
 use Rattle.std.specs.Prelude.{◌≡◌, ◌<◌, ◌≤◌, ◌⊎◌, ℕ, List, Option}
 use Rattle.deed_book.specs.declared.book.Book.{Book}
-use Rattle.deed_book.specs.declared.refused.BookRefused.{BookRefused}
-use Rattle.deed_book.specs.declared.refused.BookRefused.TheVariants.{Numbers, Memory}
+use Rattle.deed_book.specs.declared.deed.BookRefused.{BookRefused}
+use Rattle.deed_book.specs.declared.deed.BookRefused.TheVariants.{Numbers, Memory}
 use Rattle.deed_book.specs.BookId.{BookId}
 use Rattle.deed_book.specs.Register.{register_table}
 

@@ -3,7 +3,7 @@ use Rattle.std.specs.Prelude.{◌≡◌, ◌≢◌, ℕ, List, [], Option, Some,
 use mathlib.Core.Option.{some}
 use lib.ListN.{get_elem?}
 use Rattle.atomic_table.specs.Table.{Me}
-use Rattle.deed_book.specs.declared.book_rule.View.{View}
+use Rattle.deed_book.specs.declared.book.View.{View}
 use Rattle.deed_book.specs.Views.{putting_home}
 
 -- the number is below the book's count of numbers, and at home

@@ -1,12 +1,12 @@
 -- Own: what the calls of a book, of its register and of a fail book make, and what they leave as it was.
 use Rattle.std.specs.Prelude.{◌≡◌, [], ◌∷◌, ◌++◌, ℕ, List, Option, Some, None, Result, Err, IfOk, IfErr, slice_set, replicate}
 use Rattle.deed_book.specs.declared.book.Book.{Book}
-use Rattle.deed_book.specs.declared.cause.Cause.{Cause}
+use Rattle.deed_book.specs.declared.deed.Cause.{Cause}
 use Rattle.deed_book.specs.declared.deed.Deed.{Deed}
 use Rattle.deed_book.specs.declared.fail_book.FailBook.{FailBook}
-use Rattle.deed_book.specs.declared.fail_share.FailShare.{FailShare}
-use Rattle.deed_book.specs.declared.refused.BookRefused.{BookRefused}
-use Rattle.deed_book.specs.declared.refused.BookRefused.TheVariants.{Numbers}
+use Rattle.deed_book.specs.declared.fail_book.FailShare.{FailShare}
+use Rattle.deed_book.specs.declared.deed.BookRefused.{BookRefused}
+use Rattle.deed_book.specs.declared.deed.BookRefused.TheVariants.{Numbers}
 use Rattle.deed_book.specs.Book.{book_table, zones_of, IsOutOfRange, BookIsRefused}
 use Rattle.deed_book.specs.BookId.{BookId, TableId, numbers_of}
 use Rattle.deed_book.specs.BookLaw.{IsOutside}

@@ -1,7 +1,7 @@
 -- Own: what contracts see of a fail book.
 use Rattle.std.specs.Prelude.{List}
 use Rattle.atomic_table.specs.Seated.{TableId}
-use Rattle.deed_book.specs.declared.cause.Cause.{Cause}
+use Rattle.deed_book.specs.declared.deed.Cause.{Cause}
 use Rattle.deed_book.specs.declared.fail_book.FailBook.{FailBook}
 
 -- which fail book it is: no two have one table

@@ -2,8 +2,8 @@
 use Rattle.std.specs.Prelude.{◌≡◌, ℕ, ◌+◌, ◌==◌, ◌&&◌, Bool, List, length, sum_by, count_by, option_to_list}
 use mathlib.Core.Option.{some}
 use lib.ListN.{get_elem?}
-use Rattle.deed_book.specs.declared.cause.Cause.{Cause}
-use Rattle.deed_book.specs.declared.fail_rule.FailView.{FailView}
+use Rattle.deed_book.specs.declared.deed.Cause.{Cause}
+use Rattle.deed_book.specs.declared.fail_book.FailView.{FailView}
 
 -- 1. The first seat is the book's.
 -- 2. However causes are weighed, the list of the book weighs what the lists of all shares and units and what was raised and not yet split off weigh together.

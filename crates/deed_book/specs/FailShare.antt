@@ -1,8 +1,8 @@
 -- Own: what contracts see of a share.
 use Rattle.std.specs.Prelude.{List}
 use Rattle.atomic_table.specs.Seated.{TableId}
-use Rattle.deed_book.specs.declared.cause.Cause.{Cause}
-use Rattle.deed_book.specs.declared.fail_share.FailShare.{FailShare}
+use Rattle.deed_book.specs.declared.deed.Cause.{Cause}
+use Rattle.deed_book.specs.declared.fail_book.FailShare.{FailShare}
 
 -- the table of the fail book that it is a share of
 abbrev pub share_table : FailShare → TableId

@@ -1,7 +1,7 @@
 -- Own: what the seats of a fail book's table know, and how each step changes it.
 use Rattle.std.specs.Prelude.{ℕ, List, [], ◌∷◌, ◌++◌, Some, None, option_to_list}
-use Rattle.deed_book.specs.declared.cause.Cause.{Cause}
-use Rattle.deed_book.specs.declared.fail_rule.FailView.{FailView}
+use Rattle.deed_book.specs.declared.deed.Cause.{Cause}
+use Rattle.deed_book.specs.declared.fail_book.FailView.{FailView}
 
 abbrev pub cause : ℕ → ℕ → ℕ → Cause
 cause kind first second = record { kind = kind; first = first; second = second }

@@ -1,6 +1,6 @@
 -- Own: what contracts see of a register.
 use Rattle.std.specs.Prelude.{ℕ, List, Option}
-use Rattle.deed_book.specs.declared.register.Register.{Register}
+use Rattle.deed_book.specs.declared.book.Register.{Register}
 use Rattle.deed_book.specs.Origin.{origin_numbers}
 use Rattle.deed_book.specs.BookId.{BookId}
 

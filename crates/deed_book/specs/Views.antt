@@ -1,6 +1,6 @@
 -- Own: what the seats of a book's table know, and how each step changes it.
 use Rattle.std.specs.Prelude.{ℕ, ◌/◌, ◌%◌, List, [], Option, Some, None, slice_set}
-use Rattle.deed_book.specs.declared.book_rule.View.{View}
+use Rattle.deed_book.specs.declared.book.View.{View}
 
 -- the book's own seat, between its calls
 abbrev pub book_view : List (Option ℕ) → View

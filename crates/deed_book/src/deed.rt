@@ -1,9 +1,64 @@
-ghost use Rattle.std.specs.Prelude.{◌≡◌, ◌<◌, []};
+ghost use Rattle.std.specs.Prelude.{◌≡◌, [], ◌<◌};
 ghost use Rattle.deed_book.specs.Views.{deed_view};
 
-use crate::book_rule::View;
-use crate::origin::Origin;
+use crate::book::View;
 use atomic_table::Seat;
+use boxcar::tag::{Names, Tag};
+use std::alloc::AllocError;
+use std::error::Error;
+use std::fmt;
+
+/// What the items of a book are of, as numbers that contracts alone see. It has no bytes.
+#[derive(Drop)]
+pub struct Origin {
+    tag: Tag,
+}
+
+struct Again;
+
+impl Names<Origin> for Again {
+    ghost use Rattle.deed_book.specs.Origin.{origin_numbers};
+
+    ghost numbers = { origin_numbers };
+}
+
+impl Origin {
+    ghost use Rattle.deed_book.specs.Origin.{origin_numbers};
+
+    /// The origin that these numbers of a value are.
+    pub fn of<X, M: Names<X>>(x: &X) -> Origin
+        ensures { origin_numbers result ≡ M.numbers x.now }
+    {
+        Origin {
+            tag: Tag::of::<X, M>(x),
+        }
+    }
+
+    /// The origin of what isn't told apart.
+    pub fn none() -> Origin
+        ensures { origin_numbers result ≡ [] }
+    {
+        Origin { tag: Tag::empty() }
+    }
+
+    /// The same origin.
+    pub fn again(&self) -> Origin
+        ensures { origin_numbers result ≡ origin_numbers self.now }
+    {
+        Origin::of::<Origin, Again>(self)
+    }
+}
+
+/// How a fetch ended, or that a look found nothing. A refusal of a fetch has the kind 1, 2, 3 or 4, for a zone at its
+/// limit, a keg at its reserve, a full keg or a hook that refused, and then its numbers in order, 0 where there is none.
+/// A fetch that gave has the kind 6 and the count of its items, one for which memory was wanting the kind 7, and a look
+/// that found nothing is three zeros.
+#[derive(Clone, Copy, Debug, PartialEq, Eq)]
+pub struct Cause {
+    pub kind: u64,
+    pub first: u64,
+    pub second: u64,
+}
 
 /// The one token of a number that is outside. It is a seat of its book's table, which no code can copy or make up; it
 /// may cross threads. The number of a deed that is dropped stays outside for good. Its holder may label it with a byte,
@@ -52,5 +107,55 @@ impl Deed {
     {
         self.label = label;
         self
+    }
+}
+
+/// Why a book wasn't made.
+#[derive(Clone, Copy, Debug, PartialEq, Eq)]
+pub enum BookRefused {
+    /// This count of numbers isn't 1 to 262,144. It is tested before memory.
+    Numbers { numbers: u32 },
+    Memory,
+}
+
+/// There was no memory.
+#[derive(Clone, Copy, Debug, PartialEq, Eq)]
+pub struct Memory;
+
+impl fmt::Display for BookRefused {
+    fn fmt<W: fmt::Write>(&self, f: &mut fmt::Formatter<W>) -> fmt::Result {
+        match self {
+            BookRefused::Numbers { numbers } => {
+                write!(f, "a book of {numbers} numbers: it has 1 to 262144")
+            }
+            BookRefused::Memory => write!(f, "out of memory"),
+        }
+    }
+}
+
+impl Error for BookRefused {}
+
+impl fmt::Display for Memory {
+    fn fmt<W: fmt::Write>(&self, f: &mut fmt::Formatter<W>) -> fmt::Result {
+        write!(f, "out of memory")
+    }
+}
+
+impl Error for Memory {}
+
+impl From<AllocError> for BookRefused {
+    ghost use Rattle.std.specs.Prelude.{◌≡◌};
+    ghost use Rattle.deed_book.specs.declared.deed.BookRefused.TheVariants.{Memory};
+
+    ghost from_gives = { λ _ refused. refused ≡ Memory };
+
+    fn from(_refused: AllocError) -> BookRefused {
+        BookRefused::Memory
+    }
+}
+
+impl From<AllocError> for Memory {
+    fn from(_refused: AllocError) -> Memory {
+        Memory
     }
 }

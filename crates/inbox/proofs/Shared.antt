@@ -10,11 +10,11 @@ use denote.Struct.Declared.{shape}
 use Rattle.crossbeam_queue.below.atomic_blocks.proofs.web.Seat.TheSendSync as seat
 use Rattle.crossbeam_queue.below.atomic_blocks.specs.contracts.web.Seat as Seat
 use Rattle.crossbeam_queue.specs.contracts.seg_queue.Going as Going
-use Rattle.inbox.specs.declared.fits.Fits as fits
+use Rattle.inbox.specs.declared.inbox.Fits as fits
 use Rattle.inbox.specs.contracts.inbox.Inbox as Inbox
-use Rattle.inbox.specs.contracts.port.Port as Port
-use Rattle.inbox.specs.contracts.taker.Taker as Taker
-use Rattle.inbox.specs.contracts.view.View as View
+use Rattle.inbox.specs.contracts.inbox.Port as Port
+use Rattle.inbox.specs.contracts.inbox.Taker as Taker
+use Rattle.inbox.specs.contracts.inbox.View as View
 use Rattle.inbox.proofs.inbox.Inbox.TheSendSync as inbox
 
 module _ (T K : RattleType) (t : IsSend T) where

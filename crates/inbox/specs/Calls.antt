@@ -1,9 +1,9 @@
 -- Own: what the calls of an inbox answer, and what they leave.
 use Rattle.std.specs.Prelude.{◌≡◌, ◌+◌, [], ◌∷◌, ◌++◌, length, Option, IfSome, IfNone, Result, IfOk, IfErr, OnOk, OnErr}
-use Rattle.deed_book.specs.declared.refused.Memory.{Memory}
+use Rattle.deed_book.specs.declared.deed.Memory.{Memory}
 use Rattle.inbox.specs.declared.inbox.Inbox.{Inbox}
-use Rattle.inbox.specs.declared.port.Port.{Port}
-use Rattle.inbox.specs.declared.taker.Taker.{Taker}
+use Rattle.inbox.specs.declared.inbox.Port.{Port}
+use Rattle.inbox.specs.declared.inbox.Taker.{Taker}
 use Rattle.inbox.specs.Inbox.{InboxId, inbox_id, port_inbox, port_key, port_number, sent_by, turned_by, taker_inbox, taker_key, ports_of, popped_by, items_of}
 use Rattle.inbox.specs.Rule.{Grows, AreAll}
 

@@ -1,9 +1,9 @@
 -- Own: what contracts see of an inbox, its ports and its taker.
 use Rattle.std.specs.Prelude.{ℕ, List, length, map}
-use Rattle.inbox.specs.declared.entry.Entry.{Entry}
+use Rattle.inbox.specs.declared.inbox.Entry.{Entry}
 use Rattle.inbox.specs.declared.inbox.Inbox.{Inbox}
-use Rattle.inbox.specs.declared.port.Port.{Port}
-use Rattle.inbox.specs.declared.taker.Taker.{Taker}
+use Rattle.inbox.specs.declared.inbox.Port.{Port}
+use Rattle.inbox.specs.declared.inbox.Taker.{Taker}
 use Rattle.inbox.specs.Views.{item_of}
 
 -- which inbox it is

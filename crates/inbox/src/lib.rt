@@ -1,28 +1,26 @@
-//! An inbox: many ports push without a lock, and one taker pops what comes, in the order of each port.
+//! A queue into which many threads push without a lock, and from which one thread pops.
 //!
-//! - It is a ruled queue of `crossbeam_queue`. The queue's rule has no key, and its first view is a constant, so the key
-//!   lies in the view of each pass: `new` names the first pass, and each port gets the taker's key.
-//! - A view has the items themselves, and not only their count, so that a taker can say what it popped. None of it is there
-//!   when it runs.
-//! - What an empty pop tells (`AreAll`) is what the taker's own view knows: how far a port came is in the port's view alone.
+//! An [`Inbox`] has one [`Taker`], and makes a [`Port`] for each thread that pushes. Every item keeps a fact about the inbox's *key*
+//! ([`Fits`]), such as 'this bucket belongs to that zone'. The thread that pushes proves the fact, and the thread that pops may rely on it.
+//! An [`InboxName`] says which inbox it is, for use in a lock's key.
+//!
+//! ```
+//! let (inbox, mut taker) = Inbox::<Bucket, Key, BucketsOfKey>::new(alloc, &key)?;
+//! let mut port = inbox.port(&mut taker);
+//! inbox.push(rt, &mut port, bucket)?;             // Err(bucket): out of memory, or after 2^62 pushes
+//! let next = inbox.pop(rt, &mut taker);           // Some(bucket); None if it was empty
+//! ```
+//!
+//! # What is promised
+//!
+//! - Each item is popped at most once, in the order in which its port pushed, and the taker learns port and position (`Inbox::pop`:
+//!   `PopsOrNot`).
+//! - A popped item keeps the fact of the key.
+//! - An item that can't be pushed is returned, and nothing changes (`Inbox::push`: `PushesOrNot`).
+//!
+//! A push or pop may wait for another thread that is in the middle of one; no contract says for how long.
 #![tactic(auto)]
 
-mod entry;
-mod fits;
 mod inbox;
-mod line;
-mod name;
-mod port;
-mod rule;
-mod taker;
-mod view;
 
-pub use entry::Entry;
-pub use fits::Fits;
-pub use inbox::Inbox;
-pub use line::Line;
-pub use name::InboxName;
-pub use port::Port;
-pub use rule::InOrder;
-pub use taker::Taker;
-pub use view::View;
+pub use inbox::{Entry, Fits, InOrder, Inbox, InboxName, Line, Port, Taker, View};

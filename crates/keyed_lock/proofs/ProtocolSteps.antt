@@ -8,7 +8,7 @@ use lib.ListN.{get_elem?}
 use prog.Atomic.{either}
 use Rattle.atomic_table.specs.Table.{rest, State, Me, Act, keeps, takes, gives, opening, homes_after, carried_after, Valid, Allows, Arrives, Final}
 use Rattle.atomic_table.proofs.Lists.{exchanged}
-use Rattle.keyed_lock.specs.declared.protocol.TheConstants.{UNLOCKED, SLOT, WORD}
+use Rattle.keyed_lock.specs.declared.lock.TheConstants.{UNLOCKED, SLOT, WORD}
 use Rattle.keyed_lock.specs.Protocol.{IsHome, ObeysLaw, Holds, TakesLock}
 
 All-one : {X : Type 0} (P : X → Type 0) (x : X) → P x → All P (x ∷ [])

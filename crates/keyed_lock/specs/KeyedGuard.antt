@@ -1,5 +1,5 @@
 -- What contracts see of a guard.
-use Rattle.keyed_lock.specs.declared.guard.KeyedGuard.{KeyedGuard}
+use Rattle.keyed_lock.specs.declared.lock.KeyedGuard.{KeyedGuard}
 use Rattle.keyed_lock.specs.KeyedLock.{lock_key}
 
 -- the key of the lock that the guard holds

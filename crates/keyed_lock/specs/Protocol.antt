@@ -7,7 +7,7 @@ use mathlib.Core.Option.{Option as Place, some}
 use lib.ListN.{get_elem?}
 use Rattle.atomic_table.specs.declared.owned.Closed.{Closed}
 use Rattle.atomic_table.specs.Table.{State, Me}
-use Rattle.keyed_lock.specs.declared.protocol.TheConstants.{UNLOCKED, SLOT, WORD}
+use Rattle.keyed_lock.specs.declared.lock.TheConstants.{UNLOCKED, SLOT, WORD}
 
 module _ {T K : Type 0} (keeps : K → T → Type 0) where
   -- the slot is at home, with a value that keeps the rule

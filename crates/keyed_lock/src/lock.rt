@@ -1,14 +1,108 @@
+//! The lock and its guard: the word and the slot under a lock, and the steps on the word.
 ghost use Rattle.std.specs.Prelude.{◌≡◌, [], ◌∷◌, Some, IfOk, IfErr, IfSome, IsTrue, ◌↔◌};
+ghost use Rattle.keyed_lock.specs.Protocol.{HoldsGap, WordIsUnlocked, IsHomeValue};
+ghost use Rattle.std.specs.Coded.{Coded-set, coded×, coded_list, coded_ℕ, coded_option};
+ghost use Rattle.atomic_table.specs.Seated.{table_id_coded};
 ghost use Rattle.std.specs.Mem.Slots.{slots_len, IsFull};
-ghost use Rattle.keyed_lock.specs.Protocol.{Holds, HoldsGap, WordIsUnlocked, IsHomeValue};
 
-use crate::guard::KeyedGuard;
-use crate::protocol::{CONTENDED, LOCKED, Look, Protocol, SLOT, Take, UNLOCKED, Unlock, WORD};
-use crate::rule::LockRule;
-use atomic_table::{Closed, Refused, Seat, Table};
+use atomic_table::{Closed, Play, Refused, Seat, Table, TableRule};
 use std::alloc::Global;
 use std::hint::spin_loop;
+use std::marker::PhantomData;
 use std::sync::Wait;
+
+/// What the value under a lock keeps, whenever nobody holds the lock.
+///
+/// `K` is the type of the lock's key and `T` of its value. A type that stands for a rule has no values of its own:
+/// `struct SeatsOfTable;`. A rule compares identities that it reads from the key, as a `TableId`, and not whole keys: a
+/// `Snapshot` in a key also says what the thing knew when the snapshot was taken.
+pub trait LockRule<T, K> {
+    ghost keeps: { K → T → Type 0 };
+}
+
+/// Nobody holds the lock.
+pub(crate) const UNLOCKED: u64 = 0;
+
+/// Somebody holds the lock, and nobody sleeps until it is unlocked.
+pub(crate) const LOCKED: u64 = 1;
+
+/// Somebody holds the lock, and others may sleep until it is unlocked.
+pub(crate) const CONTENDED: u64 = 2;
+
+/// The table's one word.
+pub(crate) const WORD: usize = 0;
+
+/// The table's one slot.
+pub(crate) const SLOT: usize = 0;
+
+/// The table's rule. A seat's view is the lock's key, since what a step tells cannot read the table's own.
+pub(crate) struct Protocol<P> {
+    rule: PhantomData<P>,
+}
+
+impl<T, K, P: LockRule<T, K>> TableRule<Option<T>, K, K> for Protocol<P> {
+    ghost use Rattle.keyed_lock.specs.Protocol.{ObeysLaw};
+
+    ghost holds = { λ key state. ObeysLaw P.keeps key state };
+
+    ghost first = { λ key. key };
+}
+
+/// A step that takes the value where it finds the lock unlocked.
+pub(crate) struct Take<P> {
+    rule: PhantomData<P>,
+}
+
+impl<T, K, P: LockRule<T, K>> Play<Option<T>, K> for Take<P> {
+    ghost use Rattle.keyed_lock.specs.Protocol.{TakesLock};
+
+    ghost then = { λ step before found after. TakesLock P.keeps before found after };
+}
+
+/// A step that only looks.
+pub(crate) struct Look;
+
+impl<T, K> Play<Option<T>, K> for Look {
+    ghost then = { λ step before found after. after ≡ before };
+}
+
+/// A step that lets the lock go. It tells nothing.
+pub(crate) struct Unlock;
+
+impl<T, K> Play<Option<T>, K> for Unlock {
+    ghost then = { λ step before found after. Unit {0} };
+}
+
+/// The value of a lock, while this thread holds it.
+///
+/// When the guard is dropped, it puts the value back and unlocks the lock. That asks that the value keeps the rule for
+/// the lock's key, at every way out: the end of the scope, a `return`, a `?`. In between the value may break the rule.
+///
+/// Change the value by a method of its own, called on `guard.value`, whose contract keeps the rule. Then nothing is left
+/// to prove where the lock is taken. A loop straight on `guard.value` forgets the rule.
+pub struct KeyedGuard<'a, T, K, P: LockRule<T, K>> {
+    pub(crate) lock: &'a KeyedLock<T, K, P>,
+    pub(crate) seat: Seat<Option<T>, K>,
+    pub value: T,
+    ghost ours: { seat.table_id ≡ lock.now.table.shared.table_id } by { Coded-set table_id_coded _ _ },
+    ghost gap: { HoldsGap lock.now.table.shared.key seat.me } by { Coded-set (coded× K.code (coded_list (coded× coded_ℕ (coded_option T.code)))) _ _ },
+}
+
+impl<'a, T, K, P: LockRule<T, K>> Drop for KeyedGuard<'a, T, K, P> {
+    ghost use Rattle.keyed_lock.specs.KeyedGuard.{guard_key};
+
+    fn drop(self)
+        requires { P.keeps (guard_key self) self.value }
+    {
+        let KeyedGuard {
+            lock,
+            mut seat,
+            value,
+        } = self;
+        lock.put_back(&mut seat, value);
+        lock.unlock(&mut seat);
+    }
+}
 
 /// How often a thread looks again before it sleeps. Before look `n` it pauses `2^n` times, so 127 times in all: about as
 /// long as it takes to fall asleep and to be woken.
@@ -44,6 +138,7 @@ pub struct KeyedLock<T, K, P: LockRule<T, K>> {
 }
 
 impl<T, K, P: LockRule<T, K>> KeyedLock<T, K, P> {
+    ghost use Rattle.keyed_lock.specs.Protocol.{Holds};
     ghost use Rattle.keyed_lock.specs.KeyedLock.{lock_key};
     ghost use Rattle.keyed_lock.specs.KeyedGuard.{guard_key};
 

@@ -1,17 +1,16 @@
-//! How identities travel through locks: the pattern for a layer that keeps seats of a table under a lock.
+//! A worked example of a layer that keeps seats of a table under a lock.
 //!
-//! `HighWater` is a table whose one word only rises, and `Gauge` is a seat of it. Both stand for a table of a real layer,
-//! as a clock with its notes. What matters is that a step with a gauge asks that it is a gauge of *that* water, and that
-//! contracts never lose which water that is:
+//! `HighWater` is a table whose one word only rises, and `Gauge` is a seat of it. They stand for a real layer's table, such as a clock with
+//! its notes. A step with a gauge requires that the gauge belongs to *that* water, and contracts never lose which water that is:
 //!
-//! - `WaterKey` names a water and a number, for contracts alone.
-//! - `GaugeRow` is a row of gauges, and `RowLock` its lock: the gauges are gauges of the water that the lock's key names.
-//! - `Station` owns a water and such a lock, whose key names that water. Its `raise` locks, calls and lets go.
+//! - `WaterKey` names a water and a number, for contracts only.
+//! - `GaugeRow` is a row of gauges, and `RowLock` its lock: the gauges belong to the water that the lock's key names.
+//! - `Station` owns a water and such a lock, whose key names that water. Its `raise` locks, calls and unlocks.
 //! - `Pair` holds the rows of two waters at once, and keeps them apart.
-//! - `Network` has rows, each under its lock, in a list under one more lock.
+//! - `Network` has rows, each under its own lock, in a list under one more lock.
 //!
-//! Every change is a method of the locked value, with its whole contract. So no function that takes a lock has anything
-//! left to prove by hand.
+//! Every change is a method of the locked value, with its whole contract. So a function that takes a lock has nothing left to prove by
+//! hand.
 
 mod high_water;
 mod key;

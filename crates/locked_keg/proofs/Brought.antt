@@ -1,6 +1,6 @@
 -- Slabs were brought in, and the next one was refused.
 use Rattle.std.proofs.Common.{◌≡◌, ◌<◌, ℕ}
-use Rattle.uma_keg.specs.declared.fetch_refused.FetchRefused.{FetchRefused}
+use Rattle.uma_keg.specs.declared.fetch.FetchRefused.{FetchRefused}
 use Rattle.uma_keg.specs.declared.keg.Keg.{Keg}
 use Rattle.uma_keg.specs.BringSlab.{RefusesSlab}
 use Rattle.uma_keg.specs.BringSlabs.{BringsSlabs}

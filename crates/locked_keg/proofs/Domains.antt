@@ -2,18 +2,18 @@
 use Rattle.std.proofs.Common.{◌≡◌, ◌<◌, ◌⊎◌, ℕ, List, [], map, Option, Some, None, IsSome, refl, inl, inr, sym, ◌∙◌, subst}
 use Rattle.std.proofs.lemmas.List.Elements.{All-weaker, All-map}
 use Rattle.zone_stats.specs.declared.refusal.Refusal.TheVariants.{AtLimit, Reserved, Full, Init, Ctor}
-use Rattle.uma_life.specs.declared.cached.Cached.{Cached}
+use Rattle.uma_life.specs.declared.states.Cached.{Cached}
 use Rattle.uma_life.specs.Cached.{cached_ticket}
 use Rattle.uma_bucket.specs.Home.{Home, IsHome, AreHome}
-use Rattle.uma_keg.specs.declared.fetch_ask.FetchAsk.{FetchAsk}
-use Rattle.uma_keg.specs.declared.fetch_refused.FetchRefused.{FetchRefused}
-use Rattle.uma_keg.specs.declared.fetch_refused.FetchRefused.TheVariants.{Refused, Memory}
+use Rattle.uma_keg.specs.declared.fetch.FetchAsk.{FetchAsk}
+use Rattle.uma_keg.specs.declared.fetch.FetchRefused.{FetchRefused}
+use Rattle.uma_keg.specs.declared.fetch.FetchRefused.TheVariants.{Refused, Memory}
 use Rattle.uma_keg.specs.declared.keg.Keg.{Keg}
 use Rattle.uma_keg.specs.BringSlabs.{IsNewSlab, BringsSlabs, StopsAtSlab}
 use Rattle.uma_keg.specs.Fetched.{Fetches, FetchesInto, RefusesFetch}
 use Rattle.uma_keg.specs.Keg.{places_in}
 use Rattle.uma_keg.specs.TakeItem.{IsTaken}
-use Rattle.uma_places.specs.Places.{KegPlaces, KeepsSlabs, domain_at}
+use Rattle.uma_slabs.specs.Places.{KegPlaces, KeepsSlabs, domain_at}
 use Rattle.locked_keg.specs.Rule.{HasDomainsBelow}
 use Rattle.locked_keg.specs.Seating.{FetchesHome}
 

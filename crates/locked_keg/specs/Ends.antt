@@ -1,10 +1,10 @@
 -- Own: how the end of a keg's fetch is listed.
 use Rattle.std.specs.Prelude.{ℕ, Result, Ok, Err}
-use Rattle.deed_book.specs.declared.cause.Cause.{Cause}
-use Rattle.uma_keg.specs.declared.fetch_refused.FetchRefused.{FetchRefused}
-use Rattle.uma_keg.specs.declared.fetch_refused.FetchRefused.TheVariants.{Refused, Memory}
-use Rattle.uma_seat.specs.declared.fetch_end.FetchEnd.{FetchEnd}
-use Rattle.uma_seat.specs.declared.fetch_end.FetchEnd.TheVariants.{Gave, Memory as NoMemory, Refused as TurnedAway}
+use Rattle.deed_book.specs.declared.deed.Cause.{Cause}
+use Rattle.uma_keg.specs.declared.fetch.FetchRefused.{FetchRefused}
+use Rattle.uma_keg.specs.declared.fetch.FetchRefused.TheVariants.{Refused, Memory}
+use Rattle.uma_seat.specs.declared.counts.FetchEnd.{FetchEnd}
+use Rattle.uma_seat.specs.declared.counts.FetchEnd.TheVariants.{Gave, Memory as NoMemory, Refused as TurnedAway}
 use Rattle.uma_seat.specs.Fetches.{end_cause}
 
 -- the answer of a fetch, as a seat counts it

@@ -1,16 +1,16 @@
 -- Own: what contracts see of the fail books of a keg's zones, and how the end of a fetch is listed in one.
 use Rattle.std.specs.Prelude.{◌≡◌, ◌≢◌, ◌++◌, ◌∷◌, ℕ, true, List, [], Option, Some, map, slice_get, slice_index_or}
 use Rattle.zone_stats.specs.LedgerSteps.{HasRoom}
-use Rattle.deed_book.specs.declared.cause.Cause.{Cause}
-use Rattle.deed_book.specs.declared.fail_share.FailShare.{FailShare}
+use Rattle.deed_book.specs.declared.deed.Cause.{Cause}
+use Rattle.deed_book.specs.declared.fail_book.FailShare.{FailShare}
 use Rattle.deed_book.specs.Deed.{TableId}
 use Rattle.deed_book.specs.FailBook.{fail_book_table, causes_of}
 use Rattle.deed_book.specs.FailShare.{share_table, causes_in}
-use Rattle.uma_seat.specs.declared.fetch_end.FetchEnd.{FetchEnd}
+use Rattle.uma_seat.specs.declared.counts.FetchEnd.{FetchEnd}
 use Rattle.uma_seat.specs.declared.seat.SeatCache.{SeatCache}
 use Rattle.uma_seat.specs.Fetches.{end_cause, is_of_keg, CountsEnd}
 use Rattle.uma_seat.specs.Seat.{ledger_of, fetches_of, seat_fails, KeepsLists}
-use Rattle.locked_keg.specs.declared.fail_books.FailBooks.{FailBooks}
+use Rattle.locked_keg.specs.declared.locked_keg.FailBooks.{FailBooks}
 
 -- the table of a zone's book, which tells it from every other book
 abbrev pub table_at : FailBooks → ℕ → Option TableId

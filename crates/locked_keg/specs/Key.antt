@@ -4,7 +4,7 @@ use Rattle.deed_book.specs.Deed.{BookId, TableId}
 use Rattle.deed_book.specs.Book.{book_table}
 use Rattle.uma_keg.specs.declared.keg.Keg.{Keg}
 use Rattle.uma_keg.specs.Keg.{places_in, table_in, rights_in, size_in, reserve_in}
-use Rattle.locked_keg.specs.declared.key.KegKey.{KegKey}
+use Rattle.locked_keg.specs.declared.locked_keg.KegKey.{KegKey}
 use Rattle.locked_keg.specs.FailBooks.{table_at}
 
 -- the book of its item numbers

@@ -1,6 +1,6 @@
 -- Own: what contracts see of what lies behind a keg's lock.
 use Rattle.uma_keg.specs.declared.keg.Keg.{Keg}
-use Rattle.locked_keg.specs.declared.fail_books.FailBooks.{FailBooks}
+use Rattle.locked_keg.specs.declared.locked_keg.FailBooks.{FailBooks}
 use Rattle.locked_keg.specs.declared.locked_keg.LockedKeg.{LockedKeg}
 
 module _ {T K : Type 0} {g : _} {h : _} where

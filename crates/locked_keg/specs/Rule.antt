@@ -1,10 +1,10 @@
 -- Own: what a keg keeps whenever its lock is free.
 use Rattle.std.specs.Prelude.{◌≡◌, ◌<◌, ◌/◌, ℕ, [], Some, map, min}
 use Rattle.deed_book.specs.Book.{book_table}
-use Rattle.uma_places.specs.Places.{KegPlaces, domain_at}
+use Rattle.uma_slabs.specs.Places.{KegPlaces, domain_at}
 use Rattle.uma_keg.specs.declared.keg.Keg.{Keg}
 use Rattle.uma_keg.specs.Keg.{places_in, table_in, rights_in, size_in, reserve_in, fetches_in}
-use Rattle.locked_keg.specs.declared.key.KegKey.{KegKey}
+use Rattle.locked_keg.specs.declared.locked_keg.KegKey.{KegKey}
 use Rattle.locked_keg.specs.declared.locked_keg.LockedKeg.{LockedKeg}
 use Rattle.locked_keg.specs.Ends.{fetch_cause}
 use Rattle.locked_keg.specs.FailBooks.{table_at, causes_at}

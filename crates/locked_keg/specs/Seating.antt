@@ -4,15 +4,15 @@ use Rattle.zone_stats.specs.LedgerSteps.{HasRoom}
 use Rattle.uma_life.specs.Hook.{Hook}
 use Rattle.uma_bucket.specs.Home.{Home, AreHome}
 use Rattle.uma_keg.specs.declared.keg.Keg.{Keg}
-use Rattle.uma_keg.specs.declared.fetch_ask.FetchAsk.{FetchAsk}
-use Rattle.uma_keg.specs.declared.fetch_refused.FetchRefused.{FetchRefused}
-use Rattle.uma_keg.specs.declared.fetch_refused.FetchRefused.TheVariants.{Memory}
+use Rattle.uma_keg.specs.declared.fetch.FetchAsk.{FetchAsk}
+use Rattle.uma_keg.specs.declared.fetch.FetchRefused.{FetchRefused}
+use Rattle.uma_keg.specs.declared.fetch.FetchRefused.TheVariants.{Memory}
 use Rattle.uma_keg.specs.Fetched.{FetchesInto, RefusesFetch, NamesWhatItFound, GivesItems}
 use Rattle.uma_keg.specs.Keg.{places_in, zones_in, out_in, table_in, rights_in, limit_in, fetches_in, buried_in, total_in, HasZone, IsWithinLimit, IsSameKeg}
 use Rattle.uma_seat.specs.declared.seat.SeatCache.{SeatCache}
 use Rattle.uma_seat.specs.Fetches.{CountsEnd}
 use Rattle.uma_seat.specs.Seat.{top_of, top_tickets, ledger_of, fetches_of, seat_fails, IsSameSeat, KeepsPlain, KeepsFreed, KeepsRack, KeepsMisses, KeepsPorts}
-use Rattle.locked_keg.specs.declared.key.KegKey.{KegKey}
+use Rattle.locked_keg.specs.declared.locked_keg.KegKey.{KegKey}
 use Rattle.locked_keg.specs.declared.locked_keg.LockedKeg.{LockedKeg}
 use Rattle.locked_keg.specs.Ends.{end_of, fetch_cause}
 use Rattle.locked_keg.specs.FailBooks.{table_at, causes_at}

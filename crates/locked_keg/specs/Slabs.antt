@@ -1,11 +1,11 @@
 -- Own: what becomes of a keg where slabs are brought in one after another: all come in, or one is refused.
 use Rattle.std.specs.Prelude.{◌≡◌, ◌<◌, ℕ, Result, IfOk, IfErr, OnOk}
-use Rattle.uma_keg.specs.declared.fetch_refused.FetchRefused.{FetchRefused}
+use Rattle.uma_keg.specs.declared.fetch.FetchRefused.{FetchRefused}
 use Rattle.uma_keg.specs.declared.keg.Keg.{Keg}
 use Rattle.uma_keg.specs.BringSlab.{RefusesSlab}
 use Rattle.uma_keg.specs.BringSlabs.{BringsSlabs}
 use Rattle.uma_keg.specs.Keg.{places_in, stored_in, buried_in, IsSameKeg}
-use Rattle.locked_keg.specs.declared.key.KegKey.{KegKey}
+use Rattle.locked_keg.specs.declared.locked_keg.KegKey.{KegKey}
 use Rattle.locked_keg.specs.declared.locked_keg.LockedKeg.{LockedKeg}
 use Rattle.locked_keg.specs.Frames.{KeepsOutside}
 use Rattle.locked_keg.specs.LockedKeg.{keg_in, fails_in}

@@ -1,12 +1,12 @@
 -- Own: how a keg behind its lock stands, what a census tells of it, and what becomes of it where it gives up slabs.
 use Rattle.std.specs.Prelude.{◌≡◌, ◌≤◌, ◌<◌, ◌*◌, ◌+◌, ℕ, List, All, Result, IfOk, IfErr, OnOk, count_by, is_some}
 use Rattle.deed_book.specs.BookLaw.{IsOutside}
-use Rattle.uma_life.specs.declared.live.Live.{Live}
+use Rattle.uma_life.specs.declared.states.Live.{Live}
 use Rattle.uma_life.specs.Hook.{Hook}
 use Rattle.uma_life.specs.Sum.{sum_of}
-use Rattle.uma_places.specs.declared.counts.KegCounts.{KegCounts}
-use Rattle.uma_places.specs.Dropping.{IsUsedUp}
-use Rattle.uma_places.specs.Places.{IsSound, free_count}
+use Rattle.uma_slabs.specs.declared.places.KegCounts.{KegCounts}
+use Rattle.uma_slabs.specs.Dropping.{IsUsedUp}
+use Rattle.uma_slabs.specs.Places.{IsSound, free_count}
 use Rattle.uma_keg.specs.declared.census.Census.{Census}
 use Rattle.uma_keg.specs.declared.keg.Keg.{Keg}
 use Rattle.uma_keg.specs.Census.{census_counts, census_out, census_tally, census_table, counts_in}

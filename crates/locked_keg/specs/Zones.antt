@@ -1,14 +1,14 @@
 -- Own: what becomes of a keg behind its lock where a zone is added, gets another limit or another share of its fail book.
 use Rattle.std.specs.Prelude.{◌≡◌, ◌≢◌, ◌≤◌, ◌<◌, [], ℕ, None, Some, slice_set}
 use Rattle.deed_book.specs.declared.deed.Deed.{Deed}
-use Rattle.deed_book.specs.declared.fail_share.FailShare.{FailShare}
+use Rattle.deed_book.specs.declared.fail_book.FailShare.{FailShare}
 use Rattle.deed_book.specs.Book.{zones_of}
 use Rattle.deed_book.specs.Deed.{no_of}
 use Rattle.deed_book.specs.FailShare.{share_table, causes_in}
 use Rattle.uma_keg.specs.Fetched.{IsUnmoved}
 use Rattle.uma_keg.specs.Keg.{rights_in, limit_in, fetches_in, HasZone, IsSameKeg}
 use Rattle.uma_keg.specs.SetLimit.{SetsLimit}
-use Rattle.locked_keg.specs.declared.key.KegKey.{KegKey}
+use Rattle.locked_keg.specs.declared.locked_keg.KegKey.{KegKey}
 use Rattle.locked_keg.specs.declared.locked_keg.LockedKeg.{LockedKeg}
 use Rattle.locked_keg.specs.FailBooks.{table_at, causes_at, GivesShare}
 use Rattle.locked_keg.specs.Frames.{KeepsRule}

@@ -1,32 +1,26 @@
 //! A keg behind its lock, with the fail books of its zones.
 //!
-//! A primary zone and its secondary zones share one keg under one lock. Nothing is known of the keg outside of the lock,
-//! but what its key names, and its rule says, whenever the lock is got, that the book of each zone lists exactly the
-//! fetches that the keg itself remembers. A seat holds a share of its zone's book, so it knows of each refusal that it
-//! tells that a fetch was refused so.
+//! A primary zone and its secondary zones share one keg under one lock. Contracts know nothing about the keg outside of the lock but what
+//! its key names ([`KegKey`]). The lock's rule ([`KegRule`]) says, whenever the lock is taken, that the book of each zone lists exactly the
+//! fetches that the keg itself remembers. A seat has a share of its zone's book. So a seat that reports a refusal knows that a fetch was
+//! refused so.
 //!
-//! Every change is a method of [`LockedKeg`] with its whole contract; whoever has the lock calls it and lets the lock go.
+//! ```
+//! let lock = LockedKeg::new(alloc, keg)?.lock_up(alloc, 1)?;                      // slabs of one memory domain
+//! let mut guard = lock.lock(rt);
+//! let count = guard.value.fetch(rt, alloc, &hooks, ask, &mut seat)?;              // into the seat's empty allocation bucket
+//! let back = guard.value.give_all(&hooks, bucket);                                // how many items went back
+//! ```
 //!
-//! - Keg and fail books are [`LockedKeg`]'s own, so the keg fetches by `LockedKeg::fetch` alone, which lists each fetch in
-//!   the book and in the seat's share.
-//! - Every method hands the rule on for any key (`keeps`), so a call that locks has nothing to prove about it.
-//! - A share of its book shows that a zone was added (`add_zone`), since a share is opened only for a zone that exists.
-//! - The text of `Full` doesn't say how many slabs were ever made; the value does.
+//! # What is promised
+//!
+//! - `fetch` is one fetch of the keg, and its end is listed in the zone's book and in the seat's share (`LockedKeg::fetch`: `FetchesFor`).
+//! - `give` and `give_all` take the items back (`LockedKeg::give`: `gives`; `LockedKeg::give_all`: `given`).
+//! - Every method keeps the rule, so a call that locks has nothing to prove about it (`kept`).
+//!
+//! Every change is a method of [`LockedKeg`] with its whole contract. A caller locks, calls it and unlocks.
 #![tactic(auto)]
 
-mod bringing;
-mod ends;
-mod fail_books;
-mod fetching;
-mod giving;
-mod key;
 mod locked_keg;
-mod making;
-mod rule;
-mod standing;
-mod zones;
 
-pub use key::KegKey;
-pub use locked_keg::LockedKeg;
-pub use making::KegLock;
-pub use rule::KegRule;
+pub use locked_keg::{KegKey, KegLock, KegRule, LockedKeg};

@@ -2,11 +2,11 @@
 use Rattle.std.proofs.Common.{◌≡◌, Option, Some, None, ◌∙◌, ap, subst}
 use Rattle.std.proofs.lemmas.Option.{none-some, same_Some}
 use Rattle.smr_clock.specs.declared.clock.Clock.{Clock}
-use Rattle.smr_clock.specs.declared.setup.Setup.{Setup}
+use Rattle.smr_clock.specs.declared.clock.Setup.{Setup}
 use Rattle.smr_clock.specs.Belongs.{TableId, clock_id, table_of, setup_of}
 use Rattle.smr_clock.specs.Notes.{IsSeatOf}
 use Rattle.name_rows.specs.declared.names.Names.{Names}
-use Rattle.name_rows.specs.declared.part.Part.{Part}
+use Rattle.name_rows.specs.declared.names.Part.{Part}
 use Rattle.name_rows.specs.declared.root.Root.{Root}
 use Rattle.name_rows.specs.declared.row.Row.{Row}
 use Rattle.name_rows.specs.declared.words.Words.{Words}

@@ -1,8 +1,8 @@
 -- How the steps of a bind and of an unbind make up the whole.
 use Rattle.std.proofs.Common.{◌≡◌, ℕ, ◌%◌, Option, Some, None, List, [], ◌∷◌, ◌++◌, ◌∙◌, sym, ap, subst}
 use Rattle.smr_clock.specs.declared.view.View.{View}
-use Rattle.deed_book.specs.declared.cause.Cause.{Cause}
-use Rattle.deed_book.specs.declared.fail_share.FailShare.{FailShare}
+use Rattle.deed_book.specs.declared.deed.Cause.{Cause}
+use Rattle.deed_book.specs.declared.fail_book.FailShare.{FailShare}
 use Rattle.zone_stats.specs.declared.ledger.SeatLedger.{SeatLedger}
 use Rattle.zone_stats.specs.LedgerSteps.{CountsAlloc, CountsTurned}
 use Rattle.uma_domain.specs.Lists.{IsRaised}
@@ -15,21 +15,21 @@ use Rattle.uma_zone.specs.OwnDomain.{FindsNothing}
 use Rattle.uma_zone.specs.Alloc.{Serves}
 use Rattle.uma_zone.specs.Flushed.{HasLastOf}
 use Rattle.name_rows.specs.declared.entry.Entry.{Entry}
-use Rattle.name_rows.specs.declared.part.Part.{Part}
-use Rattle.name_rows.specs.declared.records.Bound.{Bound}
-use Rattle.name_rows.specs.declared.records.Record.{Record}
-use Rattle.name_rows.specs.declared.unripe.Unripe.{Unripe as Unripe'}
+use Rattle.name_rows.specs.declared.names.Part.{Part}
+use Rattle.name_rows.specs.declared.names.Bound.{Bound}
+use Rattle.name_rows.specs.declared.names.Record.{Record}
+use Rattle.name_rows.specs.declared.writing.Unripe.{Unripe as Unripe'}
 use Rattle.name_rows.specs.declared.words.Words.{Words}
 use Rattle.name_rows.specs.Entries.{OnWords, entry_state}
 use Rattle.name_rows.specs.Reading.{IsNewest, bound_to}
 use Rattle.name_rows.specs.Ripening.{IsUnripe}
 use Rattle.name_rows.specs.Roots.{kept_in}
-use Rattle.name_cache.specs.declared.bind_refused.BindRefused.{BindRefused}
-use Rattle.name_cache.specs.declared.bind_refused.BindRefused.TheVariants.{Zone, Worn, Unripe, Memory}
+use Rattle.name_cache.specs.declared.binding.BindRefused.{BindRefused}
+use Rattle.name_cache.specs.declared.binding.BindRefused.TheVariants.{Zone, Worn, Unripe, Memory}
 use Rattle.name_cache.specs.declared.locked_row.LockedRow.{LockedRow}
 use Rattle.name_cache.specs.declared.parts.EntryParts.{EntryParts}
-use Rattle.name_cache.specs.declared.rebound.Rebound.TheVariants.{Done, Refused}
-use Rattle.name_cache.specs.declared.receipt.Receipt.{Receipt}
+use Rattle.name_cache.specs.declared.binding.Rebound.TheVariants.{Done, Refused}
+use Rattle.name_cache.specs.declared.binding.Receipt.{Receipt}
 use Rattle.name_cache.specs.Types.{ZoneOfEntries, EntrySeat, LiveEntry}
 use Rattle.name_cache.specs.Known.{known_in, StillKnows, Meets, KnowsBound, KnowsTaken}
 use Rattle.name_cache.specs.Parts.{words_of}

@@ -2,7 +2,7 @@
 use Rattle.std.proofs.Common.{◌≡◌, Option, Some, None, ◌∙◌, sym, ap}
 use Rattle.std.proofs.lemmas.Option.{none-some, same_Some}
 use Rattle.name_rows.specs.declared.entry.Entry.{Entry}
-use Rattle.name_rows.specs.declared.guest.Guest.{Guest}
+use Rattle.name_rows.specs.declared.root.Guest.{Guest}
 use Rattle.name_rows.specs.declared.words.Words.{Words}
 use Rattle.name_rows.specs.Entries.{entry_life, guest_with}
 use Rattle.name_rows.specs.EntryWords.{words_no}

@@ -4,26 +4,26 @@ use Rattle.std.proofs.lemmas.Bool.{false≢true}
 use Rattle.std.proofs.lemmas.Option.{none-some, same_Some}
 use Rattle.std.specs.Arc.{arc_value}
 use Rattle.smr_clock.specs.declared.clock.Clock.{Clock}
-use Rattle.smr_clock.specs.declared.setup.Setup.{Setup}
+use Rattle.smr_clock.specs.declared.clock.Setup.{Setup}
 use Rattle.smr_clock.specs.Belongs.{TableId, clock_id}
 use Rattle.uma_life.specs.Life.{Life}
 use Rattle.uma_life.specs.Ticket.{ticket_zone}
 use Rattle.uma_life.specs.Trail.{IsAt}
-use Rattle.uma_life.specs.declared.body_phase.BodyPhase.TheVariants.{Built}
-use Rattle.uma_life.specs.declared.ticket.Ticket.{Ticket}
+use Rattle.uma_life.specs.declared.tally.BodyPhase.TheVariants.{Built}
+use Rattle.uma_life.specs.declared.states.Ticket.{Ticket}
 use Rattle.uma_bucket.specs.Home.{Home, IsHome}
 use Rattle.name_rows.specs.declared.entry.Entry.{Entry}
-use Rattle.name_rows.specs.declared.guest.Guest.{Guest}
+use Rattle.name_rows.specs.declared.root.Guest.{Guest}
 use Rattle.name_rows.specs.declared.names.Names.{Names}
-use Rattle.name_rows.specs.declared.part.Part.{Part}
+use Rattle.name_rows.specs.declared.names.Part.{Part}
 use Rattle.name_rows.specs.Entries.{IsEntryOf, entry_life, entry_state, guest_of}
 use Rattle.name_rows.specs.Rows.{IsEvicted}
 use Rattle.name_cache.specs.Homes.{home_clock}
-use Rattle.name_cache.specs.declared.linked_item.LinkedItem.{LinkedItem}
+use Rattle.name_cache.specs.declared.locked_row.LinkedItem.{LinkedItem}
 use Rattle.name_cache.specs.declared.parts.EntryParts.{EntryParts}
 use Rattle.name_cache.specs.LinkedItem.{guest_life, IsLinkedAs, FitsItem}
-use Rattle.name_cache.specs.declared.rebound.Rebound.TheVariants.{Done}
-use Rattle.name_cache.specs.declared.receipt.Receipt.{Receipt}
+use Rattle.name_cache.specs.declared.binding.Rebound.TheVariants.{Done}
+use Rattle.name_cache.specs.declared.binding.Receipt.{Receipt}
 use Rattle.name_cache.specs.LockedRow.{IsItemOf, HasItemOf, IsOut}
 use Rattle.name_cache.specs.Parts.{IsSameItem}
 use Rattle.name_cache.proofs.Clocks.{ours_too}

@@ -6,11 +6,11 @@ use lib.ListN.{get_elem?}
 use Rattle.keyed_lock.specs.KeyedLock.{lock_key}
 use Rattle.smr_core.proofs.PlaceLemmas.{at_map, at_push, at_index, get_or_at_place}
 use Rattle.smr_clock.specs.declared.clock.Clock.{Clock}
-use Rattle.smr_clock.specs.declared.setup.Setup.{Setup}
+use Rattle.smr_clock.specs.declared.clock.Setup.{Setup}
 use Rattle.smr_clock.specs.Belongs.{TableId}
 use Rattle.uma_bucket.specs.Home.{Home}
 use Rattle.name_rows.specs.declared.names.Names.{Names}
-use Rattle.name_rows.specs.declared.part.Part.{Part}
+use Rattle.name_rows.specs.declared.names.Part.{Part}
 use Rattle.name_rows.specs.declared.row.Row.{Row}
 use Rattle.name_cache.specs.Locks.{RowLock, lock_version, AreNamed}
 use Rattle.name_cache.specs.Making.{AreFreshRows, IsFreshRow}

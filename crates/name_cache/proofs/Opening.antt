@@ -1,8 +1,8 @@
 -- What names are made with is what a cache is made of.
 use Rattle.std.proofs.Common.{◌≡◌, ℕ, [], ◌∷◌, None, length, ◌∙◌, sym, ap}
-use Rattle.smr_clock.specs.declared.setup.Setup.{Setup}
+use Rattle.smr_clock.specs.declared.clock.Setup.{Setup}
 use Rattle.smr_clock.specs.Belongs.{setup_of}
-use Rattle.name_rows.specs.declared.opened.Opened.{Opened}
+use Rattle.name_rows.specs.declared.making.Opened.{Opened}
 use Rattle.name_rows.specs.Belongs.{IsNamesClock}
 use Rattle.name_rows.specs.Linking.{row_record}
 use Rattle.name_rows.specs.Opening.{AreOpenRows}

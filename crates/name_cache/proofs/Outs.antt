@@ -1,13 +1,13 @@
 -- What a bind or an unbind takes out of a row, once it is stamped, or written.
 use Rattle.std.proofs.Common.{◌≡◌, ℕ, ◌+◌, Option, Some, None, ◌∙◌, ap, refl}
 use Rattle.std.proofs.lemmas.Option.{none-some, same_Some}
-use Rattle.smr_clock.specs.declared.setup.Setup.{Setup}
+use Rattle.smr_clock.specs.declared.clock.Setup.{Setup}
 use Rattle.smr_clock.specs.Belongs.{TableId}
 use Rattle.uma_bucket.specs.Home.{Home}
 use Rattle.name_rows.specs.declared.entry.Entry.{Entry}
-use Rattle.name_rows.specs.declared.entry_state.EntryState.TheVariants.{Stamped}
-use Rattle.name_rows.specs.declared.guest.Guest.{Guest}
-use Rattle.name_rows.specs.declared.owned.Owned.{Owned}
+use Rattle.name_rows.specs.declared.entry.EntryState.TheVariants.{Stamped}
+use Rattle.name_rows.specs.declared.root.Guest.{Guest}
+use Rattle.name_rows.specs.declared.entry.Owned.{Owned}
 use Rattle.name_rows.specs.declared.words.Words.{Words}
 use Rattle.name_rows.specs.Entries.{OnWords, guest_with}
 use Rattle.name_rows.specs.Guests.{bound_of, content_of}
@@ -16,8 +16,8 @@ use Rattle.name_rows.specs.Ripening.{StampsAt}
 use Rattle.name_rows.specs.Roots.{kept_in}
 use Rattle.name_rows.specs.Writing.{Writes}
 use Rattle.name_cache.specs.declared.parts.EntryParts.{EntryParts}
-use Rattle.name_cache.specs.declared.rebound.Rebound.TheVariants.{Done}
-use Rattle.name_cache.specs.declared.receipt.Receipt.{Receipt}
+use Rattle.name_cache.specs.declared.binding.Rebound.TheVariants.{Done}
+use Rattle.name_cache.specs.declared.binding.Receipt.{Receipt}
 use Rattle.name_cache.specs.LockedRow.{IsOut, IsStamped, IsOutStamped, HasItemOf}
 use Rattle.name_cache.proofs.Linked.{item_still}
 

@@ -5,7 +5,7 @@ use Rattle.smr_clock.specs.Belongs.{holder, view}
 use Rattle.uma_seat.specs.Seat.{IsSameSeat}
 use Rattle.uma_zone.specs.Frames.{GoesOn, KeepsPass}
 use Rattle.name_rows.specs.declared.names.Names.{Names}
-use Rattle.name_rows.specs.declared.part.Part.{Part}
+use Rattle.name_rows.specs.declared.names.Part.{Part}
 use Rattle.name_cache.specs.Frames.{KeepsKnown}
 use Rattle.name_cache.specs.Types.{EntrySeat, NamesPass}
 use Rattle.name_cache.proofs.Telling.{still_then, still_host}

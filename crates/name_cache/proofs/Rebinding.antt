@@ -4,10 +4,10 @@ use Rattle.std.proofs.lemmas.Option.{none-some, same_Some}
 use Rattle.smr_clock.specs.declared.view.View.{View}
 use Rattle.uma_life.specs.Life.{Life}
 use Rattle.uma_life.specs.Ticket.{ticket_no}
-use Rattle.name_rows.specs.declared.guest.Guest.{Guest}
-use Rattle.name_rows.specs.declared.part.Part.{Part}
-use Rattle.name_rows.specs.declared.records.Bound.{Bound}
-use Rattle.name_rows.specs.declared.records.Record.{Record}
+use Rattle.name_rows.specs.declared.root.Guest.{Guest}
+use Rattle.name_rows.specs.declared.names.Part.{Part}
+use Rattle.name_rows.specs.declared.names.Bound.{Bound}
+use Rattle.name_rows.specs.declared.names.Record.{Record}
 use Rattle.name_rows.specs.Entries.{OnWords, entry_life, guest_of}
 use Rattle.name_rows.specs.Guests.{bound_of, content_of}
 use Rattle.name_rows.specs.Linking.{row_record}
@@ -15,7 +15,7 @@ use Rattle.name_rows.specs.Ripening.{StampsAt}
 use Rattle.name_rows.specs.Rows.{row_last, key_in, value_in, pair_in}
 use Rattle.name_cache.specs.declared.locked_row.LockedRow.{LockedRow}
 use Rattle.name_cache.specs.declared.parts.EntryParts.{EntryParts}
-use Rattle.name_cache.specs.declared.receipt.Receipt.{Receipt}
+use Rattle.name_cache.specs.declared.binding.Receipt.{Receipt}
 use Rattle.name_cache.specs.LinkedItem.{guest_life}
 use Rattle.name_cache.specs.LockedRow.{row_identity, IsSameRow, MeetsRow, IsOut, IsStamped, IsOutStamped, BindsInRow, UnbindsInRow}
 use Rattle.name_cache.specs.Known.{Meets}

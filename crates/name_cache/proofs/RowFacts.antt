@@ -2,10 +2,10 @@
 use Rattle.std.proofs.Common.{◌≡◌, ℕ, ◌≤◌, List, [], ◌∷◌, ◌++◌, map, ◌∙◌, sym, ap, subst, refl, inl, ⊎_elim, le_refl, Option, Some}
 use Rattle.smr_clock.specs.declared.view.View.{View}
 use Rattle.smr_clock.specs.Notes.{seat_knows}
-use Rattle.name_rows.specs.declared.part.Part.{Part}
-use Rattle.name_rows.specs.declared.records.Bound.{Bound}
-use Rattle.name_rows.specs.declared.records.Record.{Record}
-use Rattle.name_rows.specs.declared.records.RowView.{RowView}
+use Rattle.name_rows.specs.declared.names.Part.{Part}
+use Rattle.name_rows.specs.declared.names.Bound.{Bound}
+use Rattle.name_rows.specs.declared.names.Record.{Record}
+use Rattle.name_rows.specs.declared.names.RowView.{RowView}
 use Rattle.name_rows.specs.Guests.{content_of}
 use Rattle.name_rows.specs.Linking.{last_seen, last_told}
 use Rattle.name_rows.specs.Records.{In}

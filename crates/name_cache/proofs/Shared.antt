@@ -8,24 +8,24 @@ use Rattle.keyed_lock.specs.contracts.lock.KeyedLock as KeyedLock
 use Rattle.keyed_lock.proofs.lock.KeyedLock.TheSendSync as lock
 use Rattle.name_rows.specs.contracts.names.Names as Names
 use Rattle.name_rows.specs.contracts.names.NamesHost.TheImpl as host
-use Rattle.name_rows.specs.contracts.part.Part as Part
+use Rattle.name_rows.specs.contracts.names.Part as Part
 use Rattle.name_rows.proofs.names.Names.TheSendSync as names
 use Rattle.name_rows.proofs.row.Row.TheSendSync as row
 use Rattle.name_cache.specs.contracts.entry_hooks.EntryHooks as EntryHooks
 use Rattle.name_cache.specs.contracts.entry_hooks.EntryHooksHooksRaisedEntry.TheImpl as hooks_of
-use Rattle.name_cache.specs.contracts.raised_entry.RaisedEntry as RaisedEntry
-use Rattle.name_cache.specs.contracts.raised_entry.RaisedEntryBody.TheImpl as body
+use Rattle.name_cache.specs.contracts.entry_hooks.RaisedEntry as RaisedEntry
+use Rattle.name_cache.specs.contracts.entry_hooks.RaisedEntryBody.TheImpl as body
 use Rattle.name_cache.proofs.entry_hooks.EntryHooks.TheSendSync as hooks
-use Rattle.name_cache.proofs.raised_entry.RaisedEntry.TheSendSync as raised
+use Rattle.name_cache.proofs.entry_hooks.RaisedEntry.TheSendSync as raised
 use Rattle.uma_seat.specs.contracts.seat.SeatCache as SeatCache
 use Rattle.uma_zone.specs.contracts.zone.Zone as Zone
 use Rattle.uma_zone.proofs.Shared.{seat_send, zone_sync}
 use Rattle.name_cache.specs.contracts.cache.NameCache as NameCache
 use Rattle.name_cache.specs.contracts.key.RowKey as RowKey
 use Rattle.name_cache.specs.contracts.locked_row.LockedRow as LockedRow
-use Rattle.name_cache.specs.contracts.rule.RowOfKey as RowOfKey
-use Rattle.name_cache.specs.contracts.rule.RowOfKeyLockRuleLockedRowRowKey.TheImpl as rule_of
-use Rattle.name_cache.proofs.linked_item.LinkedItem.TheSendSync as linked
+use Rattle.name_cache.specs.contracts.locked_row.RowOfKey as RowOfKey
+use Rattle.name_cache.specs.contracts.locked_row.RowOfKeyLockRuleLockedRowRowKey.TheImpl as rule_of
+use Rattle.name_cache.proofs.locked_row.LinkedItem.TheSendSync as linked
 
 -- a snapshot owns nothing
 snapshot_send : (Y : RattleType) → IsSend (Snapshot.the_row Y)

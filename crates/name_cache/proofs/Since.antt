@@ -1,14 +1,14 @@
 -- What a call did to a row under its lock, and that the record which it made is above the row's first version.
 use Rattle.std.proofs.Common.{◌≡◌, ◌<◌, ◌≤◌, ◌+◌, ◌%◌, ℕ, [], ◌∷◌, Option, Some, None, IfNone, arith}
 use Rattle.smr_clock.specs.declared.view.View.{View}
-use Rattle.name_rows.specs.declared.part.Part.{Part}
-use Rattle.name_rows.specs.declared.records.Record.{Record}
+use Rattle.name_rows.specs.declared.names.Part.{Part}
+use Rattle.name_rows.specs.declared.names.Record.{Record}
 use Rattle.name_rows.specs.Rows.{row_last}
 use Rattle.name_cache.specs.declared.locked_row.LockedRow.{LockedRow}
 use Rattle.name_cache.specs.declared.parts.EntryParts.{EntryParts}
-use Rattle.name_cache.specs.declared.rebound.Rebound.{Rebound}
-use Rattle.name_cache.specs.declared.rebound.Rebound.TheVariants.{Done, Refused}
-use Rattle.name_cache.specs.declared.receipt.Receipt.{Receipt}
+use Rattle.name_cache.specs.declared.binding.Rebound.{Rebound}
+use Rattle.name_cache.specs.declared.binding.Rebound.TheVariants.{Done, Refused}
+use Rattle.name_cache.specs.declared.binding.Receipt.{Receipt}
 use Rattle.name_cache.specs.LockedRow.{row_identity, RebindsRow, UnbindsInRow, HasNotKey}
 use Rattle.name_cache.specs.Rebound.{IsBoundAbove, HasFoundNone}
 use Rattle.name_cache.proofs.RowFacts.{row_told}

@@ -1,19 +1,19 @@
 -- The sums of a cache's items, row by row.
 use Rattle.std.proofs.Common.{◌≡◌, ℕ, ◌+◌, ◌^◌, ◌≤◌, ◌==◌, Bool, true, false, cond, Option, Some, None, is_some, ◌∙◌, sym, ap, subst, refl, arith, add-zero}
 use Rattle.std.proofs.lemmas.Bool.{false≢true}
-use Rattle.smr_clock.specs.declared.setup.Setup.{Setup}
+use Rattle.smr_clock.specs.declared.clock.Setup.{Setup}
 use Rattle.smr_clock.specs.Belongs.{TableId}
 use Rattle.uma_life.specs.Hook.{Hook, Ctor, Dtor}
 use Rattle.uma_life.specs.Sum.{sum_of, times_of, AreBelow}
 use Rattle.uma_life.specs.Trail.{ShowsSame, OnTrail}
-use Rattle.uma_life.specs.declared.body_phase.BodyPhase.TheVariants.{Built}
+use Rattle.uma_life.specs.declared.tally.BodyPhase.TheVariants.{Built}
 use Rattle.uma_life.specs.declared.tally.Tally.{Tally}
-use Rattle.uma_bucket.specs.declared.sums.Sums.{Sums}
+use Rattle.uma_bucket.specs.declared.shelved.Sums.{Sums}
 use Rattle.uma_bucket.specs.Home.{Home}
 use Rattle.uma_bucket.specs.Sums.{Balance, AreOfAtMost}
 use Rattle.uma_bucket.proofs.Tallied.{both_show, trail_times}
-use Rattle.name_rows.specs.declared.guest.Guest.{Guest}
-use Rattle.name_cache.specs.declared.linked_item.LinkedItem.{LinkedItem}
+use Rattle.name_rows.specs.declared.root.Guest.{Guest}
+use Rattle.name_cache.specs.declared.locked_row.LinkedItem.{LinkedItem}
 use Rattle.name_cache.specs.LinkedItem.{IsLinkedAs}
 use Rattle.name_cache.specs.Sums.{AddsLinked, HasLinked}
 

@@ -1,13 +1,13 @@
 -- What a pass knows from one step of a call to the next.
 use Rattle.std.proofs.Common.{◌≡◌, ℕ, ◌+◌, ◌≤◌, List, ◌++◌, ◌∙◌, sym, ap, subst, ⊎_elim, arith}
 use Rattle.smr_clock.specs.declared.view.View.{View}
-use Rattle.name_rows.specs.declared.part.Part.{Part}
-use Rattle.name_rows.specs.declared.records.Record.{Record}
+use Rattle.name_rows.specs.declared.names.Part.{Part}
+use Rattle.name_rows.specs.declared.names.Record.{Record}
 use Rattle.name_rows.specs.Records.{In, learned}
 use Rattle.name_rows.specs.Laws.{in_left}
 use Rattle.uma_zone.specs.Told.{TakesInNote}
 use Rattle.name_cache.specs.Known.{StillKnows, Meets, IsAbove}
-use Rattle.name_cache.specs.declared.receipt.Receipt.{Receipt}
+use Rattle.name_cache.specs.declared.binding.Receipt.{Receipt}
 
 pub still_then : (v w x : View Part) → StillKnows v w → StillKnows w x → StillKnows v x
 still_then v w x one other r i = other r (one r i)

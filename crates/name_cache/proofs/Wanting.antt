@@ -2,16 +2,16 @@
 use Rattle.std.proofs.Common.{◌≡◌, ℕ, List, [], ◌∷◌, ◌++◌, Result, Ok, Err, OnErr, refl, sym, ap, ◌∙◌, subst}
 use Rattle.smr_clock.specs.declared.view.View.{View}
 use Rattle.uma_bucket.specs.declared.shelved.Shelved.{Shelved}
-use Rattle.uma_zone.specs.declared.alloc_ask.AllocRefused.{AllocRefused}
-use Rattle.uma_zone.specs.declared.alloc_ask.AllocRefused.TheVariants.{Refused as TurnedAway, Memory as NoMemory}
+use Rattle.uma_zone.specs.declared.zone.alloc.AllocRefused.{AllocRefused}
+use Rattle.uma_zone.specs.declared.zone.alloc.AllocRefused.TheVariants.{Refused as TurnedAway, Memory as NoMemory}
 use Rattle.uma_zone.specs.declared.domains.ZoneDomains.{ZoneDomains}
 use Rattle.uma_zone.specs.Alloc.{AllocIsRefused, WantsMemory}
 use Rattle.uma_zone.specs.OwnDomain.{SentEach, TryEach, IsFlushed}
-use Rattle.name_rows.specs.declared.part.Part.{Part}
-use Rattle.name_cache.specs.declared.bind_refused.BindRefused.{BindRefused}
-use Rattle.name_cache.specs.declared.bind_refused.BindRefused.TheVariants.{Zone, Worn, Unripe, Memory}
+use Rattle.name_rows.specs.declared.names.Part.{Part}
+use Rattle.name_cache.specs.declared.binding.BindRefused.{BindRefused}
+use Rattle.name_cache.specs.declared.binding.BindRefused.TheVariants.{Zone, Worn, Unripe, Memory}
 use Rattle.name_cache.specs.declared.parts.EntryParts.{EntryParts}
-use Rattle.name_cache.specs.declared.rebound.Rebound.TheVariants.{Refused}
+use Rattle.name_cache.specs.declared.binding.Rebound.TheVariants.{Refused}
 use Rattle.name_cache.specs.Bind.{as_bind}
 use Rattle.name_cache.specs.Rebound.{HasRebound}
 use Rattle.name_cache.specs.Room.{entry_ask}

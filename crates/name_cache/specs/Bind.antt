@@ -5,22 +5,22 @@ use Rattle.zone_stats.specs.declared.ledger.SeatLedger.{SeatLedger}
 use Rattle.zone_stats.specs.LedgerSteps.{HasRoom}
 use Rattle.uma_life.specs.Live.{live_no, live_ticket}
 use Rattle.uma_seat.specs.Seat.{seat_domain, usable_of, shelf_of, ledger_of, KeepsFreed}
-use Rattle.uma_zone.specs.declared.alloc_ask.AllocRefused.{AllocRefused}
-use Rattle.uma_zone.specs.declared.alloc_ask.AllocRefused.TheVariants.{Refused, Memory as NoMemory}
+use Rattle.uma_zone.specs.declared.zone.alloc.AllocRefused.{AllocRefused}
+use Rattle.uma_zone.specs.declared.zone.alloc.AllocRefused.TheVariants.{Refused, Memory as NoMemory}
 use Rattle.uma_zone.specs.Flushed.{HasLastOf}
 use Rattle.uma_zone.specs.OwnDomain.{IsFlushed}
 use Rattle.uma_zone.specs.Ports.{sent_of}
 use Rattle.uma_zone.specs.Zone.{lists_of}
-use Rattle.name_rows.specs.declared.entry_state.EntryState.TheVariants.{Clean}
-use Rattle.name_rows.specs.declared.part.Part.{Part}
-use Rattle.name_rows.specs.declared.records.Record.{Record}
+use Rattle.name_rows.specs.declared.entry.EntryState.TheVariants.{Clean}
+use Rattle.name_rows.specs.declared.names.Part.{Part}
+use Rattle.name_rows.specs.declared.names.Record.{Record}
 use Rattle.name_rows.specs.Entries.{OnWords}
 use Rattle.name_rows.specs.Reading.{IsNewest}
 use Rattle.name_rows.specs.Records.{told}
 use Rattle.name_rows.specs.Ripening.{IsUnripe}
-use Rattle.name_cache.specs.declared.bind_refused.BindRefused.{BindRefused}
-use Rattle.name_cache.specs.declared.bind_refused.BindRefused.TheVariants.{Zone, Worn, Unripe, Memory}
-use Rattle.name_cache.specs.declared.receipt.Receipt.{Receipt}
+use Rattle.name_cache.specs.declared.binding.BindRefused.{BindRefused}
+use Rattle.name_cache.specs.declared.binding.BindRefused.TheVariants.{Zone, Worn, Unripe, Memory}
+use Rattle.name_cache.specs.declared.binding.Receipt.{Receipt}
 use Rattle.name_cache.specs.Types.{ZoneOfEntries, EntrySeat, LiveEntry}
 use Rattle.name_cache.specs.Known.{known_in, Meets, KnowsBound}
 use Rattle.name_cache.specs.LockedRow.{StaysAs}
@@ -69,7 +69,7 @@ pub record KeepsRow (row : ℕ) (v v' : View Part) : Type 0 where
   pub newest : IsNewest (known_in v') last
   pub stays : StaysAs row last
 
--- The entry that the zone handed out isn't ripe: the read hand that was loaded is below its stamp, which it had, or, where it was unlinked without one, was given. It is deferred, with that stamp, and its floor is that hand.
+-- The entry that the zone handed out isn't ripe: the read sequence that was loaded is below its stamp, which it had, or, where it was unlinked without one, was given. It is deferred, with that stamp, and its floor is that hand.
 pub record FindsUnripe (zone : ZoneOfEntries) (rows key : ℕ) (v : View Part) (old : EntrySeat) (read stamp : ℕ) (v' : View Part) (new : EntrySeat) : Type 0 where
   pub kept : KeepsRow (key % rows) v v'
   pub handed : LiveEntry

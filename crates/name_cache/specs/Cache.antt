@@ -1,6 +1,6 @@
 -- Own: what contracts see of a cache of names.
 use Rattle.std.specs.Prelude.{ℕ, List, map, slice_index_or}
-use Rattle.smr_clock.specs.declared.setup.Setup.{Setup}
+use Rattle.smr_clock.specs.declared.clock.Setup.{Setup}
 use Rattle.smr_clock.specs.Belongs.{TableId}
 use Rattle.uma_bucket.specs.Home.{Home}
 use Rattle.uma_zone.specs.Zone.{zone_clock, zone_home, zone_domains, IsSeatOf}

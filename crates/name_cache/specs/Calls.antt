@@ -6,10 +6,10 @@ use Rattle.uma_seat.specs.Seat.{ledger_of}
 use Rattle.uma_zone.specs.Seat.{IsFresh}
 use Rattle.uma_zone.specs.Zone.{zone_bucket}
 use Rattle.name_rows.specs.declared.names.Names.{Names}
-use Rattle.name_rows.specs.declared.part.Part.{Part}
+use Rattle.name_rows.specs.declared.names.Part.{Part}
 use Rattle.name_cache.specs.declared.cache.NameCache.{NameCache}
 use Rattle.name_cache.specs.declared.parts.EntryParts.{EntryParts}
-use Rattle.name_cache.specs.declared.receipt.Receipt.{Receipt}
+use Rattle.name_cache.specs.declared.binding.Receipt.{Receipt}
 use Rattle.name_cache.specs.Bind.{HasRoomToBind, Binds, WantsMemory, IsOnlyFlushed}
 use Rattle.name_cache.specs.Cache.{cache_zone, cache_clock, cache_home, row_count, first_version, IsCacheSeat}
 use Rattle.name_cache.specs.Frames.{IsWorkerOf, CanFree}

@@ -6,9 +6,9 @@ use Rattle.uma_life.specs.Live.{live_domain}
 use Rattle.uma_seat.specs.Freeing.{ShelvesFreed}
 use Rattle.uma_seat.specs.Stack.{Stack, stack_at, with_item, is_filled_by_one}
 use Rattle.uma_seat.specs.Seat.{seat_domain, freed_of, ledger_of, fetches_of, IsSameSeat, KeepsTop, KeepsPlain, KeepsRack, KeepsMisses}
-use Rattle.name_rows.specs.declared.part.Part.{Part}
-use Rattle.name_rows.specs.declared.records.Bound.{Bound}
-use Rattle.name_rows.specs.declared.entry_state.EntryState.TheVariants.{Stamped}
+use Rattle.name_rows.specs.declared.names.Part.{Part}
+use Rattle.name_rows.specs.declared.names.Bound.{Bound}
+use Rattle.name_rows.specs.declared.entry.EntryState.TheVariants.{Stamped}
 use Rattle.name_rows.specs.Records.{owned_as, told}
 use Rattle.name_cache.specs.Types.{EntrySeat, LiveEntry}
 use Rattle.name_cache.specs.Parts.{kept_of}

@@ -1,14 +1,14 @@
 -- Own: with what a cache is called, and what its calls leave of a pass and of a seat as it was.
 use Rattle.std.specs.Prelude.{◌≡◌, ◌≤◌, ◌<◌, length}
 use Rattle.smr_clock.specs.declared.clock.Clock.{Clock}
-use Rattle.smr_core.specs.declared.phase.Phase.{Phase}
+use Rattle.smr_core.specs.declared.holder.Phase.{Phase}
 use Rattle.smr_clock.specs.Belongs.{IsPassOf, clock_id, view, holder}
 use Rattle.zone_stats.specs.LedgerSteps.{HasRoom}
 use Rattle.uma_seat.specs.Seat.{ledger_of, shelf_of, spares_of, IsSameSeat, KeepsFreed}
 use Rattle.uma_zone.specs.Flushed.{HasLastOf}
 use Rattle.uma_zone.specs.Frames.{GoesOn, KeepsPass}
 use Rattle.name_rows.specs.declared.names.Names.{Names}
-use Rattle.name_rows.specs.declared.part.Part.{Part}
+use Rattle.name_rows.specs.declared.names.Part.{Part}
 use Rattle.name_cache.specs.declared.cache.NameCache.{NameCache}
 use Rattle.name_cache.specs.Cache.{cache_clock, IsCacheSeat}
 use Rattle.name_cache.specs.Known.{StillKnows}

@@ -3,10 +3,10 @@ use Rattle.std.specs.Prelude.{◌≡◌, ◌⊎◌, ℕ, List, None, slice_index
 use Rattle.smr_clock.specs.declared.clock.Clock.{Clock}
 use Rattle.smr_clock.specs.Belongs.{clock_id}
 use Rattle.uma_life.specs.Life.{raw_life}
-use Rattle.uma_life.specs.declared.body_phase.BodyPhase.TheVariants.{Raw, Gone}
+use Rattle.uma_life.specs.declared.tally.BodyPhase.TheVariants.{Raw, Gone}
 use Rattle.name_rows.specs.declared.entry.Entry.{Entry}
 use Rattle.name_rows.specs.declared.names.Names.{Names}
-use Rattle.name_rows.specs.declared.part.Part.{Part}
+use Rattle.name_rows.specs.declared.names.Part.{Part}
 use Rattle.name_rows.specs.declared.root.Root.{Root}
 use Rattle.name_rows.specs.Entries.{IsEntryOf, entry_life}
 use Rattle.name_rows.specs.Roots.{IsRootOf, kept_in, root_kept}

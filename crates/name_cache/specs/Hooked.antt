@@ -4,9 +4,9 @@ use Rattle.std.specs.Arc.{arc_value}
 use Rattle.smr_clock.specs.declared.clock.Clock.{Clock}
 use Rattle.smr_clock.specs.Belongs.{clock_id}
 use Rattle.name_rows.specs.declared.names.Names.{Names}
-use Rattle.name_rows.specs.declared.part.Part.{Part}
+use Rattle.name_rows.specs.declared.names.Part.{Part}
 use Rattle.name_cache.specs.declared.home.Home.{Home}
-use Rattle.name_cache.specs.declared.raised_entry.RaisedEntry.{RaisedEntry}
+use Rattle.name_cache.specs.declared.entry_hooks.RaisedEntry.{RaisedEntry}
 use Rattle.name_cache.specs.declared.entry_hooks.EntryHooks.{EntryHooks}
 use Rattle.name_cache.specs.Homes.{home_clock, RaisesFrom}
 use Rattle.name_cache.specs.Raised.{raised_entry, raised_home}

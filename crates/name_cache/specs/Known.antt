@@ -1,12 +1,12 @@
 -- Own: what a pass knows of the rows, before and after a call. A record of a row is what its word says from one store to the next.
 use Rattle.std.specs.Prelude.{◌≡◌, ℕ, ◌<◌, List, Some, None}
 use Rattle.smr_clock.specs.declared.view.View.{View}
-use Rattle.name_rows.specs.declared.part.Part.{Part}
-use Rattle.name_rows.specs.declared.records.Bound.{Bound}
-use Rattle.name_rows.specs.declared.records.Record.{Record}
+use Rattle.name_rows.specs.declared.names.Part.{Part}
+use Rattle.name_rows.specs.declared.names.Bound.{Bound}
+use Rattle.name_rows.specs.declared.names.Record.{Record}
 use Rattle.name_rows.specs.Records.{In}
 use Rattle.name_rows.specs.Reading.{IsNewest}
-use Rattle.name_cache.specs.declared.receipt.Receipt.{Receipt}
+use Rattle.name_cache.specs.declared.binding.Receipt.{Receipt}
 
 -- the records that a pass with this view knows
 abbrev pub known_in : View Part → List Record

@@ -1,20 +1,20 @@
 -- Own: what a row keeps of its linked entry, and how that agrees with the row of names.
 use Rattle.std.specs.Prelude.{◌≡◌, Option, Some, IfSome, is_some}
 use Rattle.std.specs.Arc.{arc_value}
-use Rattle.smr_clock.specs.declared.setup.Setup.{Setup}
+use Rattle.smr_clock.specs.declared.clock.Setup.{Setup}
 use Rattle.smr_clock.specs.Belongs.{TableId, clock_id}
 use Rattle.smr_clock.specs.Notes.{IsSeatOf}
 use Rattle.uma_life.specs.Life.{Life}
 use Rattle.uma_life.specs.Ticket.{ticket_no, ticket_zone, ticket_table}
 use Rattle.uma_life.specs.Trail.{IsAt}
-use Rattle.uma_life.specs.declared.body_phase.BodyPhase.TheVariants.{Built}
+use Rattle.uma_life.specs.declared.tally.BodyPhase.TheVariants.{Built}
 use Rattle.uma_bucket.specs.Home.{Home, IsHome}
 use Rattle.name_rows.specs.declared.entry.Entry.{Entry}
-use Rattle.name_rows.specs.declared.guest.Guest.{Guest}
+use Rattle.name_rows.specs.declared.root.Guest.{Guest}
 use Rattle.name_rows.specs.declared.words.Words.{Words}
 use Rattle.name_rows.specs.Entries.{entry_life}
 use Rattle.name_cache.specs.Homes.{home_clock, home_origin}
-use Rattle.name_cache.specs.declared.linked_item.LinkedItem.{LinkedItem}
+use Rattle.name_cache.specs.declared.locked_row.LinkedItem.{LinkedItem}
 use Rattle.name_cache.specs.declared.parts.EntryParts.{EntryParts}
 
 -- the life of the linked entry

@@ -1,17 +1,17 @@
 -- Own: what contracts see of a row under its lock, and what becomes of it there.
 use Rattle.std.specs.Prelude.{◌≡◌, ◌≤◌, ◌<◌, ◌+◌, ◌%◌, ◌^◌, ℕ, [], ◌∷◌, Option, Some, None, IfSome}
 use Rattle.smr_clock.specs.declared.clock.Clock.{Clock}
-use Rattle.smr_clock.specs.declared.setup.Setup.{Setup}
+use Rattle.smr_clock.specs.declared.clock.Setup.{Setup}
 use Rattle.smr_clock.specs.declared.view.View.{View}
 use Rattle.smr_clock.specs.Belongs.{IsPassOf, TableId, clock_id, setup_of}
 use Rattle.uma_life.specs.Ticket.{ticket_no}
 use Rattle.uma_bucket.specs.Home.{Home, IsHome}
-use Rattle.name_rows.specs.declared.records.Bound.{Bound}
-use Rattle.name_rows.specs.declared.records.Record.{Record}
-use Rattle.name_rows.specs.declared.entry_state.EntryState.TheVariants.{Clean, Written, Unlinked, Stamped}
-use Rattle.name_rows.specs.declared.guest.Guest.{Guest}
+use Rattle.name_rows.specs.declared.names.Bound.{Bound}
+use Rattle.name_rows.specs.declared.names.Record.{Record}
+use Rattle.name_rows.specs.declared.entry.EntryState.TheVariants.{Clean, Written, Unlinked, Stamped}
+use Rattle.name_rows.specs.declared.root.Guest.{Guest}
 use Rattle.name_rows.specs.declared.names.Names.{Names}
-use Rattle.name_rows.specs.declared.part.Part.{Part}
+use Rattle.name_rows.specs.declared.names.Part.{Part}
 use Rattle.name_rows.specs.declared.row.Row.{Row}
 use Rattle.name_rows.specs.Belongs.{IsNamesClock}
 use Rattle.name_rows.specs.Entries.{OnWords, entry_state, guest_of}
@@ -22,14 +22,14 @@ use Rattle.name_rows.specs.Records.{owned_as}
 use Rattle.name_rows.specs.Ripening.{StampsAt, IsUnripe}
 use Rattle.name_rows.specs.Roots.{kept_in}
 use Rattle.name_rows.specs.Rows.{IsKeyOf, pair_in, row_last}
-use Rattle.name_cache.specs.declared.bind_refused.BindRefused.{BindRefused}
-use Rattle.name_cache.specs.declared.bind_refused.BindRefused.TheVariants.{Zone, Worn, Unripe as Unripe', Memory}
+use Rattle.name_cache.specs.declared.binding.BindRefused.{BindRefused}
+use Rattle.name_cache.specs.declared.binding.BindRefused.TheVariants.{Zone, Worn, Unripe as Unripe', Memory}
 use Rattle.name_cache.specs.declared.key.RowKey.{RowKey}
 use Rattle.name_cache.specs.declared.locked_row.LockedRow.{LockedRow}
 use Rattle.name_cache.specs.declared.parts.EntryParts.{EntryParts}
-use Rattle.name_cache.specs.declared.rebound.Rebound.{Rebound}
-use Rattle.name_cache.specs.declared.rebound.Rebound.TheVariants.{Done, Refused}
-use Rattle.name_cache.specs.declared.receipt.Receipt.{Receipt}
+use Rattle.name_cache.specs.declared.binding.Rebound.{Rebound}
+use Rattle.name_cache.specs.declared.binding.Rebound.TheVariants.{Done, Refused}
+use Rattle.name_cache.specs.declared.binding.Receipt.{Receipt}
 use Rattle.name_cache.specs.Making.{IsFreshRow}
 use Rattle.name_cache.specs.Known.{known_in, Meets, KnowsBound, KnowsTaken, StillKnows}
 use Rattle.name_cache.specs.Parts.{parts_clock, IsSameItem}

@@ -4,12 +4,12 @@ use mathlib.Core.Option.{some}
 use lib.ListN.{get_elem?}
 use Rattle.keyed_lock.specs.KeyedLock.{lock_key}
 use Rattle.keyed_lock.specs.declared.lock.KeyedLock.{KeyedLock}
-use Rattle.smr_clock.specs.declared.setup.Setup.{Setup}
+use Rattle.smr_clock.specs.declared.clock.Setup.{Setup}
 use Rattle.smr_clock.specs.Belongs.{TableId}
 use Rattle.uma_bucket.specs.Home.{Home}
 use Rattle.name_cache.specs.declared.key.RowKey.{RowKey}
 use Rattle.name_cache.specs.declared.locked_row.LockedRow.{LockedRow}
-use Rattle.name_cache.specs.declared.rule.RowOfKey.{RowOfKey}
+use Rattle.name_cache.specs.declared.locked_row.RowOfKey.{RowOfKey}
 use Rattle.name_cache.specs.RowKey.{key_identity, identity}
 
 abbrev pub RowLock : Type 0

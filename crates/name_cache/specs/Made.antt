@@ -1,16 +1,16 @@
 -- Own: what a cache is made with, and what a census of it says.
 use Rattle.std.specs.Prelude.{◌≡◌, ◌/◌, List, length, map, min}
 use Rattle.smr_clock.specs.declared.clock.Clock.{Clock}
-use Rattle.smr_clock.specs.declared.setup.Setup.{Setup}
+use Rattle.smr_clock.specs.declared.clock.Setup.{Setup}
 use Rattle.smr_clock.specs.Belongs.{TableId, clock_id}
 use Rattle.uma_bucket.specs.Home.{Home}
 use Rattle.uma_keg.specs.declared.census.Census.{Census}
 use Rattle.uma_keg.specs.Census.{census_counts, census_table}
-use Rattle.uma_zone.specs.declared.zone_set.ZoneSet.{ZoneSet}
+use Rattle.uma_zone.specs.declared.zone.make.ZoneSet.{ZoneSet}
 use Rattle.uma_zone.specs.Zone.{zone_size, zone_bucket, zone_limit, zone_cap, zone_reserve}
 use Rattle.name_rows.specs.declared.names.Names.{Names}
-use Rattle.name_rows.specs.declared.opened.Opened.{Opened}
-use Rattle.name_rows.specs.declared.part.Part.{Part}
+use Rattle.name_rows.specs.declared.making.Opened.{Opened}
+use Rattle.name_rows.specs.declared.names.Part.{Part}
 use Rattle.name_rows.specs.declared.row.Row.{Row}
 use Rattle.name_cache.specs.declared.cache.NameCache.{NameCache}
 use Rattle.name_cache.specs.Cache.{cache_zone, cache_clock, cache_domains, cache_home, first_versions}

@@ -1,7 +1,7 @@
 -- Own: which clock entries are of, as numbers, which are those of its table and of what it was made with.
 use Rattle.std.specs.Prelude.{ℕ, List, ◌∷◌, drop, slice_index_or}
 use Rattle.smr_clock.specs.Belongs.{TableId}
-use Rattle.smr_clock.specs.declared.setup.Setup.{Setup}
+use Rattle.smr_clock.specs.declared.clock.Setup.{Setup}
 
 abbrev pub clock_numbers : TableId × Setup → List ℕ
 clock_numbers clock =

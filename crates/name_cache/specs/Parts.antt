@@ -2,18 +2,18 @@
 use Rattle.std.specs.Prelude.{◌≡◌, Option, Some}
 use Rattle.std.specs.Arc.{arc_value}
 use Rattle.smr_clock.specs.declared.clock.Clock.{Clock}
-use Rattle.smr_clock.specs.declared.setup.Setup.{Setup}
+use Rattle.smr_clock.specs.declared.clock.Setup.{Setup}
 use Rattle.smr_clock.specs.declared.view.View.{View}
 use Rattle.smr_clock.specs.Belongs.{TableId, clock_id}
 use Rattle.uma_life.specs.Live.{live_body, live_ticket}
 use Rattle.name_rows.specs.declared.names.Names.{Names}
-use Rattle.name_rows.specs.declared.owned.Owned.{Owned}
-use Rattle.name_rows.specs.declared.part.Part.{Part}
+use Rattle.name_rows.specs.declared.entry.Owned.{Owned}
+use Rattle.name_rows.specs.declared.names.Part.{Part}
 use Rattle.name_rows.specs.declared.words.Words.{Words}
 use Rattle.name_rows.specs.Belongs.{IsNamesClock}
 use Rattle.name_rows.specs.Entries.{OnWords, entry_life, entry_state}
-use Rattle.name_rows.specs.declared.entry_state.EntryState.{EntryState}
-use Rattle.name_rows.specs.declared.entry_state.EntryState.TheVariants.{Clean, Unlinked}
+use Rattle.name_rows.specs.declared.entry.EntryState.{EntryState}
+use Rattle.name_rows.specs.declared.entry.EntryState.TheVariants.{Clean, Unlinked}
 use Rattle.name_rows.specs.Ripening.{IsRipe}
 use Rattle.name_rows.specs.Roots.{kept_in}
 use Rattle.name_cache.specs.Homes.{home_clock}

@@ -6,7 +6,7 @@ use Rattle.name_rows.specs.declared.entry.Entry.{Entry}
 use Rattle.name_rows.specs.declared.words.Words.{Words}
 use Rattle.name_rows.specs.Entries.{IsEntryOf, entry_life}
 use Rattle.name_cache.specs.declared.home.Home.{Home}
-use Rattle.name_cache.specs.declared.raised_entry.RaisedEntry.{RaisedEntry}
+use Rattle.name_cache.specs.declared.entry_hooks.RaisedEntry.{RaisedEntry}
 use Rattle.name_cache.specs.Homes.{home_clock, home_origin}
 
 abbrev pub raised_entry : RaisedEntry → Entry

@@ -10,16 +10,16 @@ use Rattle.uma_zone.specs.Alloc.{Serves, TurnsAway, WantsMemory}
 use Rattle.uma_zone.specs.Frames.{GoesOn}
 use Rattle.uma_zone.specs.Ports.{sent_of}
 use Rattle.name_rows.specs.declared.names.Names.{Names}
-use Rattle.name_rows.specs.declared.part.Part.{Part}
+use Rattle.name_rows.specs.declared.names.Part.{Part}
 use Rattle.name_cache.specs.Raised.{raised_entry}
-use Rattle.name_cache.specs.declared.bind_refused.BindRefused.{BindRefused}
-use Rattle.name_cache.specs.declared.bind_refused.BindRefused.TheVariants.{Zone, Worn, Unripe, Memory}
+use Rattle.name_cache.specs.declared.binding.BindRefused.{BindRefused}
+use Rattle.name_cache.specs.declared.binding.BindRefused.TheVariants.{Zone, Worn, Unripe, Memory}
 use Rattle.name_cache.specs.declared.cache.NameCache.{NameCache}
 use Rattle.name_cache.specs.declared.locked_row.LockedRow.{LockedRow}
 use Rattle.name_cache.specs.declared.parts.EntryParts.{EntryParts}
-use Rattle.name_cache.specs.declared.rebound.Rebound.{Rebound}
-use Rattle.name_cache.specs.declared.rebound.Rebound.TheVariants.{Done, Refused}
-use Rattle.name_cache.specs.declared.receipt.Receipt.{Receipt}
+use Rattle.name_cache.specs.declared.binding.Rebound.{Rebound}
+use Rattle.name_cache.specs.declared.binding.Rebound.TheVariants.{Done, Refused}
+use Rattle.name_cache.specs.declared.binding.Receipt.{Receipt}
 use Rattle.name_cache.specs.Types.{ZoneOfEntries, EntrySeat, LiveEntry, NamesPass}
 use Rattle.name_cache.specs.Cache.{cache_zone, cache_clock, cache_home, row_count, first_version}
 use Rattle.name_cache.specs.Frames.{KeepsKnown}

@@ -3,7 +3,7 @@ use Rattle.std.specs.Prelude.{◌≡◌, [], length, false}
 use Rattle.zone_stats.specs.LedgerSteps.{CountsAlloc}
 use Rattle.zone_stats.specs.declared.refusal.Refusal.{Refusal}
 use Rattle.uma_seat.specs.Seat.{shelf_of, spares_of, ledger_of, IsSameSeat, KeepsTop, KeepsPlain, KeepsFreed, KeepsCounts, KeepsMisses}
-use Rattle.uma_zone.specs.declared.alloc_ask.AllocAsk.{AllocAsk}
+use Rattle.uma_zone.specs.declared.zone.alloc.AllocAsk.{AllocAsk}
 use Rattle.uma_zone.specs.Alloc.{Serves, TurnsAway}
 use Rattle.name_cache.specs.Types.{ZoneOfEntries, EntrySeat, LiveEntry}
 

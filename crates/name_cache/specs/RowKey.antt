@@ -1,6 +1,6 @@
 -- Own: which row of which cache it is, as contracts see it.
 use Rattle.std.specs.Prelude.{ℕ}
-use Rattle.smr_clock.specs.declared.setup.Setup.{Setup}
+use Rattle.smr_clock.specs.declared.clock.Setup.{Setup}
 use Rattle.smr_clock.specs.Belongs.{TableId, clock_id}
 use Rattle.uma_bucket.specs.Home.{Home}
 use Rattle.uma_zone.specs.Zone.{zone_home}

@@ -4,9 +4,9 @@ use Rattle.keyed_lock.specs.KeyedLock.{lock_key}
 use Rattle.uma_life.specs.Hook.{Hook, Ctor, Dtor}
 use Rattle.uma_life.specs.Sum.{sum_of, times_of}
 use Rattle.uma_life.specs.Trail.{ShowsSame}
-use Rattle.uma_bucket.specs.declared.sums.Sums.{Sums}
+use Rattle.uma_bucket.specs.declared.shelved.Sums.{Sums}
 use Rattle.uma_bucket.specs.Sums.{AreOfAtMost}
-use Rattle.name_rows.specs.declared.guest.Guest.{Guest}
+use Rattle.name_rows.specs.declared.root.Guest.{Guest}
 use Rattle.name_cache.specs.Locks.{RowLock}
 use Rattle.name_cache.specs.RowKey.{key_identity}
 

@@ -2,11 +2,11 @@
 use Rattle.std.specs.Prelude.{◌≡◌, ◌+◌, ◌%◌, ℕ, Some, None}
 use Rattle.smr_clock.specs.declared.view.View.{View}
 use Rattle.uma_seat.specs.Seat.{ledger_of}
-use Rattle.name_rows.specs.declared.part.Part.{Part}
-use Rattle.name_rows.specs.declared.records.Bound.{Bound}
-use Rattle.name_rows.specs.declared.records.Record.{Record}
+use Rattle.name_rows.specs.declared.names.Part.{Part}
+use Rattle.name_rows.specs.declared.names.Bound.{Bound}
+use Rattle.name_rows.specs.declared.names.Record.{Record}
 use Rattle.name_rows.specs.Reading.{IsNewest, bound_to}
-use Rattle.name_cache.specs.declared.receipt.Receipt.{Receipt}
+use Rattle.name_cache.specs.declared.binding.Receipt.{Receipt}
 use Rattle.name_cache.specs.Types.{EntrySeat}
 use Rattle.name_cache.specs.Known.{known_in, Meets, KnowsTaken}
 use Rattle.name_cache.specs.LockedRow.{StaysAs}

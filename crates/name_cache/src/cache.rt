@@ -4,7 +4,7 @@ ghost use Rattle.name_rows.specs.Belongs.{FitsNames};
 ghost use Rattle.name_cache.specs.Origins.{clock_numbers};
 ghost use Rattle.name_cache.specs.Locks.{AreNamed};
 
-use crate::rule::RowLock;
+use crate::locked_row::RowLock;
 use crate::{EntryHooks, RaisedEntry};
 use name_rows::Names;
 use uma_zone::Zone;

@@ -1,16 +1,80 @@
-ghost use Rattle.std.specs.Prelude.{◌≡◌, ◌⊎◌, None, IfOk};
-ghost use Rattle.uma_life.specs.declared.body_phase.BodyPhase.TheVariants.{Raw, Gone};
+ghost use Rattle.std.specs.Prelude.{◌≡◌, Some, ◌⊎◌, None, IfOk};
+ghost use Rattle.std.specs.Arc.{arc_value};
+ghost use Rattle.smr_clock.specs.Notes.{IsSeatOf};
+ghost use Rattle.name_rows.specs.declared.words.Words.{Words};
+ghost use Rattle.uma_life.specs.declared.tally.BodyPhase.TheVariants.{Raw, Gone};
 ghost use Rattle.name_rows.specs.Roots.{CanRaise};
-ghost use Rattle.name_cache.specs.Hooked.{RaisesAtHome};
-ghost use Rattle.name_cache.specs.Raised.{KeepsWords, refusal_of};
 
 use crate::home::Home;
-use crate::raised_entry::RaisedEntry;
-use name_rows::{Names, Root};
+use name_rows::{Entry, Names, Root};
 use smr_clock::Clock;
 use std::alloc::Global;
 use std::sync::{Arc, Wait};
-use uma_life::{Hooks, Memory, Tally};
+use uma_life::{Body, BodyPhase, Hooks, Memory, Tally};
+
+/// An entry, with a handle of the home to which it goes back.
+#[derive(Drop)]
+pub struct RaisedEntry {
+    pub(crate) entry: Entry,
+    pub(crate) home: Arc<Home>,
+    ghost ours: { (words : Words) → entry.words ≡ Some words → IsSeatOf (arc_value home).clock words.seat },
+}
+
+impl RaisedEntry {
+    ghost use Rattle.name_rows.specs.Entries.{IsEntryOf};
+    ghost use Rattle.name_cache.specs.Homes.{home_clock};
+    ghost use Rattle.name_cache.specs.Raised.{raised_entry, raised_home, IsEntryIn, AreHalvesOf};
+
+    /// Returns the entry, to be read only. It is written and linked after [`RaisedEntry::into_parts`].
+    pub fn entry(&self) -> &Entry
+        ensures { IsEntryIn self.now result.now }
+    {
+        &self.entry
+    }
+
+    /// Returns the home to which the entry goes back.
+    pub fn home(&self) -> &Home
+        ensures { result.now ≡ raised_home self.now }
+    {
+        &self.home
+    }
+
+    /// Takes the entry apart, into the bare entry, whose words the caller may write, and the handle of its home.
+    pub fn into_parts(self) -> (Entry, Arc<Home>)
+        ensures { AreHalvesOf self result.0 (arc_value result.1) }
+    {
+        (self.entry, self.home)
+    }
+
+    /// Makes an entry with a handle of the home to which it goes back. The two may come from different entries, of one
+    /// clock.
+    pub fn from_parts(entry: Entry, home: Arc<Home>) -> RaisedEntry
+        requires here { IsEntryOf (home_clock (arc_value home)) entry }
+        ensures { (raised_entry result ≡ entry) × (raised_home result ≡ arc_value home) }
+    {
+        RaisedEntry { entry, home }
+    }
+}
+
+impl Body for RaisedEntry {
+    ghost use Rattle.name_cache.specs.Raised.{raised_life, raised_origin};
+
+    ghost life = { raised_life };
+
+    ghost origin = { raised_origin };
+
+    fn no(&self) -> u32 {
+        self.entry.no()
+    }
+
+    fn phase(&self) -> BodyPhase {
+        self.entry.phase()
+    }
+
+    fn tally(&self) -> Tally {
+        self.entry.tally()
+    }
+}
 
 /// The hooks of entries. `keg_init` refuses, with 255, exactly an entry without words: one whose number the root didn't
 /// have. Nothing else is refused. No hook changes an entry's words.
@@ -22,11 +86,11 @@ pub struct EntryHooks {
 impl EntryHooks {
     ghost use Rattle.name_cache.specs.Hooked.{hooks_home, AreHooksOf};
 
-    /// Two with the same root.
+    /// Makes two sets of hooks over one root, one for a zone and one for its keg.
     ///
     /// # Errors
     ///
-    /// `Memory` for want of memory, or where there are too many handles. Then the root is dropped.
+    /// `Memory`: out of memory, or too many handles. The root is dropped.
     pub fn pair(
         alloc: Global,
         clock: &Clock<Names>,
@@ -41,7 +105,7 @@ impl EntryHooks {
         Ok((EntryHooks { home: one }, EntryHooks { home: other }))
     }
 
-    /// The home from which these hooks raise entries.
+    /// Returns the home from which these hooks raise entries.
     pub fn home(&self) -> &Home
         ensures { result.now ≡ hooks_home self.now }
     {
@@ -50,9 +114,9 @@ impl EntryHooks {
 }
 
 impl Hooks<RaisedEntry> for EntryHooks {
-    ghost use Rattle.name_cache.specs.Hooked.{hooks_home};
+    ghost use Rattle.name_cache.specs.Hooked.{RaisesAtHome, hooks_home};
     ghost use Rattle.name_cache.specs.Homes.{home_clock, home_origin, LowersInto};
-    ghost use Rattle.name_cache.specs.Raised.{raised_entry, raised_home, raised_life};
+    ghost use Rattle.name_cache.specs.Raised.{KeepsWords, raised_entry, raised_home, raised_life, refusal_of};
 
     ghost origin = { λ hooks. home_origin (hooks_home hooks) };
 

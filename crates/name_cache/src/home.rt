@@ -42,7 +42,11 @@ pub struct Home {
 impl Home {
     ghost use Rattle.name_cache.specs.Homes.{home_clock, IsNewEntry, RaisesFrom, MayEnd, LowersInto};
 
-    /// A home of this root. The clock gets a handle more.
+    /// Makes a home of this root, with a handle of the clock.
+    ///
+    /// # Errors
+    ///
+    /// `Memory`: out of memory, or too many handles.
     pub fn new(alloc: Global, clock: &Clock<Names>, root: Root) -> Result<Home, Memory>
         requires { CanRaise clock.now root }
         ensures { IfOk result (λ home. clock_id (home_clock home) ≡ clock_id clock.now) }
@@ -58,7 +62,7 @@ impl Home {
         })
     }
 
-    /// The clock of the entries.
+    /// Returns the clock of the entries.
     pub fn clock(&self) -> &Clock<Names>
         ensures same { result.now ≡ home_clock self.now }
         ensures names { IsNamesClock result.now }
@@ -66,8 +70,12 @@ impl Home {
         &self.clock
     }
 
-    /// An entry of this number that passed no hook. It has words exactly where the root, as it stands under the lock, has the
-    /// number, which it then hasn't any more. Waits until it has the lock.
+    /// Returns an entry of this number that has passed no hook. It has words exactly if the root has the number, as it
+    /// is under the lock; the root then loses the number. It blocks on the lock of the root.
+    ///
+    /// # Arguments
+    ///
+    /// - `no`: the number of the entry.
     pub fn raise<R: Wait>(&self, rt: &R, no: u32) -> Entry
         ensures new { IsNewEntry (home_clock self.now) no result }
         ensures raised { RaisesFrom (home_clock self.now) no result }
@@ -76,8 +84,8 @@ impl Home {
         raise(&self.clock, &mut guard.value, no)
     }
 
-    /// Ends an entry, and answers its tally. The root has its number again, with the entry's state, where the entry has words.
-    /// Waits until it has the lock.
+    /// Ends an entry, and returns its tally. If the entry has words, the root gets its number again, with the entry's
+    /// state. It blocks on the lock of the root.
     pub fn lower<R: Wait>(&self, rt: &R, entry: Entry) -> Tally
         requires { MayEnd (home_clock self.now) entry }
         ensures tally { result ≡ (entry_life entry).tally }

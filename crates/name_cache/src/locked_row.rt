@@ -1,21 +1,45 @@
 ghost use Rattle.std.specs.Prelude.{◌≡◌, ◌≤◌, ◌<◌, ◌+◌, ◌^◌, [], ◌∷◌, map, is_some, Some, IfSome, IfNone};
 ghost use Rattle.name_rows.specs.Rows.{IsRowOf, row_last};
-ghost use Rattle.name_rows.specs.declared.guest.Guest.{Guest};
+ghost use Rattle.name_rows.specs.declared.root.Guest.{Guest};
 ghost use Rattle.name_cache.specs.LinkedItem.{IsLinkedAs, CanRejoin, AreRejoined};
 ghost use Rattle.name_cache.specs.RowKey.{key_identity};
-ghost use Rattle.name_cache.specs.declared.linked_item.LinkedItem.{LinkedItem};
+ghost use Rattle.name_cache.specs.declared.locked_row.LinkedItem.{LinkedItem};
 
-use crate::bind_refused::BindRefused;
+use crate::Home;
+use crate::binding::{BindRefused, Rebound, Receipt};
 use crate::key::RowKey;
-use crate::linked_item::LinkedItem;
 use crate::parts::EntryParts;
-use crate::rebound::Rebound;
-use crate::receipt::Receipt;
+use keyed_lock::{KeyedLock, LockRule};
 use name_rows::{Entry, Names, Row, Unripe, link, meet, unlink};
 use smr_clock::{Clock, Pass};
 use std::snapshot::Snapshot;
+use std::sync::Arc;
 use uma_bucket::Sums;
-use uma_life::Body;
+use uma_life::{Body, Tally, Ticket};
+
+/// What a row keeps of its linked entry beside the words, which the row of names has: all that the entry is as an item of
+/// the zone.
+#[derive(Drop)]
+pub(crate) struct LinkedItem {
+    pub ticket: Ticket,
+    /// The home to which the entry goes back.
+    pub home: Arc<Home>,
+    /// How often it passed each hook. It passes none while it is linked.
+    pub tally: Tally,
+}
+
+/// The row is the one that the key names.
+pub(crate) struct RowOfKey;
+
+impl LockRule<LockedRow, RowKey> for RowOfKey {
+    ghost use Rattle.std.specs.Prelude.{◌≡◌};
+    ghost use Rattle.name_cache.specs.RowKey.{key_identity};
+    ghost use Rattle.name_cache.specs.LockedRow.{row_identity};
+
+    ghost keeps = { λ key row. row_identity row ≡ key_identity key };
+}
+
+pub(crate) type RowLock = KeyedLock<LockedRow, RowKey, RowOfKey>;
 
 /// The least version at which a row takes no further name.
 const WORN: u64 = (1 << 44) - 2;

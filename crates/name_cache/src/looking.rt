@@ -9,7 +9,7 @@ ghost use Rattle.name_cache.specs.Made.{IsCensusOf};
 ghost use Rattle.name_cache.specs.Sums.{HasLinked, CanAddRow};
 
 use crate::cache::NameCache;
-use crate::rule::RowLock;
+use crate::locked_row::RowLock;
 use name_rows::{Names, find};
 use smr_clock::{Clock, Overtaken, Pass};
 use std::alloc::Global;
@@ -19,12 +19,16 @@ use uma_keg::Census;
 use uma_life::{Lives, Memory};
 
 impl NameCache {
-    /// The value that the key's row binds to the key, looked up in a section of its own. It takes no memory and waits for
-    /// nobody.
+    /// Returns the value that the key's row binds to the key, or None. It looks the key up by `find`, in a section of
+    /// its own. The pass must be outside.
+    ///
+    /// # Arguments
+    ///
+    /// - `key`: the key, any number.
     ///
     /// # Errors
     ///
-    /// `Overtaken` where the clock went on by its window while the pass entered: nothing was looked up.
+    /// `Overtaken`: the clock advanced by its window while the pass entered. Nothing was looked up.
     pub fn look(
         &self,
         clock: &Clock<Names>,
@@ -42,11 +46,13 @@ impl NameCache {
         Ok(found)
     }
 
-    /// How often the items that the zone's domains have in lists and inboxes passed each hook, and the linked entries, and
-    /// how many items are freed. In the zone the ctors exceed the dtors by those that are freed and those that are linked, at
-    /// most one a row. Waits until it has the lock of each domain and of each row.
+    /// Returns how often the items in the lists and inboxes of the zone's domains, and the linked entries, have passed
+    /// each hook, and how many items are deferred. In the zone the ctors exceed the dtors by the deferred items and the
+    /// linked entries, at most one for each row. It blocks on the lock of each domain and of each row.
     ///
-    /// `Memory` where memory is wanting to settle the domains.
+    /// # Errors
+    ///
+    /// `Memory`: out of memory for a settle of the domains.
     pub fn sums<R: Wait>(&self, rt: &R) -> Result<Sums, Memory>
         ensures few { IfOk result (AreOfAtMost (2 ^ 35)) }
         ensures linked { IfOk result (λ sums. (linked : ℕ) × (linked ≤ row_count self.now) × HasLinked linked sums) }
@@ -58,9 +64,11 @@ impl NameCache {
         Ok(sums)
     }
 
-    /// The census of the zone's keg, lent no item. Waits until it has the keg's lock.
+    /// Takes the census of the zone's keg at one moment, with no item lent. It blocks on the keg's lock.
     ///
-    /// `Memory` where memory is wanting.
+    /// # Errors
+    ///
+    /// `Memory`: out of memory.
     pub fn census<R: Wait>(&self, rt: &R, alloc: Global) -> Result<Census, Memory>
         ensures { IfOk result (IsCensusOf self.now) }
     {

@@ -11,8 +11,7 @@ ghost use Rattle.name_cache.specs.RowKey.{key_identity, identity};
 
 use crate::cache::{EntryZone, NameCache};
 use crate::key::RowKey;
-use crate::locked_row::LockedRow;
-use crate::rule::RowLock;
+use crate::locked_row::{LockedRow, RowLock};
 use crate::{EntryHooks, RaisedEntry};
 use name_rows::{Names, Opened, Row};
 use smr_clock::{Clock, Pass};
@@ -27,14 +26,20 @@ use uma_zone::{Zone, ZoneRefused, ZoneSet};
 const ENTRY_SIZE: u32 = 64;
 
 impl NameCache {
-    /// A cache with an SMR zone of entries of 64 bytes, over a clock of names and its rows, which are empty, and of which none
-    /// falls below its version. The zone's frees are deferred, and the clock has a number for each of the 64 entries of each
-    /// slab. The clock, and its passes, come back beside the cache, which has a handle of it.
+    /// Makes a cache with an SMR zone of entries of 64 bytes, over a clock of names and its rows, which must be empty.
+    /// The zone's frees are deferred, and the clock must have a number for each of the 64 entries of each slab. Returns
+    /// the cache, which has a handle of the clock, the clock, and its passes.
+    ///
+    /// # Arguments
+    ///
+    /// - `set`: the numbers of the zone, as for `Zone::primary`; `smr` must be true.
     ///
     /// # Errors
     ///
-    /// `Slabs`, `Bucket` and `Domains`, in this order, exactly where that number is out of its range. `Memory` where memory is
-    /// wanting, or there are too many handles. Then what was handed in is dropped.
+    /// A refused call drops what was passed in.
+    ///
+    /// - `Slabs`, `Bucket`, `Domains`: that number is out of its range. They are tested in this order.
+    /// - `Memory`: out of memory, or too many handles.
     pub fn new(
         alloc: Global,
         opened: Opened,
@@ -57,8 +62,16 @@ impl NameCache {
         Ok((NameCache { zone, rows }, clock, passes.into_vec()))
     }
 
-    /// A new seat of the cache's zone in a memory domain, for one worker at a time. Waits until it has the locks of the keg
+    /// Makes a seat of the cache's zone in a memory domain, for one worker at a time. It blocks on the locks of the keg
     /// and of that domain.
+    ///
+    /// # Arguments
+    ///
+    /// - `domain`: the number of the memory domain, below the zone's count of domains.
+    ///
+    /// # Errors
+    ///
+    /// `Memory`: out of memory.
     pub fn seat<R: Wait>(
         &self,
         rt: &R,

@@ -4,7 +4,7 @@ ghost use Rattle.smr_clock.specs.Belongs.{clock_id};
 ghost use Rattle.smr_clock.specs.Notes.{IsSeatOf};
 ghost use Rattle.uma_life.specs.Ticket.{ticket_no, ticket_zone, ticket_table};
 ghost use Rattle.uma_life.specs.Trail.{IsAt};
-ghost use Rattle.uma_life.specs.declared.body_phase.BodyPhase.TheVariants.{Built};
+ghost use Rattle.uma_life.specs.declared.tally.BodyPhase.TheVariants.{Built};
 ghost use Rattle.name_rows.specs.Entries.{entry_life};
 ghost use Rattle.name_rows.specs.declared.words.Words.{Words};
 ghost use Rattle.name_cache.specs.Homes.{home_clock, home_origin};

@@ -3,19 +3,19 @@ use Rattle.std.proofs.Common.{◌≡◌, ℕ, ◌+◌, ◌<◌, ◌≤◌, ◌�
 use mathlib.Core.Option.{some}
 use lib.ListN.{get_elem?}
 use Rattle.smr_core.specs.ClockState.{write_place, read_place, place_after_seats, write_hand, read_hand}
-use Rattle.smr_clock.specs.declared.setup.Setup.{Setup}
+use Rattle.smr_clock.specs.declared.clock.Setup.{Setup}
 use Rattle.smr_clock.specs.declared.view.View.{View}
-use Rattle.smr_clock.specs.declared.host_act.HostAct.TheVariants.{Load, Store}
+use Rattle.smr_clock.specs.declared.host.HostAct.TheVariants.{Load, Store}
 use Rattle.smr_clock.specs.Views.{hosts_of}
 use Rattle.smr_clock.specs.Clocked.{Clocked}
 use Rattle.smr_clock.specs.HostSteps.{IsHand, SeatKeeps, with_host, looked}
 use Rattle.smr_clock.proofs.HostClocked.{step_clocked, look_clocked}
 use Rattle.smr_clock.proofs.SeatSteps.{looked_else}
-use Rattle.name_rows.specs.declared.records.Hold.{Hold}
-use Rattle.name_rows.specs.declared.entry_state.EntryState.{EntryState}
-use Rattle.name_rows.specs.declared.entry_state.EntryState.TheVariants.{Clean, Written, Linked, Unlinked, Stamped}
-use Rattle.name_rows.specs.declared.owned.Owned.{Owned}
-use Rattle.name_rows.specs.declared.part.Part.{Part}
+use Rattle.name_rows.specs.declared.names.Hold.{Hold}
+use Rattle.name_rows.specs.declared.entry.EntryState.{EntryState}
+use Rattle.name_rows.specs.declared.entry.EntryState.TheVariants.{Clean, Written, Linked, Unlinked, Stamped}
+use Rattle.name_rows.specs.declared.entry.Owned.{Owned}
+use Rattle.name_rows.specs.declared.names.Part.{Part}
 use Rattle.name_rows.specs.Records.{In, key_place, value_place, Has, OwnsIt}
 use Rattle.name_rows.specs.NamesLaw.{StillHeld, Held, Named}
 use Rattle.name_rows.specs.Writing.{with_owned, keyed, valued, stamped, ripened, ripe_state, writes_key, writes_value, stamps, ripens}

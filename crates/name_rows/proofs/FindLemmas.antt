@@ -1,13 +1,13 @@
 -- What a look's three loads come to.
 use Rattle.std.proofs.Common.{◌≡◌, ℕ, ◌+◌, ◌*◌, ◌%◌, ◌^◌, ◌<◌, ◌≤◌, refl, sym, ap, ◌∙◌, subst, arith, Option, Some, None}
 use Rattle.std.proofs.lemmas.Nat.{mod-mul-add}
-use Rattle.smr_core.specs.declared.phase.Phase.TheVariants as phase
-use Rattle.smr_clock.specs.declared.setup.Setup.{Setup}
+use Rattle.smr_core.specs.declared.holder.Phase.TheVariants as phase
+use Rattle.smr_clock.specs.declared.clock.Setup.{Setup}
 use Rattle.smr_clock.specs.declared.view.View.{View}
-use Rattle.smr_clock.specs.declared.host_act.HostAct.{HostAct}
+use Rattle.smr_clock.specs.declared.host.HostAct.{HostAct}
 use Rattle.smr_clock.specs.HostSteps.{HostStepped, with_host}
-use Rattle.name_rows.specs.declared.records.Bound.{Bound}
-use Rattle.name_rows.specs.declared.part.Part.{Part}
+use Rattle.name_rows.specs.declared.names.Bound.{Bound}
+use Rattle.name_rows.specs.declared.names.Part.{Part}
 use Rattle.name_rows.specs.Records.{slot_of, row_place, key_place, value_place}
 use Rattle.name_rows.specs.NamesLaw.{IsPlan}
 use Rattle.name_rows.specs.Reading.{reads_row, reads_entry, Spells, ReadsRecord, HoldsOpen, slot_entry, entry_in, bound_to, Finds}

@@ -3,23 +3,23 @@ use Rattle.std.proofs.Common.{◌≡◌, ℕ, ◌<◌, ◌≤◌, List, [], ◌�
 use mathlib.Core.Option.{some}
 use lib.ListN.{get_elem?}
 use Rattle.smr_core.specs.ClockState.{place_after_seats, write_hand, read_hand}
-use Rattle.smr_core.specs.declared.phase.Phase.TheVariants as phase
+use Rattle.smr_core.specs.declared.holder.Phase.TheVariants as phase
 use Rattle.smr_core.proofs.KindLemmas.{marks_above_read}
-use Rattle.smr_clock.specs.declared.setup.Setup.{Setup}
+use Rattle.smr_clock.specs.declared.clock.Setup.{Setup}
 use Rattle.smr_clock.specs.declared.view.View.{View}
-use Rattle.smr_clock.specs.declared.host_act.HostAct.TheVariants.{Load}
+use Rattle.smr_clock.specs.declared.host.HostAct.TheVariants.{Load}
 use Rattle.smr_clock.specs.Views.{holders_of, hosts_of}
 use Rattle.smr_clock.specs.Clocked.{Clocked}
 use Rattle.smr_clock.specs.HostSteps.{HostKeeps}
 use Rattle.smr_clock.proofs.Kept.{holder_there}
 use Rattle.smr_clock.proofs.HostClocked.{step_clocked}
 use Rattle.smr_core.proofs.KindLemmas.{in_phase}
-use Rattle.name_rows.specs.declared.records.Bound.{Bound}
-use Rattle.name_rows.specs.declared.records.Record.{Record}
-use Rattle.name_rows.specs.declared.records.RowView.{RowView}
-use Rattle.name_rows.specs.declared.records.Hold.{Hold}
-use Rattle.name_rows.specs.declared.entry_state.EntryState.TheVariants.{Linked}
-use Rattle.name_rows.specs.declared.part.Part.{Part}
+use Rattle.name_rows.specs.declared.names.Bound.{Bound}
+use Rattle.name_rows.specs.declared.names.Record.{Record}
+use Rattle.name_rows.specs.declared.names.RowView.{RowView}
+use Rattle.name_rows.specs.declared.names.Hold.{Hold}
+use Rattle.name_rows.specs.declared.entry.EntryState.TheVariants.{Linked}
+use Rattle.name_rows.specs.declared.names.Part.{Part}
 use Rattle.name_rows.specs.Records.{In, row_place, key_place, value_place, row_word, records_in, records_of, last_in, last_record, owned_as, Has, IsRow, HoldsIt, KnowsIt}
 use Rattle.name_rows.specs.NamesLaw.{HoldFits, IsRecord, Held, Named}
 use Rattle.name_rows.specs.Laws.{has_set, same_held}
@@ -63,7 +63,7 @@ module _ (a : Setup) (ws : List ℕ) (ps : List Part) (held : Held a ws ps) wher
   pub last_is_record : (at : ℕ) (v : RowView) → Has ps at (IsRow v) → IsRecord a ws ps (last_record (row_word a ws v) v)
   last_is_record at v has = record { at = at; row = v; there = has; listed = last_listed v.number (row_word a ws v) v.records }
 
--- a section's mark is at most the write hand
+-- a section's mark is at most the write sequence
 pub mark_passed : (a : Setup) (ws : List ℕ) (vs : List (View Part)) (id : ℕ) (v : View Part) → Clocked a ws vs → get_elem? vs id ≡ some v → v.holder.phase ≡ phase.Inside → v.holder.mark ≤ write_hand ws
 mark_passed a ws vs id v c at inside =
     let fits = c.law.holders id v.holder (holder_there a vs id v v at) in

@@ -4,7 +4,7 @@ use Rattle.std.proofs.lemmas.List.{length-append}
 use Rattle.smr_core.proofs.PlaceLemmas.{at_push}
 use Rattle.smr_clock.specs.declared.clock.Clock.{Clock}
 use Rattle.name_rows.specs.declared.names.Names.{Names}
-use Rattle.name_rows.specs.declared.part.Part.{Part}
+use Rattle.name_rows.specs.declared.names.Part.{Part}
 use Rattle.name_rows.specs.declared.row.Row.{Row}
 use Rattle.name_rows.specs.Opening.{AreOpenRows}
 use Rattle.name_rows.specs.Linking.{row_record}

@@ -3,20 +3,20 @@ use Rattle.std.proofs.Common.{◌≡◌, ℕ, ◌≤◌, List, [], ◌∷◌, �
 use Rattle.std.proofs.lemmas.List.{map-append}
 use mathlib.Core.Option.{some}
 use lib.ListN.{get_elem?}
-use Rattle.smr_core.specs.declared.phase.Phase.TheVariants as phase
+use Rattle.smr_core.specs.declared.holder.Phase.TheVariants as phase
 use Rattle.smr_core.proofs.PlaceLemmas.{set_again, map_set}
-use Rattle.smr_clock.specs.declared.setup.Setup.{Setup}
+use Rattle.smr_clock.specs.declared.clock.Setup.{Setup}
 use Rattle.smr_clock.specs.declared.view.View.{View}
-use Rattle.smr_clock.specs.declared.host_act.HostAct.TheVariants.{Load}
+use Rattle.smr_clock.specs.declared.host.HostAct.TheVariants.{Load}
 use Rattle.smr_clock.specs.Views.{hosts_of}
 use Rattle.smr_clock.specs.Steps.{write_looking, note_view, joined_view}
 use Rattle.smr_clock.specs.HostSteps.{SeatKeeps, SplitKeeps, JoinKeeps, with_host, looked}
 use Rattle.smr_clock.proofs.HostClocked.{split_clocked}
 use Rattle.smr_clock.proofs.Splits.{join_clocked, hosts_joined}
-use Rattle.name_rows.specs.declared.records.Bound.{Bound}
-use Rattle.name_rows.specs.declared.records.Record.{Record}
-use Rattle.name_rows.specs.declared.records.RowView.{RowView}
-use Rattle.name_rows.specs.declared.part.Part.{Part}
+use Rattle.name_rows.specs.declared.names.Bound.{Bound}
+use Rattle.name_rows.specs.declared.names.Record.{Record}
+use Rattle.name_rows.specs.declared.names.RowView.{RowView}
+use Rattle.name_rows.specs.declared.names.Part.{Part}
 use Rattle.name_rows.specs.Records.{In, row_place, row_word, records_in, records_of, Has, IsRow, OwnsIt, HoldsIt, KnowsIt, blank_part, learned, may_note}
 use Rattle.name_rows.specs.NamesLaw.{Held, Named}
 use Rattle.name_rows.specs.Laws.{in_right, none_is_some, has_push, has_longer, same_held, learned_alike, learned_holds, learned_knows}

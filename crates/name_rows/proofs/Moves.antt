@@ -3,14 +3,14 @@ use Rattle.std.proofs.Common.{◌≡◌, ℕ, ◌≢◌, ◌⊎◌, List, [], �
 use mathlib.Core.Option.{some}
 use lib.ListN.{get_elem?}
 use Rattle.smr_core.proofs.PlaceLemmas.{set_here, set_else, at_longer, at_end}
-use Rattle.smr_clock.specs.declared.setup.Setup.{Setup}
-use Rattle.name_rows.specs.declared.records.Bound.{Bound}
-use Rattle.name_rows.specs.declared.records.Record.{Record}
-use Rattle.name_rows.specs.declared.records.RowView.{RowView}
-use Rattle.name_rows.specs.declared.records.Hold.{Hold}
-use Rattle.name_rows.specs.declared.entry_state.EntryState.TheVariants.{Clean, Linked}
-use Rattle.name_rows.specs.declared.owned.Owned.{Owned}
-use Rattle.name_rows.specs.declared.part.Part.{Part}
+use Rattle.smr_clock.specs.declared.clock.Setup.{Setup}
+use Rattle.name_rows.specs.declared.names.Bound.{Bound}
+use Rattle.name_rows.specs.declared.names.Record.{Record}
+use Rattle.name_rows.specs.declared.names.RowView.{RowView}
+use Rattle.name_rows.specs.declared.names.Hold.{Hold}
+use Rattle.name_rows.specs.declared.entry.EntryState.TheVariants.{Clean, Linked}
+use Rattle.name_rows.specs.declared.entry.Owned.{Owned}
+use Rattle.name_rows.specs.declared.names.Part.{Part}
 use Rattle.name_rows.specs.Records.{In, row_word, last_in, last_record, owned_as, Has, IsRow, OwnsIt, HoldsIt, KnowsIt, blank_part}
 use Rattle.name_rows.specs.NamesLaw.{RowFitsAt, HoldFits, IsRecord, Held}
 use Rattle.name_rows.specs.Laws.{none_is_some, has_set, has_push}

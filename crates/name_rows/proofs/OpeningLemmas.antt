@@ -5,14 +5,14 @@ use Rattle.std.specs.Prelude.{slice_index_or}
 use mathlib.Core.Option.{some-injective, some-ne-none}
 use Rattle.std.proofs.lemmas.Nat.{div-mul-add}
 use Rattle.smr_core.specs.ClockState.{place_after_seats, opening_words}
-use Rattle.smr_clock.specs.declared.setup.Setup.{Setup}
+use Rattle.smr_clock.specs.declared.clock.Setup.{Setup}
 use Rattle.smr_clock.specs.Views.{first_view}
 use Rattle.smr_clock.specs.Making.{first_words, Opens}
 use Rattle.smr_clock.proofs.HostClocked.{opening-long, opens_clocked}
-use Rattle.name_rows.specs.declared.records.Record.{Record}
-use Rattle.name_rows.specs.declared.records.RowView.{RowView}
-use Rattle.name_rows.specs.declared.owned.Owned.{Owned}
-use Rattle.name_rows.specs.declared.part.Part.{Part}
+use Rattle.name_rows.specs.declared.names.Record.{Record}
+use Rattle.name_rows.specs.declared.names.RowView.{RowView}
+use Rattle.name_rows.specs.declared.entry.Owned.{Owned}
+use Rattle.name_rows.specs.declared.names.Part.{Part}
 use Rattle.name_rows.specs.Records.{In, row_place, key_place, row_word, fresh_entry, fresh_row, rows_from, entries_below, first_part, Has, IsRow, OwnsIt, HoldsIt, KnowsIt}
 use Rattle.name_rows.specs.NamesLaw.{IsPlan, RowFitsAt, Named}
 use Rattle.name_rows.specs.Laws.{none_is_some}

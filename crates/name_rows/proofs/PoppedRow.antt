@@ -3,7 +3,7 @@ use Rattle.std.proofs.Common.{◌≡◌, ℕ, ◌+◌, List, [], ◌∷◌, ◌+
 use Rattle.smr_clock.specs.declared.clock.Clock.{Clock}
 use Rattle.smr_clock.proofs.MakingLemmas.{last_there}
 use Rattle.name_rows.specs.declared.names.Names.{Names}
-use Rattle.name_rows.specs.declared.part.Part.{Part}
+use Rattle.name_rows.specs.declared.names.Part.{Part}
 use Rattle.name_rows.specs.declared.row.Row.{Row}
 use Rattle.name_rows.specs.Opening.{AreOpenRows}
 use Rattle.name_rows.specs.Rows.{IsRowOf}

@@ -1,12 +1,12 @@
 -- What the calls on the root come to.
 use Rattle.std.proofs.Common.{◌≡◌, ℕ, zero, suc, ◌<◌, true, List, [], ◌∷◌, length, set, get_or, sym, ap, ◌∙◌, ⊎_elim, arith, Option, Some, None, get_or-set_same, get_or-set_other}
 use Rattle.std.specs.Prelude.{option_to_list, slice_index_or}
-use Rattle.smr_clock.specs.declared.setup.Setup.{Setup}
+use Rattle.smr_clock.specs.declared.clock.Setup.{Setup}
 use Rattle.smr_clock.specs.declared.view.View.{View}
-use Rattle.smr_clock.specs.declared.host_act.HostAct.{HostAct}
+use Rattle.smr_clock.specs.declared.host.HostAct.{HostAct}
 use Rattle.smr_clock.specs.HostSteps.{SeatStepped, HostSplits}
-use Rattle.name_rows.specs.declared.owned.Owned.{Owned}
-use Rattle.name_rows.specs.declared.part.Part.{Part}
+use Rattle.name_rows.specs.declared.entry.Owned.{Owned}
+use Rattle.name_rows.specs.declared.names.Part.{Part}
 use Rattle.name_rows.specs.Records.{key_place}
 use Rattle.name_rows.specs.Ripening.{is_loose}
 use Rattle.name_rows.specs.Moving.{found, entry_no, rest_of_entries, next_entry}

@@ -3,14 +3,14 @@ use Rattle.std.proofs.Common.{◌≡◌, ℕ, ◌⊎◌, List, [], ◌∷◌, �
 use Rattle.std.specs.Prelude.{option_to_list}
 use mathlib.Core.Option.{some}
 use lib.ListN.{get_elem?}
-use Rattle.smr_clock.specs.declared.setup.Setup.{Setup}
+use Rattle.smr_clock.specs.declared.clock.Setup.{Setup}
 use Rattle.smr_clock.specs.declared.view.View.{View}
-use Rattle.smr_clock.specs.declared.host_act.HostAct.TheVariants.{Load}
+use Rattle.smr_clock.specs.declared.host.HostAct.TheVariants.{Load}
 use Rattle.smr_clock.specs.Views.{hosts_of}
 use Rattle.smr_clock.specs.HostSteps.{SeatKeeps, looked}
-use Rattle.name_rows.specs.declared.records.RowView.{RowView}
-use Rattle.name_rows.specs.declared.owned.Owned.{Owned}
-use Rattle.name_rows.specs.declared.part.Part.{Part}
+use Rattle.name_rows.specs.declared.names.RowView.{RowView}
+use Rattle.name_rows.specs.declared.entry.Owned.{Owned}
+use Rattle.name_rows.specs.declared.names.Part.{Part}
 use Rattle.name_rows.specs.Records.{In, key_place, HoldsIt, KnowsIt}
 use Rattle.name_rows.specs.NamesLaw.{Held, Named}
 use Rattle.name_rows.specs.Laws.{in_either, in_left, in_right, same_held}

@@ -4,19 +4,19 @@ use mathlib.Core.Option.{some}
 use Rattle.smr_core.specs.ClockState.{write_place, read_place}
 use lib.ListN.{get_elem?}
 use Rattle.smr_core.proofs.PlaceLemmas.{set_here}
-use Rattle.smr_clock.specs.declared.setup.Setup.{Setup}
+use Rattle.smr_clock.specs.declared.clock.Setup.{Setup}
 use Rattle.smr_clock.specs.declared.view.View.{View}
-use Rattle.smr_clock.specs.declared.host_act.HostAct.TheVariants.{Load, Store}
+use Rattle.smr_clock.specs.declared.host.HostAct.TheVariants.{Load, Store}
 use Rattle.smr_clock.specs.Views.{hosts_of}
 use Rattle.smr_clock.specs.HostSteps.{SeatKeeps, with_host, looked}
-use Rattle.name_rows.specs.declared.records.Bound.{Bound}
-use Rattle.name_rows.specs.declared.records.Record.{Record}
-use Rattle.name_rows.specs.declared.records.RowView.{RowView}
-use Rattle.name_rows.specs.declared.records.Hold.{Hold}
-use Rattle.name_rows.specs.declared.entry_state.EntryState.{EntryState}
-use Rattle.name_rows.specs.declared.entry_state.EntryState.TheVariants.{Clean, Written, Linked, Unlinked, Stamped}
-use Rattle.name_rows.specs.declared.owned.Owned.{Owned}
-use Rattle.name_rows.specs.declared.part.Part.{Part}
+use Rattle.name_rows.specs.declared.names.Bound.{Bound}
+use Rattle.name_rows.specs.declared.names.Record.{Record}
+use Rattle.name_rows.specs.declared.names.RowView.{RowView}
+use Rattle.name_rows.specs.declared.names.Hold.{Hold}
+use Rattle.name_rows.specs.declared.entry.EntryState.{EntryState}
+use Rattle.name_rows.specs.declared.entry.EntryState.TheVariants.{Clean, Written, Linked, Unlinked, Stamped}
+use Rattle.name_rows.specs.declared.entry.Owned.{Owned}
+use Rattle.name_rows.specs.declared.names.Part.{Part}
 use Rattle.name_rows.specs.Records.{In, row_place, row_word, opening, fresh_row, spelled, owned_as, Has, IsRow, OwnsIt}
 use Rattle.name_rows.specs.NamesLaw.{RowFitsAt, StillHeld, Held, Named}
 use Rattle.name_rows.specs.Linking.{bound_by, if_written, written_in, relinked, unlinked, restated, next_version, next_record, with_record, goes_on, links, unlinks, opened, opens, first_version, last_version}

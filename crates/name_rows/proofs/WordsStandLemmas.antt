@@ -1,7 +1,7 @@
 -- The words of an entry whose record is held stand.
 use Rattle.std.proofs.Common.{◌≡◌, sym, subst, ap, ◌∙◌}
-use Rattle.name_rows.specs.declared.entry_state.EntryState.{EntryState}
-use Rattle.name_rows.specs.declared.owned.Owned.{Owned}
+use Rattle.name_rows.specs.declared.entry.EntryState.{EntryState}
+use Rattle.name_rows.specs.declared.entry.Owned.{Owned}
 use Rattle.name_rows.specs.Records.{owned_as}
 use Rattle.name_rows.specs.NamesLaw.{StillHeld}
 use Rattle.name_rows.specs.WordsStand.{HeldWordsStand}

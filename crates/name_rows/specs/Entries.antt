@@ -5,12 +5,12 @@ use Rattle.uma_life.specs.Hook.{Hook, KegInit, after}
 use Rattle.smr_clock.specs.declared.clock.Clock.{Clock}
 use Rattle.smr_clock.specs.declared.view.View.{View}
 use Rattle.smr_clock.specs.Notes.{IsSeatOf, seat_knows}
-use Rattle.name_rows.specs.declared.entry_state.EntryState.{EntryState}
-use Rattle.name_rows.specs.declared.entry_state.EntryState.TheVariants.{Clean, Unlinked}
-use Rattle.name_rows.specs.declared.guest.Guest.{Guest}
+use Rattle.name_rows.specs.declared.entry.EntryState.{EntryState}
+use Rattle.name_rows.specs.declared.entry.EntryState.TheVariants.{Clean, Unlinked}
+use Rattle.name_rows.specs.declared.root.Guest.{Guest}
 use Rattle.name_rows.specs.declared.names.Names.{Names}
-use Rattle.name_rows.specs.declared.owned.Owned.{Owned}
-use Rattle.name_rows.specs.declared.part.Part.{Part}
+use Rattle.name_rows.specs.declared.entry.Owned.{Owned}
+use Rattle.name_rows.specs.declared.names.Part.{Part}
 use Rattle.name_rows.specs.declared.words.Words.{Words}
 use Rattle.name_rows.specs.declared.entry.Entry.{Entry}
 use Rattle.name_rows.specs.Belongs.{IsNamesClock}

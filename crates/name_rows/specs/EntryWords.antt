@@ -1,7 +1,7 @@
 -- When an entry has words, and which.
 use Rattle.std.specs.Prelude.{ℕ, Bool, true, false, Option, Some, None}
-use Rattle.uma_life.specs.declared.body_phase.BodyPhase.{BodyPhase}
-use Rattle.uma_life.specs.declared.body_phase.BodyPhase.TheVariants.{Raw, Kept, Zoned, Built, Gone}
+use Rattle.uma_life.specs.declared.tally.BodyPhase.{BodyPhase}
+use Rattle.uma_life.specs.declared.tally.BodyPhase.TheVariants.{Raw, Kept, Zoned, Built, Gone}
 use Rattle.name_rows.specs.declared.words.Words.{Words}
 
 -- the number of the entry whose words they are

@@ -1,12 +1,12 @@
 -- What the calls of a reader ask, and what they leave.
 use Rattle.std.specs.Prelude.{◌≡◌, ℕ, ◌%◌, ◌<◌}
-use Rattle.smr_core.specs.declared.phase.Phase.{Phase}
+use Rattle.smr_core.specs.declared.holder.Phase.{Phase}
 use Rattle.smr_clock.specs.declared.clock.Clock.{Clock}
-use Rattle.smr_clock.specs.declared.setup.Setup.{Setup}
+use Rattle.smr_clock.specs.declared.clock.Setup.{Setup}
 use Rattle.smr_clock.specs.Belongs.{IsPassOf, view, holder, setup_of}
 use Rattle.name_rows.specs.declared.names.Names.{Names}
-use Rattle.name_rows.specs.declared.part.Part.{Part}
-use Rattle.name_rows.specs.declared.records.Bound.{Bound}
+use Rattle.name_rows.specs.declared.names.Part.{Part}
+use Rattle.name_rows.specs.declared.names.Bound.{Bound}
 use Rattle.name_rows.specs.Belongs.{IsNamesClock}
 use Rattle.name_rows.specs.Reading.{HoldsOpen}
 use Rattle.name_rows.specs.Types.{NamesPass}

@@ -1,7 +1,7 @@
 -- The entry that a row names, as contracts see it.
 use Rattle.std.specs.Prelude.{ℕ, ◌+◌, Option, Some, None}
-use Rattle.name_rows.specs.declared.records.Bound.{Bound}
-use Rattle.name_rows.specs.declared.guest.Guest.{Guest}
+use Rattle.name_rows.specs.declared.names.Bound.{Bound}
+use Rattle.name_rows.specs.declared.root.Guest.{Guest}
 
 abbrev pub bound_of : Guest → Bound
 bound_of g = record { entry = g.no; key = g.key; value = g.value }

@@ -5,15 +5,15 @@ use mathlib.Core.Option.{some, some-injective, some-ne-none}
 use lib.ListN.{get_elem?}
 use Rattle.smr_core.specs.ClockState.{place_after_seats, write_hand, read_hand}
 use Rattle.smr_core.proofs.PlaceLemmas.{at_set, at_push, at_longer, at_map, set_else}
-use Rattle.smr_clock.specs.declared.setup.Setup.{Setup}
+use Rattle.smr_clock.specs.declared.clock.Setup.{Setup}
 use Rattle.smr_clock.specs.declared.view.View.{View}
 use Rattle.smr_clock.specs.Views.{hosts_of}
 use Rattle.smr_clock.specs.HostLaws.{Includes, FrameLaw, SplitLaw, JoinLaw}
-use Rattle.name_rows.specs.declared.records.Record.{Record}
-use Rattle.name_rows.specs.declared.records.RowView.{RowView}
-use Rattle.name_rows.specs.declared.records.Hold.{Hold}
-use Rattle.name_rows.specs.declared.owned.Owned.{Owned}
-use Rattle.name_rows.specs.declared.part.Part.{Part}
+use Rattle.name_rows.specs.declared.names.Record.{Record}
+use Rattle.name_rows.specs.declared.names.RowView.{RowView}
+use Rattle.name_rows.specs.declared.names.Hold.{Hold}
+use Rattle.name_rows.specs.declared.entry.Owned.{Owned}
+use Rattle.name_rows.specs.declared.names.Part.{Part}
 use Rattle.name_rows.specs.Records.{In, row_place, key_place, value_place, row_word, records_of, Has, IsRow, OwnsIt, HoldsIt, KnowsIt, blank_part, told, learned, owns_nothing, may_note}
 use Rattle.name_rows.specs.NamesLaw.{RowFitsAt, OwnedFits, HoldFits, IsRecord, Held, Named}
 

@@ -1,13 +1,13 @@
 -- How a row's word goes from one record to the next, and what becomes of the entries that the row's seat has.
 use Rattle.std.specs.Prelude.{◌≡◌, ℕ, ◌+◌, ◌≤◌, List, [], ◌∷◌, map, Option, Some, None}
 use Rattle.smr_clock.specs.HostSteps.{Change}
-use Rattle.name_rows.specs.declared.records.Bound.{Bound}
-use Rattle.name_rows.specs.declared.records.Record.{Record}
-use Rattle.name_rows.specs.declared.records.RowView.{RowView}
-use Rattle.name_rows.specs.declared.entry_state.EntryState.{EntryState}
-use Rattle.name_rows.specs.declared.entry_state.EntryState.TheVariants.{Clean, Written, Linked, Unlinked, Stamped}
-use Rattle.name_rows.specs.declared.owned.Owned.{Owned}
-use Rattle.name_rows.specs.declared.part.Part.{Part}
+use Rattle.name_rows.specs.declared.names.Bound.{Bound}
+use Rattle.name_rows.specs.declared.names.Record.{Record}
+use Rattle.name_rows.specs.declared.names.RowView.{RowView}
+use Rattle.name_rows.specs.declared.entry.EntryState.{EntryState}
+use Rattle.name_rows.specs.declared.entry.EntryState.TheVariants.{Clean, Written, Linked, Unlinked, Stamped}
+use Rattle.name_rows.specs.declared.entry.Owned.{Owned}
+use Rattle.name_rows.specs.declared.names.Part.{Part}
 use Rattle.name_rows.specs.Records.{In, records_of, last_record, taken_out, owned_as}
 
 abbrev pub bound_by : Owned → Bound

@@ -1,10 +1,10 @@
 -- How rows and entries go from one seat to another.
 use Rattle.std.specs.Prelude.{ℕ, ◌==◌, ◌++◌, List, [], ◌∷◌, cond, Option, Some, None, option_to_list}
-use Rattle.name_rows.specs.declared.records.RowView.{RowView}
-use Rattle.name_rows.specs.declared.entry_state.EntryState.{EntryState}
-use Rattle.name_rows.specs.declared.entry_state.EntryState.TheVariants.{Unlinked}
-use Rattle.name_rows.specs.declared.owned.Owned.{Owned}
-use Rattle.name_rows.specs.declared.part.Part.{Part}
+use Rattle.name_rows.specs.declared.names.RowView.{RowView}
+use Rattle.name_rows.specs.declared.entry.EntryState.{EntryState}
+use Rattle.name_rows.specs.declared.entry.EntryState.TheVariants.{Unlinked}
+use Rattle.name_rows.specs.declared.entry.Owned.{Owned}
+use Rattle.name_rows.specs.declared.names.Part.{Part}
 
 module _ {A : Type 0} (number : A → ℕ) where
   -- the first of this number

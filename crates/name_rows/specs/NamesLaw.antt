@@ -3,23 +3,23 @@
 --   1. The clock's law holds.
 --   2. A row's word spells its last record.
 --   3. Each row, and each entry, has one owner, which knows the entry's words. A linked entry is with its row, its words are those of the record, and its key is of that row.
---   4. A pass that holds a record of an entry, loaded in a section of this entry mark: while the read hand is at most the mark, the entry's words are the record's, and it is linked by it, or unlinked without a stamp, or stamped with a goal above the mark.
+--   4. A pass that holds a record of an entry, loaded in a section of this entry mark: while the read sequence is at most the mark, the entry's words are the record's, and it is linked by it, or unlinked without a stamp, or stamped with a goal above the mark.
 --   5. No clean entry is with a row. The root alone has both, before it has split its rows off.
 --   6. Each record that a seat knows is one of its row's. The records of a row follow one another, and what an unbinding took out is what the record before it had.
 use Rattle.std.specs.Prelude.{◌≡◌, ℕ, ◌%◌, ◌^◌, ◌<◌, ◌≤◌, List, [], length, slice_index, Some}
 use Rattle.smr_core.specs.ClockState.{write_hand, read_hand}
-use Rattle.smr_clock.specs.declared.setup.Setup.{Setup}
+use Rattle.smr_clock.specs.declared.clock.Setup.{Setup}
 use Rattle.smr_clock.specs.declared.view.View.{View}
 use Rattle.smr_clock.specs.Views.{hosts_of}
 use Rattle.smr_clock.specs.Clocked.{Clocked}
-use Rattle.name_rows.specs.declared.records.Bound.{Bound}
-use Rattle.name_rows.specs.declared.records.Record.{Record}
-use Rattle.name_rows.specs.declared.records.RowView.{RowView}
-use Rattle.name_rows.specs.declared.records.Hold.{Hold}
-use Rattle.name_rows.specs.declared.entry_state.EntryState.{EntryState}
-use Rattle.name_rows.specs.declared.entry_state.EntryState.TheVariants.{Clean, Written, Linked, Unlinked, Stamped}
-use Rattle.name_rows.specs.declared.owned.Owned.{Owned}
-use Rattle.name_rows.specs.declared.part.Part.{Part}
+use Rattle.name_rows.specs.declared.names.Bound.{Bound}
+use Rattle.name_rows.specs.declared.names.Record.{Record}
+use Rattle.name_rows.specs.declared.names.RowView.{RowView}
+use Rattle.name_rows.specs.declared.names.Hold.{Hold}
+use Rattle.name_rows.specs.declared.entry.EntryState.{EntryState}
+use Rattle.name_rows.specs.declared.entry.EntryState.TheVariants.{Clean, Written, Linked, Unlinked, Stamped}
+use Rattle.name_rows.specs.declared.entry.Owned.{Owned}
+use Rattle.name_rows.specs.declared.names.Part.{Part}
 use Rattle.name_rows.specs.Records.{In, key_place, value_place, row_word, spelled, records_of, last_record, Chained, owned_as, Has, IsRow, OwnsIt, HoldsIt, KnowsIt}
 
 -- the counts of rows and of entries are in range

@@ -2,20 +2,20 @@
 use Rattle.std.specs.Prelude.{◌≡◌, ℕ, ◌+◌, ◌-◌, ◌^◌, ◌<◌, ◌≤◌, ◌⊎◌, List, [], ◌∷◌, Option, Some, None, length, slice_index_or}
 use mathlib.Core.Option.{some}
 use lib.ListN.{get_elem?}
-use Rattle.smr_core.specs.declared.clock_config.ClockConfig.{ClockConfig}
+use Rattle.smr_core.specs.declared.clock_core.ClockConfig.{ClockConfig}
 use Rattle.smr_core.specs.ClockState.{IsInRange}
 use Rattle.smr_core.specs.Making.{RefusesNumbers}
 use Rattle.smr_clock.specs.declared.clock.Clock.{Clock}
-use Rattle.smr_clock.specs.declared.setup.Setup.{Setup}
+use Rattle.smr_clock.specs.declared.clock.Setup.{Setup}
 use Rattle.smr_clock.specs.Belongs.{setup_of}
 use Rattle.smr_clock.specs.Making.{AreWorkers}
 use Rattle.smr_clock.specs.Notes.{IsSeatOf, seat_knows}
 use Rattle.name_rows.specs.declared.names.Names.{Names}
-use Rattle.name_rows.specs.declared.names_refused.NamesRefused.{NamesRefused}
-use Rattle.name_rows.specs.declared.names_refused.NamesRefused.TheVariants.{Clock as ClockNumber, Rows, Entries, Version, Memory}
-use Rattle.name_rows.specs.declared.part.Part.{Part}
-use Rattle.name_rows.specs.declared.opened.Opened.{Opened}
-use Rattle.name_rows.specs.declared.owned.Owned.{Owned}
+use Rattle.name_rows.specs.declared.making.NamesRefused.{NamesRefused}
+use Rattle.name_rows.specs.declared.making.NamesRefused.TheVariants.{Clock as ClockNumber, Rows, Entries, Version, Memory}
+use Rattle.name_rows.specs.declared.names.Part.{Part}
+use Rattle.name_rows.specs.declared.making.Opened.{Opened}
+use Rattle.name_rows.specs.declared.entry.Owned.{Owned}
 use Rattle.name_rows.specs.declared.row.Row.{Row}
 use Rattle.name_rows.specs.Belongs.{IsNamesClock}
 use Rattle.name_rows.specs.NamesLaw.{IsPlan}

@@ -1,8 +1,8 @@
 -- What the root keeps of entries, by number.
 use Rattle.std.specs.Prelude.{◌≡◌, ℕ, List, Bool, true, Option, Some, None, slice_set}
 use Rattle.smr_clock.specs.HostSteps.{Change}
-use Rattle.name_rows.specs.declared.owned.Owned.{Owned}
-use Rattle.name_rows.specs.declared.part.Part.{Part}
+use Rattle.name_rows.specs.declared.entry.Owned.{Owned}
+use Rattle.name_rows.specs.declared.names.Part.{Part}
 use Rattle.name_rows.specs.Records.{key_place}
 use Rattle.name_rows.specs.Ripening.{is_loose}
 

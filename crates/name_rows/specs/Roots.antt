@@ -1,13 +1,13 @@
 -- What contracts see of the root.
 use Rattle.std.specs.Prelude.{◌≡◌, ◌⊎◌, ℕ, List, Option, Some, None, slice_index_or, slice_set}
 use Rattle.uma_life.specs.Life.{raw_life}
-use Rattle.uma_life.specs.declared.body_phase.BodyPhase.TheVariants.{Raw, Gone}
+use Rattle.uma_life.specs.declared.tally.BodyPhase.TheVariants.{Raw, Gone}
 use Rattle.uma_life.specs.declared.tally.Tally.{Tally}
 use Rattle.smr_clock.specs.declared.clock.Clock.{Clock}
 use Rattle.smr_clock.specs.Notes.{IsSeatOf}
 use Rattle.name_rows.specs.declared.names.Names.{Names}
-use Rattle.name_rows.specs.declared.owned.Owned.{Owned}
-use Rattle.name_rows.specs.declared.part.Part.{Part}
+use Rattle.name_rows.specs.declared.entry.Owned.{Owned}
+use Rattle.name_rows.specs.declared.names.Part.{Part}
 use Rattle.name_rows.specs.declared.words.Words.{Words}
 use Rattle.name_rows.specs.declared.entry.Entry.{Entry}
 use Rattle.name_rows.specs.declared.root.Root.{Root}

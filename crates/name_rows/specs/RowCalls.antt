@@ -2,10 +2,10 @@
 use Rattle.std.specs.Prelude.{◌≡◌, ℕ, ◌+◌, ◌≤◌, ◌<◌, ◌^◌, [], ◌∷◌, ◌++◌, Option, Some, None, IfSome}
 use Rattle.smr_clock.specs.declared.clock.Clock.{Clock}
 use Rattle.smr_clock.specs.Belongs.{IsPassOf, view, holder, setup_of}
-use Rattle.name_rows.specs.declared.records.Record.{Record}
-use Rattle.name_rows.specs.declared.entry_state.EntryState.TheVariants.{Written}
+use Rattle.name_rows.specs.declared.names.Record.{Record}
+use Rattle.name_rows.specs.declared.entry.EntryState.TheVariants.{Written}
 use Rattle.name_rows.specs.declared.names.Names.{Names}
-use Rattle.name_rows.specs.declared.part.Part.{Part}
+use Rattle.name_rows.specs.declared.names.Part.{Part}
 use Rattle.name_rows.specs.declared.entry.Entry.{Entry}
 use Rattle.name_rows.specs.declared.row.Row.{Row}
 use Rattle.name_rows.specs.Belongs.{IsNamesClock}

@@ -5,10 +5,10 @@ use Rattle.smr_clock.specs.declared.view.View.{View}
 use Rattle.smr_clock.specs.Belongs.{setup_of}
 use Rattle.smr_clock.specs.HostSteps.{HostSplits}
 use Rattle.smr_clock.specs.Notes.{IsSeatOf, seat_knows}
-use Rattle.name_rows.specs.declared.entry_state.EntryState.TheVariants.{Written, Unlinked}
-use Rattle.name_rows.specs.declared.guest.Guest.{Guest}
+use Rattle.name_rows.specs.declared.entry.EntryState.TheVariants.{Written, Unlinked}
+use Rattle.name_rows.specs.declared.root.Guest.{Guest}
 use Rattle.name_rows.specs.declared.names.Names.{Names}
-use Rattle.name_rows.specs.declared.part.Part.{Part}
+use Rattle.name_rows.specs.declared.names.Part.{Part}
 use Rattle.name_rows.specs.declared.words.Words.{Words}
 use Rattle.name_rows.specs.declared.entry.Entry.{Entry}
 use Rattle.name_rows.specs.Belongs.{IsNamesClock}

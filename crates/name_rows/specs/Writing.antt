@@ -1,13 +1,13 @@
 -- What the owner of an entry makes of it: it writes the entry's words, stamps the entry, and finds it ripe.
 use Rattle.std.specs.Prelude.{◌≡◌, ℕ, ◌+◌, map, cond, nat_le}
 use Rattle.smr_clock.specs.declared.view.View.{View}
-use Rattle.smr_clock.specs.declared.host_act.HostAct.{HostAct}
-use Rattle.smr_clock.specs.declared.host_act.HostAct.TheVariants.{Store}
+use Rattle.smr_clock.specs.declared.host.HostAct.{HostAct}
+use Rattle.smr_clock.specs.declared.host.HostAct.TheVariants.{Store}
 use Rattle.smr_clock.specs.HostSteps.{Change}
-use Rattle.name_rows.specs.declared.entry_state.EntryState.{EntryState}
-use Rattle.name_rows.specs.declared.entry_state.EntryState.TheVariants.{Clean, Written, Linked, Unlinked, Stamped}
-use Rattle.name_rows.specs.declared.owned.Owned.{Owned}
-use Rattle.name_rows.specs.declared.part.Part.{Part}
+use Rattle.name_rows.specs.declared.entry.EntryState.{EntryState}
+use Rattle.name_rows.specs.declared.entry.EntryState.TheVariants.{Clean, Written, Linked, Unlinked, Stamped}
+use Rattle.name_rows.specs.declared.entry.Owned.{Owned}
+use Rattle.name_rows.specs.declared.names.Part.{Part}
 
 abbrev pub with_owned : (Owned → Owned) → Part → Part
 with_owned f p = record p { owned = map f p.owned }
@@ -27,7 +27,7 @@ valued value o = record o { value = value; state = Written }
 abbrev pub stamped : ℕ → Owned → Owned
 stamped goal o = record o { state = Stamped goal }
 
--- An entry that has a stamp is clean once the read hand has come to it. One that wasn't linked has none.
+-- An entry that has a stamp is clean once the read sequence has come to it. One that wasn't linked has none.
 abbrev pub ripe_state : ℕ → EntryState → EntryState
 ripe_state read Clean = Clean
 ripe_state read Written = Clean
@@ -52,10 +52,10 @@ writes_key v word act found part = part ≡ with_owned (keyed (stored act)) v.ho
 abbrev pub writes_value : Change Part
 writes_value v word act found part = part ≡ with_owned (valued (stored act)) v.host
 
--- a load of the write hand: the stamp is two more
+-- a load of the write sequence: the stamp is two more
 abbrev pub stamps : Change Part
 stamps v word act found part = part ≡ with_owned (stamped (found + 2)) v.host
 
--- a load of the read hand
+-- a load of the read sequence
 abbrev pub ripens : Change Part
 ripens v word act found part = part ≡ with_owned (ripened found) v.host

@@ -3,10 +3,11 @@ ghost use Rattle.smr_clock.specs.Belongs.{IsPassOf, view, setup_of};
 ghost use Rattle.name_rows.specs.Belongs.{IsNamesClock};
 ghost use Rattle.name_rows.specs.Finding.{CanFind, CanLoadRow, CanLoadEntry, LoadsEntry, IsRowOfKey};
 ghost use Rattle.name_rows.specs.Reading.{Finds, ReadsRecord, slot_entry};
+ghost use Rattle.name_rows.specs.RowCalls.{CanMeet, MeetsPass};
 
-use crate::names::Names;
-use crate::places::{key_place, row_place, value_place};
-use smr_clock::{Clock, HostAct, HostPlay, Pass};
+use crate::names::{Names, key_place, row_place, value_place};
+use crate::row::Row;
+use smr_clock::{Clock, HostAct, HostJoin, HostPlay, HostSplit, Note, Pass};
 
 /// A load of a row's word.
 struct ReadsRow;
@@ -66,8 +67,13 @@ fn load_value(clock: &Clock<Names>, pass: &mut Pass<Names>, entry: u32) -> u64
     clock.host_step::<ReadsEntry>(pass, value_place(clock, entry), HostAct::Load)
 }
 
-/// The value that the key's row binds to the key at the load of the row's word in this call. The pass is inside a
-/// section: as long as it is, the entry that the word names isn't written again. Waits for nobody.
+/// Returns the value that the key's row binds to the key, at the load of the row's word in this call. Returns None if
+/// the row is empty or binds another key. The row's record is at least as new as every record of it that the pass knew.
+/// The pass must be inside a section, and the entry that the word names isn't written again while it is.
+///
+/// # Arguments
+///
+/// - `key`: the key, any number.
 pub fn find(clock: &Clock<Names>, pass: &mut Pass<Names>, key: u64) -> Option<u64>
     requires { CanFind clock.now pass.old }
     ensures here { IsPassOf clock.now pass.new }
@@ -80,4 +86,46 @@ pub fn find(clock: &Clock<Names>, pass: &mut Pass<Names>, key: u64) -> Option<u6
         return None;
     }
     Some(load_value(clock, pass, entry))
+}
+
+/// The row's seat learns what a note knows.
+struct Learns;
+
+impl HostJoin<Names> for Learns {
+    ghost use Rattle.name_rows.specs.Records.{learned};
+
+    ghost both = { learned };
+}
+
+/// A load of the row's own word, which tells that its last record is the newest known.
+struct Meets;
+
+impl HostPlay<Names> for Meets {
+    ghost use Rattle.name_rows.specs.Linking.{meets};
+
+    ghost changes = { meets };
+}
+
+/// A note with the row's last record.
+struct Tells;
+
+impl HostSplit<Names> for Tells {
+    ghost use Rattle.name_rows.specs.Linking.{telling};
+
+    ghost left = { λ part. part };
+
+    ghost right = { telling };
+}
+
+/// Gives the pass the row's last record, which is at least as new as every record of the row that the pass knew.
+pub fn meet(clock: &Clock<Names>, row: &mut Row, pass: &mut Pass<Names>)
+    requires { CanMeet clock.now row.old pass.old }
+    ensures { MeetsPass clock.now row.old pass.old row.new pass.new }
+{
+    let note = clock.note(pass).into_host();
+    clock.seat_join::<Learns>(&mut row.seat, note);
+    let place = row_place(clock, row.number);
+    clock.seat_step::<Meets>(&mut row.seat, place, HostAct::Load);
+    let told = clock.seat_split::<Tells>(&mut row.seat);
+    clock.absorb(pass, Note::of_host(told));
 }

@@ -1,19 +1,106 @@
-ghost use Rattle.std.specs.Prelude.{◌≡◌, ◌^◌, ◌*◌, ◌++◌, [], ◌∷◌, IfOk, IfErr, OnOk, replicate};
+ghost use Rattle.std.specs.Prelude.{◌≡◌, IfOk, ◌^◌, ◌*◌, ◌++◌, [], ◌∷◌, IfErr, OnOk, replicate};
+ghost use Rattle.name_rows.specs.Records.{row_place};
+ghost use Rattle.name_rows.specs.Opening.{CanSplitRow, SplitsRow, CanOpenRow, IsOpenRow, RefusesNames, FitsPlan, AcceptsNames, AreFreshEntries, IsOpenedWith, CanSplitRows, SplitsRows};
 ghost use Rattle.smr_clock.specs.Making.{setup};
-ghost use Rattle.name_rows.specs.Opening.{RefusesNames, FitsPlan, AcceptsNames, AreFreshEntries, IsOpenedWith, CanSplitRows, SplitsRows};
 
-use crate::entry_state::EntryState;
-use crate::names::Names;
-use crate::names_refused::NamesRefused;
-use crate::opened::Opened;
-use crate::opening::{open_row, split_row};
-use crate::owned::Owned;
+use crate::entry::{EntryState, Owned};
+use crate::names::{Names, row_place};
 use crate::root::Root;
 use crate::row::Row;
 use listed::Listed;
-use smr_clock::{Clock, HostSeat, Memory};
+use smr_clock::{Clock, ClockRefused, HostAct, HostPlay, HostSeat, HostSplit, Memory, Pass};
 use smr_core::ClockConfig;
 use std::alloc::{AllocError, Global};
+
+/// Why no names were made. The tests are made in this order.
+#[derive(Clone, Copy, Debug, PartialEq, Eq)]
+pub enum NamesRefused {
+    /// A number of the clock is out of range.
+    Clock { refused: ClockRefused },
+    /// Not from 1 to 4,096 rows.
+    Rows { rows: u32 },
+    /// More than 65,536 entries.
+    Entries { entries: u32 },
+    /// The version is above 2^44 - 1.
+    Version { version: u64 },
+    Memory,
+}
+
+/// A list of passes.
+pub type PassList = Listed<Pass<Names>>;
+
+/// A list of rows.
+pub type RowList = Listed<Row>;
+
+/// A clock of names as it begins.
+#[derive(Drop)]
+pub struct Opened {
+    pub clock: Clock<Names>,
+    /// One a seat, in order of number.
+    pub passes: PassList,
+    /// In order of number.
+    pub rows: RowList,
+    pub root: Root,
+}
+
+// The steps of a making.
+
+/// The first row gets a seat of its own.
+pub(crate) struct GivesRow;
+
+impl HostSplit<Names> for GivesRow {
+    ghost use Rattle.name_rows.specs.Moving.{rest_of_rows, first_row};
+
+    ghost left = { rest_of_rows };
+
+    ghost right = { first_row };
+}
+
+/// The first load of a row's word.
+struct Opens;
+
+impl HostPlay<Names> for Opens {
+    ghost use Rattle.name_rows.specs.Linking.{opens};
+
+    ghost changes = { opens };
+}
+
+/// Splits the next row off.
+pub(crate) fn split_row(
+    clock: &Clock<Names>,
+    root: &mut HostSeat<Names>,
+    number: u32,
+) -> HostSeat<Names>
+    requires { CanSplitRow clock.now root.old number }
+    ensures { SplitsRow clock.now root.old number result root.new }
+{
+    clock.seat_split::<GivesRow>(root)
+}
+
+/// The row of a seat that was just split off. Its word spells the opening version: that it spells another, which never
+/// happens, is answered as want of memory.
+pub(crate) fn open_row(
+    clock: &Clock<Names>,
+    seat: HostSeat<Names>,
+    number: u32,
+    version: u64,
+) -> Result<Row, Memory>
+    requires { CanOpenRow clock.now seat number version }
+    ensures { IfOk result (IsOpenRow clock.now number version) }
+{
+    let mut seat = seat;
+    let place = row_place(clock, number);
+    let word = clock.seat_step::<Opens>(&mut seat, place, HostAct::Load);
+    if word / (1 << 20) != version {
+        return Err(Memory);
+    }
+    Ok(Row {
+        seat,
+        number,
+        version,
+        guest: None,
+    })
+}
 
 /// The most rows, and the most entries.
 const MOST_ROWS: u32 = 4096;
@@ -99,13 +186,23 @@ fn split_rows(
     Ok(rows)
 }
 
-/// A clock of names: every row is empty at the version, and the root has every entry, clean. Both hands are at `start`.
-/// All else that the names do takes no memory.
+/// Makes a clock of names with its passes, the rows, and the root. Every row is empty at `version`, and the root has
+/// every entry, clean. Both sequences are at `start`. No other call of names allocates.
+///
+/// # Arguments
+///
+/// - `seats`: the count of seats, 1 to 64.
+/// - `start`: where both sequences begin, an odd number, at most 2^63 - 1.
+/// - `window`: how far the write sequence may be ahead of the read sequence, an even number from 4 to 2^30.
+/// - `rows`: the count of rows, 1 to 4,096.
+/// - `entries`: the count of entries, at most 65,536.
+/// - `version`: the version at which each row begins, at most 2^44 - 1.
 ///
 /// # Errors
 ///
-/// `Clock` where a number of the clock is out of range; `Rows` outside 1 to 4,096; `Entries` above 65,536; `Version`
-/// above 2^44 - 1; `Memory` for want of memory.
+/// - `Clock`: a number of the clock is out of its range, as for `Clock::new`.
+/// - `Rows`, `Entries`, `Version`: that number is out of its range.
+/// - `Memory`: out of memory.
 pub fn make(
     alloc: Global,
     seats: u32,

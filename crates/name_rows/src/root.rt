@@ -3,9 +3,20 @@ ghost use Rattle.smr_clock.specs.Notes.{seat_knows};
 ghost use Rattle.name_rows.specs.Moving.{entry_no, found};
 ghost use Rattle.name_rows.specs.RootStates.{is_loose_at};
 
+use crate::entry::Owned;
 use crate::names::Names;
-use crate::owned::Owned;
 use smr_clock::HostSeat;
+use uma_life::{BodyPhase, Tally};
+
+/// The entry that a row names: what its body says, and what stands in its words.
+#[derive(Clone, Copy, Debug, PartialEq, Eq)]
+pub struct Guest {
+    pub(crate) no: u32,
+    pub(crate) phase: BodyPhase,
+    pub(crate) tally: Tally,
+    pub(crate) key: u64,
+    pub(crate) value: u64,
+}
 
 /// The owner of the entries that aren't raised.
 #[derive(Drop)]

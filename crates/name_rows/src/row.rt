@@ -3,8 +3,8 @@ ghost use Rattle.smr_clock.specs.Notes.{seat_knows};
 ghost use Rattle.name_rows.specs.Guests.{content_of, next_no};
 ghost use Rattle.name_rows.specs.Linking.{last_seen, linked_in};
 
-use crate::guest::Guest;
 use crate::names::Names;
+use crate::root::Guest;
 use smr_clock::HostSeat;
 
 /// A row: the owner of its word, and of the entry that the word names.
@@ -24,21 +24,21 @@ pub struct Row {
 impl Row {
     ghost use Rattle.name_rows.specs.Rows.{key_in, value_in, IsVersionOf};
 
-    /// The row's number.
+    /// Returns the row's number.
     pub fn number(&self) -> u32
         ensures { result ≡ self.now.number }
     {
         self.number
     }
 
-    /// The version of its last record, below 2^44.
+    /// Returns the version of the row's last record, below 2^44.
     pub fn version(&self) -> u64
         ensures { IsVersionOf self.now result }
     {
         self.version
     }
 
-    /// The key that its last record binds.
+    /// Returns the key that the row's last record binds.
     pub fn key(&self) -> Option<u64>
         ensures { result ≡ key_in self.now.guest }
     {
@@ -48,7 +48,7 @@ impl Row {
         }
     }
 
-    /// The value that its last record binds to the key.
+    /// Returns the value that the row's last record binds to the key.
     pub fn value(&self) -> Option<u64>
         ensures { result ≡ value_in self.now.guest }
     {

@@ -3,13 +3,11 @@ ghost use Rattle.smr_clock.specs.Notes.{IsSeatOf, seat_knows};
 ghost use Rattle.name_rows.specs.Ripening.{is_loose, StampsAt, StampsIfUnlinked, LoadsReadHand, IsRipe, IsUnripe};
 ghost use Rattle.name_rows.specs.Writing.{keyed, valued, ripe_state};
 
-use crate::entry_state::EntryState;
-use crate::names::Names;
-use crate::owned::Owned;
-use crate::places::{key_place, value_place};
-use crate::unripe::Unripe;
+use crate::entry::{EntryState, Owned};
+use crate::names::{Names, key_place, value_place};
+use crate::writing::Unripe;
 use smr_clock::{Clock, HostAct, HostPlay, HostSeat};
-use smr_core::places::{READ_PLACE, WRITE_PLACE};
+use smr_core::hands::{READ_PLACE, WRITE_PLACE};
 
 /// The store of a key word.
 struct WritesKey;
@@ -29,7 +27,7 @@ impl HostPlay<Names> for WritesValue {
     ghost changes = { writes_value };
 }
 
-/// A load of the write hand, which stamps.
+/// A load of the write sequence, which stamps.
 struct Stamps;
 
 impl HostPlay<Names> for Stamps {
@@ -38,7 +36,7 @@ impl HostPlay<Names> for Stamps {
     ghost changes = { stamps };
 }
 
-/// A load of the read hand, which cleans.
+/// A load of the read sequence, which cleans.
 struct Ripens;
 
 impl HostPlay<Names> for Ripens {
@@ -92,12 +90,14 @@ impl Words {
         self.kept.state = EntryState::Written;
     }
 
-    /// Stamps an unlinked entry: two above the write hand that it loads.
+    /// Stamps an unlinked entry: two above the write sequence that it loads.
     pub(crate) fn stamp(&mut self, clock: &Clock<Names>)
         requires { CanStampWords clock.now self.old }
         ensures same { KeepsEntry clock.now self.old self.new }
         ensures stamped { StampsAt (seat_knows self.old.seat) self.old.kept (seat_knows self.new.seat) self.new.kept }
     {
+        // The entry was unlinked before this load of the write sequence, so a section that found it has a mark of at most that hand, which is
+        // below the stamp. Once the read sequence has reached the stamp no such section is open, and the entry may be written again.
         let write = clock.seat_step::<Stamps>(&mut self.seat, WRITE_PLACE as u32, HostAct::Load);
         self.kept.state = EntryState::Stamped { goal: write + 2 };
     }
@@ -112,7 +112,7 @@ impl Words {
         }
     }
 
-    // The read hand that it loads. The entry is clean after it where it has no stamp that is above that hand.
+    // The read sequence that it loads. The entry is clean after it where it has no stamp that is above that hand.
     fn load_read_hand(&mut self, clock: &Clock<Names>) -> u64
         requires { CanRipenWords clock.now self.old }
         ensures same { KeepsEntry clock.now self.old self.new }
@@ -139,7 +139,7 @@ impl Words {
     }
 }
 
-// The state of an entry after a load of the read hand.
+// The state of an entry after a load of the read sequence.
 fn ripe_state(state: EntryState, read: u64) -> EntryState
     ensures { result ≡ ripe_state read state }
 {

@@ -2,10 +2,10 @@
 use Rattle.std.proofs.Common.{◌≡◌, ℕ, suc, ◌<◌, ◌≤◌, List, [], ◌∷◌, refl, ap, ◌∙◌, arith, fold, ⊎_elim}
 use Rattle.smr_seq.specs.Reading.{low}
 use Rattle.smr_seq.proofs.ReadingLemmas.{IsReading-unique, low-IsReading}
-use Rattle.smr_core.specs.declared.found_word.FoundWord.{FoundWord}
+use Rattle.smr_core.specs.declared.turns.FoundWord.{FoundWord}
 use Rattle.smr_core.specs.ClockStep.{least_after}
 use Rattle.smr_core.specs.Remembered.{words_found}
-use Rattle.smr_clock.specs.declared.refused.AdvanceRefused.TheVariants.{TooFar, Spent}
+use Rattle.smr_clock.specs.declared.polls.AdvanceRefused.TheVariants.{TooFar, Spent}
 use Rattle.smr_clock.specs.Complete.{AdvancesWithRoom, SaysYesOfKnown, NoneEntered, SaysYesOfNoSection}
 
 pub advances_with_room : {P : Type 0} → AdvancesWithRoom P

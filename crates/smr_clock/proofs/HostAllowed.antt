@@ -2,9 +2,9 @@
 use Rattle.std.proofs.Common.{◌≡◌, ℕ, refl, sym, ◌∙◌, subst}
 use Rattle.atomic_table.specs.Table.{State, Me, Allows, Splits, Joins, keeps}
 use Rattle.smr_core.proofs.PlaceLemmas.{set_else}
-use Rattle.smr_clock.specs.declared.setup.Setup.{Setup}
+use Rattle.smr_clock.specs.declared.clock.Setup.{Setup}
 use Rattle.smr_clock.specs.declared.view.View.{View}
-use Rattle.smr_clock.specs.declared.host_act.HostAct.{HostAct}
+use Rattle.smr_clock.specs.declared.host.HostAct.{HostAct}
 use Rattle.smr_clock.specs.HostLaws.{Rule}
 use Rattle.smr_clock.specs.Views.{spent_view}
 use Rattle.smr_clock.specs.Steps.{IsWriteFound, write_looking, note_view, joined_view}

@@ -10,7 +10,7 @@ use Rattle.smr_core.specs.Remembered.{RememberedLaw}
 use Rattle.smr_core.specs.Remembered.{View as Plain}
 use Rattle.smr_core.specs.RememberedMoves.{holders_in, KeepsMemory}
 use Rattle.smr_core.proofs.PlaceLemmas.{at_set, set_again, at_map, map_set}
-use Rattle.smr_clock.specs.declared.setup.Setup.{Setup}
+use Rattle.smr_clock.specs.declared.clock.Setup.{Setup}
 use Rattle.smr_clock.specs.declared.view.View.{View}
 use Rattle.smr_clock.specs.Views.{plain, plain_views, holders_of, seats_in, hosts_of}
 use Rattle.smr_clock.specs.Clocked.{Clocked}

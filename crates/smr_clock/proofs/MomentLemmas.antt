@@ -19,7 +19,7 @@ use Rattle.smr_core.proofs.Keeps.PollLoads.{poll_read-keeps, poll_load-keeps, po
 use Rattle.smr_core.proofs.Keeps.PollScan.{poll_scan-keeps}
 use Rattle.smr_core.proofs.Keeps.OtherWords.{other_word-keeps}
 use Rattle.smr_core.proofs.Keeps.Memory.{write_look-remembers, read_look-remembers, enter_load-remembers, enter_store-remembers, enter_check-remembers, clear-remembers, leave-remembers, come-remembers, advance_read-remembers, advance_load-remembers, advance_swap-remembers, poll_read-remembers, poll_load-remembers, poll_present-remembers, poll_scan-remembers, poll_swap-remembers}
-use Rattle.smr_clock.specs.declared.setup.Setup.{Setup}
+use Rattle.smr_clock.specs.declared.clock.Setup.{Setup}
 use Rattle.smr_clock.specs.declared.view.View.{View}
 use Rattle.smr_clock.specs.Views.{plain, plain_views, holders_of}
 use Rattle.smr_clock.specs.Clocked.{Clocked}

@@ -2,7 +2,7 @@
 use Rattle.std.proofs.Common.{◌≡◌, ℕ, ◌≤◌, List, [], ◌∷◌, arith}
 use Rattle.smr_core.specs.ClockState.{read_hand}
 use Rattle.smr_core.proofs.KindLemmas.{marks_above_read}
-use Rattle.smr_clock.specs.declared.setup.Setup.{Setup}
+use Rattle.smr_clock.specs.declared.clock.Setup.{Setup}
 use Rattle.smr_clock.specs.Views.{holders_of}
 use Rattle.smr_clock.specs.Clocked.{Clocked}
 use Rattle.smr_clock.specs.Moments.{Moment}

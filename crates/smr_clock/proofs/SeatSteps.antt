@@ -5,13 +5,13 @@ use borrow.Author.Tests.{eqb-true, ne_eqb}
 use mathlib.Core.Option.{some}
 use lib.ListN.{get_elem?}
 use Rattle.atomic_table.specs.Table.{State, Me, Allows, keeps}
-use Rattle.smr_core.specs.declared.clock_config.ClockConfig.{ClockConfig}
+use Rattle.smr_core.specs.declared.clock_core.ClockConfig.{ClockConfig}
 use Rattle.smr_core.specs.declared.holder.Holder.{Holder}
 use Rattle.smr_core.specs.ClockState.{write_place, read_place, place_after_seats}
 use Rattle.smr_core.specs.ClockLaw.{ClockLaw}
-use Rattle.smr_clock.specs.declared.setup.Setup.{Setup}
+use Rattle.smr_clock.specs.declared.clock.Setup.{Setup}
 use Rattle.smr_clock.specs.declared.view.View.{View}
-use Rattle.smr_clock.specs.declared.host_act.HostAct.TheVariants.{Load}
+use Rattle.smr_clock.specs.declared.host.HostAct.TheVariants.{Load}
 use Rattle.smr_clock.specs.Views.{holders_of}
 use Rattle.smr_clock.specs.HostLaws.{Rule, Includes}
 use Rattle.smr_clock.specs.Steps.{IsWriteFound, IsReadFound}
@@ -36,7 +36,7 @@ finds a ws hs id h word law at =
 pub hand_below : (a : ClockConfig) (word : ℕ) → IsHand word → word < place_after_seats a
 hand_below a word hand = ⊎_elim (λ e. omega arith) (λ e. omega arith) hand
 
--- a word behind the hands is none
+-- a word behind the sequences is none
 no_write : (word : ℕ) → read_place < word → (word == write_place) ≡ false
 no_write word above = ne_eqb word write_place (λ e. omega arith)
 

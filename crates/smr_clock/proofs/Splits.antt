@@ -5,7 +5,7 @@ use mathlib.Core.Option.{some}
 use lib.ListN.{get_elem?}
 use Rattle.atomic_table.specs.Table.{State, Splits, Joins}
 use Rattle.smr_core.specs.declared.holder.Holder.{Holder}
-use Rattle.smr_core.specs.declared.phase.Phase.TheVariants as phase
+use Rattle.smr_core.specs.declared.holder.Phase.TheVariants as phase
 use Rattle.smr_core.specs.ClockState.{seats_of, spent}
 use Rattle.smr_core.specs.ClockStep as clock
 use Rattle.smr_core.specs.ClockLaw.{ClockLaw, HasNoHolder, Later}
@@ -16,7 +16,7 @@ use Rattle.smr_core.proofs.KindLemmas.{seat_in_phase}
 use Rattle.smr_core.proofs.Keeps.Splits.{note-keeps, worker-keeps}
 use Rattle.smr_core.proofs.Keeps.Joins.{join-keeps}
 use Rattle.smr_core.proofs.Keeps.Memory.{note-remembers, worker-remembers, join-remembers}
-use Rattle.smr_clock.specs.declared.setup.Setup.{Setup}
+use Rattle.smr_clock.specs.declared.clock.Setup.{Setup}
 use Rattle.smr_clock.specs.declared.view.View.{View}
 use Rattle.smr_clock.specs.Views.{remembered, plain, plain_views, holders_of, seats_in, hosts_of, spent_view}
 use Rattle.smr_clock.specs.Steps.{note_view, count_made, one_more_made, worker_view, joined_view}

@@ -3,12 +3,12 @@ use Rattle.std.proofs.Common.{◌≡◌, ◌≢◌, ℕ, ◌-◌, ◌^◌, ◌<�
 use Rattle.std.specs.Prelude.{◌==◌}
 use Rattle.std.specs.Int.Bits.{bit_and, bit_or}
 use prog.Atomic.{either}
-use Rattle.smr_core.specs.declared.clock_config.ClockConfig.{ClockConfig}
+use Rattle.smr_core.specs.declared.clock_core.ClockConfig.{ClockConfig}
 use Rattle.smr_core.specs.ClockLaw.{Keeps}
 use Rattle.atomic_table.specs.Table.{State, Me, Allows}
 use Rattle.smr_core.specs.declared.holder.Holder.{Holder}
-use Rattle.smr_core.specs.declared.phase.Phase.TheVariants as phase
-use Rattle.smr_core.specs.declared.task.Task.TheVariants as task
+use Rattle.smr_core.specs.declared.holder.Phase.TheVariants as phase
+use Rattle.smr_core.specs.declared.holder.Task.TheVariants as task
 use Rattle.smr_core.specs.ClockState.{write_place, read_place, seat_place, presence_place, IsSeatWord}
 use Rattle.smr_core.specs.ClockStep.{same, stored, exchanged}
 use Rattle.smr_core.specs.ClockStep as clock
@@ -23,7 +23,7 @@ use Rattle.smr_core.proofs.Keeps.PollLoads.{poll_read-keeps, poll_load-keeps, po
 use Rattle.smr_core.proofs.Keeps.PollScan.{poll_scan-keeps}
 use Rattle.smr_core.specs.RememberedMoves.{KeepsMemory}
 use Rattle.smr_core.proofs.Keeps.Memory.{write_look-remembers, read_look-remembers, enter_load-remembers, enter_store-remembers, enter_check-remembers, clear-remembers, leave-remembers, come-remembers, advance_read-remembers, advance_load-remembers, advance_swap-remembers, poll_read-remembers, poll_load-remembers, poll_present-remembers, poll_scan-remembers, poll_swap-remembers}
-use Rattle.smr_clock.specs.declared.setup.Setup.{Setup}
+use Rattle.smr_clock.specs.declared.clock.Setup.{Setup}
 use Rattle.smr_clock.specs.declared.view.View.{View}
 use Rattle.smr_clock.specs.Views.{plain}
 use Rattle.smr_clock.specs.HostLaws.{Rule, Includes, FrameLaw}
@@ -49,7 +49,7 @@ module _ {P : Type 0} (holds : Rule P) (includes : Includes holds) (frame : Fram
   abbrev Mine : ℕ → (ℕ → ℕ) → (ℕ → Me (Unit {0}) (View P) → Type 0) → Type 0
   Mine i f then = Allows (λ (s : State (Unit {0}) (View P)). holds a s.words s.views) slots id me i f then
 
-  -- a load of the write hand, and one of the read hand
+  -- a load of the write sequence, and one of the read sequence
   write_load : (next : ℕ → View P) → ((found : ℕ) → SameAside me.0 (next found)) → Keeps me.0.setup.config id me.0.holder write_place same (λ found. (next found).holder)
       → KeepsMemory me.0.setup.config id (plain me.0) write_place (λ found. plain (next found))
       → Mine write_place (λ n. n) (λ found after. IsWriteFound me.0.holder found × (after ≡ (next found, me.1)))
@@ -156,7 +156,7 @@ module _ {P : Type 0} (holds : Rule P) (includes : Includes holds) (frame : Fram
       (own_bit i (clock.with_seat s) (step.coming me.0) place (aside _ _ refl refl refl refl)
       (come-keeps me.0.setup.config id me.0.holder s seat vacant) (come-remembers me.0.setup.config id (plain me.0)))
 
-  -- the exchange of the write hand
+  -- the exchange of the write sequence
   pub advance_swaps : (old new : ℕ) → old ≡ me.0.holder.write → new ≡ clock.goal_of me.0.holder → me.0.holder.task ≡ task.AdvLoaded
       → Mine write_place (λ n. either (n == old) new n) (λ found after. IsWriteFound me.0.holder found × (after ≡ (step.advance_swapping me.0 found, me.1)))
   advance_swaps old new was is loaded =
@@ -167,7 +167,7 @@ module _ {P : Type 0} (holds : Rule P) (includes : Includes holds) (frame : Fram
       (λ found. aside _ _ refl refl refl refl) (advance_swap-keeps me.0.setup.config id me.0.holder loaded) (advance_swap-remembers me.0.setup.config id (plain me.0))
       (λ ws hs law at. (write_found me.0.setup.config ws hs id me.0.holder law at, refl))))
 
-  -- the exchange of the read hand
+  -- the exchange of the read sequence
   pub poll_swaps : (old new : ℕ) → old ≡ me.0.holder.read → new ≡ me.0.holder.least → me.0.holder.task ≡ task.Scanning → me.0.holder.scanned ≡ me.0.setup.config.seats
       → Mine read_place (λ n. either (n == old) new n) (λ found after. IsReadFound me.0.holder found × (after ≡ (step.poll_swapping me.0 found, me.1)))
   poll_swaps old new was is scanning all =

@@ -1,25 +1,25 @@
 -- What a clock's calls ask of a pass, a note or a seat, and what they leave of it.
 use Rattle.std.specs.Prelude.{◌≡◌, ◌≢◌, ◌≤◌, ◌<◌, ◌-◌, ◌+◌, ◌^◌, ◌⊎◌, ℕ, max, IsSome, Bool, true, false, List, [], Result, IfOk, IfErr, OnOk}
 use Rattle.atomic_table.specs.declared.shared.Seat.{Seat}
-use Rattle.smr_core.specs.declared.found_word.FoundWord.{FoundWord}
+use Rattle.smr_core.specs.declared.turns.FoundWord.{FoundWord}
 use Rattle.smr_core.specs.declared.holder.Holder.{Holder}
-use Rattle.smr_core.specs.declared.phase.Phase.{Phase}
-use Rattle.smr_core.specs.declared.phase.Phase.TheVariants as phase
-use Rattle.smr_core.specs.declared.task.Task.{Task}
-use Rattle.smr_core.specs.declared.task.Task.TheVariants as task
+use Rattle.smr_core.specs.declared.holder.Phase.{Phase}
+use Rattle.smr_core.specs.declared.holder.Phase.TheVariants as phase
+use Rattle.smr_core.specs.declared.holder.Task.{Task}
+use Rattle.smr_core.specs.declared.holder.Task.TheVariants as task
 use Rattle.smr_core.specs.ClockState.{IsSeatWord, next_present}
-use Rattle.smr_clock.specs.declared.setup.Setup.{Setup}
+use Rattle.smr_clock.specs.declared.clock.Setup.{Setup}
 use Rattle.smr_clock.specs.declared.view.View.{View}
 use Rattle.smr_clock.specs.declared.host.Host.{Ghosts}
-use Rattle.smr_clock.specs.declared.host_act.HostAct.{HostAct}
-use Rattle.smr_clock.specs.declared.host_seat.HostSeat.{HostSeat}
+use Rattle.smr_clock.specs.declared.host.HostAct.{HostAct}
+use Rattle.smr_clock.specs.declared.host.HostSeat.{HostSeat}
 use Rattle.smr_clock.specs.declared.clock.Clock.{Clock}
-use Rattle.smr_clock.specs.declared.goal.Goal.{Goal}
-use Rattle.smr_clock.specs.declared.note.Note.{Note}
+use Rattle.smr_clock.specs.declared.pass.Goal.{Goal}
+use Rattle.smr_clock.specs.declared.pass.Note.{Note}
 use Rattle.smr_clock.specs.declared.pass.Pass.{Pass}
-use Rattle.smr_clock.specs.declared.refused.AdvanceRefused.{AdvanceRefused}
-use Rattle.smr_clock.specs.declared.refused.Overtaken.{Overtaken}
-use Rattle.smr_clock.specs.declared.vacancy.Vacancy.{Vacancy}
+use Rattle.smr_clock.specs.declared.polls.AdvanceRefused.{AdvanceRefused}
+use Rattle.smr_clock.specs.declared.polls.Overtaken.{Overtaken}
+use Rattle.smr_clock.specs.declared.pass.Vacancy.{Vacancy}
 use Rattle.smr_clock.specs.Advances.{Advances, AdvanceIsRefused, SameWorker}
 use Rattle.smr_clock.specs.Belongs.{TableId, IsPassOf, holder, knows, seat_clock}
 use Rattle.smr_clock.specs.Goals.{number_of, tag_of}
@@ -38,19 +38,19 @@ module _ {P : Type 0} where
     pub here : seat_clock seat ≡ clock
     pub task : (knows seat).holder.task ≡ doing
 
-  -- the write hand was found so, and this is what the seat knows now
+  -- the write sequence was found so, and this is what the seat knows now
   pub record FindsWrite (clock : TableId × Setup) (was : Holder) (write : ℕ) (after : View P) (seat : Seat (Unit {0}) (View P)) : Type 0 where
     pub here : seat_clock seat ≡ clock
     pub found : IsWriteFound was write
     pub view : knows seat ≡ after
 
-  -- likewise the read hand
+  -- likewise the read sequence
   pub record FindsRead (clock : TableId × Setup) (was : Holder) (read : ℕ) (after : View P) (seat : Seat (Unit {0}) (View P)) : Type 0 where
     pub here : seat_clock seat ≡ clock
     pub found : IsReadFound was read
     pub view : knows seat ≡ after
 
-  -- a look at the write hand, which is never below the read hand
+  -- a look at the write sequence, which is never below the read sequence
   pub record LooksAtWrite (clock : TableId × Setup) (was : View P) (write : ℕ) (seat : Seat (Unit {0}) (View P)) : Type 0 where
     pub here : seat_clock seat ≡ clock
     pub found : IsWriteFound was.holder write
@@ -70,7 +70,7 @@ module _ {P : Type 0} where
     pub kept : SameWorker was.holder (knows seat).holder
     pub view : knows seat ≡ advance_loading was write
 
-  -- the advance has loaded this write hand, above which there is room
+  -- the advance has loaded this write sequence, above which there is room
   pub record MayExchangeWrite (clock : TableId × Setup) (hand : ℕ) (seat : Seat (Unit {0}) (View P)) : Type 0 where
     pub here : seat_clock seat ≡ clock
     pub loaded : (knows seat).holder.task ≡ task.AdvLoaded
@@ -78,7 +78,7 @@ module _ {P : Type 0} where
 
   -- ---- of a poll
 
-  -- the poll has loaded both hands
+  -- the poll has loaded both sequences
   pub record MayMoveRead (clock : TableId × Setup) (read write : ℕ) (seat : Seat (Unit {0}) (View P)) : Type 0 where
     pub here : seat_clock seat ≡ clock
     pub loaded : (knows seat).holder.task ≡ task.PollLoaded
@@ -145,7 +145,7 @@ module _ {H P : Type 0} {g : Ghosts H P} where
     pub here : IsVacancyOf clock vacancy
     pub view : vacancy_knows vacancy ≡ after
 
-  -- the pass has loaded the write hand for an enter
+  -- the pass has loaded the write sequence for an enter
   pub record LoadsEnter (clock : Clock H P) (old new : Pass H P g) : Type 0 where
     pub here : IsPassOf clock new
     pub loaded : IsWriteFound (holder old) (holder new).loaded
@@ -170,7 +170,7 @@ module _ {H P : Type 0} {g : Ghosts H P} where
     pub advanced : IfOk answer (λ goal. Advances (knows old.seat) (number_of goal) (knows new.seat))
     pub refused : IfErr answer (λ why. AdvanceIsRefused (knows old.seat) why (knows new.seat))
 
-  -- both hands were found so, the read hand first
+  -- both sequences were found so, the read sequence first
   pub record FindsHands (clock : Clock H P) (old : Pass H P g) (found : ℕ × ℕ) (new : Pass H P g) : Type 0 where
     pub here : IsPassOf clock new
     pub read : IsReadFound (holder old) found.0

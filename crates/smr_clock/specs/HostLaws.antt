@@ -4,7 +4,7 @@ use mathlib.Core.Option.{some}
 use lib.ListN.{get_elem?}
 use Rattle.smr_core.specs.ClockState.{place_after_seats, write_hand, read_hand}
 use Rattle.smr_core.specs.Remembered.{RememberedLaw}
-use Rattle.smr_clock.specs.declared.setup.Setup.{Setup}
+use Rattle.smr_clock.specs.declared.clock.Setup.{Setup}
 use Rattle.smr_clock.specs.declared.view.View.{View}
 use Rattle.smr_clock.specs.Views.{plain_views, seats_in, hosts_of}
 use Rattle.smr_clock.specs.Clocked.{Clocked}

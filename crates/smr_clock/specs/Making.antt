@@ -6,14 +6,14 @@ use mathlib.Core.Option.{some}
 use lib.ListN.{get_elem?}
 use Rattle.atomic_table.specs.Seated.{TableId}
 use Rattle.atomic_table.specs.declared.shared.Seat.{Seat}
-use Rattle.smr_core.specs.declared.core_refused.CoreRefused.{CoreRefused}
+use Rattle.smr_core.specs.declared.clock_core.CoreRefused.{CoreRefused}
 use Rattle.smr_core.specs.ClockState.{IsInRange, opening_words, place_after_seats}
 use Rattle.smr_core.specs.Making.{RefusesNumbers}
-use Rattle.smr_clock.specs.declared.setup.Setup.{Setup}
+use Rattle.smr_clock.specs.declared.clock.Setup.{Setup}
 use Rattle.smr_clock.specs.declared.view.View.{View}
 use Rattle.smr_clock.specs.declared.host.Host.{Ghosts}
 use Rattle.smr_clock.specs.declared.clock.Clock.{Clock}
-use Rattle.smr_clock.specs.declared.host_seat.HostSeat.{HostSeat}
+use Rattle.smr_clock.specs.declared.host.HostSeat.{HostSeat}
 use Rattle.smr_clock.specs.declared.pass.Pass.{Pass}
 use Rattle.smr_clock.specs.Belongs.{IsPassOf, view, holder, setup_of, table_of}
 use Rattle.smr_clock.specs.Notes.{IsSeatOf, seat_knows}
@@ -24,7 +24,7 @@ use Rattle.smr_clock.specs.HostLaws.{Rule}
 abbrev pub setup : ℕ → ℕ → ℕ → ℕ × ℕ → Setup
 setup seats start window plan = record { config = record { start = start; window = window; seats = seats }; plan = plan }
 
--- both hands at the start, every seat's word 0, all seats present, and the host's words
+-- both sequences at the start, every seat's word 0, all seats present, and the host's words
 abbrev pub first_words : Setup → List ℕ → List ℕ
 first_words a more = opening_words a.config ++ more
 
@@ -36,7 +36,7 @@ Opens holds a first more = IsInRange a.config → holds a (first_words a more) (
 abbrev pub maker_view : {P : Type 0} → Setup → P → ℕ → View P
 maker_view a first count = record (first_view a first) { made = Some count }
 
--- the view with which the worker of a seat begins: outside, and it knows where both hands began
+-- the view with which the worker of a seat begins: outside, and it knows where both sequences began
 abbrev pub fresh_view : {P : Type 0} → (P → P) → Setup → P → ℕ → View P
 fresh_view copied a first seat = worker_view copied (maker_view a first seat)
 

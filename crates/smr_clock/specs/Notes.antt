@@ -2,12 +2,12 @@
 use Rattle.std.specs.Prelude.{◌≡◌, ℕ}
 use Rattle.atomic_table.specs.Seated.{TableId}
 use Rattle.smr_core.specs.declared.holder.Holder.{Holder}
-use Rattle.smr_clock.specs.declared.setup.Setup.{Setup}
+use Rattle.smr_clock.specs.declared.clock.Setup.{Setup}
 use Rattle.smr_clock.specs.declared.view.View.{View}
 use Rattle.smr_clock.specs.declared.host.Host.{Ghosts}
 use Rattle.smr_clock.specs.declared.clock.Clock.{Clock}
-use Rattle.smr_clock.specs.declared.note.Note.{Note}
-use Rattle.smr_clock.specs.declared.host_seat.HostSeat.{HostSeat}
+use Rattle.smr_clock.specs.declared.pass.Note.{Note}
+use Rattle.smr_clock.specs.declared.host.HostSeat.{HostSeat}
 use Rattle.smr_clock.specs.Belongs.{table_of, setup_of, clock_id}
 use Rattle.smr_clock.specs.Steps.{IsWriteFound, write_looking, note_view}
 
@@ -42,7 +42,7 @@ module _ {H P : Type 0} {g : Ghosts H P} where
   abbrev pub IsSeatOf : Clock H P → HostSeat H P g → Type 0
   IsSeatOf clock seat = (seat.seat.table_id ≡ table_of clock) × (seat.seat.me.0.setup ≡ setup_of clock)
 
--- The pass loads the write hand, and then a note is split off, which has seen what the pass then has seen, and has its floor.
+-- The pass loads the write sequence, and then a note is split off, which has seen what the pass then has seen, and has its floor.
 pub record Notes {P : Type 0} (copied : P → P) (v v' note : View P) : Type 0 where
   pub write : ℕ
   pub found : IsWriteFound v.holder write

@@ -3,12 +3,12 @@ use Rattle.std.specs.Prelude.{◌≡◌, ℕ, ◌≤◌, List, [], ◌∷◌}
 use mathlib.Core.Option.{some}
 use lib.ListN.{get_elem?}
 use Rattle.smr_core.specs.ClockState.{read_hand, IsInSection, IsBefore, IsExpired}
-use Rattle.smr_clock.specs.declared.setup.Setup.{Setup}
+use Rattle.smr_clock.specs.declared.clock.Setup.{Setup}
 use Rattle.smr_clock.specs.declared.view.View.{View}
 use Rattle.smr_clock.specs.Clocked.{Clocked}
 use Rattle.smr_clock.specs.Moments.{Moment, Run}
 
--- from one moment on, these follow one after another: the clock's law holds at each, and the read hand never falls
+-- from one moment on, these follow one after another: the clock's law holds at each, and the read sequence never falls
 abbrev pub Follow : {P : Type 0} → Setup → Moment P → List (Moment P) → Type 0
 Follow a now [] = Clocked a now.0 now.1
 Follow a now (next ∷ rest) = Clocked a now.0 now.1 × (read_hand now.0 ≤ read_hand next.0) × Follow a next rest

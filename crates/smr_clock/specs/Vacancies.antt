@@ -1,11 +1,11 @@
 -- What contracts see of a vacancy.
 use Rattle.std.specs.Prelude.{◌≡◌}
 use Rattle.atomic_table.specs.Seated.{TableId}
-use Rattle.smr_clock.specs.declared.setup.Setup.{Setup}
+use Rattle.smr_clock.specs.declared.clock.Setup.{Setup}
 use Rattle.smr_clock.specs.declared.view.View.{View}
 use Rattle.smr_clock.specs.declared.host.Host.{Ghosts}
 use Rattle.smr_clock.specs.declared.clock.Clock.{Clock}
-use Rattle.smr_clock.specs.declared.vacancy.Vacancy.{Vacancy}
+use Rattle.smr_clock.specs.declared.pass.Vacancy.{Vacancy}
 use Rattle.smr_clock.specs.Belongs.{clock_id}
 
 module _ {H P : Type 0} {g : Ghosts H P} where

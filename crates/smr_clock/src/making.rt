@@ -2,16 +2,12 @@ ghost use Rattle.std.specs.Prelude.{◌≡◌, ◌≤◌, IfOk};
 ghost use Rattle.std.specs.Arc.{arc_value};
 ghost use Rattle.smr_clock.specs.Making.{setup, first_words, Opens, HostsClock, MakesClock, MakesPasses, MayMakePasses};
 
-use crate::bare::Bare;
-use crate::clock::Clock;
-use crate::host::{Host, Ruled};
-use crate::host_seat::HostSeat;
+use crate::clock::{Clock, Setup};
+use crate::host::{Bare, Host, HostSeat, Ruled};
 use crate::pass::Pass;
-use crate::plays::WorkerSplits;
-use crate::setup::Setup;
-use crate::view::View;
+use crate::view::{View, WorkerSplits};
 use atomic_table::{Seat, Table};
-use smr_core::places::opening_words;
+use smr_core::hands::opening_words;
 use smr_core::{ClockConfig, CoreRefused, Phase};
 use std::alloc::{AllocError, Global};
 use std::sync::Arc;
@@ -36,9 +32,21 @@ fn shared<T: Drop>(alloc: Global, value: T) -> Result<Arc<T>, AllocError>
 }
 
 impl<H: Host> Clock<H> {
-    /// A clock with its host's words behind its own: both hands at `start`, and a pass for each seat,
-    /// in order of number: each seat has exactly one worker. The further seat is for the host's own
-    /// parts.
+    /// Makes a clock with a host's words after its own. Both sequences are at `start`. Returns the clock, one pass for each
+    /// seat, in the order of their numbers, and a further seat for the host's own parts. Each seat has exactly one
+    /// worker.
+    ///
+    /// # Arguments
+    ///
+    /// - `seats`: the count of seats, 1 to 64.
+    /// - `start`: where both sequences begin, an odd number, at most 2^63 - 1.
+    /// - `window`: how far the write sequence may be ahead of the read sequence, an even number from 4 to 2^30.
+    /// - `more`: the host's words as they begin.
+    /// - `plan`: the host's two numbers.
+    ///
+    /// # Errors
+    ///
+    /// As [`Clock::new`].
     pub fn hosted(
         alloc: Global,
         seats: u32,
@@ -84,8 +92,21 @@ fn make_passes<H: Host>(
 }
 
 impl Clock<Bare> {
-    /// A clock with no host: both hands at `start`, and a pass for each seat, in order of number: each
-    /// seat has exactly one worker.
+    /// Makes a clock without a host. The write sequence and the read sequence (smr(9)'s `wr_seq` and `rd_seq`) are both at
+    /// `start`. Returns the clock and one pass for each seat, in the order of their numbers. Each seat has exactly one
+    /// worker.
+    ///
+    /// # Arguments
+    ///
+    /// - `seats`: the count of seats, 1 to 64.
+    /// - `start`: where both sequences begin, an odd number, at most 2^63 - 1.
+    /// - `window`: how far the write sequence may be ahead of the read sequence, an even number from 4 to 2^30.
+    ///
+    /// # Errors
+    ///
+    /// - `Seats`, `Even`, `High`, `Window`: that number is out of its range; `Even` and `High` are about `start`. They
+    ///   are tested in this order.
+    /// - `Memory`: out of memory.
     pub fn new(
         alloc: Global,
         seats: u32,

@@ -6,16 +6,16 @@ use mathlib.Core.Option.{some}
 use lib.ListN.{get_elem?}
 use Rattle.smr_seq.specs.Reading.{reading}
 use Rattle.smr_seq.proofs.ReadingLemmas.{IsReading-reading}
-use Rattle.smr_core.specs.declared.clock_config.ClockConfig.{ClockConfig}
-use Rattle.smr_core.specs.declared.actor.Actor.{Actor}
+use Rattle.smr_core.specs.declared.clock_core.ClockConfig.{ClockConfig}
+use Rattle.smr_core.specs.declared.steps.Actor.{Actor}
 use Rattle.smr_core.specs.declared.holder.Holder.{Holder}
-use Rattle.smr_core.specs.declared.phase.Phase.{Phase}
-use Rattle.smr_core.specs.declared.phase.Phase.TheVariants as phase
-use Rattle.smr_core.specs.declared.task.Task.TheVariants as task
-use Rattle.smr_core.specs.declared.step.Step.{Step}
-use Rattle.smr_core.specs.declared.step.Step.TheVariants.{EnterLoad, EnterStore, EnterCheck, Clear, Leave, Come, AdvanceRead, AdvanceLoad, AdvanceSwap, PollRead, PollLoad, PollPresent, PollScan, PollSwap, Note, Absorb}
-use Rattle.smr_core.specs.declared.seen.Seen.{Seen}
-use Rattle.smr_core.specs.declared.step_refused.StepRefused.{StepRefused}
+use Rattle.smr_core.specs.declared.holder.Phase.{Phase}
+use Rattle.smr_core.specs.declared.holder.Phase.TheVariants as phase
+use Rattle.smr_core.specs.declared.holder.Task.TheVariants as task
+use Rattle.smr_core.specs.declared.turns.Step.{Step}
+use Rattle.smr_core.specs.declared.turns.Step.TheVariants.{EnterLoad, EnterStore, EnterCheck, Clear, Leave, Come, AdvanceRead, AdvanceLoad, AdvanceSwap, PollRead, PollLoad, PollPresent, PollScan, PollSwap, Note, Absorb}
+use Rattle.smr_core.specs.declared.turns.Seen.{Seen}
+use Rattle.smr_core.specs.declared.turns.StepRefused.{StepRefused}
 use Rattle.smr_core.specs.ClockState.{write_hand, read_hand, seat_place, write_place, read_place, presence_place, spent}
 use Rattle.smr_core.specs.ClockStep as clock
 use Rattle.smr_core.specs.ClockLaw.{HolderFits, ClockLaw, Later, Keeps, SeatFits}
@@ -112,7 +112,7 @@ fits s n x law at = law.clock.holders n x.holder (holder_there s n x at)
 no_aim : (x : Actor) → (x.holder.task ≡ task.PollLoaded → ⊥) → (x.holder.task ≡ task.Scanning → ⊥) → AimFits x
 no_aim x loaded scanning = λ polling. absurd (⊎_elim loaded scanning polling)
 
--- ---- a poll's load of the write hand, which goes on or ends
+-- ---- a poll's load of the write sequence, which goes on or ends
 
 module _ (a : ClockConfig) (id : ℕ) (x : Actor) (ws : List ℕ) (hs : List Holder) where
   goes_on : ClockLaw a ws hs → get_elem? hs id ≡ some x.holder → x.holder.task ≡ task.PollRead → (o : Option ℕ)
@@ -141,7 +141,7 @@ poll_go-aim a x found (Some goal) e =
     (λ _. no_aim (record x { holder = clock.poll_ended a x.holder found }) (λ t. cc) (λ t. cc))
     (λ above polling. (IsReading-reading x.tag found goal e, leb-false goal x.holder.read above))
 
--- ---- an advance's load of the write hand
+-- ---- an advance's load of the write sequence
 
 advance_load-as : (a : ClockConfig) (x : Actor) (found : ℕ) (b c : Bool) → Actor
 advance_load-as a x found b c =
@@ -165,7 +165,7 @@ advance_load-aim a x found false false = no_aim (advance_load-as a x found false
 -- ---- a note
 
 module _ (s : State) (id : ℕ) (x : Actor) where
-  -- the worker after its load of the write hand, and the note
+  -- the worker after its load of the write sequence, and the note
   worker : Actor
   worker = record x { holder = clock.write_loaded s.config x.holder (write_hand s.words) }
 

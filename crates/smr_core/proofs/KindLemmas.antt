@@ -5,12 +5,12 @@ use Rattle.std.specs.Int.{bit_at}
 use mathlib.Core.Option.{some}
 use lib.ListN.{get_elem?}
 use Rattle.smr_seq.specs.Reading.{low}
-use Rattle.smr_core.specs.declared.clock_config.ClockConfig.{ClockConfig}
+use Rattle.smr_core.specs.declared.clock_core.ClockConfig.{ClockConfig}
 use Rattle.smr_core.specs.declared.holder.Holder.{Holder}
-use Rattle.smr_core.specs.declared.phase.Phase.{Phase}
-use Rattle.smr_core.specs.declared.phase.Phase.TheVariants as phase
-use Rattle.smr_core.specs.declared.task.Task.{Task}
-use Rattle.smr_core.specs.declared.task.Task.TheVariants as task
+use Rattle.smr_core.specs.declared.holder.Phase.{Phase}
+use Rattle.smr_core.specs.declared.holder.Phase.TheVariants as phase
+use Rattle.smr_core.specs.declared.holder.Task.{Task}
+use Rattle.smr_core.specs.declared.holder.Task.TheVariants as task
 use Rattle.smr_core.specs.ClockState.{IsOdd, write_hand, read_hand, word_of, presence_word, IsPresent}
 use Rattle.smr_core.specs.ClockStep.{same}
 use Rattle.smr_core.specs.ClockLaw.{PhaseFits, SeatFits, TaskFits, HolderFits, ScanCovers, ClockLaw, Later, Keeps, presence_bit}
@@ -96,7 +96,7 @@ module _ (a : ClockConfig) (ws : List ℕ) (hs : List Holder) (id : ℕ) (h h' :
             p.covers t s h'.mark (subst (λ (m : ℕ). ScanCovers h s m) (sym (q.mark u)) (law.scans id id s h h at at (p.scanning t) (q.inside u) (sym e ∙ seat)));
       }
 
-  -- every section's mark is at least the read hand
+  -- every section's mark is at least the read sequence
   pub marks_above_read : ClockLaw a ws hs → (j : ℕ) (q : Holder) → get_elem? hs j ≡ some q → q.phase ≡ phase.Inside → read_hand ws ≤ q.mark
   marks_above_read law j q f i = (in_phase a ws q phase.Inside (law.holders j q f) i).5
 

@@ -7,10 +7,10 @@ use Rattle.std.proofs.lemmas.List.{map-append, length_push}
 use Rattle.std.proofs.lemmas.List.Sums.{sum_by-append}
 use mathlib.Core.Option.{some, some-injective, some-ne-none}
 use lib.ListN.{get_elem?}
-use Rattle.smr_core.specs.declared.clock_config.ClockConfig.{ClockConfig}
-use Rattle.smr_core.specs.declared.actor.Actor.{Actor}
+use Rattle.smr_core.specs.declared.clock_core.ClockConfig.{ClockConfig}
+use Rattle.smr_core.specs.declared.steps.Actor.{Actor}
 use Rattle.smr_core.specs.declared.holder.Holder.{Holder}
-use Rattle.smr_core.specs.declared.task.Task.TheVariants as task
+use Rattle.smr_core.specs.declared.holder.Task.TheVariants as task
 use Rattle.smr_core.specs.ClockState.{IsOdd, IsInRange, IsSeatWord, IsPresent, all_seats, opening_words, place_after_seats, presence_place, presence_word, read_hand, read_place, seat_place, seat_word, seats_of, first_holder, write_hand, write_place}
 use Rattle.smr_core.specs.ClockLaw.{HandsFit, HolderFits, ClockLaw, all_advances}
 use Rattle.smr_core.specs.ClockMoves.{BeginsLawful}

@@ -6,7 +6,7 @@ use Rattle.std.proofs.lemmas.Bool.{cases_lt, cases_eq}
 use Rattle.std.proofs.lemmas.Nat.{or_lt, and_le_l, pow_below, pow_pos}
 use Rattle.std.proofs.lemmas.Nat.Bits.{bit_at-lt, bit_at-zero, bit_at_and, bit_at_or, bit_at_ones, bit_at_not, bit_at-pow_same, bit_at-pow_other, bit_at-trailing_zeros, bit_at_mask_inside, bit_at_mask_below, ones_shl}
 use borrow.Author.Tests.{eqb-true, eqb-false}
-use Rattle.smr_core.specs.declared.clock_config.ClockConfig.{ClockConfig}
+use Rattle.smr_core.specs.declared.clock_core.ClockConfig.{ClockConfig}
 use Rattle.smr_core.specs.ClockState.{IsPresent, IsAbsent, is_present, all_seats, first_of, next_present, seats_below}
 use Rattle.smr_core.specs.ClockStep.{without, with_seat}
 

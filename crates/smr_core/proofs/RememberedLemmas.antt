@@ -6,11 +6,11 @@ use borrow.Author.Tests.{eqb-true, eqb-false}
 use mathlib.Core.Option.{some, some-injective, some-ne-none}
 use lib.ListN.{get_elem?}
 use Rattle.smr_seq.specs.Reading.{low}
-use Rattle.smr_core.specs.declared.clock_config.ClockConfig.{ClockConfig}
-use Rattle.smr_core.specs.declared.found_word.FoundWord.{FoundWord}
+use Rattle.smr_core.specs.declared.clock_core.ClockConfig.{ClockConfig}
+use Rattle.smr_core.specs.declared.turns.FoundWord.{FoundWord}
 use Rattle.smr_core.specs.declared.holder.Holder.{Holder}
-use Rattle.smr_core.specs.declared.phase.Phase.{Phase}
-use Rattle.smr_core.specs.declared.phase.Phase.TheVariants as phase
+use Rattle.smr_core.specs.declared.holder.Phase.{Phase}
+use Rattle.smr_core.specs.declared.holder.Phase.TheVariants as phase
 use Rattle.smr_core.specs.ClockState.{seat_word, word_of, seats_of}
 use Rattle.smr_core.specs.ClockLaw.{PhaseFits, SeatFits, HolderFits, HasNoHolder, ClockLaw}
 use Rattle.smr_core.specs.Remembered.{View, Remembered, StoredFits, HasStored, WordsWereStored, RememberedFits, RememberedLaw}
@@ -151,7 +151,7 @@ in_front a ws h r s phase.Vacant e k f m = inl f.0
 in_front a ws h r s phase.Note e k f m = let both : None ≡ Some s = sym k ∙ e in absurd (cc)
 in_front a ws h r s phase.Absorbed e k f m = let both : None ≡ Some s = sym k ∙ e in absurd (cc)
 
--- A seat's word is 0, or the low half of a write hand that the worker of that seat has stored.
+-- A seat's word is 0, or the low half of a write sequence that the worker of that seat has stored.
 pub word_was_stored : (a : ClockConfig) (ws : List ℕ) (vs : List View) → ClockLaw a ws (holders_in vs) → RememberedLaw a vs → (s : ℕ) → s < a.seats
     → (seat_word ws s ≡ 0) ⊎ ((entered : ℕ) × HasStored vs s entered × (seat_word ws s ≡ low entered))
 word_was_stored a ws vs law memory s known =

@@ -6,17 +6,17 @@ use mathlib.Core.Option.{some}
 use lib.ListN.{get_elem?}
 use Rattle.smr_seq.specs.Reading.{low, reading, IsReading}
 use Rattle.smr_seq.proofs.ReadingLemmas.{IsReading-reading, IsReading-unique, none-reading}
-use Rattle.smr_core.specs.declared.clock_config.ClockConfig.{ClockConfig}
-use Rattle.smr_core.specs.declared.actor.Actor.{Actor}
+use Rattle.smr_core.specs.declared.clock_core.ClockConfig.{ClockConfig}
+use Rattle.smr_core.specs.declared.steps.Actor.{Actor}
 use Rattle.smr_core.specs.declared.holder.Holder.{Holder}
-use Rattle.smr_core.specs.declared.phase.Phase.{Phase}
-use Rattle.smr_core.specs.declared.phase.Phase.TheVariants as phase
-use Rattle.smr_core.specs.declared.task.Task.{Task}
-use Rattle.smr_core.specs.declared.task.Task.TheVariants as task
-use Rattle.smr_core.specs.declared.step.Step.{Step}
-use Rattle.smr_core.specs.declared.step.Step.TheVariants.{EnterLoad, EnterStore, EnterCheck, Clear, Leave, Come, AdvanceRead, AdvanceLoad, AdvanceSwap, PollRead, PollLoad, PollPresent, PollScan, PollSwap, Note, Absorb}
-use Rattle.smr_core.specs.declared.seen.Seen.{Seen}
-use Rattle.smr_core.specs.declared.seen.Seen.TheVariants as seen
+use Rattle.smr_core.specs.declared.holder.Phase.{Phase}
+use Rattle.smr_core.specs.declared.holder.Phase.TheVariants as phase
+use Rattle.smr_core.specs.declared.holder.Task.{Task}
+use Rattle.smr_core.specs.declared.holder.Task.TheVariants as task
+use Rattle.smr_core.specs.declared.turns.Step.{Step}
+use Rattle.smr_core.specs.declared.turns.Step.TheVariants.{EnterLoad, EnterStore, EnterCheck, Clear, Leave, Come, AdvanceRead, AdvanceLoad, AdvanceSwap, PollRead, PollLoad, PollPresent, PollScan, PollSwap, Note, Absorb}
+use Rattle.smr_core.specs.declared.turns.Seen.{Seen}
+use Rattle.smr_core.specs.declared.turns.Seen.TheVariants as seen
 use Rattle.smr_core.specs.ClockState.{write_hand, read_hand, write_place, read_place, place_after_seats, IsInSection, IsExpired}
 use Rattle.smr_core.specs.ClockStep as clock
 use Rattle.smr_core.specs.ClockLaw.{HolderFits}
@@ -151,7 +151,7 @@ vacant_inside e = cc
 note_inside : phase.Note ≡ phase.Inside → ⊥
 note_inside e = cc
 
--- a poll that has its write hand
+-- a poll that has its write sequence
 abbrev HasHand : Task → Type 0
 HasHand t = (t ≡ task.PollLoaded) ⊎ (t ≡ task.Scanning)
 
@@ -170,7 +170,7 @@ adv_read = ((λ h. cc), (λ h. ⊎_elim (λ l. cc) (λ l. cc) h))
 adv_loaded : IsNoPoll task.AdvLoaded
 adv_loaded = ((λ h. cc), (λ h. ⊎_elim (λ l. cc) (λ l. cc) h))
 
--- ---- a poll that has its write hand goes on with it, until it is in no poll
+-- ---- a poll that has its write sequence goes on with it, until it is in no poll
 
 module _ (tag hand goal : ℕ) where
   -- the actor polls for this tag, with this hand and this reading, or it is in no poll
@@ -217,7 +217,7 @@ goes_on a x found hand (Some goal) e =
     ≡ record x { holder = clock.poll_loaded a x.holder found; reading = g }))
     (λ _ q. absurd (yes_is_hand q)) (λ _ q. (goal, refl, refl)) e
 
--- a load that sees yes found no reading, or one that its read hand has come to
+-- a load that sees yes found no reading, or one that its read sequence has come to
 ends_with_yes : (x : Actor) (found read : ℕ) (o : Option ℕ) → reading x.tag found ≡ o → seen.Yes read ≡ poll_sees x found o
     → (read ≡ x.holder.read) × SaysYes x.tag found x.holder.read
 ends_with_yes x found read None r e = (yes-injective read x.holder.read e, λ g h. absurd (none-reading x.tag found g r h))
@@ -231,7 +231,7 @@ ends_with_yes x found read (Some goal) r e =
     ))
     (λ _ q _. absurd (yes_is_hand (sym q))) e refl
 
--- an exchange that sees yes last found a read hand that has come to the reading
+-- an exchange that sees yes last found a read sequence that has come to the reading
 swap_with_yes : (x : Actor) (found read : ℕ) → seen.Yes read ≡ swap_sees x found → (read ≡ clock.last_found x.holder found) × (x.reading ≤ clock.last_found x.holder found)
 swap_with_yes x found read e =
     by_test (leb x.reading (clock.last_found x.holder found))
@@ -310,7 +310,7 @@ module _ (s after : State) (n tag g : ℕ) (law : CoreLaw s) (p : IsPolling s n 
 
 -- ---- the laws
 
--- each open section's mark is at least the read hand
+-- each open section's mark is at least the read sequence
 marks : (s : State) (n : ℕ) (x : Actor) (w : ℕ) → CoreLaw s → IsActor s n x → IsInSection x.holder w → read_hand s.words ≤ w
 marks s n x w law at i =
     let f : HolderFits s.config s.words x.holder = law.clock.holders n x.holder (holder_there s n x at) in
@@ -341,7 +341,7 @@ marks-are-kept s n x w r at i = marks s n x w (reached-law s r) at i
 goal_answered : (a b : ℕ) (m k : Bool) → seen.Goal a m ≡ seen.Goal b k → a ≡ b
 goal_answered a b m k e = cc
 
--- it is at most the write hand from then on
+-- it is at most the write sequence from then on
 goal-le-write : (s after : State) (n g : ℕ) (moved : Bool) → CoreLaw s → IsStep s (AdvanceSwap n) (seen.Goal g moved) after → g ≤ write_hand after.words
 goal-le-write s after n g moved law m =
     let fits : HolderFits s.config s.words m.actor.holder = law.clock.holders n m.actor.holder (holder_there s n m.actor m.there) in

@@ -1,10 +1,10 @@
 -- Runs, joined end to end.
 use Rattle.std.proofs.Common.{◌≡◌, ℕ, List, [], ◌∷◌, ◌++◌, take, refl, sym, subst, ◌+◌, ◌<◌, length, get_or, slice_get, Some, zero, suc, arith, inl}
 use Rattle.std.proofs.lemmas.List.{take_more}
-use Rattle.smr_core.specs.declared.step.Step.{Step}
-use Rattle.smr_core.specs.declared.seen.Seen.{Seen}
+use Rattle.smr_core.specs.declared.turns.Step.{Step}
+use Rattle.smr_core.specs.declared.turns.Seen.{Seen}
 use Rattle.smr_core.specs.CoreState.{State}
-use Rattle.smr_core.specs.declared.step_refused.StepRefused.{StepRefused}
+use Rattle.smr_core.specs.declared.turns.StepRefused.{StepRefused}
 use Rattle.smr_core.specs.CoreStep.{IsStep, Run, StepIsRefused, StopsAt}
 
 -- a run goes on by a run

@@ -3,18 +3,18 @@ use Rattle.std.proofs.Common.{◌≡◌, ℕ, ◌+◌, ◌<◌, ◌≤◌, ◌�
 use Rattle.std.proofs.lemmas.Bool.{false≢true}
 use Rattle.std.proofs.lemmas.List.{map-append}
 use Rattle.smr_seq.specs.Reading.{reading}
-use Rattle.smr_core.specs.declared.clock_config.ClockConfig.{ClockConfig}
-use Rattle.smr_core.specs.declared.actor.Actor.{Actor}
+use Rattle.smr_core.specs.declared.clock_core.ClockConfig.{ClockConfig}
+use Rattle.smr_core.specs.declared.steps.Actor.{Actor}
 use Rattle.smr_core.specs.declared.holder.Holder.{Holder}
-use Rattle.smr_core.specs.declared.phase.Phase.TheVariants as phase
-use Rattle.smr_core.specs.declared.task.Task.TheVariants as task
-use Rattle.smr_core.specs.declared.step.Step.{Step}
-use Rattle.smr_core.specs.declared.step.Step.TheVariants.{EnterLoad, EnterStore, EnterCheck, Clear, AdvanceRead, AdvanceLoad, AdvanceSwap, PollRead, PollLoad, PollPresent, PollScan, PollSwap}
-use Rattle.smr_core.specs.declared.seen.Seen.{Seen}
-use Rattle.smr_core.specs.declared.seen.Seen.TheVariants as seen
-use Rattle.smr_core.specs.declared.step_refused.StepRefused.{StepRefused}
-use Rattle.smr_core.specs.declared.step_refused.StepRefused.TheVariants.{NoSeat, OutOfTurn, Crowded, Memory}
-use Rattle.smr_core.specs.declared.turn.Turn.TheVariants.{Enter, Poll}
+use Rattle.smr_core.specs.declared.holder.Phase.TheVariants as phase
+use Rattle.smr_core.specs.declared.holder.Task.TheVariants as task
+use Rattle.smr_core.specs.declared.turns.Step.{Step}
+use Rattle.smr_core.specs.declared.turns.Step.TheVariants.{EnterLoad, EnterStore, EnterCheck, Clear, AdvanceRead, AdvanceLoad, AdvanceSwap, PollRead, PollLoad, PollPresent, PollScan, PollSwap}
+use Rattle.smr_core.specs.declared.turns.Seen.{Seen}
+use Rattle.smr_core.specs.declared.turns.Seen.TheVariants as seen
+use Rattle.smr_core.specs.declared.turns.StepRefused.{StepRefused}
+use Rattle.smr_core.specs.declared.turns.StepRefused.TheVariants.{NoSeat, OutOfTurn, Crowded, Memory}
+use Rattle.smr_core.specs.declared.turns.Turn.TheVariants.{Enter, Poll}
 use Rattle.smr_core.specs.ClockState.{write_place, presence_place, seat_place, next_present, seats_below}
 use Rattle.smr_core.specs.ClockStep as clock
 use Rattle.smr_core.specs.CoreState.{State, IsActor}
@@ -157,7 +157,7 @@ scan-config s n saw mid m = ap (λ (t : State). t.config) m.after
 
 -- ---- whole turns
 
--- a poll has seen the write hand and this set of seats
+-- a poll has seen the write sequence and this set of seats
 abbrev pub HasBegun : ℕ → List Seen → Type 0
 HasBegun set (x ∷ y ∷ z ∷ sees) = (is_hand y ≡ true) × (set_in z ≡ set)
 HasBegun set _ = ⊥

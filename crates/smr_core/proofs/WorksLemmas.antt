@@ -1,10 +1,10 @@
 -- Under the core's law each step finds its words, and its sums fit.
 use Rattle.std.proofs.Common.{◌≡◌, ℕ, ◌+◌, ◌*◌, ◌^◌, ◌<◌, ◌≤◌, ◌⊎◌, length, ap, ◌∙◌, ⊎_elim, arith, Option, Some, IsSome}
 use mathlib.Core.Option.{some}
-use Rattle.smr_core.specs.declared.actor.Actor.{Actor}
+use Rattle.smr_core.specs.declared.steps.Actor.{Actor}
 use Rattle.smr_core.specs.declared.holder.Holder.{Holder}
-use Rattle.smr_core.specs.declared.phase.Phase.TheVariants as phase
-use Rattle.smr_core.specs.declared.task.Task.TheVariants as task
+use Rattle.smr_core.specs.declared.holder.Phase.TheVariants as phase
+use Rattle.smr_core.specs.declared.holder.Task.TheVariants as task
 use Rattle.smr_core.specs.ClockState.{place_after_seats, seat_place, write_hand}
 use Rattle.smr_core.specs.ClockLaw.{HolderFits, all_advances}
 use Rattle.smr_core.specs.CoreState.{State, IsActor, CoreLaw, holders_of}
@@ -46,7 +46,7 @@ module _ (s : State) (n : ℕ) (x : Actor) (law : CoreLaw s) (there : IsActor s 
   pub goal_fits : x.holder.task ≡ task.AdvLoaded → x.holder.write + 2 < 2 ^ 63
   goal_fits e = (in_task s.config s.words x.holder task.AdvLoaded fits e).4
 
-  -- the write hand has risen by two for each advance
+  -- the write sequence has risen by two for each advance
   pub advances_fit : x.holder.advances < 2 ^ 63
   advances_fit =
       let one : x.holder.advances ≤ all_advances (holders_of s.actors) =

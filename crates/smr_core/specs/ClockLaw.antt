@@ -1,31 +1,31 @@
 -- The law of the clock, over its numbers, its words and its holders. It holds between any two steps.
 -- Its parts:
---   1. The hands are odd and in range, the read hand is at most the write hand, and the window is not exceeded.
+--   1. The sequences are odd and in range, the read sequence is at most the write sequence, and the window is not exceeded.
 --   2. A seat number has one holder, a worker or a vacancy, and its bit in the presence word is set exactly where that is a worker. Its word is 0, and while its worker's enter
 --      is stored, the low half of what that enter loaded, which is odd.
---   3. An enter that has loaded, or that is late, has a write hand that was.
---   4. A section has been entered within the window of what its enter loaded, and the read hand is at most its entry mark.
---   5. What a holder knows of the hands is so.
---   6. A poll's least mark is between its two hands. It is at most the entry mark of each section of a seat of the poll's set that it has scanned, and the write hand that it loaded
+--   3. An enter that has loaded, or that is late, has a write sequence that was.
+--   4. A section has been entered within the window of what its enter loaded, and the read sequence is at most its entry mark.
+--   5. What a holder knows of the sequences is so.
+--   6. A poll's least mark is between its two sequences. It is at most the entry mark of each section of a seat of the poll's set that it has scanned, and the write sequence that it loaded
 --      is at most the mark of each section of a seat that isn't in its set.
---   7. An advance that has both hands has room for two more.
---   8. The write hand is the start and two for each exchange that moved it. A note makes no advance.
--- Why part 6 is kept. By the load of the presence word, which comes after that of the write hand l: a seat that isn't in it has no worker then, so no section is open there,
--- and one that comes and enters later has the write hand, at least l, as its mark.
+--   7. An advance that has both sequences has room for two more.
+--   8. The write sequence is the start and two for each exchange that moved it. A note makes no advance.
+-- Why part 6 is kept. By the load of the presence word, which comes after that of the write sequence l: a seat that isn't in it has no worker then, so no section is open there,
+-- and one that comes and enters later has the write sequence, at least l, as its mark.
 -- By the load of a seat's word: a section that entered at or before l loaded less than twice the window below l,
--- hence less than 2^31 below it, so its word is read exactly; the greater of that and the poll's read hand is at most the mark, since the read hand is at most every mark.
--- A section that loaded after l has a mark above l whatever is read, and one that enters after its seat was scanned has the write hand as its mark.
+-- hence less than 2^31 below it, so its word is read exactly; the greater of that and the poll's read sequence is at most the mark, since the read sequence is at most every mark.
+-- A section that loaded after l has a mark above l whatever is read, and one that enters after its seat was scanned has the write sequence as its mark.
 use Rattle.std.specs.Prelude.{◌≡◌, ℕ, ◌+◌, ◌-◌, ◌*◌, ◌^◌, ◌<◌, ◌≤◌, List, [], ◌∷◌, ◌++◌, length, slice_index, slice_set, sum_by, Option, Some, None, IsSome}
 use Rattle.std.specs.Int.{bit_at}
 use mathlib.Core.Option.{some}
 use lib.ListN.{get_elem?}
 use Rattle.smr_seq.specs.Reading.{low}
-use Rattle.smr_core.specs.declared.clock_config.ClockConfig.{ClockConfig}
+use Rattle.smr_core.specs.declared.clock_core.ClockConfig.{ClockConfig}
 use Rattle.smr_core.specs.declared.holder.Holder.{Holder}
-use Rattle.smr_core.specs.declared.phase.Phase.{Phase}
-use Rattle.smr_core.specs.declared.phase.Phase.TheVariants as phase
-use Rattle.smr_core.specs.declared.task.Task.{Task}
-use Rattle.smr_core.specs.declared.task.Task.TheVariants as task
+use Rattle.smr_core.specs.declared.holder.Phase.{Phase}
+use Rattle.smr_core.specs.declared.holder.Phase.TheVariants as phase
+use Rattle.smr_core.specs.declared.holder.Task.{Task}
+use Rattle.smr_core.specs.declared.holder.Task.TheVariants as task
 use Rattle.smr_core.specs.ClockState.{IsOdd, IsInRange, place_after_seats, write_hand, read_hand, seat_word, word_of, seats_of, spent, IsSeatWord, presence_word, IsPresent, IsAbsent}
 
 -- part 1

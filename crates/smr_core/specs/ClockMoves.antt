@@ -2,16 +2,16 @@
 use Rattle.std.specs.Prelude.{◌≡◌, ◌≢◌, ℕ, ◌<◌, ◌≤◌, ◌⊎◌, List, [], ◌∷◌, ◌++◌, Some, IsSome, slice_set}
 use mathlib.Core.Option.{some}
 use lib.ListN.{get_elem?}
-use Rattle.smr_core.specs.declared.clock_config.ClockConfig.{ClockConfig}
+use Rattle.smr_core.specs.declared.clock_core.ClockConfig.{ClockConfig}
 use Rattle.smr_core.specs.declared.holder.Holder.{Holder}
-use Rattle.smr_core.specs.declared.phase.Phase.TheVariants as phase
-use Rattle.smr_core.specs.declared.task.Task.TheVariants as task
+use Rattle.smr_core.specs.declared.holder.Phase.TheVariants as phase
+use Rattle.smr_core.specs.declared.holder.Task.TheVariants as task
 use Rattle.smr_core.specs.ClockState.{IsInRange, place_after_seats, write_place, read_place, seat_place, presence_place, opening_words, seats_of, first_holder}
 use Rattle.smr_core.specs.ClockStep as clock
 use Rattle.smr_core.specs.ClockStep.{same, stored, exchanged, without, with_seat}
 use Rattle.smr_core.specs.ClockLaw.{ClockLaw, HasNoHolder, Later, Keeps, KeepsSplit, KeepsJoin}
 
--- A clock begins with both hands at the start, every seat's word 0, all seats present and one holder, which is no worker. Behind its words there may be others.
+-- A clock begins with both sequences at the start, every seat's word 0, all seats present and one holder, which is no worker. Behind its words there may be others.
 abbrev pub BeginsLawful : Type 0
 BeginsLawful =
     (a : ClockConfig) (more : List ℕ) → IsInRange a → ClockLaw a (opening_words a ++ more) (first_holder a ∷ [])

@@ -1,13 +1,13 @@
 -- The state of the reclamation clock: the numbers it is made with, its words, and its holders.
--- The hands and the seats' words are those of FreeBSD's smr(9), with whole hands of 64 bits in place of wrapping ones (own). The presence word, and what a holder knows, are own.
+-- The sequences and the seats' words are those of FreeBSD's smr(9), with whole hands of 64 bits in place of wrapping ones (own). The presence word, and what a holder knows, are own.
 use Rattle.std.specs.Prelude.{◌≡◌, ℕ, zero, suc, ◌+◌, ◌-◌, ◌*◌, ◌%◌, ◌^◌, ◌<◌, ◌≤◌, ◌==◌, List, [], ◌∷◌, ◌++◌, map, replicate, slice_index, slice_set, Bool, if◌then◌else◌, Option, Some, None}
 use Rattle.std.specs.Int.{bit_at}
-use Rattle.smr_core.specs.declared.clock_config.ClockConfig.{ClockConfig}
+use Rattle.smr_core.specs.declared.clock_core.ClockConfig.{ClockConfig}
 use Rattle.smr_core.specs.declared.holder.Holder.{Holder}
-use Rattle.smr_core.specs.declared.phase.Phase.TheVariants as phase
-use Rattle.smr_core.specs.declared.task.Task.TheVariants as task
+use Rattle.smr_core.specs.declared.holder.Phase.TheVariants as phase
+use Rattle.smr_core.specs.declared.holder.Task.TheVariants as task
 
--- Both hands are odd. Sequences rise by 2, so 0 is no half of a hand and can stand for 'no section'.
+-- Both sequences are odd. Sequences rise by 2, so 0 is no half of a hand and can stand for 'no section'.
 abbrev pub IsOdd : ℕ → Type 0
 IsOdd n = n % 2 ≡ 1
 
@@ -21,7 +21,7 @@ pub record IsInRange (a : ClockConfig) : Type 0 where
   pub least_window : 4 ≤ a.window
   pub greatest_window : a.window ≤ 2 ^ 30
 
--- ---- the words: the write hand, the read hand, the word of each seat, the presence word, and behind them words of which the clock knows nothing
+-- ---- the words: the write sequence, the read sequence, the word of each seat, the presence word, and behind them words of which the clock knows nothing
 
 -- The word k stands at the place 8 k, so that each has a cache line of its own: 64 bytes are eight words. The words between are unused and 0.
 abbrev pub line : ℕ → ℕ
@@ -95,7 +95,7 @@ abbrev pub seats_below : ℕ → ℕ → List ℕ
 seats_below seats zero = []
 seats_below seats (suc n) = if is_present seats n then seats_below seats n ++ n ∷ [] else seats_below seats n
 
--- the words before any step: both hands at the start, every seat's word 0, and all seats present
+-- the words before any step: both sequences at the start, every seat's word 0, and all seats present
 abbrev pub opening_words : ClockConfig → List ℕ
 opening_words a =
     slice_set (slice_set (slice_set (replicate (place_after_seats a) 0) write_place a.start) read_place a.start) (presence_place a) (all_seats a)
@@ -125,7 +125,7 @@ spent =
       advances = 0;
     }
 
--- The holder with which a clock begins, and from which its workers are split off. It knows where both hands begin.
+-- The holder with which a clock begins, and from which its workers are split off. It knows where both sequences begin.
 abbrev pub first_holder : ClockConfig → Holder
 first_holder a = record spent { phase = phase.Note; seen = a.start; floor = a.start }
 
@@ -139,6 +139,6 @@ IsInSection h w = (h.phase ≡ phase.Inside) × (h.mark ≡ w)
 abbrev pub IsBefore : ℕ → ℕ → Type 0
 IsBefore w g = w < g
 
--- a goal is expired where the read hand has come to it
+-- a goal is expired where the read sequence has come to it
 abbrev pub IsExpired : List ℕ → ℕ → Type 0
 IsExpired ws g = g ≤ read_hand ws

@@ -3,10 +3,10 @@
 use Rattle.std.specs.Prelude.{◌<◌, ◌≤◌, ℕ, ◌+◌, ◌-◌, ◌^◌, ◌==◌, nat_lt, nat_le, min, max, if◌then◌else◌, Bool, Option, Some, None}
 use Rattle.smr_seq.specs.Reading.{low, reading}
 use Rattle.std.specs.Int.Bits.{bit_and, bit_or}
-use Rattle.smr_core.specs.declared.clock_config.ClockConfig.{ClockConfig}
+use Rattle.smr_core.specs.declared.clock_core.ClockConfig.{ClockConfig}
 use Rattle.smr_core.specs.declared.holder.Holder.{Holder}
-use Rattle.smr_core.specs.declared.phase.Phase.TheVariants as phase
-use Rattle.smr_core.specs.declared.task.Task.TheVariants as task
+use Rattle.smr_core.specs.declared.holder.Phase.TheVariants as phase
+use Rattle.smr_core.specs.declared.holder.Task.TheVariants as task
 use Rattle.smr_core.specs.ClockState.{next_present}
 
 -- ---- what a word becomes of what was found in it
@@ -33,17 +33,17 @@ with_seat s found = bit_or found (2 ^ s)
 
 -- ---- what every load of a hand teaches
 
--- Of the write hand: it is seen, and the read hand is at most the window below it.
+-- Of the write sequence: it is seen, and the read sequence is at most the window below it.
 abbrev pub write_loaded : ClockConfig → Holder → ℕ → Holder
 write_loaded a h found = record h { seen = max h.seen found; floor = max h.floor (found - a.window) }
 
--- Of the read hand: it is at least what was found.
+-- Of the read sequence: it is at least what was found.
 abbrev pub read_loaded : Holder → ℕ → Holder
 read_loaded h found = record h { floor = max h.floor found }
 
 -- ---- enter and exit
 
--- the first step of an enter, a load of the write hand
+-- the first step of an enter, a load of the write sequence
 abbrev pub enter_loaded : ClockConfig → Holder → ℕ → Holder
 enter_loaded a h found = record (write_loaded a h found) { phase = phase.Loaded; loaded = found }
 
@@ -54,11 +54,11 @@ entry_word h = low h.loaded
 abbrev pub enter_stored : Holder → Holder
 enter_stored h = record h { phase = phase.Stored }
 
--- The write hand moved on by the window or more: an enter that finds this is too late.
+-- The write sequence moved on by the window or more: an enter that finds this is too late.
 abbrev pub is_overtaken : ClockConfig → ℕ → ℕ → Bool
 is_overtaken a loaded found = nat_le a.window (found - loaded)
 
--- The third step, a load of the write hand again. What it finds is the entry mark.
+-- The third step, a load of the write sequence again. What it finds is the entry mark.
 abbrev pub enter_checked : ClockConfig → Holder → ℕ → Holder
 enter_checked a h found =
     record (write_loaded a h found) {
@@ -76,36 +76,36 @@ cleared h = record h { phase = phase.Outside }
 abbrev pub left : Holder → Holder
 left h = record h { phase = phase.Vacant }
 
--- The vacancy puts its bit in, and is the worker of its seat again. It knows of the hands what it knew.
+-- The vacancy puts its bit in, and is the worker of its seat again. It knows of the sequences what it knew.
 abbrev pub came : Holder → Holder
 came h = record h { phase = phase.Outside }
 
 -- ---- advance
 
--- a load of the read hand
+-- a load of the read sequence
 abbrev pub advance_read : Holder → ℕ → Holder
 advance_read h found = record (read_loaded h found) { task = task.AdvRead; read = found }
 
--- two more than the write hand would be past the end of its range
+-- two more than the write sequence would be past the end of its range
 abbrev pub is_spent : ℕ → Bool
 is_spent write = nat_le (2 ^ 63) (write + 2)
 
--- two more than the write hand would be above the read hand by more than the window
+-- two more than the write sequence would be above the read sequence by more than the window
 abbrev pub is_too_far : ClockConfig → ℕ → ℕ → Bool
 is_too_far a read write = nat_lt a.window (write + 2 - read)
 
--- a load of the write hand after which the advance ends
+-- a load of the write sequence after which the advance ends
 abbrev pub advance_ended : ClockConfig → Holder → ℕ → Holder
 advance_ended a h found = record (write_loaded a h found) { task = task.Idle }
 
--- A load of the write hand. The advance goes on only where there is room for two more.
+-- A load of the write sequence. The advance goes on only where there is room for two more.
 abbrev pub advance_loaded : ClockConfig → Holder → ℕ → Holder
 advance_loaded a h found =
     if is_spent found then advance_ended a h found else
     if is_too_far a h.read found then advance_ended a h found else
     record (write_loaded a h found) { task = task.AdvLoaded; write = found }
 
--- A compare-exchange of the write hand, from what was loaded to two more. It moved the hand exactly where it found what was loaded.
+-- A compare-exchange of the write sequence, from what was loaded to two more. It moved the hand exactly where it found what was loaded.
 abbrev pub goal_of : Holder → ℕ
 goal_of h = h.write + 2
 
@@ -124,28 +124,28 @@ advance_swapped h found =
 
 -- ---- poll
 
--- a load of the read hand
+-- a load of the read sequence
 abbrev pub poll_read : Holder → ℕ → Holder
 poll_read h found = record (read_loaded h found) { task = task.PollRead; read = found }
 
--- a load of the write hand
+-- a load of the write sequence
 abbrev pub poll_loaded : ClockConfig → Holder → ℕ → Holder
 poll_loaded a h found = record (write_loaded a h found) { task = task.PollLoaded; write = found }
 
--- A load of the write hand that ends the poll, since the read hand that it has is not below the goal.
+-- A load of the write sequence that ends the poll, since the read sequence that it has is not below the goal.
 abbrev pub poll_ended : ClockConfig → Holder → ℕ → Holder
 poll_ended a h found = record (write_loaded a h found) { task = task.Idle }
 
--- A load of the presence word: whose words the poll will load. None is loaded yet, and the least mark so far is the write hand itself.
+-- A load of the presence word: whose words the poll will load. None is loaded yet, and the least mark so far is the write sequence itself.
 abbrev pub poll_present : ClockConfig → Holder → ℕ → Holder
 poll_present a h found = record h { task = task.Scanning; present = found; scanned = next_present a found 0; least = h.write }
 
--- The least mark, with a seat's word that has this reading: an enter that is older than the read hand counts as one at the read hand.
+-- The least mark, with a seat's word that has this reading: an enter that is older than the read sequence counts as one at the read sequence.
 abbrev pub least_with : ℕ → ℕ → Option ℕ → ℕ
 least_with read least None = least
 least_with read least (Some entered) = min least (max entered read)
 
--- The least mark after a seat's word was loaded. A word of 0, and one without a reading near the write hand loaded, count for nothing.
+-- The least mark after a seat's word was loaded. A word of 0, and one without a reading near the write sequence loaded, count for nothing.
 abbrev pub least_after : ℕ → ℕ → ℕ → ℕ → ℕ
 least_after read write least word = if word == 0 then least else least_with read least (reading word write)
 
@@ -162,7 +162,7 @@ poll_scanned a h found =
       least = least_after h.read h.write h.least found;
     }
 
--- A compare-exchange of the read hand, from what was loaded to the least mark. What it leaves is the read hand last found.
+-- A compare-exchange of the read sequence, from what was loaded to the least mark. What it leaves is the read sequence last found.
 abbrev pub last_found : Holder → ℕ → ℕ
 last_found h found = exchanged h.read h.least found
 
@@ -171,7 +171,7 @@ poll_swapped h found = record h { task = task.Idle; floor = max h.floor (last_fo
 
 -- ---- notes and seats
 
--- The new holder that a note splits off. It knows what the other knows of the hands.
+-- The new holder that a note splits off. It knows what the other knows of the sequences.
 abbrev pub note_of : Holder → Holder
 note_of h =
     record {

@@ -3,11 +3,11 @@ use Rattle.std.specs.Prelude.{◌≡◌, ℕ, zero, suc, ◌<◌, ◌≤◌, Lis
 use mathlib.Core.Option.{some}
 use lib.ListN.{get_elem?}
 use Rattle.smr_seq.specs.Reading.{IsReading}
-use Rattle.smr_core.specs.declared.clock_config.ClockConfig.{ClockConfig}
-use Rattle.smr_core.specs.declared.actor.Actor.{Actor}
+use Rattle.smr_core.specs.declared.clock_core.ClockConfig.{ClockConfig}
+use Rattle.smr_core.specs.declared.steps.Actor.{Actor}
 use Rattle.smr_core.specs.declared.holder.Holder.{Holder}
-use Rattle.smr_core.specs.declared.phase.Phase.TheVariants as phase
-use Rattle.smr_core.specs.declared.task.Task.TheVariants as task
+use Rattle.smr_core.specs.declared.holder.Phase.TheVariants as phase
+use Rattle.smr_core.specs.declared.holder.Task.TheVariants as task
 use Rattle.smr_core.specs.ClockState.{IsInRange, place_after_seats, opening_words}
 use Rattle.smr_core.specs.ClockLaw.{ClockLaw}
 
@@ -33,7 +33,7 @@ most_holders = 65536
 
 -- ---- how it begins
 
--- the worker of the seat s before any step. It knows where both hands begin.
+-- the worker of the seat s before any step. It knows where both sequences begin.
 abbrev pub first_worker : ClockConfig → ℕ → Actor
 first_worker a s =
     record {
@@ -61,13 +61,13 @@ abbrev pub first_workers : ClockConfig → ℕ → List Actor
 first_workers a zero = []
 first_workers a (suc n) = first_workers a n ++ first_worker a n ∷ []
 
--- both hands at the start, every seat's word 0, a worker for each seat, and no note
+-- both sequences at the start, every seat's word 0, a worker for each seat, and no note
 abbrev pub opening : ClockConfig → State
 opening a = record { config = a; words = opening_words a; actors = first_workers a a.seats }
 
 -- ---- its law
 
--- what a poll is after: the reading of its tag near the write hand that it loaded is above the read hand that it loaded
+-- what a poll is after: the reading of its tag near the write sequence that it loaded is above the read sequence that it loaded
 abbrev pub AimFits : Actor → Type 0
 AimFits actor = (actor.holder.task ≡ task.PollLoaded) ⊎ (actor.holder.task ≡ task.Scanning) → IsReading actor.tag actor.holder.write actor.reading × (actor.holder.read < actor.reading)
 

@@ -1,17 +1,17 @@
 -- The steps of the core, each with what it needs, does and sees, and its refusals.
 use Rattle.std.specs.Prelude.{◌≡◌, ◌≢◌, ℕ, ◌<◌, ◌≤◌, ◌⊎◌, ◌==◌, List, [], ◌∷◌, ◌++◌, length, slice_index, slice_get, slice_set, take, Option, Some, None, IsSome, if◌then◌else◌, nat_le, Result, IfOk, IfErr, OnOk, OnErr}
 use Rattle.smr_seq.specs.Reading.{reading}
-use Rattle.smr_core.specs.declared.clock_config.ClockConfig.{ClockConfig}
-use Rattle.smr_core.specs.declared.actor.Actor.{Actor}
+use Rattle.smr_core.specs.declared.clock_core.ClockConfig.{ClockConfig}
+use Rattle.smr_core.specs.declared.steps.Actor.{Actor}
 use Rattle.smr_core.specs.declared.holder.Holder.{Holder}
-use Rattle.smr_core.specs.declared.phase.Phase.TheVariants as phase
-use Rattle.smr_core.specs.declared.task.Task.TheVariants as task
-use Rattle.smr_core.specs.declared.step.Step.{Step}
-use Rattle.smr_core.specs.declared.step.Step.TheVariants.{EnterLoad, EnterStore, EnterCheck, Clear, Leave, Come, AdvanceRead, AdvanceLoad, AdvanceSwap, PollRead, PollLoad, PollPresent, PollScan, PollSwap, Note, Absorb}
-use Rattle.smr_core.specs.declared.seen.Seen.{Seen}
-use Rattle.smr_core.specs.declared.seen.Seen.TheVariants as seen
-use Rattle.smr_core.specs.declared.step_refused.StepRefused.{StepRefused}
-use Rattle.smr_core.specs.declared.step_refused.StepRefused.TheVariants.{NoSeat, OutOfTurn, Crowded, Memory}
+use Rattle.smr_core.specs.declared.holder.Phase.TheVariants as phase
+use Rattle.smr_core.specs.declared.holder.Task.TheVariants as task
+use Rattle.smr_core.specs.declared.turns.Step.{Step}
+use Rattle.smr_core.specs.declared.turns.Step.TheVariants.{EnterLoad, EnterStore, EnterCheck, Clear, Leave, Come, AdvanceRead, AdvanceLoad, AdvanceSwap, PollRead, PollLoad, PollPresent, PollScan, PollSwap, Note, Absorb}
+use Rattle.smr_core.specs.declared.turns.Seen.{Seen}
+use Rattle.smr_core.specs.declared.turns.Seen.TheVariants as seen
+use Rattle.smr_core.specs.declared.turns.StepRefused.{StepRefused}
+use Rattle.smr_core.specs.declared.turns.StepRefused.TheVariants.{NoSeat, OutOfTurn, Crowded, Memory}
 use Rattle.smr_core.specs.ClockState.{write_place, read_place, seat_place, presence_place, spent}
 use Rattle.smr_core.specs.ClockStep as clock
 use Rattle.smr_core.specs.CoreState.{State, IsActor, most_holders}
@@ -87,7 +87,7 @@ pub record Moves (s : State) (step : Step) (i : Holder → ℕ) (f : Holder → 
         actors = slice_set s.actors (taker step) (g actor (slice_index s.words (i actor.holder)));
       }
 
--- a new holder, the next one: the worker loads the write hand, and the note is split off
+-- a new holder, the next one: the worker loads the write sequence, and the note is split off
 pub record MakesNote (s : State) (step : Step) (saw : Seen) (s' : State) : Type 0 where
   pub actor : Actor
   pub there : IsActor s (taker step) actor
@@ -129,7 +129,7 @@ load_sees a h found =
     if clock.is_too_far a h.read found then seen.TooFar h.read found else
     seen.Hand found
 
--- A poll that has the write hand goes on only where its tag has a reading near it, which is above the read hand.
+-- A poll that has the write sequence goes on only where its tag has a reading near it, which is above the read sequence.
 abbrev pub poll_goes_on : ClockConfig → Actor → ℕ → Option ℕ → Actor
 poll_goes_on a x found None = record x { holder = clock.poll_ended a x.holder found }
 poll_goes_on a x found (Some goal) =
@@ -140,7 +140,7 @@ abbrev pub poll_sees : Actor → ℕ → Option ℕ → Seen
 poll_sees x found None = seen.Yes x.holder.read
 poll_sees x found (Some goal) = if nat_le goal x.holder.read then seen.Yes x.holder.read else seen.Hand found
 
--- what a poll's exchange sees: yes exactly where the reading is at most the read hand last found
+-- what a poll's exchange sees: yes exactly where the reading is at most the read sequence last found
 abbrev pub swap_sees : Actor → ℕ → Seen
 swap_sees x found =
     let last = clock.last_found x.holder found in

@@ -1,8 +1,8 @@
 -- When a core, or a clock, is refused: the first test that fails, in this order.
 use Rattle.std.specs.Prelude.{◌≡◌, ℕ, ◌%◌, ◌^◌, ◌<◌, ◌≤◌, ◌⊎◌}
-use Rattle.smr_core.specs.declared.clock_config.ClockConfig.{ClockConfig}
-use Rattle.smr_core.specs.declared.core_refused.CoreRefused.{CoreRefused}
-use Rattle.smr_core.specs.declared.core_refused.CoreRefused.TheVariants.{Seats, Even, High, Window, Memory}
+use Rattle.smr_core.specs.declared.clock_core.ClockConfig.{ClockConfig}
+use Rattle.smr_core.specs.declared.clock_core.CoreRefused.{CoreRefused}
+use Rattle.smr_core.specs.declared.clock_core.CoreRefused.TheVariants.{Seats, Even, High, Window, Memory}
 use Rattle.smr_core.specs.ClockState.{IsOdd, IsInRange}
 
 abbrev pub IsSeatCount : ℕ → Type 0

@@ -3,17 +3,17 @@ use Rattle.std.specs.Prelude.{◌≡◌, ℕ, ◌+◌, ◌<◌, List, [], ◌∷
 use mathlib.Core.Option.{some}
 use lib.ListN.{get_elem?}
 use Rattle.smr_seq.specs.Reading.{low}
-use Rattle.smr_core.specs.declared.clock_config.ClockConfig.{ClockConfig}
+use Rattle.smr_core.specs.declared.clock_core.ClockConfig.{ClockConfig}
 use Rattle.smr_core.specs.declared.holder.Holder.{Holder}
-use Rattle.smr_core.specs.declared.phase.Phase.{Phase}
-use Rattle.smr_core.specs.declared.phase.Phase.TheVariants as phase
-use Rattle.smr_core.specs.declared.task.Task.TheVariants as task
-use Rattle.smr_core.specs.declared.found_word.FoundWord.{FoundWord}
+use Rattle.smr_core.specs.declared.holder.Phase.{Phase}
+use Rattle.smr_core.specs.declared.holder.Phase.TheVariants as phase
+use Rattle.smr_core.specs.declared.holder.Task.TheVariants as task
+use Rattle.smr_core.specs.declared.turns.FoundWord.{FoundWord}
 use Rattle.smr_core.specs.ClockState.{IsOdd, seats_below}
 use Rattle.smr_core.specs.ClockStep.{least_after, last_found}
 
--- A poll that came to its exchange: both hands and the presence word that it loaded, the words that it found, the least mark, and the read hand last found.
--- The reading of its tag is not kept: it follows from the tag and the write hand.
+-- A poll that came to its exchange: both sequences and the presence word that it loaded, the words that it found, the least mark, and the read sequence last found.
+-- The reading of its tag is not kept: it follows from the tag and the write sequence.
 pub record LastPoll : Type 0 where
   pub read : ℕ
   pub write : ℕ
@@ -23,7 +23,7 @@ pub record LastPoll : Type 0 where
   pub value : ℕ
 
 pub record Remembered : Type 0 where
-  -- all write hands whose low half it has stored in its word
+  -- all write sequences whose low half it has stored in its word
   pub stored : List ℕ
   -- in Scanning, the words that it has loaded, each with the number of its seat
   pub found : List FoundWord
@@ -47,7 +47,7 @@ none_found r = record r { found = [] }
 abbrev pub found_too : Remembered → Holder → ℕ → Remembered
 found_too r h word = record r { found = r.found ++ record { seat = h.scanned; word = word } ∷ [] }
 
--- the poll of the holder h came to its exchange, which found this read hand
+-- the poll of the holder h came to its exchange, which found this read sequence
 abbrev pub poll_done : Remembered → Holder → ℕ → Remembered
 poll_done r h found =
     record r {
@@ -89,7 +89,7 @@ pub record LastFits (a : ClockConfig) (last : LastPoll) : Type 0 where
 abbrev pub View : Type 0
 View = Holder × Remembered
 
--- the worker of the seat s, or its vacancy, remembers that it has stored this write hand
+-- the worker of the seat s, or its vacancy, remembers that it has stored this write sequence
 pub record HasStored (vs : List View) (s entered : ℕ) : Type 0 where
   pub id : ℕ
   pub worker : View
@@ -97,7 +97,7 @@ pub record HasStored (vs : List View) (s entered : ℕ) : Type 0 where
   pub seat : worker.0.seat ≡ Some s
   pub remembers : Contains worker.1.stored entered
 
--- each word found at a seat is 0, or the low half of a write hand that the worker of that seat has stored
+-- each word found at a seat is 0, or the low half of a write sequence that the worker of that seat has stored
 abbrev pub WordsWereStored : List View → List FoundWord → Type 0
 WordsWereStored vs found = (f : FoundWord) → Contains found f → (f.word ≡ 0) ⊎ ((entered : ℕ) × HasStored vs f.seat entered × (f.word ≡ low entered))
 

@@ -2,10 +2,10 @@
 use Rattle.std.specs.Prelude.{◌≡◌, ℕ, ◌<◌, List, [], ◌∷◌, ◌++◌, map, slice_index, slice_set}
 use mathlib.Core.Option.{some}
 use lib.ListN.{get_elem?}
-use Rattle.smr_core.specs.declared.clock_config.ClockConfig.{ClockConfig}
+use Rattle.smr_core.specs.declared.clock_core.ClockConfig.{ClockConfig}
 use Rattle.smr_core.specs.declared.holder.Holder.{Holder}
-use Rattle.smr_core.specs.declared.phase.Phase.TheVariants as phase
-use Rattle.smr_core.specs.declared.task.Task.TheVariants as task
+use Rattle.smr_core.specs.declared.holder.Phase.TheVariants as phase
+use Rattle.smr_core.specs.declared.holder.Task.TheVariants as task
 use Rattle.smr_core.specs.ClockState.{write_place, read_place, seat_place, presence_place, spent, first_holder}
 use Rattle.smr_core.specs.ClockStep as clock
 use Rattle.smr_core.specs.ClockLaw.{ClockLaw}
@@ -49,7 +49,7 @@ ReadLookRemembers = (a : ClockConfig) (id : ℕ) (v : View) → KeepsMemory a id
 abbrev pub EnterLoadRemembers : Type 0
 EnterLoadRemembers = (a : ClockConfig) (id : ℕ) (v : View) → KeepsMemory a id v write_place (λ found. (clock.enter_loaded a v.0 found, v.1))
 
--- the write hand whose low half is stored is remembered
+-- the write sequence whose low half is stored is remembered
 abbrev pub EnterStoreRemembers : Type 0
 EnterStoreRemembers =
     (a : ClockConfig) (id s : ℕ) (v : View) → v.0.phase ≡ phase.Loaded → KeepsMemory a id v (seat_place s) (λ found. (clock.enter_stored v.0, stored_too v.1 v.0))
@@ -91,7 +91,7 @@ PollLoadRemembers = (a : ClockConfig) (id : ℕ) (v : View) → KeepsMemory a id
 abbrev pub PollPresentRemembers : Type 0
 PollPresentRemembers = (a : ClockConfig) (id : ℕ) (v : View) → KeepsMemory a id v (presence_place a) (λ found. (clock.poll_present a v.0 found, none_found v.1))
 
--- the word found is 0, or the low half of a write hand that the worker of its seat remembers
+-- the word found is 0, or the low half of a write sequence that the worker of its seat remembers
 abbrev pub PollScanRemembers : Type 0
 PollScanRemembers =
     (a : ClockConfig) (id : ℕ) (v : View) → v.0.task ≡ task.Scanning → v.0.scanned < a.seats

@@ -1,9 +1,9 @@
 -- The laws of turns: each is determined by the state, and a turn that is taken is not refused.
 use Rattle.std.specs.Prelude.{◌≡◌, ◌≢◌, List}
-use Rattle.smr_core.specs.declared.seen.Seen.{Seen}
-use Rattle.smr_core.specs.declared.step_refused.StepRefused.{StepRefused}
-use Rattle.smr_core.specs.declared.step_refused.StepRefused.TheVariants.{Memory}
-use Rattle.smr_core.specs.declared.turn.Turn.{Turn}
+use Rattle.smr_core.specs.declared.turns.Seen.{Seen}
+use Rattle.smr_core.specs.declared.turns.StepRefused.{StepRefused}
+use Rattle.smr_core.specs.declared.turns.StepRefused.TheVariants.{Memory}
+use Rattle.smr_core.specs.declared.turns.Turn.{Turn}
 use Rattle.smr_core.specs.CoreState.{State}
 use Rattle.smr_core.specs.CoreStep.{StepIsRefused}
 use Rattle.smr_core.specs.Turns.{IsTurn, first_step}

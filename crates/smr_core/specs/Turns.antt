@@ -3,17 +3,17 @@ use Rattle.std.specs.Prelude.{◌≡◌, ◌≤◌, ℕ, ◌+◌, List, [], ◌�
 use Rattle.std.specs.declared.alloc.Global.{Global}
 use Rattle.std.specs.Option.{option_map_or}
 use Rattle.std.specs.Vec.{vec_capacity}
-use Rattle.smr_core.specs.declared.clock_config.ClockConfig.{ClockConfig}
-use Rattle.smr_core.specs.declared.actor.Actor.{Actor}
-use Rattle.smr_core.specs.declared.task.Task.TheVariants as task
-use Rattle.smr_core.specs.declared.step.Step.{Step}
-use Rattle.smr_core.specs.declared.step.Step.TheVariants.{EnterLoad, EnterStore, EnterCheck, Clear, AdvanceRead, AdvanceLoad, AdvanceSwap, PollRead, PollLoad, PollPresent, PollScan, PollSwap}
-use Rattle.smr_core.specs.declared.seen.Seen.{Seen}
-use Rattle.smr_core.specs.declared.seen.Seen.TheVariants as seen
-use Rattle.smr_core.specs.declared.step_refused.StepRefused.{StepRefused}
-use Rattle.smr_core.specs.declared.step_refused.StepRefused.TheVariants.{Memory}
-use Rattle.smr_core.specs.declared.turn.Turn.{Turn}
-use Rattle.smr_core.specs.declared.turn.Turn.TheVariants.{One, Enter, Advance, PollLoads, Poll}
+use Rattle.smr_core.specs.declared.clock_core.ClockConfig.{ClockConfig}
+use Rattle.smr_core.specs.declared.steps.Actor.{Actor}
+use Rattle.smr_core.specs.declared.holder.Task.TheVariants as task
+use Rattle.smr_core.specs.declared.turns.Step.{Step}
+use Rattle.smr_core.specs.declared.turns.Step.TheVariants.{EnterLoad, EnterStore, EnterCheck, Clear, AdvanceRead, AdvanceLoad, AdvanceSwap, PollRead, PollLoad, PollPresent, PollScan, PollSwap}
+use Rattle.smr_core.specs.declared.turns.Seen.{Seen}
+use Rattle.smr_core.specs.declared.turns.Seen.TheVariants as seen
+use Rattle.smr_core.specs.declared.turns.StepRefused.{StepRefused}
+use Rattle.smr_core.specs.declared.turns.StepRefused.TheVariants.{Memory}
+use Rattle.smr_core.specs.declared.turns.Turn.{Turn}
+use Rattle.smr_core.specs.declared.turns.Turn.TheVariants.{One, Enter, Advance, PollLoads, Poll}
 use Rattle.smr_core.specs.ClockState.{seats_below}
 use Rattle.smr_core.specs.CoreState.{State, IsActor, CoreLaw}
 use Rattle.smr_core.specs.CoreStep.{StepIsRefused, Run}

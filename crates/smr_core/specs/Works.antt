@@ -1,5 +1,5 @@
 -- The parts of a core, seen as its state.
-use Rattle.smr_core.specs.declared.works.Works.{Works}
+use Rattle.smr_core.specs.declared.steps.Works.{Works}
 use Rattle.smr_core.specs.CoreState.{State}
 
 abbrev pub state_of : Works → State

@@ -1,13 +1,13 @@
 -- What a poll's yes means, for one step and over every run of the core, and the other laws over runs. The rule is that of the comment on FreeBSD's subr_smr.c; the form is own.
 use Rattle.std.specs.Prelude.{◌≡◌, ℕ, ◌-◌, ◌^◌, ◌≤◌, ◌⊎◌, Bool, List, Contains}
 use Rattle.smr_seq.specs.Reading.{low, IsReading}
-use Rattle.smr_core.specs.declared.clock_config.ClockConfig.{ClockConfig}
-use Rattle.smr_core.specs.declared.actor.Actor.{Actor}
-use Rattle.smr_core.specs.declared.task.Task.TheVariants as task
-use Rattle.smr_core.specs.declared.step.Step.{Step}
-use Rattle.smr_core.specs.declared.step.Step.TheVariants.{EnterCheck, Clear, AdvanceSwap, PollRead, PollLoad, PollSwap}
-use Rattle.smr_core.specs.declared.seen.Seen.{Seen}
-use Rattle.smr_core.specs.declared.seen.Seen.TheVariants as seen
+use Rattle.smr_core.specs.declared.clock_core.ClockConfig.{ClockConfig}
+use Rattle.smr_core.specs.declared.steps.Actor.{Actor}
+use Rattle.smr_core.specs.declared.holder.Task.TheVariants as task
+use Rattle.smr_core.specs.declared.turns.Step.{Step}
+use Rattle.smr_core.specs.declared.turns.Step.TheVariants.{EnterCheck, Clear, AdvanceSwap, PollRead, PollLoad, PollSwap}
+use Rattle.smr_core.specs.declared.turns.Seen.{Seen}
+use Rattle.smr_core.specs.declared.turns.Seen.TheVariants as seen
 use Rattle.smr_core.specs.ClockState.{IsInRange, write_hand, read_hand, IsInSection, IsBefore, IsExpired}
 use Rattle.smr_core.specs.ClockLaw.{HandsFit}
 use Rattle.smr_core.specs.CoreState.{State, IsActor, opening}
@@ -15,11 +15,11 @@ use Rattle.smr_core.specs.CoreStep.{IsStep, Run}
 
 -- ---- one step
 
--- A poll of this tag that loaded the write hand l says yes, where it last found the read hand v: the tag has no reading near l, or one that v has come to.
+-- A poll of this tag that loaded the write sequence l says yes, where it last found the read sequence v: the tag has no reading near l, or one that v has come to.
 abbrev pub SaysYes : ℕ → ℕ → ℕ → Type 0
 SaysYes tag l v = (x : ℕ) → IsReading tag l x → x ≤ v
 
--- Then a holder that knows of the read hand what both loads of the poll taught it, knows that each number up to l with this low half is expired. The number is the reading, or it lies more than the window below l.
+-- Then a holder that knows of the read sequence what both loads of the poll taught it, knows that each number up to l with this low half is expired. The number is the reading, or it lies more than the window below l.
 abbrev pub YesIsKnown : Type 0
 YesIsKnown =
     (window tag l v floor g : ℕ) → window ≤ 2 ^ 30 → v ≤ floor → l - window ≤ floor → SaysYes tag l v → g ≤ l → low g ≡ tag → g ≤ floor
@@ -54,7 +54,7 @@ NoSectionBefore s g = (n : ℕ) (actor : Actor) (w : ℕ) → IsActor s n actor 
 abbrev pub IsOver : State → ℕ → Type 0
 IsOver s g = IsExpired s.words g × NoSectionBefore s g
 
--- the holder n is in a poll of this tag, whose next step loads the write hand
+-- the holder n is in a poll of this tag, whose next step loads the write sequence
 pub record IsPolling (s : State) (n tag : ℕ) : Type 0 where
   pub actor : Actor
   pub there : IsActor s n actor
@@ -65,7 +65,7 @@ pub record IsPolling (s : State) (n tag : ℕ) : Type 0 where
 abbrev pub NoNewPoll : ℕ → List Step → Type 0
 NoNewPoll n steps = (tag : ℕ) → Contains steps (PollRead n tag) → ⊥
 
--- The poll goes on after its load of the write hand, and answers yes at its exchange.
+-- The poll goes on after its load of the write sequence, and answers yes at its exchange.
 pub record YesAtSwap (s : State) (n : ℕ) (after : State) : Type 0 where
   pub hand : ℕ
   pub loaded : State
@@ -82,11 +82,11 @@ pub record YesAtSwap (s : State) (n : ℕ) (after : State) : Type 0 where
 abbrev pub YesAtLoad : State → ℕ → State → Type 0
 YesAtLoad s n after = (read : ℕ) × IsStep s (PollLoad n) (seen.Yes read) after
 
--- From s, where its poll loads the write hand, the holder n comes to the answer yes, right after which the state is `after`.
+-- From s, where its poll loads the write sequence, the holder n comes to the answer yes, right after which the state is `after`.
 abbrev pub AnswersYes : State → ℕ → State → Type 0
 AnswersYes s n after = YesAtLoad s n after ⊎ YesAtSwap s n after
 
--- Let a poll's load find the write hand as it is in s, and let that poll, of this tag, answer yes.
+-- Let a poll's load find the write sequence as it is in s, and let that poll, of this tag, answer yes.
 -- Each number up to that hand with this low half is over right after the answer, and for ever. Of a greater number, and by a no, nothing is said.
 abbrev pub YesIsExpired : Type 0
 YesIsExpired =
@@ -109,15 +109,15 @@ PollKeepsItsTag =
 abbrev pub HandsNeverFall : Type 0
 HandsNeverFall = (s later : State) → IsReached s → LeadsTo s later → (read_hand s.words ≤ read_hand later.words) × (write_hand s.words ≤ write_hand later.words)
 
--- The write hand is never above the read hand by more than the window.
+-- The write sequence is never above the read sequence by more than the window.
 abbrev pub WindowIsKept : Type 0
 WindowIsKept = (s : State) → IsReached s → (read_hand s.words ≤ write_hand s.words) × (write_hand s.words - read_hand s.words ≤ s.config.window)
 
--- Each open section's entry mark is at least the read hand.
+-- Each open section's entry mark is at least the read sequence.
 abbrev pub MarksAreKept : Type 0
 MarksAreKept = (s : State) (n : ℕ) (actor : Actor) (w : ℕ) → IsReached s → IsActor s n actor → IsInSection actor.holder w → read_hand s.words ≤ w
 
--- A section's entry mark is the write hand that its third step found, until its worker leaves it.
+-- A section's entry mark is the write sequence that its third step found, until its worker leaves it.
 abbrev pub EntryIsTheThirdStep : Type 0
 EntryIsTheThirdStep =
     (s after later : State) (n loaded found : ℕ) (steps : List Step) (saw : List Seen) → IsReached s → IsStep s (EnterCheck n) (seen.Inside loaded found) after

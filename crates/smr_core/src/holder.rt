@@ -3,12 +3,42 @@ ghost use Rattle.smr_core.specs.ClockState.{spent};
 ghost use Rattle.smr_core.specs.ClockStep as clock;
 ghost use Rattle.smr_core.specs.CoreStep.{IsWorker, IsIdleWorker, IsIdleNote, MayLeave, MayPoll};
 
-use crate::clock_config::ClockConfig;
-use crate::hands::{exchanged, is_overtaken, is_spent, is_too_far, least_after};
-use crate::phase::Phase;
-use crate::presence::next_present;
-use crate::task::Task;
+use crate::clock_core::ClockConfig;
+use crate::hands::{exchanged, is_overtaken, is_spent, is_too_far, least_after, next_present};
 use smr_seq::Seq;
+
+/// Where a holder stands with its section.
+///
+/// A worker goes from `Outside` by `Loaded` and `Stored` to `Inside`, or to `Late` where its enter
+/// was overtaken. A seat whose worker has left is `Vacant` until a worker comes, which is `Outside`
+/// again. A note is `Note` until it is taken in, and `Absorbed` after that.
+#[derive(Clone, Copy, Debug, PartialEq, Eq)]
+pub enum Phase {
+    Outside,
+    Loaded,
+    Stored,
+    Inside,
+    Late,
+    Vacant,
+    Note,
+    Absorbed,
+}
+
+/// What a holder is in the middle of, beside its section: an advance or a poll.
+#[derive(Clone, Copy, Debug, PartialEq, Eq)]
+pub enum Task {
+    Idle,
+    /// The advance has the read sequence.
+    AdvRead,
+    /// The advance has both sequences, and may exchange.
+    AdvLoaded,
+    /// The poll has the read sequence.
+    PollRead,
+    /// The poll has both sequences.
+    PollLoaded,
+    /// The poll has both sequences and the presence word, and loads the words of the seats in it in order.
+    Scanning,
+}
 
 /// What one holder of a clock knows: a worker or a vacancy, which have a seat, or a note.
 ///
@@ -18,27 +48,27 @@ pub struct Holder {
     /// The seat of a worker or of a vacancy.
     pub seat: Option<u32>,
     pub phase: Phase,
-    /// From Loaded on, the write hand that the enter loaded.
+    /// From Loaded on, the write sequence that the enter loaded.
     pub loaded: u64,
-    /// In Inside and Late, the write hand that the third step found. In Inside it is the entry mark.
+    /// In Inside and Late, the write sequence that the third step found. In Inside it is the entry mark.
     pub mark: u64,
     pub task: Task,
-    /// The read hand that the advance or poll loaded.
+    /// The read sequence that the advance or poll loaded.
     pub read: u64,
-    /// In AdvLoaded, PollLoaded and Scanning, the write hand that the advance or poll loaded.
+    /// In AdvLoaded, PollLoaded and Scanning, the write sequence that the advance or poll loaded.
     pub write: u64,
     /// In Scanning, the presence word that the poll loaded: bit k is set where the seat k is scanned.
     pub present: u64,
     /// In Scanning, the next seat of that set whose word is to be loaded, and the count of seats where
     /// all were.
     pub scanned: u32,
-    /// In Scanning, the least mark so far: to where the read hand may go.
+    /// In Scanning, the least mark so far: to where the read sequence may go.
     pub least: u64,
-    /// The greatest write hand that it knows.
+    /// The greatest write sequence that it knows.
     pub seen: u64,
-    /// The greatest number that it knows to be at or below the read hand.
+    /// The greatest number that it knows to be at or below the read sequence.
     pub floor: u64,
-    /// How often its exchange moved the write hand.
+    /// How often its exchange moved the write sequence.
     pub advances: u64,
 }
 
@@ -101,7 +131,7 @@ impl Holder {
         }
     }
 
-    /// After any load of the write hand.
+    /// After any load of the write sequence.
     pub fn write_loaded(self, config: ClockConfig, found: u64) -> Self
         ensures { result ≡ clock.write_loaded config self found }
     {
@@ -112,7 +142,7 @@ impl Holder {
         }
     }
 
-    /// After any load of the read hand.
+    /// After any load of the read sequence.
     pub fn read_loaded(self, found: u64) -> Self
         ensures { result ≡ clock.read_loaded self found }
     {
@@ -202,7 +232,7 @@ impl Holder {
         }
     }
 
-    /// After an advance's load of the read hand.
+    /// After an advance's load of the read sequence.
     pub fn advance_read(self, found: u64) -> Self
         ensures { result ≡ clock.advance_read self found }
     {
@@ -213,7 +243,7 @@ impl Holder {
         }
     }
 
-    /// Whether an advance that finds this write hand is too far above the read hand that it has: own.
+    /// Whether an advance that finds this write sequence is too far above the read sequence that it has: own.
     pub fn is_too_far(&self, config: ClockConfig, found: u64) -> bool
         requires { found < 2 ^ 63 }
         ensures { result ≡ clock.is_too_far config self.now.read found }
@@ -221,7 +251,7 @@ impl Holder {
         is_too_far(config, self.read, found)
     }
 
-    /// After an advance's load of the write hand, which ends it where there is no room for two more.
+    /// After an advance's load of the write sequence, which ends it where there is no room for two more.
     pub fn advance_loaded(self, config: ClockConfig, found: u64) -> Self
         requires { found < 2 ^ 63 }
         ensures { result ≡ clock.advance_loaded config self found }
@@ -241,7 +271,7 @@ impl Holder {
         }
     }
 
-    /// After an advance's exchange, whether or not it moved the write hand.
+    /// After an advance's exchange, whether or not it moved the write sequence.
     pub fn advance_swapped(self, found: u64) -> Self
         requires { clock.MaySwap self }
         ensures { result ≡ clock.advance_swapped self found }
@@ -256,7 +286,7 @@ impl Holder {
         }
     }
 
-    /// After a poll's load of the read hand.
+    /// After a poll's load of the read sequence.
     pub fn poll_read(self, found: u64) -> Self
         ensures { result ≡ clock.poll_read self found }
     {
@@ -267,7 +297,7 @@ impl Holder {
         }
     }
 
-    /// After a poll's load of the write hand, where it goes on.
+    /// After a poll's load of the write sequence, where it goes on.
     pub fn poll_loaded(self, config: ClockConfig, found: u64) -> Self
         ensures { result ≡ clock.poll_loaded config self found }
     {
@@ -278,7 +308,7 @@ impl Holder {
         }
     }
 
-    /// After a poll's load of the write hand, where it ends.
+    /// After a poll's load of the write sequence, where it ends.
     pub fn poll_ended(self, config: ClockConfig, found: u64) -> Self
         ensures { result ≡ clock.poll_ended config self found }
     {
@@ -321,7 +351,7 @@ impl Holder {
         }
     }
 
-    /// The read hand last found by a poll's exchange that found this.
+    /// The read sequence last found by a poll's exchange that found this.
     pub fn last_found(&self, found: u64) -> u64
         ensures { result ≡ clock.last_found self.now found }
     {
@@ -339,7 +369,7 @@ impl Holder {
         }
     }
 
-    /// The note that it splits off, which knows what it knows of the hands: own.
+    /// The note that it splits off, which knows what it knows of the sequences: own.
     pub fn note(&self) -> Self
         ensures { result ≡ clock.note_of self.now }
     {

@@ -1,9 +1,9 @@
--- A goal two above the write hand covers each section that is open while the hand stands there: a mark is never above the hand.
+-- A goal two above the write sequence covers each section that is open while the hand stands there: a mark is never above the hand.
 use Rattle.std.proofs.Common.{◌≡◌, ℕ, ◌+◌, ◌≤◌, ◌∙◌, ap, arith}
-use Rattle.smr_core.specs.declared.phase.Phase.TheVariants as phase
+use Rattle.smr_core.specs.declared.holder.Phase.TheVariants as phase
 use Rattle.smr_core.specs.ClockState.{write_hand}
 use Rattle.smr_core.proofs.KindLemmas.{in_phase}
-use Rattle.smr_clock.specs.declared.setup.Setup.{Setup}
+use Rattle.smr_clock.specs.declared.clock.Setup.{Setup}
 use Rattle.smr_clock.specs.declared.view.View.{View}
 use Rattle.smr_clock.specs.Steps.{IsWriteFound, read_looking}
 use Rattle.smr_clock.proofs.Kept.{holder_there}

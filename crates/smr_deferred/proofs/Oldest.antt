@@ -1,6 +1,6 @@
 -- The front of a list's queue.
 use Rattle.std.proofs.Common.{◌≡◌, suc, List, [], ◌∷◌, ◌++◌, drop, All, ap, ◌∙◌, arith}
-use Rattle.smr_deferred.specs.declared.retired.Retired.{Retired}
+use Rattle.smr_deferred.specs.declared.retire_list.Retired.{Retired}
 
 module _ {T : Type 0} where
   -- what holds of each holds of each behind the front

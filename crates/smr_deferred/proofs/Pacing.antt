@@ -1,10 +1,10 @@
 -- What an advance comes to, told of the list as it was before its numbers were counted.
 use Rattle.std.proofs.Common.{◌≡◌, ◌≤◌, ◌+◌, ℕ, Option, Some, None, MatchOption, ◌∙◌, ap, refl, subst, arith}
 use Rattle.smr_clock.specs.declared.view.View.{View}
-use Rattle.smr_clock.specs.declared.refused.AdvanceRefused.{AdvanceRefused}
+use Rattle.smr_clock.specs.declared.polls.AdvanceRefused.{AdvanceRefused}
 use Rattle.smr_clock.specs.declared.host.Host.{Ghosts}
-use Rattle.smr_clock.specs.declared.goal.Goal.{Goal}
-use Rattle.smr_clock.specs.declared.setup.Setup.{Setup}
+use Rattle.smr_clock.specs.declared.pass.Goal.{Goal}
+use Rattle.smr_clock.specs.declared.clock.Setup.{Setup}
 use Rattle.smr_clock.specs.Advances.{Advances}
 use Rattle.smr_clock.specs.Goals.{number_of}
 use Rattle.smr_clock.specs.SafeReuse.{KnownStaysOver}

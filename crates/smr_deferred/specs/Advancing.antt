@@ -1,7 +1,7 @@
--- What the advances of a list come to. That the write hand moves once in `limit` retirements is the manner of FreeBSD's SMR_DEFERRED; the rest is own.
+-- What the advances of a list come to. That the write sequence moves once in `limit` retirements is the manner of FreeBSD's SMR_DEFERRED; the rest is own.
 use Rattle.std.specs.Prelude.{◌≡◌, ◌≤◌, ℕ, Option, Some, None, MatchOption, Result, Ok, Err, ⊤}
 use Rattle.smr_clock.specs.declared.view.View.{View}
-use Rattle.smr_clock.specs.declared.refused.AdvanceRefused.{AdvanceRefused}
+use Rattle.smr_clock.specs.declared.polls.AdvanceRefused.{AdvanceRefused}
 use Rattle.smr_clock.specs.declared.host.Host.{Ghosts}
 use Rattle.smr_clock.specs.Advances.{Advances, AdvanceIsRefused}
 use Rattle.smr_clock.specs.Notes.{Notes}
@@ -12,9 +12,9 @@ use Rattle.smr_deferred.specs.Numbers.{Numbers, one_answered, one_retired, one_p
 use Rattle.smr_deferred.specs.Pass.{KnowsMore}
 use Rattle.smr_deferred.specs.Pace.{limit_in, moved_in, asked_in, refused_in, numbers_of, IsUsed}
 
--- v is the pass's view when the advance began, and v' after it. `moved` is two above the write hand that the list had loaded before it, and n are the numbers before it.
+-- v is the pass's view when the advance began, and v' after it. `moved` is two above the write sequence that the list had loaded before it, and n are the numbers before it.
 module _ {H P : Type 0} {g : Ghosts H P} where
-  -- The advance answered, and a note was taken right after it. The goal is at least `moved`, since the advance loaded the write hand later.
+  -- The advance answered, and a note was taken right after it. The goal is at least `moved`, since the advance loaded the write sequence later.
   pub record Answers (copied : P → P) (v : View P) (moved : ℕ) (n : Numbers) (was is : Pace H P g) (v' : View P) : Type 0 where
     pub asked : Asked H P g
     pub between : View P

@@ -1,6 +1,6 @@
 -- What a list's calls leave of the pass that they take as it was, and of the list's clock. Own.
 use Rattle.std.specs.Prelude.{◌≡◌, ◌≤◌, ◌+◌}
-use Rattle.smr_clock.specs.declared.setup.Setup.{Setup}
+use Rattle.smr_clock.specs.declared.clock.Setup.{Setup}
 use Rattle.smr_clock.specs.declared.host.Host.{Ghosts}
 use Rattle.smr_clock.specs.declared.clock.Clock.{Clock}
 use Rattle.smr_clock.specs.declared.pass.Pass.{Pass}
@@ -25,7 +25,7 @@ module _ {H P : Type 0} {g : Ghosts H P} where
     pub mine : IsOfClock (clock_id clock) is
     pub same : view new ≡ view old
 
-  -- The list is of the clock from now on, and nothing else of it changes; the pass may have loaded the write hand, but not for a list that was used before, which has its note.
+  -- The list is of the clock from now on, and nothing else of it changes; the pass may have loaded the write sequence, but not for a list that was used before, which has its note.
   pub record Settles (clock : Clock H P) (old new : Pass H P g) (was is : Pace H P g) : Type 0 where
     pub here : IsPassOf clock new
     pub mine : IsOfClock (clock_id clock) is

@@ -3,13 +3,13 @@ use Rattle.std.specs.Prelude.{◌≡◌, ℕ, List}
 use mathlib.Core.Option.{some}
 use lib.ListN.{get_elem?}
 use Rattle.smr_core.specs.ClockState.{write_hand, IsInSection, IsBefore}
-use Rattle.smr_clock.specs.declared.setup.Setup.{Setup}
+use Rattle.smr_clock.specs.declared.clock.Setup.{Setup}
 use Rattle.smr_clock.specs.declared.view.View.{View}
 use Rattle.smr_clock.specs.Clocked.{Clocked}
 use Rattle.smr_clock.specs.Moments.{Moment, Run}
 use Rattle.smr_clock.specs.SafeReuse.{StaysOver}
 
--- At each moment at which the write hand is this one, as it is when a load finds it, each open section is before the goal.
+-- At each moment at which the write sequence is this one, as it is when a load finds it, each open section is before the goal.
 abbrev pub CoversOpen : (P : Type 0) → Setup → ℕ → ℕ → Type 0
 CoversOpen P a write goal =
     (now : Moment P) (id : ℕ) (v : View P) (mark : ℕ)

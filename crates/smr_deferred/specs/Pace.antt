@@ -1,8 +1,8 @@
 -- What a list keeps of its advances. Own.
 use Rattle.std.specs.Prelude.{◌≡◌, ◌≤◌, ◌+◌, ℕ, Option, None, IsSome}
 use Rattle.std.specs.Option.{ForSome}
-use Rattle.smr_clock.specs.declared.setup.Setup.{Setup}
-use Rattle.smr_clock.specs.declared.refused.AdvanceRefused.{AdvanceRefused}
+use Rattle.smr_clock.specs.declared.clock.Setup.{Setup}
+use Rattle.smr_clock.specs.declared.polls.AdvanceRefused.{AdvanceRefused}
 use Rattle.smr_clock.specs.declared.host.Host.{Ghosts}
 use Rattle.smr_clock.specs.declared.clock.Clock.{Clock}
 use Rattle.smr_clock.specs.declared.pass.Pass.{Pass}
@@ -23,7 +23,7 @@ module _ {H P : Type 0} {g : Ghosts H P} where
   abbrev pub limit_in : Pace H P g → ℕ
   limit_in pace = pace.limit
 
-  -- two above the write hand that was loaded before the last advance that answered, or 0
+  -- two above the write sequence that was loaded before the last advance that answered, or 0
   abbrev pub moved_in : Pace H P g → ℕ
   moved_in pace = pace.moved
 
@@ -61,7 +61,7 @@ module _ {H P : Type 0} {g : Ghosts H P} where
     pub numbers : numbers_of pace ≡ none
     pub unused : (clock : TableId × Setup) → IsOfClock clock pace
 
-  -- they are, and this much is two above a write hand that the pass has seen, or less
+  -- they are, and this much is two above a write sequence that the pass has seen, or less
   pub record MayAdvance (clock : Clock H P) (pass : Pass H P g) (moved : ℕ) (pace : Pace H P g) : Type 0 where
     pub here : IsPassOf clock pass
     pub mine : IsOfClock (clock_id clock) pace

@@ -1,8 +1,8 @@
 -- What a reap comes to. Own.
 use Rattle.std.specs.Prelude.{◌≡◌, ◌<◌, ℕ, [], ◌∷◌, true, false, Option, Some, None, Result, Ok, Err}
 use Rattle.smr_clock.specs.declared.host.Host.{Ghosts}
-use Rattle.smr_deferred.specs.declared.refused.ReapNo.{ReapNo}
-use Rattle.smr_deferred.specs.declared.refused.ReapNo.TheVariants.{Ahead, Held}
+use Rattle.smr_deferred.specs.declared.retire_list.ReapNo.{ReapNo}
+use Rattle.smr_deferred.specs.declared.retire_list.ReapNo.TheVariants.{Ahead, Held}
 use Rattle.smr_deferred.specs.declared.retire_list.RetireList.{RetireList}
 use Rattle.smr_deferred.specs.Polling.{PollsOnce, KnowsOver}
 use Rattle.smr_deferred.specs.Retired.{retired, oldest_goal}

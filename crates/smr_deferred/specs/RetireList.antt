@@ -1,13 +1,13 @@
 -- What contracts see of a list. Own.
 use Rattle.std.specs.Prelude.{◌≡◌, ◌≤◌, ℕ, List, [], Option, None}
 use Rattle.std.specs.VecDeque.{deque_len, deque_capacity}
-use Rattle.smr_clock.specs.declared.setup.Setup.{Setup}
-use Rattle.smr_clock.specs.declared.refused.AdvanceRefused.{AdvanceRefused}
+use Rattle.smr_clock.specs.declared.clock.Setup.{Setup}
+use Rattle.smr_clock.specs.declared.polls.AdvanceRefused.{AdvanceRefused}
 use Rattle.smr_clock.specs.declared.host.Host.{Ghosts}
 use Rattle.smr_clock.specs.Belongs.{TableId}
 use Rattle.smr_deferred.specs.declared.asked.Asked.{Asked}
 use Rattle.smr_deferred.specs.declared.pace.Pace.{Pace}
-use Rattle.smr_deferred.specs.declared.retired.Retired.{Retired}
+use Rattle.smr_deferred.specs.declared.retire_list.Retired.{Retired}
 use Rattle.smr_deferred.specs.declared.retire_list.RetireList.{RetireList}
 use Rattle.smr_deferred.specs.Numbers.{Numbers, none}
 use Rattle.smr_deferred.specs.Pace.{limit_in, moved_in, asked_in, refused_in, numbers_of, IsLimit, IsOfClock}
@@ -24,7 +24,7 @@ module _ {T H P : Type 0} {g : Ghosts H P} where
   abbrev pub limit_of : RetireList T H P g → ℕ
   limit_of list = limit_in (pace_of list)
 
-  -- two above the write hand that it loaded before its last advance that answered, or 0
+  -- two above the write sequence that it loaded before its last advance that answered, or 0
   abbrev pub moved_of : RetireList T H P g → ℕ
   moved_of list = moved_in (pace_of list)
 

@@ -1,6 +1,6 @@
 -- Own: what a list keeps of a value.
 use Rattle.std.specs.Prelude.{ℕ, List, [], ◌∷◌, Option, Some, None}
-use Rattle.smr_deferred.specs.declared.retired.Retired.{Retired}
+use Rattle.smr_deferred.specs.declared.retire_list.Retired.{Retired}
 
 module _ {T : Type 0} where
   -- the value with its goal

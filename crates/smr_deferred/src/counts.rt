@@ -1,6 +1,11 @@
+//! The counts of a retire list, which only contracts see, and the law that its advances are few.
 ghost use Rattle.std.specs.Prelude.{◌≡◌};
+ghost use Rattle.smr_deferred.specs.Numbers.{AreFew};
+ghost use Rattle.smr_deferred.specs.RetireList.{limit_of, counts_of};
 
+use crate::retire_list::RetireList;
 use boxcar::tag::{Names, Tag};
+use smr_clock::Host;
 
 /// The four numbers of a list, which have no bound. Contracts alone see them: it has no bytes.
 #[derive(Drop)]
@@ -72,4 +77,11 @@ impl Counts {
             tag: Tag::of::<Counts, OneAnswered>(self),
         }
     }
+}
+
+/// At most one advance answered for each `limit` values listed, and one for each push.
+pub fn advances_are_few<T, H: Host>(list: &RetireList<T, H>)
+    ensures { AreFew (limit_of list.now) (counts_of list.now) }
+{
+    let _ = list;
 }

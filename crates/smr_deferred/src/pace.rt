@@ -137,7 +137,7 @@ impl<H: Host> Pace<H> {
         }
     }
 
-    /// Counts a push, and advances once. `moved` is two above the write hand that was loaded for it.
+    /// Counts a push, and advances once. `moved` is two above the write sequence that was loaded for it.
     pub(crate) fn push(
         &mut self,
         clock: &Clock<H>,

@@ -3,12 +3,80 @@ ghost use Rattle.smr_deferred.specs.Counts.{numbers_in};
 ghost use Rattle.smr_deferred.specs.Numbers.{AreFew};
 
 use crate::pace::Pace;
-use crate::refused::{LimitRefused, ReapNo, RetireRefused};
-use crate::retired::Retired;
 use smr_clock::{AdvanceRefused, Clock, Host, Pass};
 use smr_core::hands::is_spent;
 use std::alloc::Global;
 use std::collections::VecDeque;
+use std::error::Error;
+use std::fmt;
+
+/// Why a list wasn't made: its limit isn't 1 to 65,536 retirements.
+#[derive(Clone, Copy, Debug, PartialEq, Eq)]
+pub struct LimitRefused {
+    pub limit: u32,
+}
+
+/// Why a value wasn't listed.
+#[derive(Clone, Copy, Debug, PartialEq, Eq)]
+pub enum RetireRefused {
+    /// No goal is left above this write sequence.
+    Spent { write: u64 },
+    Memory,
+}
+
+/// Why no value was given, though the list isn't empty. Both numbers are whole hands.
+#[derive(Clone, Copy, Debug, PartialEq, Eq)]
+pub enum ReapNo {
+    /// The oldest value's goal is above what the list has asked the clock for: a push comes first.
+    Ahead { goal: u64, moved: u64 },
+    /// The poll said no: a section that may see the oldest value may be open.
+    Held { goal: u64 },
+}
+
+impl fmt::Display for LimitRefused {
+    fn fmt<W: fmt::Write>(&self, f: &mut fmt::Formatter<W>) -> fmt::Result {
+        let LimitRefused { limit } = self;
+        write!(
+            f,
+            "an advance in {limit} retirements: it is one in 1 to 65536"
+        )
+    }
+}
+
+impl Error for LimitRefused {}
+
+impl fmt::Display for RetireRefused {
+    fn fmt<W: fmt::Write>(&self, f: &mut fmt::Formatter<W>) -> fmt::Result {
+        match self {
+            RetireRefused::Spent { write } => {
+                write!(f, "no goal is left: the write hand is {write}")
+            }
+            RetireRefused::Memory => write!(f, "out of memory"),
+        }
+    }
+}
+
+impl Error for RetireRefused {}
+
+impl fmt::Display for ReapNo {
+    fn fmt<W: fmt::Write>(&self, f: &mut fmt::Formatter<W>) -> fmt::Result {
+        match self {
+            ReapNo::Ahead { goal, moved } => {
+                write!(f, "the goal {goal} is ahead of {moved}, the last asked for")
+            }
+            ReapNo::Held { goal } => write!(f, "a section before the goal {goal} may be open"),
+        }
+    }
+}
+
+impl Error for ReapNo {}
+
+/// A value with its goal, two above the write sequence that its retirement loaded.
+#[derive(Drop)]
+pub(crate) struct Retired<T> {
+    pub(crate) value: T,
+    pub(crate) goal: u64,
+}
 
 /// Values that wait until no section can see them, and come back in order. It is used with one pass, and so with one clock.
 ///
@@ -32,7 +100,15 @@ impl<T, H: Host> RetireList<T, H> {
     ghost use Rattle.smr_deferred.specs.Retired.{oldest_goal};
     ghost use Rattle.smr_deferred.specs.Retiring.{Retires, Pushes, DeclinesValue};
 
-    /// An empty list that advances once in `limit` retirements, which is 1 to 65,536.
+    /// Makes an empty list.
+    ///
+    /// # Arguments
+    ///
+    /// - `limit`: the list advances the clock once in this many retirements, 1 to 65,536.
+    ///
+    /// # Errors
+    ///
+    /// `LimitRefused`: the limit is out of its range.
     pub fn new(alloc: Global, limit: u32) -> Result<RetireList<T, H>, LimitRefused>
         ensures made { IfOk result (IsMade limit) }
         ensures refused { IfErr result (λ refused. RefusesLimit limit refused.limit) }
@@ -46,9 +122,16 @@ impl<T, H: Host> RetireList<T, H> {
         })
     }
 
-    /// Lists a value that no section which is entered from now on can see. Its goal is two above the write hand that is loaded
-    /// here. Then the list advances once if `limit` values or more were listed since its last advance that answered; a
-    /// refused advance is kept for `refused`. After a refusal the list is as before, and the value is back.
+    /// Lists a value that no section can see that is entered from now on. Its goal is two above the write sequence that the
+    /// call loads. Then the list advances once if `limit` values or more were listed since its last advance that
+    /// succeeded. `RetireList::refused` returns how that advance was refused.
+    ///
+    /// # Errors
+    ///
+    /// The caller gets the value back, and the list is unchanged.
+    ///
+    /// - `Memory`: out of memory.
+    /// - `Spent`: no goal is left above the write sequence.
     pub fn retire(
         &mut self,
         _alloc: Global,
@@ -74,8 +157,12 @@ impl<T, H: Host> RetireList<T, H> {
         Ok(())
     }
 
-    /// Loads the hands and advances once, so that the values listed so far can be reaped once no section before their goals is
-    /// open. Refused exactly as that advance.
+    /// Loads the sequences and advances once. The values listed so far can then be reaped once no section before their
+    /// goals is open.
+    ///
+    /// # Errors
+    ///
+    /// The refusal of that advance.
     pub fn push(&mut self, clock: &Clock<H>, pass: &mut Pass<H>) -> Result<(), AdvanceRefused>
         requires { AreOfClock clock.now pass.old (pace_of self.old) }
         ensures goes_on { GoesOn clock.now pass.old pass.new (pace_of self.old) (pace_of self.new) }
@@ -95,8 +182,14 @@ impl<T, H: Host> RetireList<T, H> {
         Some(oldest.goal)
     }
 
-    /// The oldest value, where a poll says that no section before its goal is open; from here on none ever is. None where the
-    /// list is empty. The poll is by the list's own note, so the pass stays as it is.
+    /// Returns the oldest value, if a poll returns that no section before its goal is open; none ever is from then on.
+    /// Returns None if the list is empty. The list polls by its own note, so the pass stays as it is.
+    ///
+    /// # Errors
+    ///
+    /// - `Ahead { goal, moved }`: the value's goal is above the last goal that the list asked the clock for. Call
+    ///   [`RetireList::push`] first.
+    /// - `Held { goal }`: a section that may see the value may be open.
     pub fn reap(&mut self, clock: &Clock<H>, pass: &mut Pass<H>) -> Result<Option<T>, ReapNo>
         requires { AreOfClock clock.now pass.old (pace_of self.old) }
         ensures kept { KeepsPass clock.now pass.old pass.new (pace_of self.new) }
@@ -121,14 +214,14 @@ impl<T, H: Host> RetireList<T, H> {
         Ok(Some(value))
     }
 
-    /// How the last advance was refused. None after one that answered, and before the first.
+    /// Returns how the last advance was refused. Returns None if it succeeded, or if there was none.
     pub fn refused(&self) -> Option<AdvanceRefused>
         ensures { result ≡ refused_of self.now }
     {
         self.pace.refused()
     }
 
-    /// Ends an empty list. One whose values may be dropped can be dropped instead.
+    /// Ends an empty list. A list whose values may be dropped can be dropped instead.
     pub fn destroy_empty(self)
         requires { listed self ≡ [] }
     {

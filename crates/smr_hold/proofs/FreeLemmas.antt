@@ -1,12 +1,12 @@
 -- What the steps of a publish make of one slot.
 use Rattle.std.proofs.Common.{◌≡◌, ℕ, ◌<◌, ◌≤◌, length, get_or-set_same, get_or-set_other, refl, sym, ap, ◌∙◌, subst, inl, inr}
 use Rattle.std.proofs.Math.Nat.{le_refl}
-use Rattle.smr_clock.specs.declared.setup.Setup.{Setup}
+use Rattle.smr_clock.specs.declared.clock.Setup.{Setup}
 use Rattle.smr_clock.specs.declared.view.View.{View}
 use Rattle.smr_clock.specs.SafeReuse.{KnownStaysOver}
-use Rattle.smr_objects.specs.declared.records.SlotView.{SlotView}
-use Rattle.smr_objects.specs.declared.records.CellView.{CellView}
-use Rattle.smr_objects.specs.declared.part.Part.{Part}
+use Rattle.smr_objects.specs.declared.cell.SlotView.{SlotView}
+use Rattle.smr_objects.specs.declared.cell.CellView.{CellView}
+use Rattle.smr_objects.specs.declared.objects.Part.{Part}
 use Rattle.smr_objects.specs.Cells.{fresh_slot, slot_at}
 use Rattle.smr_objects.specs.Steps.{with_slot}
 use Rattle.smr_hold.specs.Publishing.{cell_in, slot_in, GivesStamp, IsStampOf, IsOverFrom, IsUnseen, Touches}
@@ -34,7 +34,7 @@ untouched slot v = record { records = refl; number = refl; value = refl; others 
 -- ---- the stamp of a slot that is closed
 
 module _ (slot stamp read : ℕ) (v u w : View Part) (same : w.holder.seen ≡ u.holder.seen) where
-  -- it is the slot's, or was given to it, whatever the cell has loaded of the read hand since
+  -- it is the slot's, or was given to it, whatever the cell has loaded of the read sequence since
   stamp_still : IsStampOf slot v u stamp → IsStampOf slot v w stamp
   stamp_still (inl had) = inl had
   stamp_still (inr given) =
@@ -42,7 +42,7 @@ module _ (slot stamp read : ℕ) (v u w : View Part) (same : w.holder.seen ≡ u
       let gives : GivesStamp v w stamp = record { write = g.write; two_above = g.two_above; not_lower = g.not_lower; seen = subst (λ (n : ℕ). g.write ≤ n) (sym same) g.seen } in
       inr (given.0, gives)
 
-  -- the cell knows the read hand that was found, which is not below the stamp
+  -- the cell knows the read sequence that was found, which is not below the stamp
   pub unseen_now : ((a : Setup) → KnownStaysOver Part a) → IsStampOf slot v u stamp → stamp ≤ read → w.holder.floor ≡ read → IsUnseen slot v w
   unseen_now law given expired floor =
       let known : stamp ≤ w.holder.floor = subst (λ (n : ℕ). stamp ≤ n) (sym floor) expired in

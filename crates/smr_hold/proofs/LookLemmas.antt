@@ -1,11 +1,11 @@
 -- What a look's two loads come to, and a read of a hold.
 use Rattle.std.proofs.Common.{◌≡◌, ◌==◌, ℕ, ◌<◌, ◌≤◌, List, [], ◌∷◌, cond, Bool, true, false, refl, sym, ap, ◌∙◌, subst, ⊎_elim, inl, inr, arith, Some, None}
-use Rattle.smr_core.specs.declared.phase.Phase.TheVariants as phase
-use Rattle.smr_clock.specs.declared.setup.Setup.{Setup}
+use Rattle.smr_core.specs.declared.holder.Phase.TheVariants as phase
+use Rattle.smr_clock.specs.declared.clock.Setup.{Setup}
 use Rattle.smr_clock.specs.declared.view.View.{View}
-use Rattle.smr_objects.specs.declared.records.Record.{Record}
-use Rattle.smr_objects.specs.declared.records.Looked.{Looked}
-use Rattle.smr_objects.specs.declared.part.Part.{Part}
+use Rattle.smr_objects.specs.declared.cell.Record.{Record}
+use Rattle.smr_objects.specs.declared.cell.Looked.{Looked}
+use Rattle.smr_objects.specs.declared.objects.Part.{Part}
 use Rattle.smr_objects.specs.Cells.{In}
 use Rattle.smr_objects.specs.Steps.{held_of, slot_of}
 use Rattle.smr_objects.specs.Reading.{SeesNone, SeesRecord, HoldsSlot}

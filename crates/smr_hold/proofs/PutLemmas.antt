@@ -3,10 +3,10 @@ use Rattle.std.proofs.Common.{◌≡◌, ◌≢◌, ℕ, ◌+◌, ◌<◌, ◌�
 use Rattle.std.proofs.Math.Nat.{le-max_left, le-max_right}
 use Rattle.smr_core.specs.declared.holder.Holder.{Holder}
 use Rattle.smr_clock.specs.declared.view.View.{View}
-use Rattle.smr_objects.specs.declared.records.SlotView.{SlotView}
-use Rattle.smr_objects.specs.declared.records.CellView.{CellView}
-use Rattle.smr_objects.specs.declared.slot_state.SlotState.TheVariants.{Closed, Open, Stamped}
-use Rattle.smr_objects.specs.declared.part.Part.{Part}
+use Rattle.smr_objects.specs.declared.cell.SlotView.{SlotView}
+use Rattle.smr_objects.specs.declared.cell.CellView.{CellView}
+use Rattle.smr_objects.specs.declared.cell.SlotState.TheVariants.{Closed, Open, Stamped}
+use Rattle.smr_objects.specs.declared.objects.Part.{Part}
 use Rattle.smr_objects.specs.Cells.{fresh_slot, slot_at, current_slot, last_version}
 use Rattle.smr_objects.specs.Stamping.{StampsSlot}
 use Rattle.smr_objects.specs.Steps.{with_slot, valued, opened, stamped, switched}

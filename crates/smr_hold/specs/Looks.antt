@@ -2,8 +2,8 @@
 use Rattle.std.specs.Prelude.{◌≡◌, ℕ, ◌^◌, ◌<◌, ◌≤◌}
 use Rattle.smr_clock.specs.declared.view.View.{View}
 use Rattle.smr_clock.specs.HostSteps.{with_host}
-use Rattle.smr_objects.specs.declared.records.Record.{Record}
-use Rattle.smr_objects.specs.declared.part.Part.{Part}
+use Rattle.smr_objects.specs.declared.cell.Record.{Record}
+use Rattle.smr_objects.specs.declared.objects.Part.{Part}
 use Rattle.smr_objects.specs.Steps.{NoneKnown, IsNewest, looking, finding_none}
 use Rattle.smr_hold.specs.declared.found.Look.{Look}
 

@@ -9,19 +9,19 @@ use Rattle.smr_clock.specs.Moments.{Moment, Run}
 use Rattle.smr_clock.specs.SafeReuse.{StaysOver}
 use Rattle.smr_objects.specs.declared.objects.Objects.{Objects}
 use Rattle.smr_objects.specs.declared.cell.Cell.{Cell}
-use Rattle.smr_objects.specs.declared.records.Record.{Record}
-use Rattle.smr_objects.specs.declared.records.SlotView.{SlotView}
-use Rattle.smr_objects.specs.declared.records.CellView.{CellView}
-use Rattle.smr_objects.specs.declared.slot_state.SlotState.TheVariants.{Closed, Open, Stamped}
-use Rattle.smr_objects.specs.declared.part.Part.{Part}
+use Rattle.smr_objects.specs.declared.cell.Record.{Record}
+use Rattle.smr_objects.specs.declared.cell.SlotView.{SlotView}
+use Rattle.smr_objects.specs.declared.cell.CellView.{CellView}
+use Rattle.smr_objects.specs.declared.cell.SlotState.TheVariants.{Closed, Open, Stamped}
+use Rattle.smr_objects.specs.declared.objects.Part.{Part}
 use Rattle.smr_objects.specs.Belongs.{the_cell}
 use Rattle.smr_objects.specs.Cells.{current_slot, last_version, slot_at}
 use Rattle.smr_objects.specs.CellViews.{cell_knows, slot_state}
 use Rattle.smr_objects.specs.OwnerCalls.{OwnsSlot}
-use Rattle.smr_hold.specs.declared.slot_cause.SlotCause.{SlotCause}
-use Rattle.smr_hold.specs.declared.slot_cause.SlotCause.TheVariants.{Current, Unripe, Held}
-use Rattle.smr_hold.specs.declared.publish_refused.PublishRefused.{PublishRefused}
-use Rattle.smr_hold.specs.declared.publish_refused.PublishRefused.TheVariants.{Worn, Crowded}
+use Rattle.smr_hold.specs.declared.publishing.SlotCause.{SlotCause}
+use Rattle.smr_hold.specs.declared.publishing.SlotCause.TheVariants.{Current, Unripe, Held}
+use Rattle.smr_hold.specs.declared.publishing.PublishRefused.{PublishRefused}
+use Rattle.smr_hold.specs.declared.publishing.PublishRefused.TheVariants.{Worn, Crowded}
 use Rattle.smr_hold.specs.Causes.{cause_at}
 
 -- what a cell's seat knows of its cell, and of one slot
@@ -34,7 +34,7 @@ slot_in v slot = slot_at (cell_in v).slots slot
 abbrev pub current_in : View Part → Option ℕ
 current_in v = current_slot (cell_in v).records
 
--- The stamp was the slot's, or was given to it in this call: two above a write hand that wasn't below what the cell had seen before, and that it has seen after.
+-- The stamp was the slot's, or was given to it in this call: two above a write sequence that wasn't below what the cell had seen before, and that it has seen after.
 pub record GivesStamp (v w : View Part) (stamp : ℕ) : Type 0 where
   pub write : ℕ
   pub two_above : stamp ≡ write + 2
@@ -60,7 +60,7 @@ pub record SettlesStamp (slot : ℕ) (v w : View Part) (stamp : ℕ) : Type 0 wh
   pub closings : (slot_in w slot).closings ≡ (slot_in v slot).closings
   pub origin : IsStampOf slot v w stamp
 
--- Why the slot wasn't used. Current: it is the current one, and is as it was. Unripe: the read hand found in this call is below its stamp. Held: in this call one closing of it was tried more, which found so many holds.
+-- Why the slot wasn't used. Current: it is the current one, and is as it was. Unripe: the read sequence found in this call is below its stamp. Held: in this call one closing of it was tried more, which found so many holds.
 abbrev pub CauseIs : ℕ → SlotCause → View Part → View Part → Type 0
 CauseIs slot Current v w = (current_in v ≡ Some slot) × (slot_in w slot ≡ slot_in v slot)
 CauseIs slot (Unripe read stamp) v w =

@@ -5,15 +5,15 @@ use mathlib.Core.Option.{some, some-injective, some-ne-none}
 use lib.ListN.{get_elem?}
 use Rattle.smr_core.specs.ClockState.{place_after_seats, opening_words}
 use Rattle.smr_core.proofs.PlaceLemmas.{at_push}
-use Rattle.smr_clock.specs.declared.setup.Setup.{Setup}
+use Rattle.smr_clock.specs.declared.clock.Setup.{Setup}
 use Rattle.smr_clock.specs.declared.clock.Clock.{Clock}
 use Rattle.smr_clock.specs.Views.{first_view}
 use Rattle.smr_clock.specs.Making.{first_words, Opens}
 use Rattle.smr_clock.proofs.HostClocked.{opening-long, opens_clocked}
 use Rattle.smr_objects.specs.declared.objects.Objects.{Objects}
-use Rattle.smr_objects.specs.declared.records.CellView.{CellView}
-use Rattle.smr_objects.specs.declared.records.SlotView.{SlotView}
-use Rattle.smr_objects.specs.declared.part.Part.{Part}
+use Rattle.smr_objects.specs.declared.cell.CellView.{CellView}
+use Rattle.smr_objects.specs.declared.cell.SlotView.{SlotView}
+use Rattle.smr_objects.specs.declared.objects.Part.{Part}
 use Rattle.smr_objects.specs.declared.cell.Cell.{Cell}
 use Rattle.smr_objects.specs.Cells.{In, fresh_slot, slot_at, fresh_cell, cells_from, first_part, cell_holds, all_holds, Has, IsCell, KnowsIt, LookedIt, HoldsIt}
 use Rattle.smr_objects.specs.ObjectsLaw.{IsPlan, SlotFits, CellFits, Objected}

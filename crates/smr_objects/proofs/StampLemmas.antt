@@ -5,14 +5,14 @@ use Rattle.smr_core.proofs.KindLemmas.{marks_above_read}
 use Rattle.smr_clock.specs.Views.{holders_of}
 use Rattle.smr_clock.proofs.Kept.{holder_there}
 use Rattle.smr_clock.proofs.ReuseLemmas.{known-stays-over}
-use Rattle.smr_objects.specs.declared.slot_state.SlotState.{SlotState}
-use Rattle.smr_objects.specs.declared.slot_state.SlotState.TheVariants.{Closed, Stamped}
+use Rattle.smr_objects.specs.declared.cell.SlotState.{SlotState}
+use Rattle.smr_objects.specs.declared.cell.SlotState.TheVariants.{Closed, Stamped}
 use Rattle.smr_objects.specs.StampsStand.{MayBeWritten, StampedSlotsStand, StampsStand}
 
 unclosed : (stamp : ℕ) → Stamped stamp ≡ Closed → ⊥
 unclosed stamp is = cc
 
--- a stamp that the owner may pass over is at most the read hand, which is at most each mark
+-- a stamp that the owner may pass over is at most the read sequence, which is at most each mark
 not_written : (floor read mark stamp : ℕ) → floor ≤ read → read ≤ mark → mark < stamp → MayBeWritten floor (Stamped stamp) → ⊥
 not_written floor read mark stamp known above before (inl closed) = unclosed stamp closed
 not_written floor read mark stamp known above before (inr over) = absurd (omega (arith, over))

@@ -1,12 +1,12 @@
 -- What contracts see of a clock of objects and of its cells.
 use Rattle.std.specs.Prelude.{ℕ, ◌≤◌, ◌<◌, List, [], ◌∷◌, Bool, true, false, Option, Some, None}
-use Rattle.smr_clock.specs.declared.setup.Setup.{Setup}
+use Rattle.smr_clock.specs.declared.clock.Setup.{Setup}
 use Rattle.smr_clock.specs.declared.clock.Clock.{Clock}
 use Rattle.smr_clock.specs.Belongs.{table_of, setup_of}
-use Rattle.smr_objects.specs.declared.records.SlotView.{SlotView}
-use Rattle.smr_objects.specs.declared.records.CellView.{CellView}
-use Rattle.smr_objects.specs.declared.slot_state.SlotState.{SlotState}
-use Rattle.smr_objects.specs.declared.slot_state.SlotState.TheVariants.{Closed, Stamped}
+use Rattle.smr_objects.specs.declared.cell.SlotView.{SlotView}
+use Rattle.smr_objects.specs.declared.cell.CellView.{CellView}
+use Rattle.smr_objects.specs.declared.cell.SlotState.{SlotState}
+use Rattle.smr_objects.specs.declared.cell.SlotState.TheVariants.{Closed, Stamped}
 use Rattle.smr_objects.specs.Cells.{cell_place, fresh_cell}
 use Rattle.smr_objects.specs.ObjectsLaw.{IsPlan}
 
@@ -47,7 +47,7 @@ abbrev pub stamp_of : SlotState → Option ℕ
 stamp_of (Stamped stamp) = Some stamp
 stamp_of _ = None
 
--- the slot has a stamp, and the read hand is known to have come to it
+-- the slot has a stamp, and the read sequence is known to have come to it
 abbrev pub IsOver : ℕ → SlotState → Type 0
 IsOver floor (Stamped stamp) = stamp ≤ floor
 IsOver floor _ = ⊥

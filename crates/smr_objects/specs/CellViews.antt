@@ -5,9 +5,9 @@ use Rattle.smr_clock.specs.declared.clock.Clock.{Clock}
 use Rattle.smr_clock.specs.declared.view.View.{View}
 use Rattle.smr_clock.specs.Notes.{IsSeatOf, seat_knows}
 use Rattle.smr_objects.specs.declared.objects.Objects.{Objects}
-use Rattle.smr_objects.specs.declared.records.CellView.{CellView}
-use Rattle.smr_objects.specs.declared.slot_state.SlotState.{SlotState}
-use Rattle.smr_objects.specs.declared.part.Part.{Part}
+use Rattle.smr_objects.specs.declared.cell.CellView.{CellView}
+use Rattle.smr_objects.specs.declared.cell.SlotState.{SlotState}
+use Rattle.smr_objects.specs.declared.objects.Part.{Part}
 use Rattle.smr_objects.specs.declared.cell.Cell.{Cell}
 use Rattle.smr_objects.specs.Cells.{slot_at}
 use Rattle.smr_objects.specs.Belongs.{the_cell}

@@ -6,15 +6,15 @@ use mathlib.Core.Option.{some, some-injective, some-ne-none}
 use lib.ListN.{get_elem?}
 use Rattle.smr_core.specs.ClockState.{place_after_seats, write_hand, read_hand}
 use Rattle.smr_core.proofs.PlaceLemmas.{at_set, at_push, at_longer, at_map, set_else}
-use Rattle.smr_clock.specs.declared.setup.Setup.{Setup}
+use Rattle.smr_clock.specs.declared.clock.Setup.{Setup}
 use Rattle.smr_clock.specs.declared.view.View.{View}
 use Rattle.smr_clock.specs.Views.{hosts_of, seats_in}
 use Rattle.smr_clock.specs.HostLaws.{Includes, FrameLaw, SplitLaw, JoinLaw}
-use Rattle.smr_objects.specs.declared.records.Record.{Record}
-use Rattle.smr_objects.specs.declared.records.SlotView.{SlotView}
-use Rattle.smr_objects.specs.declared.records.CellView.{CellView}
-use Rattle.smr_objects.specs.declared.records.Looked.{Looked}
-use Rattle.smr_objects.specs.declared.part.Part.{Part}
+use Rattle.smr_objects.specs.declared.cell.Record.{Record}
+use Rattle.smr_objects.specs.declared.cell.SlotView.{SlotView}
+use Rattle.smr_objects.specs.declared.cell.CellView.{CellView}
+use Rattle.smr_objects.specs.declared.cell.Looked.{Looked}
+use Rattle.smr_objects.specs.declared.objects.Part.{Part}
 use Rattle.smr_objects.specs.Cells.{In, cell_place, value_place, hold_place, slot_at, HoldWordFits, cell_holds, slot_holds, all_holds, Has, IsCell, KnowsIt, LookedIt, HoldsIt, blank_part, told, learned, has_none, may_note}
 use Rattle.smr_objects.specs.ObjectsLaw.{SlotFits, CellFits, TheCell, MayRead, LookFits, HasValue, HoldFits, IsRecord, Kept, Objected}
 

@@ -2,20 +2,20 @@
 use Rattle.std.specs.Prelude.{◌≡◌, ℕ, ◌-◌, ◌<◌, ◌≤◌, ◌⊎◌, List, length}
 use mathlib.Core.Option.{some}
 use lib.ListN.{get_elem?}
-use Rattle.smr_core.specs.declared.clock_config.ClockConfig.{ClockConfig}
+use Rattle.smr_core.specs.declared.clock_core.ClockConfig.{ClockConfig}
 use Rattle.smr_core.specs.Making.{RefusesNumbers}
 use Rattle.smr_clock.specs.declared.clock.Clock.{Clock}
 use Rattle.smr_clock.specs.declared.host.Host.{Ghosts}
-use Rattle.smr_clock.specs.declared.host_seat.HostSeat.{HostSeat}
+use Rattle.smr_clock.specs.declared.host.HostSeat.{HostSeat}
 use Rattle.smr_clock.specs.declared.pass.Pass.{Pass}
-use Rattle.smr_clock.specs.declared.setup.Setup.{Setup}
+use Rattle.smr_clock.specs.declared.clock.Setup.{Setup}
 use Rattle.smr_clock.specs.Belongs.{setup_of}
 use Rattle.smr_clock.specs.Making.{AreWorkers}
 use Rattle.smr_clock.specs.Notes.{IsSeatOf, seat_knows}
 use Rattle.smr_objects.specs.declared.objects.Objects.{Objects}
-use Rattle.smr_objects.specs.declared.hold_refused.HoldRefused.{HoldRefused}
-use Rattle.smr_objects.specs.declared.hold_refused.HoldRefused.TheVariants.{Cells, Slots, Clock as ClockNumber, Memory}
-use Rattle.smr_objects.specs.declared.part.Part.{Part}
+use Rattle.smr_objects.specs.declared.hold.HoldRefused.{HoldRefused}
+use Rattle.smr_objects.specs.declared.hold.HoldRefused.TheVariants.{Cells, Slots, Clock as ClockNumber, Memory}
+use Rattle.smr_objects.specs.declared.objects.Part.{Part}
 use Rattle.smr_objects.specs.declared.cell.Cell.{Cell}
 use Rattle.smr_core.specs.ClockState.{IsInRange}
 use Rattle.smr_objects.specs.Cells.{first_part, fresh_cell, cells_from, told}

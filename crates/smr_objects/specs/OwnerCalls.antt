@@ -4,8 +4,8 @@ use Rattle.smr_clock.specs.declared.clock.Clock.{Clock}
 use Rattle.smr_clock.specs.Belongs.{setup_of}
 use Rattle.smr_clock.specs.Steps.{IsReadFound, read_looking}
 use Rattle.smr_objects.specs.declared.objects.Objects.{Objects}
-use Rattle.smr_objects.specs.declared.slot_state.SlotState.TheVariants.{Closed, Open}
-use Rattle.smr_objects.specs.declared.part.Part.{Part}
+use Rattle.smr_objects.specs.declared.cell.SlotState.TheVariants.{Closed, Open}
+use Rattle.smr_objects.specs.declared.objects.Part.{Part}
 use Rattle.smr_objects.specs.declared.cell.Cell.{Cell}
 use Rattle.smr_objects.specs.Belongs.{IsObjectsClock, IsOver}
 use Rattle.smr_objects.specs.Cells.{current_slot, last_version}
@@ -65,7 +65,7 @@ pub record SwitchesTo (slot : ℕ) (old : Cell) (version : ℕ) (new : Cell) : T
   pub cell : cell_knows new ≡ switched slot (cell_knows old)
   pub former : (n : ℕ) → current_slot (cell_knows old).records ≡ Some n → slot_state old n ≡ Open
 
--- The cell knows the read hand that it loaded.
+-- The cell knows the read sequence that it loaded.
 pub record FindsRead (old : Cell) (read : ℕ) (new : Cell) : Type 0 where
   pub found : IsReadFound (cell_holder old) read
   pub holder : cell_holder new ≡ (read_looking (cell_view old) read).holder

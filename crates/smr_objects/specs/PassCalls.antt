@@ -1,13 +1,13 @@
 -- What a pass gives to a call on a cell, and what the call leaves as it was.
 use Rattle.std.specs.Prelude.{◌≡◌, ℕ, ◌<◌, Some, None}
-use Rattle.smr_core.specs.declared.phase.Phase.TheVariants as phase
+use Rattle.smr_core.specs.declared.holder.Phase.TheVariants as phase
 use Rattle.smr_clock.specs.declared.clock.Clock.{Clock}
 use Rattle.smr_clock.specs.declared.host.Host.{Ghosts}
 use Rattle.smr_clock.specs.declared.pass.Pass.{Pass}
 use Rattle.smr_clock.specs.Belongs.{IsPassOf, view, holder, setup_of}
 use Rattle.smr_clock.specs.HostSteps.{with_host}
 use Rattle.smr_objects.specs.declared.objects.Objects.{Objects}
-use Rattle.smr_objects.specs.declared.part.Part.{Part}
+use Rattle.smr_objects.specs.declared.objects.Part.{Part}
 use Rattle.smr_objects.specs.Belongs.{IsObjectsClock, HasSlot}
 use Rattle.smr_objects.specs.Reading.{HoldsSlot}
 use Rattle.smr_objects.specs.Steps.{looked_at, held_slot}

@@ -1,21 +1,21 @@
--- What a slot's stamp means: no slot is written while a section is open whose entry mark is below the slot's stamp. Own; that a goal two above the write hand is above the mark of each section then open is the rule of the comment on FreeBSD's subr_smr.c.
+-- What a slot's stamp means: no slot is written while a section is open whose entry mark is below the slot's stamp. Own; that a goal two above the write sequence is above the mark of each section then open is the rule of the comment on FreeBSD's subr_smr.c.
 use Rattle.std.specs.Prelude.{◌≡◌, ℕ, ◌⊎◌}
 use mathlib.Core.Option.{some}
 use lib.ListN.{get_elem?}
 use Rattle.smr_core.specs.ClockState.{IsInSection, IsBefore}
-use Rattle.smr_clock.specs.declared.setup.Setup.{Setup}
+use Rattle.smr_clock.specs.declared.clock.Setup.{Setup}
 use Rattle.smr_clock.specs.declared.view.View.{View}
 use Rattle.smr_clock.specs.Moments.{Moment}
 use Rattle.smr_clock.specs.SafeReuse.{KnownStaysOver}
-use Rattle.smr_objects.specs.declared.records.CellView.{CellView}
-use Rattle.smr_objects.specs.declared.slot_state.SlotState.{SlotState}
-use Rattle.smr_objects.specs.declared.slot_state.SlotState.TheVariants.{Closed, Stamped}
-use Rattle.smr_objects.specs.declared.part.Part.{Part}
+use Rattle.smr_objects.specs.declared.cell.CellView.{CellView}
+use Rattle.smr_objects.specs.declared.cell.SlotState.{SlotState}
+use Rattle.smr_objects.specs.declared.cell.SlotState.TheVariants.{Closed, Stamped}
+use Rattle.smr_objects.specs.declared.objects.Part.{Part}
 use Rattle.smr_objects.specs.Belongs.{IsOver}
 use Rattle.smr_objects.specs.Cells.{In, slot_at}
 use Rattle.smr_objects.specs.ObjectsLaw.{Objected}
 
--- The owner of a slot may write it, as `write_value` asks, or close it first, as `close_slot` asks: the slot is closed, or the owner, which knows this floor of the read hand, knows that its stamp is expired.
+-- The owner of a slot may write it, as `write_value` asks, or close it first, as `close_slot` asks: the slot is closed, or the owner, which knows this floor of the read sequence, knows that its stamp is expired.
 abbrev pub MayBeWritten : ℕ → SlotState → Type 0
 MayBeWritten floor state = (state ≡ Closed) ⊎ IsOver floor state
 

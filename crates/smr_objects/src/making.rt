@@ -3,16 +3,29 @@ ghost use Rattle.smr_clock.specs.Belongs.{setup_of};
 ghost use Rattle.smr_clock.specs.Making.{setup};
 ghost use Rattle.smr_objects.specs.Opening.{AreInRange, AreAllCells, HasCellsFrom, IsOpenCell, Opened, RefusesObjects};
 
-use crate::cell::Cell;
-use crate::hold_refused::HoldRefused;
-use crate::objects::Objects;
-use crate::opened::HoldOpened;
-use crate::places::WORDS;
-use crate::slot_state::SlotState;
+use crate::cell::{Cell, SlotState};
+use crate::hold::HoldRefused;
+use crate::objects::{Objects, WORDS};
 use listed::Listed;
-use smr_clock::{Clock, HostSeat, HostSplit, Memory};
+use smr_clock::{Clock, HostSeat, HostSplit, Memory, Pass};
 use smr_core::ClockConfig;
 use std::alloc::{AllocError, Global};
+
+/// A list of passes.
+pub type PassList = Listed<Pass<Objects>>;
+
+/// A list of cells.
+pub type CellList = Listed<Cell>;
+
+/// A clock of objects as it begins.
+#[derive(Drop)]
+pub struct HoldOpened {
+    pub clock: Clock<Objects>,
+    /// One a seat, in order of number.
+    pub passes: PassList,
+    /// In order of number.
+    pub cells: CellList,
+}
 
 /// The most cells, and the most slots.
 const MOST_CELLS: u32 = 4096;
@@ -98,13 +111,22 @@ fn split_cells(
     Ok(cells)
 }
 
-/// A clock of objects: nothing is published, and every slot is closed. Both hands are at `start`. All else that the
-/// objects do takes no memory.
+/// Makes a clock of objects with its passes and its cells. Nothing is published, and every slot is closed. Both sequences
+/// are at `start`. No other call of objects allocates.
+///
+/// # Arguments
+///
+/// - `seats`: the count of seats, 1 to 64.
+/// - `start`: where both sequences begin, an odd number, at most 2^63 - 1.
+/// - `window`: how far the write sequence may be ahead of the read sequence, an even number from 4 to 2^30.
+/// - `cells`: the count of cells, 1 to 4,096.
+/// - `slots`: the count of slots of each cell, 2 to 16.
 ///
 /// # Errors
 ///
-/// `Cells` outside 1 to 4,096; then `Slots` outside 2 to 16; then `Clock` where a number of the clock is out of range;
-/// `Memory` for want of memory.
+/// - `Cells`, `Slots`: that number is out of its range.
+/// - `Clock`: a number of the clock is out of its range, as for `Clock::new`.
+/// - `Memory`: out of memory.
 pub fn make(
     alloc: Global,
     seats: u32,

@@ -1,8 +1,22 @@
-//! Sequences of 32 bits that wrap, after FreeBSD's `smr_seq_t`: the low halves of a clock's hands.
+//! Sequence numbers of 32 bits that wrap, as FreeBSD's `smr_seq_t`.
 //!
-//! A hand is a number of 64 bits that only rises, and a word of the clock has room for its low half
-//! alone. `Seq` is such a half. It is compared as FreeBSD compares it, and `Seq::read` finds the hand
-//! that it is the half of, near a hand that is known whole. No call takes memory.
+//! The clock's two *hands*, its write sequence and read sequence, are numbers of 64 bits that only rise. A reader publishes only the low
+//! half of one. [`Seq`] is such a low half. It is compared round the circle of 2^32, as FreeBSD does it, and [`Seq::read`] restores the
+//! whole number from its low half and a known number near it.
+//!
+//! ```
+//! let seq = Seq::low(entered);                        // the low 32 bits
+//! let before = seq.lt(Seq::low(goal));                // entered < goal, if they differ by less than 2^31
+//! let whole = seq.read(write);                        // Some(entered), if entered <= write < entered + 2^31
+//! ```
+//!
+//! # What is promised
+//!
+//! - `read` returns the only number up to `near`, and less than 2^31 below it, that has this low half; `None` exactly if there is none
+//!   (`Seq::read`: `found`, `all`, `none`; `laws::reading_of_low`).
+//! - `delta`, `lt`, `leq` and `least` agree with the whole numbers if these differ by less than 2^31 (`of_hands`; `laws::order_of_low`).
+//!
+//! No call allocates.
 #![tactic(auto)]
 
 ghost use Rattle.std.specs.Prelude.{◌≡◌, ◌-ℤ◌, ◌↔◌, ℕ, ◌<◌, ◌≤◌, pos, min, IsTrue, IfSome, IfNone};
@@ -17,7 +31,7 @@ pub mod laws;
 ///
 /// 1. A hand less than this below a known hand is read back from its low half (`reading_of_low`). At
 ///    this distance it isn't.
-/// 2. Two hands that differ by less than this are ordered as their low halves are, and their difference
+/// 2. Two sequences that differ by less than this are ordered as their low halves are, and their difference
 ///    is that of their low halves (`order_of_low`).
 /// 3. The difference of two sequences is from minus this to one less than this (`delta_is_congruent`).
 /// 4. At exactly this distance each of two sequences is before the other (`both_before_at_half`).

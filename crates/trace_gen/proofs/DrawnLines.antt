@@ -1,11 +1,11 @@
 -- The lines of the steps that are left, and their `give` lines.
 use Rattle.std.proofs.Common.{◌≡◌, ℕ, zero, suc, true, false, List, [], ◌∷◌, ◌++◌, Some, None, refl, sym, ap, ◌∙◌}
-use Rattle.trace_text.specs.declared.trace_reading.entry.Entry.{Entry}
-use Rattle.trace_text.specs.declared.trace_reading.entry.Entry.TheVariants as entries
+use Rattle.trace_text.specs.declared.trace_reading.fields.Entry.{Entry}
+use Rattle.trace_text.specs.declared.trace_reading.fields.Entry.TheVariants as entries
 use Rattle.std.proofs.lemmas.Bool.{false≢true}
 use Rattle.trace_text.proofs.TraceParts.{BetweensStand}
-use Rattle.trace_gen.specs.declared.drawn.Drawn.{Drawn}
-use Rattle.trace_gen.specs.declared.drawn.Drawn.TheVariants as drawn
+use Rattle.trace_gen.specs.declared.generator.Drawn.{Drawn}
+use Rattle.trace_gen.specs.declared.generator.Drawn.TheVariants as drawn
 use Rattle.trace_gen.specs.Generator.{State, drawn_lines, entries_of, step}
 
 -- the lines of one step, and those of the steps behind it

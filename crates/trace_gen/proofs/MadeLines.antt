@@ -5,19 +5,19 @@ use Rattle.std.specs.List.{flat_map}
 use Rattle.std.proofs.lemmas.Bool.{false≢true}
 use Rattle.std.proofs.lemmas.List.Concat.{flat_map-append}
 use Rattle.std.proofs.lemmas.List.Elements.{All-nil, All-cons, All-append}
-use Rattle.trace_text.specs.declared.between.Between.{Between}
-use Rattle.trace_text.specs.declared.between.Between.TheVariants.{Give, SetMax}
-use Rattle.trace_text.specs.declared.op.Op.{Op}
-use Rattle.trace_text.specs.declared.op.Op.TheVariants.{Alloc, Free, Enter, Exit, Bind, Unbind, Look, Trim, Drain, DrainSeat, Prealloc, Away, Back}
-use Rattle.trace_text.specs.declared.trace_reading.entry.Entry.{Entry}
-use Rattle.trace_text.specs.declared.trace_reading.entry.Entry.TheVariants as entries
+use Rattle.trace_text.specs.declared.trace.Between.{Between}
+use Rattle.trace_text.specs.declared.trace.Between.TheVariants.{Give, SetMax}
+use Rattle.trace_text.specs.declared.trace.Op.{Op}
+use Rattle.trace_text.specs.declared.trace.Op.TheVariants.{Alloc, Free, Enter, Exit, Bind, Unbind, Look, Trim, Drain, DrainSeat, Prealloc, Away, Back}
+use Rattle.trace_text.specs.declared.trace_reading.fields.Entry.{Entry}
+use Rattle.trace_text.specs.declared.trace_reading.fields.Entry.TheVariants as entries
 use Rattle.trace_text.specs.Lines.{Line, Does, Moves}
-use Rattle.trace_text.specs.declared.version.Version.TheVariants as versions
+use Rattle.trace_text.specs.declared.trace.Version.TheVariants as versions
 use Rattle.trace_text.specs.Reading.{held, is_away}
 use Rattle.trace_text.specs.Valid.{OpFits, IsKnownOp, SlotFits, LineFits, LinesFit, comes_back}
 use Rattle.trace_text.proofs.TraceParts.{FitsHead, HasEntry, entry_line}
-use Rattle.trace_gen.specs.declared.drawn.Drawn.{Drawn}
-use Rattle.trace_gen.specs.declared.drawn.Drawn.TheVariants as drawn
+use Rattle.trace_gen.specs.declared.generator.Drawn.{Drawn}
+use Rattle.trace_gen.specs.declared.generator.Drawn.TheVariants as drawn
 use Rattle.trace_gen.specs.Generator.{State, draw, drawn_lines, entries_of, give_drawn, op_drawn, round_step, slots_given, step, work_step}
 use Rattle.trace_gen.specs.Header.{made_head}
 use Rattle.trace_gen.proofs.DrawnOps.{MayDo, MayGive, draw_below, give_may, of_each, op_may}

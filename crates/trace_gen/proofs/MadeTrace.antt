@@ -1,6 +1,6 @@
 -- A made trace is valid.
 use Rattle.std.proofs.Common.{ℕ, ◌<◌, [], arith}
-use Rattle.trace_text.specs.declared.version.Version.TheVariants as versions
+use Rattle.trace_text.specs.declared.trace.Version.TheVariants as versions
 use Rattle.trace_text.specs.Limits.{IsWithin}
 use Rattle.trace_text.specs.Valid.{IsValid}
 use Rattle.trace_text.proofs.TraceOrder.{last_round, lines_known as text_lines_known, lines_still_fit, rounds_fit}

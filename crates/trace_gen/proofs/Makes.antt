@@ -2,12 +2,12 @@
 use Rattle.std.proofs.Common.{◌≡◌, ◌+◌, ◌-◌, ◌<◌, ◌≤◌, ℕ, suc, List, [], ◌++◌, length, replicate, false, refl, sym, ap, ◌∙◌, arith}
 use Rattle.std.specs.List.{slice_split}
 use Rattle.std.proofs.lemmas.List.{length-replicate}
-use Rattle.trace_text.specs.declared.round.Round.{Round}
-use Rattle.trace_text.specs.declared.trace_reading.entry.Entry.{Entry}
+use Rattle.trace_text.specs.declared.trace.Round.{Round}
+use Rattle.trace_text.specs.declared.trace_reading.fields.Entry.{Entry}
 use Rattle.trace_text.specs.Grammar.{is_round, rounds_in}
 use Rattle.trace_text.proofs.TraceParts.{BetweensStand}
-use Rattle.trace_gen.specs.declared.drawn.Did.{Did}
-use Rattle.trace_gen.specs.declared.drawn.Drawn.{Drawn}
+use Rattle.trace_gen.specs.declared.generator.Did.{Did}
+use Rattle.trace_gen.specs.declared.generator.Drawn.{Drawn}
 use Rattle.trace_gen.specs.Generator.{State, begun, drawn_lines, entries_of, step}
 use Rattle.trace_gen.specs.Rounds.{rounds_with}
 use Rattle.trace_gen.proofs.DrawnLines.{lines_more, lines_stand}

@@ -4,15 +4,15 @@ use Rattle.std.specs.Prelude.{option_to_list}
 use Rattle.std.specs.List.{flat_map, slice_split, onto_first}
 use Rattle.std.proofs.lemmas.Bool.{false≢true}
 use Rattle.std.proofs.lemmas.List.FromFn.{map-range_with_len_more}
-use Rattle.trace_text.specs.declared.between.Between.{Between}
-use Rattle.trace_text.specs.declared.op.Op.{Op}
-use Rattle.trace_text.specs.declared.round.Round.{Round}
-use Rattle.trace_text.specs.declared.trace_reading.entry.Entry.{Entry}
-use Rattle.trace_text.specs.declared.trace_reading.entry.Entry.TheVariants as entries
+use Rattle.trace_text.specs.declared.trace.Between.{Between}
+use Rattle.trace_text.specs.declared.trace.Op.{Op}
+use Rattle.trace_text.specs.declared.trace.Round.{Round}
+use Rattle.trace_text.specs.declared.trace_reading.fields.Entry.{Entry}
+use Rattle.trace_text.specs.declared.trace_reading.fields.Entry.TheVariants as entries
 use Rattle.trace_text.specs.Grammar.{is_round, op_by, between_in, ops_in, rounds_in}
 use Rattle.trace_text.proofs.TraceParts.{BetweensStand}
-use Rattle.trace_gen.specs.declared.drawn.Did.{Did}
-use Rattle.trace_gen.specs.declared.drawn.Drawn.TheVariants as drawn
+use Rattle.trace_gen.specs.declared.generator.Did.{Did}
+use Rattle.trace_gen.specs.declared.generator.Drawn.TheVariants as drawn
 use Rattle.trace_gen.specs.Generator.{entries_of, give_entries}
 use Rattle.trace_gen.specs.Rounds.{did_entry, rounds_with}
 

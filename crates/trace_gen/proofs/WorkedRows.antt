@@ -2,7 +2,7 @@
 use Rattle.std.proofs.Common.{◌≡◌, Bool, true, false, List, [], ◌∷◌, Some, None, refl}
 use Rattle.rand_core.specs.Steps.{stream_of, u32_at, word_bytes}
 use Rattle.rand_core.specs.Stream.{fill_bytes}
-use Rattle.trace_text.specs.declared.between.Between.TheVariants.{Give}
+use Rattle.trace_text.specs.declared.trace.Between.TheVariants.{Give}
 use Rattle.trace_gen.specs.Generator.{draw, filled_slots, give_drawn, least_filled, least_free, seeded, slots_given}
 
 -- two workers of four slots each

@@ -1,14 +1,14 @@
 -- What is told of a trace that is being made (own).
 use Rattle.std.specs.Prelude.{ℕ, ◌<◌, List, ◌++◌, map, false}
 use Rattle.std.specs.List.{slice_split}
-use Rattle.trace_text.specs.declared.op.Op.{Op}
-use Rattle.trace_text.specs.declared.op.Op.TheVariants.{Alloc, Free, Bind}
-use Rattle.trace_text.specs.declared.round.Round.{Round}
-use Rattle.trace_text.specs.declared.trace_reading.entry.Entry.{Entry}
-use Rattle.trace_text.specs.declared.trace_reading.entry.Entry.TheVariants as entries
+use Rattle.trace_text.specs.declared.trace.Op.{Op}
+use Rattle.trace_text.specs.declared.trace.Op.TheVariants.{Alloc, Free, Bind}
+use Rattle.trace_text.specs.declared.trace.Round.{Round}
+use Rattle.trace_text.specs.declared.trace_reading.fields.Entry.{Entry}
+use Rattle.trace_text.specs.declared.trace_reading.fields.Entry.TheVariants as entries
 use Rattle.trace_text.specs.Grammar.{is_round, rounds_in}
 use Rattle.trace_text.proofs.TraceParts.{BetweensStand}
-use Rattle.trace_gen.specs.declared.drawn.Did.{Did}
+use Rattle.trace_gen.specs.declared.generator.Did.{Did}
 
 -- an operation that may be done where so many binds were made
 abbrev pub MayBeDrawn : ℕ → Op → Type 0

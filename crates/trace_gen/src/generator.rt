@@ -1,16 +1,29 @@
-//! The steps of the generator.
+//! The steps of the generator, and what each draws.
 ghost use Rattle.std.specs.Prelude.{◌≡◌, ◌<◌, ◌≤◌, ℕ, length, IfOk, slice_index_or, slice_set};
 ghost use Rattle.trace_gen.specs.Generator.{alloc_drawn, begun, bind_drawn, draw, free_drawn, give_drawn, look_drawn, op_drawn, round_step, seeded, slots_given, step, unbind_drawn, work_step};
 ghost use Rattle.trace_gen.specs.Rounds.{MayBeDrawn};
 
-use crate::drawn::Drawn;
-use crate::slots::{SLOTS, Slots, filled_count, filled_slot, least_filled, least_free};
+use crate::rounds::{SLOTS, Slots, filled_count, filled_slot, least_filled, least_free};
 use rand_core::SeedableRng;
 use rand_core::utils::NextWord;
 use rand_xoshiro::Xoshiro256PlusPlus;
 use std::alloc::{AllocError, Global};
 use std::marker::Model;
 use trace_text::{Between, Op};
+
+/// What a worker does.
+#[derive(Clone, Copy)]
+pub struct Did {
+    pub worker: u32,
+    pub op: Op,
+}
+
+/// What one step draws: an operation, or the end of a round with what is given behind it.
+#[derive(Clone, Copy)]
+pub enum Drawn {
+    Does { worker: u32, op: Op },
+    Round { give: Option<Between> },
+}
 
 /// How many names are drawn from.
 const KEYS: u64 = 256;

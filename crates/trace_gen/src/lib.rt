@@ -1,7 +1,15 @@
-//! Traces from a number: the same each time, and valid.
+//! Traces made from a number: the same each time, and always valid.
 //!
-//! A draw is taken modulo n also where n isn't a power of two, so most counts of workers are drawn with the bias of the
-//! remainder.
+//! [`make_trace`] draws operations of each worker over three zones and a name cache, by the generator xoshiro256++. A second generator,
+//! made from the words of `docs/FORMATS.md` alone, writes the same bytes (tested in `test_replay`).
+//!
+//! ```
+//! let trace = make_trace(alloc, 7, 4, 1000)?;     // seed 7, four workers, a thousand steps
+//! ```
+//!
+//! # What is promised
+//!
+//! - The trace is a function of the seed and the two counts (`make_trace`: `made`), and is valid (`valid`).
 #![tactic(auto)]
 
 ghost use Rattle.std.specs.Prelude.{◌≡◌, IfOk};
@@ -15,11 +23,9 @@ use std::alloc::Global;
 use trace_text::{Trace, Version};
 use zone_stats::Memory;
 
-mod drawn;
 mod generator;
 mod head;
 mod rounds;
-mod slots;
 
 /// The trace, of version 1, that a seed gives: `ops` steps of `workers` workers, 1 to 16, over the zones `alpha`, `beta`
 /// and `gamma` and the names `dir`. `ops` is 1 to 50,000. `Memory` is the one error.

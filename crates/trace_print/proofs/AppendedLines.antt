@@ -3,10 +3,10 @@ use Rattle.std.proofs.Common.{◌≡◌, ℕ, List, [], ◌∷◌, ◌++◌, map
 use Rattle.std.specs.List.{flat_map}
 use Rattle.std.proofs.lemmas.Grind.{flat_map-append}
 use Rattle.std.proofs.lemmas.List.{append-nil}
-use Rattle.trace_text.specs.declared.head.Head.{Head}
+use Rattle.trace_text.specs.declared.trace.Head.{Head}
 use Rattle.trace_text.specs.declared.trace.Trace.{Trace}
-use Rattle.text_lines.specs.CanonicalLine.{line}
-use Rattle.text_lines.proofs.AppendedLines.{spaced, joined}
+use Rattle.trace_lines.specs.CanonicalLine.{line}
+use Rattle.trace_lines.proofs.AppendedLines.{spaced, joined}
 use Rattle.trace_print.specs.CanonicalText.{canonical_text, clock_text, detail_text, first_line, head_text, names_text, rounds_text, zone_line}
 
 -- what a line of a word, a worker, a name and numbers appends

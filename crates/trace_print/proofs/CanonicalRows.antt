@@ -2,14 +2,14 @@
 use Rattle.std.proofs.Common.{ℕ, ◌+◌, List, [], ◌∷◌, ◌++◌, map, Bool, true, false, Option, Some, None}
 use Rattle.std.specs.Prelude.{codes}
 use Rattle.std.specs.Fmt.{decimal}
-use Rattle.trace_text.specs.declared.head.ClockHead.{ClockHead}
-use Rattle.trace_text.specs.declared.head.Head.{Head}
-use Rattle.trace_text.specs.declared.head.NamesHead.{NamesHead}
-use Rattle.trace_text.specs.declared.head.ZoneHead.{ZoneHead}
-use Rattle.trace_text.specs.declared.op.Op.{Op}
-use Rattle.trace_text.specs.declared.round.Round.{Round}
+use Rattle.trace_text.specs.declared.trace.ClockHead.{ClockHead}
+use Rattle.trace_text.specs.declared.trace.Head.{Head}
+use Rattle.trace_text.specs.declared.trace.NamesHead.{NamesHead}
+use Rattle.trace_text.specs.declared.trace.ZoneHead.{ZoneHead}
+use Rattle.trace_text.specs.declared.trace.Op.{Op}
+use Rattle.trace_text.specs.declared.trace.Round.{Round}
 use Rattle.trace_text.specs.declared.trace.Trace.{Trace}
-use Rattle.trace_text.specs.declared.version.Version.{Version}
+use Rattle.trace_text.specs.declared.trace.Version.{Version}
 use Rattle.trace_print.specs.CanonicalText.{between_fields, op_fields, version_word, zone_fields}
 
 abbrev pub clock_rows : Option ClockHead → List (List (List ℕ))

@@ -13,21 +13,21 @@ use Rattle.std.proofs.lemmas.List.Elements.{All-cons, All-nil, All-head, All-tai
 use Rattle.std.proofs.lemmas.List.Sums.{AllPass-from_list_all}
 use Rattle.std.proofs.lemmas.Option.{slice_get-get_or}
 use Rattle.zone_stats.specs.Name.{IsName, is_name_character}
-use Rattle.trace_text.specs.declared.between.Between.{Between}
-use Rattle.trace_text.specs.declared.between.Between.TheVariants.{Give, SetMax}
-use Rattle.trace_text.specs.declared.head.ClockHead.{ClockHead}
-use Rattle.trace_text.specs.declared.head.Head.{Head}
-use Rattle.trace_text.specs.declared.head.NamesHead.{NamesHead}
-use Rattle.trace_text.specs.declared.head.ZoneHead.{ZoneHead}
-use Rattle.trace_text.specs.declared.head.ZoneKind.{ZoneKind}
-use Rattle.trace_text.specs.declared.head.ZoneKind.TheVariants.{Plain, Smr}
-use Rattle.trace_text.specs.declared.op.Op.{Op}
-use Rattle.trace_text.specs.declared.op.Op.TheVariants.{Alloc, Free, Enter, Exit, Bind, Unbind, Look, Trim, Drain, DrainSeat, Prealloc, Away, Back}
-use Rattle.trace_text.specs.declared.round.Round.{Round}
+use Rattle.trace_text.specs.declared.trace.Between.{Between}
+use Rattle.trace_text.specs.declared.trace.Between.TheVariants.{Give, SetMax}
+use Rattle.trace_text.specs.declared.trace.ClockHead.{ClockHead}
+use Rattle.trace_text.specs.declared.trace.Head.{Head}
+use Rattle.trace_text.specs.declared.trace.NamesHead.{NamesHead}
+use Rattle.trace_text.specs.declared.trace.ZoneHead.{ZoneHead}
+use Rattle.trace_text.specs.declared.trace.ZoneKind.{ZoneKind}
+use Rattle.trace_text.specs.declared.trace.ZoneKind.TheVariants.{Plain, Smr}
+use Rattle.trace_text.specs.declared.trace.Op.{Op}
+use Rattle.trace_text.specs.declared.trace.Op.TheVariants.{Alloc, Free, Enter, Exit, Bind, Unbind, Look, Trim, Drain, DrainSeat, Prealloc, Away, Back}
+use Rattle.trace_text.specs.declared.trace.Round.{Round}
 use Rattle.trace_text.specs.declared.trace.Trace.{Trace}
-use Rattle.trace_text.specs.declared.version.Version.{Version}
-use Rattle.trace_text.specs.declared.version.Version.TheVariants as versions
-use Rattle.text_lines.specs.CanonicalLine.{line}
+use Rattle.trace_text.specs.declared.trace.Version.{Version}
+use Rattle.trace_text.specs.declared.trace.Version.TheVariants as versions
+use Rattle.trace_lines.specs.CanonicalLine.{line}
 use Rattle.trace_print.specs.CanonicalText.{kind_word, zone_fields, zone_line, clock_text, detail_text, names_text, first_line, version_word, head_text, arg_fields, reserve_fields, op_fields, op_line, ops_text, between_fields, between_line, rounds_text, canonical_text}
 use Rattle.trace_text.specs.NamedZones.{zone_name}
 use Rattle.trace_text.specs.Valid.{BetweenFits, ClockFits, HeadFits, IsValid, KegFits, NamesFits, OpFits, RoundFits, ZoneFits}

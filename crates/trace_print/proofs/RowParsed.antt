@@ -4,38 +4,38 @@ use Rattle.std.specs.Prelude.{codes, IfSome, slice_get}
 use Rattle.std.specs.Fmt.{decimal}
 use Rattle.std.proofs.lemmas.Bool.{lt-ltb, le-leb, eq-eqb, eqb-true}
 use Rattle.std.proofs.lemmas.Option.{slice_get-get_or}
-use Rattle.text_lines.specs.declared.refused.TraceKind.{TraceKind}
-use Rattle.text_lines.specs.Fields.{number_in, number_within}
-use Rattle.text_lines.specs.Number.{number_of}
-use Rattle.text_lines.proofs.Numbers.{number_of_again}
+use Rattle.trace_lines.specs.declared.refused.TraceKind.{TraceKind}
+use Rattle.trace_lines.specs.Fields.{number_in, number_within}
+use Rattle.trace_lines.specs.Number.{number_of}
+use Rattle.trace_lines.proofs.Numbers.{number_of_again}
 use Rattle.zone_stats.specs.Name.{IsName}
-use Rattle.trace_text.specs.declared.between.Between.{Between}
-use Rattle.trace_text.specs.declared.between.Between.TheVariants.{Give, SetMax}
-use Rattle.trace_text.specs.declared.head.ClockHead.{ClockHead}
-use Rattle.trace_text.specs.declared.head.Head.{Head}
-use Rattle.trace_text.specs.declared.head.NamesHead.{NamesHead}
-use Rattle.trace_text.specs.declared.head.ZoneHead.{ZoneHead}
-use Rattle.trace_text.specs.declared.head.ZoneKind.{ZoneKind}
-use Rattle.trace_text.specs.declared.head.ZoneKind.TheVariants.{Plain, Smr}
-use Rattle.trace_text.specs.declared.op.Op.{Op}
-use Rattle.trace_text.specs.declared.op.Op.TheVariants.{Alloc, Free, Enter, Exit, Bind, Unbind, Look, Trim, Drain, DrainSeat, Prealloc, Away, Back}
-use Rattle.trace_text.specs.declared.round.Round.{Round}
+use Rattle.trace_text.specs.declared.trace.Between.{Between}
+use Rattle.trace_text.specs.declared.trace.Between.TheVariants.{Give, SetMax}
+use Rattle.trace_text.specs.declared.trace.ClockHead.{ClockHead}
+use Rattle.trace_text.specs.declared.trace.Head.{Head}
+use Rattle.trace_text.specs.declared.trace.NamesHead.{NamesHead}
+use Rattle.trace_text.specs.declared.trace.ZoneHead.{ZoneHead}
+use Rattle.trace_text.specs.declared.trace.ZoneKind.{ZoneKind}
+use Rattle.trace_text.specs.declared.trace.ZoneKind.TheVariants.{Plain, Smr}
+use Rattle.trace_text.specs.declared.trace.Op.{Op}
+use Rattle.trace_text.specs.declared.trace.Op.TheVariants.{Alloc, Free, Enter, Exit, Bind, Unbind, Look, Trim, Drain, DrainSeat, Prealloc, Away, Back}
+use Rattle.trace_text.specs.declared.trace.Round.{Round}
 use Rattle.trace_text.specs.declared.trace.Trace.{Trace}
 use Rattle.trace_text.specs.declared.trace_reading.parsed_line.ParsedLine.{ParsedLine}
 use Rattle.trace_text.specs.declared.trace_reading.parsed_line.ParsedLine.TheVariants as parsed
 use Rattle.trace_text.specs.declared.trace_reading.parsed_line.ZoneWork.TheVariants as works
-use Rattle.trace_text.specs.declared.trace_reading.stage.Stage.{Stage}
-use Rattle.trace_text.specs.declared.trace_reading.word.HeadWord.TheVariants as heads
-use Rattle.trace_text.specs.declared.trace_reading.word.Word.{Word}
-use Rattle.trace_text.specs.declared.trace_reading.word.Word.TheVariants as words
-use Rattle.trace_text.specs.declared.trace_reading.word.WorkWord.TheVariants as by_self
-use Rattle.trace_text.specs.declared.trace_reading.word.ZoneWord.TheVariants as in_zone
+use Rattle.trace_text.specs.declared.trace_reading.reader.Stage.{Stage}
+use Rattle.trace_text.specs.declared.trace_reading.fields.HeadWord.TheVariants as heads
+use Rattle.trace_text.specs.declared.trace_reading.fields.Word.{Word}
+use Rattle.trace_text.specs.declared.trace_reading.fields.Word.TheVariants as words
+use Rattle.trace_text.specs.declared.trace_reading.fields.WorkWord.TheVariants as by_self
+use Rattle.trace_text.specs.declared.trace_reading.fields.ZoneWord.TheVariants as in_zone
 use Rattle.trace_print.specs.CanonicalText.{kind_word, zone_fields, arg_fields, reserve_fields, op_fields, between_fields}
 use Rattle.trace_text.specs.NamedZones.{zone_name}
-use Rattle.trace_text.specs.declared.version.Version.{Version}
+use Rattle.trace_text.specs.declared.trace.Version.{Version}
 use Rattle.trace_text.specs.Lines.{Does, Moves}
 use Rattle.trace_text.specs.Limits.{IsWithin, last_slot}
-use Rattle.schedule_text.specs.ScheduleGrammar.{start_in, window_in}
+use Rattle.trace_schedule.specs.ScheduleGrammar.{start_in, window_in}
 use Rattle.trace_text.specs.TraceLine.{word_named, is_known, is_within, may_follow, name_in, kind_in, worker_in, slot_in, options, arg_in, parsed_by, says}
 use Rattle.trace_text.specs.Valid.{ClockFits, PrimaryFits, KegFits, ZoneFits, NamesFits, HeadFits, OpFits, BetweenFits, IsKnown}
 use Rattle.trace_text.proofs.Names.{is_name_from_IsName}

@@ -9,9 +9,9 @@ use Rattle.std.proofs.lemmas.Bool.{le-leb, ne_eqb, and_from, or_from, or_right, 
 use Rattle.std.proofs.lemmas.List.Elements.{All-append, All-cons, All-weaker, recursion_from_All}
 use Rattle.std.proofs.lemmas.List.Splits.{slice_split_none, slice_split_at, length-slice_split}
 use Rattle.std.proofs.lemmas.List.Sums.{list_all-from_AllPass}
-use Rattle.text_lines.specs.TextLines.{TextLine, Test, IsRightText, AreRight, after_earlier, fields_of, is_allowed, is_blank, is_ended, is_field, is_skipped, spoken, wrong_with}
-use Rattle.text_lines.proofs.Cutting.{lines_of_more}
-use Rattle.text_lines.specs.CanonicalLine.{line}
+use Rattle.trace_lines.specs.TextLines.{TextLine, Test, IsRightText, AreRight, after_earlier, fields_of, is_allowed, is_blank, is_ended, is_field, is_skipped, spoken, wrong_with}
+use Rattle.trace_lines.proofs.Cutting.{lines_of_more}
+use Rattle.trace_lines.specs.CanonicalLine.{line}
 
 -- a word: one byte at least, each from `!` to `~`
 pub record IsWord (word : List ℕ) : Type 0 where

@@ -5,22 +5,22 @@ use Rattle.std.specs.List.{slice_split, flat_map}
 use Rattle.std.proofs.lemmas.List.{append-nil}
 use Rattle.std.proofs.lemmas.Slice.Eq.{bytes_eq-Decides}
 use Rattle.std.proofs.lemmas.Bool.{false_from_ne_true}
-use Rattle.text_lines.specs.Fields.{◌>>=◌}
-use Rattle.text_lines.specs.TextLines.{TextLine, IsRightText, is_end, is_ended}
-use Rattle.trace_text.specs.declared.head.Head.{Head}
-use Rattle.trace_text.specs.declared.round.Round.{Round}
+use Rattle.trace_lines.specs.Fields.{◌>>=◌}
+use Rattle.trace_lines.specs.TextLines.{TextLine, IsRightText, is_end, is_ended}
+use Rattle.trace_text.specs.declared.trace.Head.{Head}
+use Rattle.trace_text.specs.declared.trace.Round.{Round}
 use Rattle.trace_text.specs.declared.trace.Trace.{Trace}
-use Rattle.trace_text.specs.declared.trace_reading.entry.Entry.{Entry}
+use Rattle.trace_text.specs.declared.trace_reading.fields.Entry.{Entry}
 use Rattle.trace_text.specs.declared.trace_reading.parsed_line.ParsedLine.{ParsedLine}
 use Rattle.trace_text.specs.declared.trace_reading.parsed_line.ParsedLine.TheVariants as parsed
-use Rattle.trace_text.specs.declared.trace_reading.stage.Stage.{Stage}
-use Rattle.trace_text.specs.declared.trace_reading.stage.Stage.TheVariants as stages
-use Rattle.trace_text.specs.declared.trace_reading.word.HeadWord.TheVariants as heads
-use Rattle.trace_text.specs.declared.trace_reading.word.Word.{Word}
-use Rattle.trace_text.specs.declared.trace_reading.word.Word.TheVariants as words
-use Rattle.text_lines.specs.CanonicalLine.{line}
-use Rattle.trace_text.specs.declared.version.Version.{Version}
-use Rattle.trace_text.specs.declared.version.Version.TheVariants as versions
+use Rattle.trace_text.specs.declared.trace_reading.reader.Stage.{Stage}
+use Rattle.trace_text.specs.declared.trace_reading.reader.Stage.TheVariants as stages
+use Rattle.trace_text.specs.declared.trace_reading.fields.HeadWord.TheVariants as heads
+use Rattle.trace_text.specs.declared.trace_reading.fields.Word.{Word}
+use Rattle.trace_text.specs.declared.trace_reading.fields.Word.TheVariants as words
+use Rattle.trace_lines.specs.CanonicalLine.{line}
+use Rattle.trace_text.specs.declared.trace.Version.{Version}
+use Rattle.trace_text.specs.declared.trace.Version.TheVariants as versions
 use Rattle.trace_text.proofs.TraceSaying.{says_right}
 use Rattle.trace_text.specs.Grammar.{last_stage, version_after, version_of, version_or_first, workers_of, is_round, rounds_in, parsed_lines, trace_of, trace_test}
 use Rattle.trace_text.specs.Lines.{lines_of}

@@ -7,12 +7,12 @@ use Rattle.std.proofs.lemmas.Bool.{lt-leb, eq-eqb}
 use Rattle.std.proofs.lemmas.List.{append-nil, length-append, length-map, get_or_at}
 use Rattle.std.proofs.lemmas.List.Sums.{sum_by-append, sum_by-cons}
 use Rattle.std.proofs.lemmas.Option.{slice_get-get_or}
-use Rattle.trace_text.specs.declared.head.ClockHead.{ClockHead}
-use Rattle.trace_text.specs.declared.head.Head.{Head}
-use Rattle.trace_text.specs.declared.head.NamesHead.{NamesHead}
-use Rattle.trace_text.specs.declared.head.ZoneHead.{ZoneHead}
-use Rattle.trace_text.specs.declared.head.ZoneKind.{ZoneKind}
-use Rattle.trace_text.specs.declared.head.ZoneKind.TheVariants.{Plain, Smr}
+use Rattle.trace_text.specs.declared.trace.ClockHead.{ClockHead}
+use Rattle.trace_text.specs.declared.trace.Head.{Head}
+use Rattle.trace_text.specs.declared.trace.NamesHead.{NamesHead}
+use Rattle.trace_text.specs.declared.trace.ZoneHead.{ZoneHead}
+use Rattle.trace_text.specs.declared.trace.ZoneKind.{ZoneKind}
+use Rattle.trace_text.specs.declared.trace.ZoneKind.TheVariants.{Plain, Smr}
 use Rattle.trace_text.specs.declared.trace_reading.parsed_line.ParsedLine.{ParsedLine}
 use Rattle.trace_text.specs.declared.trace_reading.parsed_line.ParsedLine.TheVariants as parsed
 use Rattle.trace_print.specs.CanonicalText.{zone_fields}

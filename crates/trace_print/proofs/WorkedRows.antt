@@ -2,12 +2,12 @@
 use Rattle.std.proofs.Common.{◌≡◌, [], ◌∷◌, None, Some, refl, false}
 use Rattle.std.specs.Prelude.{codes}
 use Rattle.std.specs.Fmt.{digits}
-use Rattle.trace_text.specs.declared.between.Between.TheVariants.{Give, SetMax}
-use Rattle.trace_text.specs.declared.head.ZoneHead.{ZoneHead}
-use Rattle.trace_text.specs.declared.head.ZoneKind.TheVariants.{Plain}
-use Rattle.trace_text.specs.declared.op.Op.TheVariants.{Alloc, Free, Away, Back}
+use Rattle.trace_text.specs.declared.trace.Between.TheVariants.{Give, SetMax}
+use Rattle.trace_text.specs.declared.trace.ZoneHead.{ZoneHead}
+use Rattle.trace_text.specs.declared.trace.ZoneKind.TheVariants.{Plain}
+use Rattle.trace_text.specs.declared.trace.Op.TheVariants.{Alloc, Free, Away, Back}
 use Rattle.trace_text.specs.declared.trace.Trace.{Trace}
-use Rattle.trace_text.specs.declared.version.Version.TheVariants as versions
+use Rattle.trace_text.specs.declared.trace.Version.TheVariants as versions
 use Rattle.trace_print.specs.CanonicalText.{canonical_text}
 
 box : ZoneHead

@@ -3,21 +3,21 @@
 use Rattle.std.specs.Prelude.{ℕ, ◌+◌, List, [], ◌∷◌, ◌++◌, Bool, true, false, Option, Some, None, codes, if◌then◌else◌, ◌==◌}
 use Rattle.std.specs.List.{flat_map}
 use Rattle.std.specs.Fmt.{decimal}
-use Rattle.text_lines.specs.CanonicalLine.{line}
-use Rattle.trace_text.specs.declared.head.ClockHead.{ClockHead}
-use Rattle.trace_text.specs.declared.head.Head.{Head}
-use Rattle.trace_text.specs.declared.head.NamesHead.{NamesHead}
-use Rattle.trace_text.specs.declared.head.ZoneHead.{ZoneHead}
-use Rattle.trace_text.specs.declared.head.ZoneKind.{ZoneKind}
-use Rattle.trace_text.specs.declared.head.ZoneKind.TheVariants.{Plain, Smr}
-use Rattle.trace_text.specs.declared.op.Op.{Op}
-use Rattle.trace_text.specs.declared.op.Op.TheVariants.{Alloc, Free, Enter, Exit, Bind, Unbind, Look, Trim, Drain, DrainSeat, Prealloc, Away, Back}
-use Rattle.trace_text.specs.declared.between.Between.{Between}
-use Rattle.trace_text.specs.declared.between.Between.TheVariants.{Give, SetMax}
-use Rattle.trace_text.specs.declared.round.Round.{Round}
+use Rattle.trace_lines.specs.CanonicalLine.{line}
+use Rattle.trace_text.specs.declared.trace.ClockHead.{ClockHead}
+use Rattle.trace_text.specs.declared.trace.Head.{Head}
+use Rattle.trace_text.specs.declared.trace.NamesHead.{NamesHead}
+use Rattle.trace_text.specs.declared.trace.ZoneHead.{ZoneHead}
+use Rattle.trace_text.specs.declared.trace.ZoneKind.{ZoneKind}
+use Rattle.trace_text.specs.declared.trace.ZoneKind.TheVariants.{Plain, Smr}
+use Rattle.trace_text.specs.declared.trace.Op.{Op}
+use Rattle.trace_text.specs.declared.trace.Op.TheVariants.{Alloc, Free, Enter, Exit, Bind, Unbind, Look, Trim, Drain, DrainSeat, Prealloc, Away, Back}
+use Rattle.trace_text.specs.declared.trace.Between.{Between}
+use Rattle.trace_text.specs.declared.trace.Between.TheVariants.{Give, SetMax}
+use Rattle.trace_text.specs.declared.trace.Round.{Round}
 use Rattle.trace_text.specs.declared.trace.Trace.{Trace}
-use Rattle.trace_text.specs.declared.version.Version.{Version}
-use Rattle.trace_text.specs.declared.version.Version.TheVariants as versions
+use Rattle.trace_text.specs.declared.trace.Version.{Version}
+use Rattle.trace_text.specs.declared.trace.Version.TheVariants as versions
 use Rattle.trace_text.specs.NamedZones.{zone_name}
 
 abbrev pub version_word : Version → List ℕ

@@ -1,7 +1,13 @@
-//! The printing of traces: the canonical text of a trace, from which a valid one is read back.
+//! The canonical text of a trace, from which a valid trace is read back.
 //!
-//! It stands apart from the reading, since its proof that what it prints is read back is as long as that, and only what
-//! makes traces needs it.
+//! ```
+//! let text = print(alloc, &trace)?;       // the one error is want of memory
+//! ```
+//!
+//! # What is promised
+//!
+//! - The text is exactly `canonical_text` of the trace (`print`: `text`).
+//! - It is a text of that trace if the trace is valid (`print`: `reads_back`), so each valid trace has a text (`valid_traces_have_texts`).
 #![tactic(auto)]
 
 ghost use Rattle.std.specs.Prelude.{◌≡◌, IfOk};
@@ -10,17 +16,15 @@ ghost use Rattle.trace_text.specs.Grammar.{IsTraceText};
 ghost use Rattle.trace_text.specs.Valid.{IsValid};
 
 use head::{push_head, push_version};
-use rounds::push_rounds;
+use ops::push_rounds;
 use std::alloc::Global;
-use text_lines::push_line;
+use trace_lines::push_line;
 use trace_text::Trace;
 use zone_stats::Memory;
 
 mod head;
 mod laws;
 mod ops;
-mod rounds;
-mod zones;
 
 pub use laws::valid_traces_have_texts;
 

@@ -2,21 +2,21 @@
 use Rattle.std.proofs.Common.{◌≡◌, ℕ, ◌%◌, ◌^◌, ◌<◌, ◌≤◌, true, leb, List, None, IfOk, refl}
 use Rattle.std.specs.Prelude.{◌&&◌}
 use Rattle.std.proofs.lemmas.Bool.{leb-true, and_parts}
-use Rattle.text_lines.specs.declared.refused.TraceKind.TheVariants as kinds
-use Rattle.text_lines.specs.Fields.{two_fields, four_fields, five_fields, number_in, ranged, number_within}
+use Rattle.trace_lines.specs.declared.refused.TraceKind.TheVariants as kinds
+use Rattle.trace_lines.specs.Fields.{two_fields, four_fields, five_fields, number_in, ranged, number_within}
 use Rattle.zone_stats.specs.Name.{IsName}
-use Rattle.trace_text.specs.declared.head.NamesHead.{NamesHead}
-use Rattle.trace_text.specs.declared.head.ZoneHead.{ZoneHead}
+use Rattle.trace_text.specs.declared.trace.NamesHead.{NamesHead}
+use Rattle.trace_text.specs.declared.trace.ZoneHead.{ZoneHead}
 use Rattle.trace_text.specs.declared.trace_reading.parsed_line.ParsedLine.{ParsedLine}
 use Rattle.trace_text.specs.declared.trace_reading.parsed_line.ParsedLine.TheVariants as parsed
 use Rattle.trace_text.specs.declared.trace_reading.parsed_line.SecondHead.{SecondHead}
 use Rattle.trace_text.specs.Limits.{IsWithin}
-use Rattle.schedule_text.specs.ScheduleGrammar.{start_in, window_in}
+use Rattle.trace_schedule.specs.ScheduleGrammar.{start_in, window_in}
 use Rattle.trace_text.specs.TraceLine.{is_name, name_in, kind_in, clock_in, seven_fields, zone_in, second_in, names_in}
 use Rattle.trace_text.specs.Valid.{ClockFits, PrimaryFits}
 use Rattle.trace_text.proofs.Names.{IsName-from_is_name}
-use Rattle.schedule_text.proofs.ScheduleRange.{start_fits, window_fits}
-use Rattle.schedule_text.proofs.Steps.{any, step, from_ok, where_true}
+use Rattle.trace_schedule.proofs.ScheduleRange.{start_fits, window_fits}
+use Rattle.trace_schedule.proofs.Steps.{any, step, from_ok, where_true}
 
 -- ---- what a line of the header says by itself
 

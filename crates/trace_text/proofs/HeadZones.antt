@@ -10,10 +10,10 @@ use Rattle.std.proofs.lemmas.List.Sums.{prefix_len_passes, sum_by_push}
 use Rattle.std.proofs.lemmas.Option.{slice_get_within, get_or_from_slice_get}
 use Rattle.std.proofs.lemmas.Slice.Eq.{bytes_eq-Decides}
 use Rattle.zone_stats.specs.Name.{IsName}
-use Rattle.trace_text.specs.declared.head.ClockHead.{ClockHead}
-use Rattle.trace_text.specs.declared.head.ZoneHead.{ZoneHead}
-use Rattle.trace_text.specs.declared.head.ZoneKind.{ZoneKind}
-use Rattle.trace_text.specs.declared.head.ZoneKind.TheVariants.{Plain, Smr}
+use Rattle.trace_text.specs.declared.trace.ClockHead.{ClockHead}
+use Rattle.trace_text.specs.declared.trace.ZoneHead.{ZoneHead}
+use Rattle.trace_text.specs.declared.trace.ZoneKind.{ZoneKind}
+use Rattle.trace_text.specs.declared.trace.ZoneKind.TheVariants.{Plain, Smr}
 use Rattle.trace_text.specs.declared.trace_reading.parsed_line.SecondHead.{SecondHead}
 use Rattle.trace_text.specs.Grammar.{zone_named, primary_named, second_over, second_zone, is_smr, fills_keg}
 use Rattle.trace_text.specs.Limits.{IsWithin}

@@ -19,6 +19,7 @@ pub mod TraceSpoken
 pub mod TraceTests
 pub mod TraceBehind
 pub mod TraceEntries
+pub mod EmptySlots
 pub mod HeadLines
 pub mod HeadZones
 pub mod TraceHead

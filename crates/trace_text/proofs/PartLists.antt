@@ -5,9 +5,9 @@ use Rattle.std.proofs.lemmas.Bool.Decides.{eqb_tells}
 use Rattle.std.proofs.lemmas.List.{append-nil, get_or-map, get_or-set_other, get_or-set_same, get_or-take, get_or_past, get_or_push, length-map, map-set, map_push, set-get_or, take-map}
 use Rattle.std.proofs.lemmas.List.FromFn.{fill_by_all}
 use Rattle.std.specs.declared.alloc.Global.{Global}
-use Rattle.trace_text.specs.declared.op.Op.{Op}
-use Rattle.trace_text.specs.declared.trace_reading.entry.Entry.TheVariants.{Does}
-use Rattle.trace_text.specs.declared.trace_reading.part_so_far.PartSoFar.{PartSoFar}
+use Rattle.trace_text.specs.declared.trace.Op.{Op}
+use Rattle.trace_text.specs.declared.trace_reading.fields.Entry.TheVariants.{Does}
+use Rattle.trace_text.specs.declared.trace_reading.rounds.PartSoFar.{PartSoFar}
 use Rattle.trace_text.specs.Parts.{StaysSame, TakesLine, list_at, lists_for}
 
 module _ {X A : Type 0} (f : X → List A) where

@@ -6,11 +6,11 @@ use Rattle.std.proofs.lemmas.List.Concat.{flat_map-append}
 use Rattle.std.proofs.lemmas.List.Splits.{slice_split-cons_no, slice_split-cons_yes}
 use Rattle.std.specs.declared.alloc.Global.{Global}
 use Rattle.std.specs.declared.snapshot.Snapshot.{Snapshot}
-use Rattle.trace_text.specs.declared.between.Between.{Between}
-use Rattle.trace_text.specs.declared.op.Op.{Op}
-use Rattle.trace_text.specs.declared.round.Round.{Round}
-use Rattle.trace_text.specs.declared.trace_reading.entry.Entry.{Entry}
-use Rattle.trace_text.specs.declared.trace_reading.part_so_far.PartSoFar.{PartSoFar}
+use Rattle.trace_text.specs.declared.trace.Between.{Between}
+use Rattle.trace_text.specs.declared.trace.Op.{Op}
+use Rattle.trace_text.specs.declared.trace.Round.{Round}
+use Rattle.trace_text.specs.declared.trace_reading.fields.Entry.{Entry}
+use Rattle.trace_text.specs.declared.trace_reading.rounds.PartSoFar.{PartSoFar}
 use Rattle.trace_text.specs.Grammar.{is_round, op_by, between_in, ops_in, rounds_in}
 use Rattle.trace_text.specs.Parts.{ArePartsOf, StaysSame, TakesLine, front_of, list_at, lists_for, ops_at, rounds_by, rounds_from, shown}
 use Rattle.trace_text.proofs.TraceRounds.{round_with}

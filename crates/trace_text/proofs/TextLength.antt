@@ -5,17 +5,17 @@ use Rattle.std.specs.List.{flat_map, range_with_len, slice_split, onto_first}
 use Rattle.std.specs.Str.Lines.{lines, lines_of_parts}
 use Rattle.std.proofs.lemmas.Bool.{eqb-true, leb-true, le-leb, false_from_ne_true}
 use Rattle.std.proofs.lemmas.List.{length-append, length-map}
-use Rattle.text_lines.specs.TextLines.{TextLine, after_earlier, fields_of, is_skipped, spoken}
-use Rattle.text_lines.specs.declared.refused.TraceKind.{TraceKind}
-use Rattle.trace_text.specs.declared.op.Op.{Op}
-use Rattle.trace_text.specs.declared.between.Between.{Between}
-use Rattle.trace_text.specs.declared.head.ZoneHead.{ZoneHead}
+use Rattle.trace_lines.specs.TextLines.{TextLine, after_earlier, fields_of, is_skipped, spoken}
+use Rattle.trace_lines.specs.declared.refused.TraceKind.{TraceKind}
+use Rattle.trace_text.specs.declared.trace.Op.{Op}
+use Rattle.trace_text.specs.declared.trace.Between.{Between}
+use Rattle.trace_text.specs.declared.trace.ZoneHead.{ZoneHead}
 use Rattle.trace_text.specs.declared.trace.Trace.{Trace}
 use Rattle.trace_text.specs.declared.trace_reading.parsed_line.ParsedLine.{ParsedLine}
 use Rattle.trace_text.specs.declared.trace_reading.parsed_line.ParsedLine.TheVariants as parsed
 use Rattle.trace_text.specs.declared.trace_reading.parsed_line.ZoneWork.{ZoneWork}
-use Rattle.trace_text.specs.declared.trace_reading.entry.Entry.{Entry}
-use Rattle.trace_text.specs.declared.trace_reading.entry.Entry.TheVariants as entries
+use Rattle.trace_text.specs.declared.trace_reading.fields.Entry.{Entry}
+use Rattle.trace_text.specs.declared.trace_reading.fields.Entry.TheVariants as entries
 use Rattle.trace_text.specs.Grammar.{and_parsed, entries_of, entry_in, entry_of, limit_in, between_in, is_round, last_stage, op_by, ops_in, rounds_in, parsed_lines, version_of, workers_of, zone_named, zones_of}
 use Rattle.trace_text.specs.TraceLine.{says}
 use Rattle.trace_text.specs.Lines.{Line, Does, Moves, lines_of, worker_lines}

@@ -3,7 +3,7 @@ use Rattle.std.proofs.Common.{◌≡◌, true, List, [], ◌∷◌, sym, subst}
 use Rattle.std.specs.Prelude.{is_some}
 use Rattle.trace_text.specs.declared.trace_reading.parsed_line.ParsedLine.{ParsedLine}
 use Rattle.trace_text.specs.declared.trace_reading.parsed_line.ParsedLine.TheVariants as parsed
-use Rattle.trace_text.specs.declared.version.Version.{Version}
+use Rattle.trace_text.specs.declared.trace.Version.{Version}
 use Rattle.trace_text.specs.Grammar.{clock_of, is_away_by, is_filled_by, is_open_by, last_stage, names_of, version_of, workers_of, zones_of}
 use Rattle.trace_text.proofs.HeadLines.{HeadIsRead}
 use Rattle.trace_text.proofs.TraceSaying.{NumbersFit, StandsBehind, is_known_line, says_right}

@@ -1,6 +1,6 @@
 -- The tests of a line look only at the slots and workers that it names, and these are in range where the line was read.
 use Rattle.std.proofs.Common.{◌≡◌, ℕ, Bool, List, refl}
-use Rattle.trace_text.specs.declared.head.ZoneHead.{ZoneHead}
+use Rattle.trace_text.specs.declared.trace.ZoneHead.{ZoneHead}
 use Rattle.trace_text.specs.declared.trace_reading.parsed_line.ParsedLine.{ParsedLine}
 use Rattle.trace_text.specs.Grammar.{conflict, finds_filled, finds_empty, finds_open, finds_closed, finds_away, finds_there}
 

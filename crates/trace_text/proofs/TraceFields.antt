@@ -2,7 +2,7 @@
 use Rattle.std.proofs.Common.{◌≡◌, ℕ, false, List, Some, None, Ok, Err, refl}
 use Rattle.std.specs.Prelude.{SomeIff}
 use Rattle.std.proofs.lemmas.Bool.{false_from_ne_true}
-use Rattle.text_lines.specs.declared.refused.TraceKind.TheVariants as kinds
+use Rattle.trace_lines.specs.declared.refused.TraceKind.TheVariants as kinds
 use Rattle.zone_stats.specs.Name.{IsName}
 use Rattle.trace_text.specs.TraceLine.{is_name, name_in}
 use Rattle.trace_text.proofs.Names.{IsName-from_is_name, is_name_from_IsName}

@@ -3,28 +3,27 @@ use Rattle.std.proofs.Common.{◌≡◌, ℕ, ◌+◌, ◌*◌, ◌≤◌, get_o
 use Rattle.std.specs.Prelude.{All, is_some, OnOk, IfErr, ◌&&◌, ◌||◌, ◌==◌, not}
 use Rattle.std.proofs.lemmas.Bool.{cases_lt}
 use Rattle.std.proofs.lemmas.List.{get_or_past}
-use Rattle.text_lines.specs.declared.refused.TraceKind.{TraceKind}
-use Rattle.text_lines.specs.declared.refused.TraceKind.TheVariants as kinds
-use Rattle.text_lines.specs.declared.refused.LineRefused.{LineRefused}
-use Rattle.text_lines.specs.declared.refused.LineRefused.TheVariants as refusals
-use Rattle.text_lines.specs.Fields.{wrong}
-use Rattle.text_lines.specs.TextLines.{TextLine, is_ended}
-use Rattle.text_lines.specs.Taking.{ReadsLine}
-use Rattle.trace_text.specs.declared.between.Between.TheVariants.{Give, SetMax}
-use Rattle.trace_text.specs.declared.head.ZoneHead.{ZoneHead}
-use Rattle.trace_text.specs.declared.op.Op.{Op}
-use Rattle.trace_text.specs.declared.op.Op.TheVariants as ops
-use Rattle.trace_text.specs.declared.trace_reading.entry.Entry.{Entry}
-use Rattle.trace_text.specs.declared.trace_reading.entry.Entry.TheVariants as entries
+use Rattle.trace_lines.specs.declared.refused.TraceKind.{TraceKind}
+use Rattle.trace_lines.specs.declared.refused.LineRefused.{LineRefused}
+use Rattle.trace_lines.specs.declared.refused.LineRefused.TheVariants as refusals
+use Rattle.trace_lines.specs.Fields.{wrong}
+use Rattle.trace_lines.specs.TextLines.{TextLine, is_ended}
+use Rattle.trace_lines.specs.Taking.{ReadsLine}
+use Rattle.trace_text.specs.declared.trace.Between.TheVariants.{Give, SetMax}
+use Rattle.trace_text.specs.declared.trace.ZoneHead.{ZoneHead}
+use Rattle.trace_text.specs.declared.trace.Op.{Op}
+use Rattle.trace_text.specs.declared.trace.Op.TheVariants as ops
+use Rattle.trace_text.specs.declared.trace_reading.fields.Entry.{Entry}
+use Rattle.trace_text.specs.declared.trace_reading.fields.Entry.TheVariants as entries
 use Rattle.trace_text.specs.declared.trace_reading.reader.TraceReader.{TraceReader}
 use Rattle.trace_text.specs.declared.trace_reading.parsed_line.ParsedLine.{ParsedLine}
 use Rattle.trace_text.specs.declared.trace_reading.parsed_line.ParsedLine.TheVariants as parsed
 use Rattle.trace_text.specs.declared.trace_reading.parsed_line.ZoneWork.{ZoneWork}
 use Rattle.trace_text.specs.declared.trace_reading.parsed_line.ZoneWork.TheVariants as works
-use Rattle.trace_text.specs.declared.trace_reading.stage.Stage.TheVariants as stages
+use Rattle.trace_text.specs.declared.trace_reading.reader.Stage.TheVariants as stages
 use Rattle.trace_text.specs.declared.trace_reading.tables.Tables.{Tables}
-use Rattle.trace_text.specs.declared.version.Version.{Version}
-use Rattle.trace_text.specs.declared.version.Version.TheVariants as versions
+use Rattle.trace_text.specs.declared.trace.Version.{Version}
+use Rattle.trace_text.specs.declared.trace.Version.TheVariants as versions
 use Rattle.trace_text.specs.Grammar.{head_wrong, stage_of, version_after, version_of, version_or_first, workers_after, domains_after, clock_after, detail_after, names_after, new_zone, last_stage, workers_of, zones_of, entry_of, entry_in, limit_in, zone_named, line_of, done, finds_filled, finds_empty, finds_open, finds_closed, finds_away, finds_there, conflict_after, is_filled_by, is_open_by, is_away_by, parsed_lines, and_parsed, tells, trace_test}
 use Rattle.trace_text.specs.Limits.{last_slot, slots}
 use Rattle.trace_text.specs.Reading.{held, in_section, is_away}

@@ -4,14 +4,14 @@ use Rattle.std.proofs.lemmas.Bool.{leb-false, or_parts, not-false}
 use Rattle.std.proofs.lemmas.List.{length_push, length-map}
 use Rattle.std.proofs.lemmas.List.Quantifiers.{all_pairs_push}
 use Rattle.std.proofs.lemmas.Option.{IfSome_then}
-use Rattle.trace_text.specs.declared.head.ClockHead.{ClockHead}
-use Rattle.trace_text.specs.declared.head.Head.{Head}
-use Rattle.trace_text.specs.declared.head.NamesHead.{NamesHead}
-use Rattle.trace_text.specs.declared.head.ZoneHead.{ZoneHead}
+use Rattle.trace_text.specs.declared.trace.ClockHead.{ClockHead}
+use Rattle.trace_text.specs.declared.trace.Head.{Head}
+use Rattle.trace_text.specs.declared.trace.NamesHead.{NamesHead}
+use Rattle.trace_text.specs.declared.trace.ZoneHead.{ZoneHead}
 use Rattle.trace_text.specs.declared.trace_reading.parsed_line.ParsedLine.{ParsedLine}
 use Rattle.trace_text.specs.declared.trace_reading.parsed_line.ParsedLine.TheVariants as parsed
-use Rattle.trace_text.specs.declared.trace_reading.stage.Stage.TheVariants as stages
-use Rattle.trace_text.specs.declared.version.Version.{Version}
+use Rattle.trace_text.specs.declared.trace_reading.reader.Stage.TheVariants as stages
+use Rattle.trace_text.specs.declared.trace.Version.{Version}
 use Rattle.trace_text.specs.Grammar.{stage_of, last_stage, workers_after, workers_of, domains_after, domains_of, clock_after, clock_of, names_after, names_of, new_zone, zones_of, head_of, fills_keg, primary_named}
 use Rattle.trace_text.specs.Limits.{IsWithin}
 use Rattle.trace_text.specs.TraceLine.{rank}

@@ -6,9 +6,9 @@ use Rattle.std.proofs.lemmas.Int.Digits.{digits_more, digits_value_more}
 use Rattle.std.specs.Char.{digit_value}
 use Rattle.std.specs.Fmt.{decimal}
 use Rattle.std.specs.Str.Parse.{AllDigits, digits_value}
-use Rattle.text_lines.specs.Fields.{number_in}
-use Rattle.text_lines.specs.Number.{IsNumber}
-use Rattle.text_lines.proofs.Numbers.{own, number_of_again}
+use Rattle.trace_lines.specs.Fields.{number_in}
+use Rattle.trace_lines.specs.Number.{IsNumber}
+use Rattle.trace_lines.proofs.Numbers.{own, number_of_again}
 
 -- one digit more
 pub one_more : (field : List ℕ) (i j number byte digit : ℕ) → i ≡ j → j < length field → AllDigits 10 (take i field) → number ≡ digits_value 10 (take i field) → byte ≡ get_or field j 0

@@ -6,12 +6,12 @@ use Rattle.std.specs.List.{flat_map, slice_split, onto_first, range_with_len}
 use Rattle.std.proofs.lemmas.Bool.{false≢true}
 use Rattle.std.proofs.lemmas.List.Elements.{All-nil, All-cons, All-head, All-tail, All-append, All-map}
 use Rattle.std.proofs.lemmas.List.FromFn.{length-map-range_with_len}
-use Rattle.trace_text.specs.declared.between.Between.{Between}
-use Rattle.trace_text.specs.declared.head.Head.{Head}
-use Rattle.trace_text.specs.declared.op.Op.{Op}
-use Rattle.trace_text.specs.declared.trace_reading.entry.Entry.{Entry}
-use Rattle.trace_text.specs.declared.trace_reading.entry.Entry.TheVariants as entries
-use Rattle.trace_text.specs.declared.version.Version.{Version}
+use Rattle.trace_text.specs.declared.trace.Between.{Between}
+use Rattle.trace_text.specs.declared.trace.Head.{Head}
+use Rattle.trace_text.specs.declared.trace.Op.{Op}
+use Rattle.trace_text.specs.declared.trace_reading.fields.Entry.{Entry}
+use Rattle.trace_text.specs.declared.trace_reading.fields.Entry.TheVariants as entries
+use Rattle.trace_text.specs.declared.trace.Version.{Version}
 use Rattle.trace_text.specs.Grammar.{is_round, op_by, between_in, ops_in, rounds_in}
 use Rattle.trace_text.specs.Lines.{Line, Does, Moves, lines_of, worker_lines}
 use Rattle.trace_text.specs.Valid.{OpFits, BetweenFits, RoundFits, LastRoundEnds, LinesFit, IsKnown, IsKnownOp}

@@ -1,9 +1,9 @@
 -- What is known of the lines below the header of a right text.
 use Rattle.std.proofs.Common.{◌≡◌, ◌<◌, List, [], ◌∷◌, Bool, true, false}
-use Rattle.trace_text.specs.declared.head.Head.{Head}
-use Rattle.trace_text.specs.declared.trace_reading.entry.Entry.{Entry}
-use Rattle.trace_text.specs.declared.trace_reading.entry.Entry.TheVariants as entries
-use Rattle.trace_text.specs.declared.version.Version.{Version}
+use Rattle.trace_text.specs.declared.trace.Head.{Head}
+use Rattle.trace_text.specs.declared.trace_reading.fields.Entry.{Entry}
+use Rattle.trace_text.specs.declared.trace_reading.fields.Entry.TheVariants as entries
+use Rattle.trace_text.specs.declared.trace.Version.{Version}
 use Rattle.trace_text.specs.Lines.{Line, Does, Moves}
 use Rattle.trace_text.specs.Valid.{OpFits, BetweenFits, IsKnown, IsKnownOp}
 

@@ -5,35 +5,35 @@ use Rattle.std.specs.Str.{bytes_eq}
 use Rattle.std.proofs.lemmas.Bool.{ltb-true, leb-true, and_parts}
 use Rattle.std.proofs.lemmas.Result.{IfOk-at_ok}
 use Rattle.std.proofs.lemmas.Slice.Eq.{bytes_eq-Decides}
-use Rattle.text_lines.specs.declared.refused.TraceKind.TheVariants as kinds
-use Rattle.text_lines.specs.Fields.{◌>>=◌, no_field, one_field, two_fields, three_fields, four_fields, number_in, number_or_wrong, ranged, number_within}
-use Rattle.text_lines.specs.Number.{number_of}
-use Rattle.text_lines.specs.TextLines.{is_end}
-use Rattle.text_lines.proofs.Numbers.{IsNumber-from_number_of}
-use Rattle.trace_text.specs.declared.op.Op.{Op}
-use Rattle.trace_text.specs.declared.op.Op.TheVariants as ops
+use Rattle.trace_lines.specs.declared.refused.TraceKind.TheVariants as kinds
+use Rattle.trace_lines.specs.Fields.{◌>>=◌, no_field, one_field, two_fields, three_fields, four_fields, number_in, number_or_wrong, ranged, number_within}
+use Rattle.trace_lines.specs.Number.{number_of}
+use Rattle.trace_lines.specs.TextLines.{is_end}
+use Rattle.trace_lines.proofs.Numbers.{IsNumber-from_number_of}
+use Rattle.trace_text.specs.declared.trace.Op.{Op}
+use Rattle.trace_text.specs.declared.trace.Op.TheVariants as ops
 use Rattle.trace_text.specs.declared.trace_reading.parsed_line.ParsedLine.{ParsedLine}
 use Rattle.trace_text.specs.declared.trace_reading.parsed_line.ParsedLine.TheVariants as parsed
 use Rattle.trace_text.specs.declared.trace_reading.parsed_line.ZoneWork.{ZoneWork}
 use Rattle.trace_text.specs.declared.trace_reading.parsed_line.ZoneWork.TheVariants as works
-use Rattle.trace_text.specs.declared.trace_reading.stage.Stage.{Stage}
-use Rattle.trace_text.specs.declared.trace_reading.word.HeadWord.{HeadWord}
-use Rattle.trace_text.specs.declared.trace_reading.word.HeadWord.TheVariants as heads
-use Rattle.trace_text.specs.declared.trace_reading.word.Word.{Word}
-use Rattle.trace_text.specs.declared.trace_reading.word.Word.TheVariants as words
-use Rattle.trace_text.specs.declared.trace_reading.word.WorkWord.{WorkWord}
-use Rattle.trace_text.specs.declared.trace_reading.word.WorkWord.TheVariants as by_self
-use Rattle.trace_text.specs.declared.trace_reading.word.ZoneWord.{ZoneWord}
-use Rattle.trace_text.specs.declared.trace_reading.word.ZoneWord.TheVariants as in_zone
-use Rattle.trace_text.specs.declared.version.Version.{Version}
+use Rattle.trace_text.specs.declared.trace_reading.reader.Stage.{Stage}
+use Rattle.trace_text.specs.declared.trace_reading.fields.HeadWord.{HeadWord}
+use Rattle.trace_text.specs.declared.trace_reading.fields.HeadWord.TheVariants as heads
+use Rattle.trace_text.specs.declared.trace_reading.fields.Word.{Word}
+use Rattle.trace_text.specs.declared.trace_reading.fields.Word.TheVariants as words
+use Rattle.trace_text.specs.declared.trace_reading.fields.WorkWord.{WorkWord}
+use Rattle.trace_text.specs.declared.trace_reading.fields.WorkWord.TheVariants as by_self
+use Rattle.trace_text.specs.declared.trace_reading.fields.ZoneWord.{ZoneWord}
+use Rattle.trace_text.specs.declared.trace_reading.fields.ZoneWord.TheVariants as in_zone
+use Rattle.trace_text.specs.declared.trace.Version.{Version}
 use Rattle.trace_text.specs.Grammar.{stage_of}
 use Rattle.trace_text.specs.Limits.{IsWithin, last_slot}
 use Rattle.trace_text.specs.TraceKnown.{is_last}
 use Rattle.trace_text.specs.TraceLine.{word_named, word_or_wrong, rank, may_follow, is_within, placed, name_in, worker_in, slot_in, clock_in, zone_in, second_in, names_in, parse_head, alloc_fields, arg_in, parse_alloc, worker_and_zone, parse_prealloc, parse_zone_work, only_worker, worker_and_key, parse_free, parse_bind, parse_work, parse_give, parse_setmax, parsed_by, says, is_known, known}
 use Rattle.trace_text.specs.Valid.{ClockFits, changes_limits, lets_leave}
 use Rattle.trace_text.proofs.HeadLines.{HeadIsRead, ZoneIsRead, SecondIsRead, NamesAreRead, within_fits, clock_is_read, zone_is_read, second_is_read, names_are_read}
-use Rattle.schedule_text.proofs.ScheduleFollowing.{ends_line, is_end_by, not_last}
-use Rattle.schedule_text.proofs.Steps.{bound, step, any, where_true, is_some_value, is_true}
+use Rattle.trace_schedule.proofs.ScheduleFollowing.{ends_line, is_end_by, not_last}
+use Rattle.trace_schedule.proofs.Steps.{bound, step, any, where_true, is_some_value, is_true}
 
 -- ---- what is told of a line by what it says
 

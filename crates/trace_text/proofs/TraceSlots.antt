@@ -1,11 +1,11 @@
 -- Which slots are filled, who is in a section and who is away after one line more.
 use Rattle.std.proofs.Common.{◌≡◌, ℕ, Bool, true, false, cond, List, [], ◌∷◌, ◌++◌, Option, Some, None, refl}
 use Rattle.std.specs.Prelude.{is_some, ◌&&◌, ◌==◌}
-use Rattle.trace_text.specs.declared.between.Between.TheVariants.{Give, SetMax}
-use Rattle.trace_text.specs.declared.op.Op.{Op}
-use Rattle.trace_text.specs.declared.op.Op.TheVariants.{Alloc, Free, Enter, Exit, Bind, Unbind, Look, Trim, Drain, DrainSeat, Prealloc, Away, Back}
-use Rattle.trace_text.specs.declared.trace_reading.entry.Entry.{Entry}
-use Rattle.trace_text.specs.declared.trace_reading.entry.Entry.TheVariants as entries
+use Rattle.trace_text.specs.declared.trace.Between.TheVariants.{Give, SetMax}
+use Rattle.trace_text.specs.declared.trace.Op.{Op}
+use Rattle.trace_text.specs.declared.trace.Op.TheVariants.{Alloc, Free, Enter, Exit, Bind, Unbind, Look, Trim, Drain, DrainSeat, Prealloc, Away, Back}
+use Rattle.trace_text.specs.declared.trace_reading.fields.Entry.{Entry}
+use Rattle.trace_text.specs.declared.trace_reading.fields.Entry.TheVariants as entries
 use Rattle.trace_text.specs.Grammar.{line_of}
 use Rattle.trace_text.specs.Lines.{Line}
 use Rattle.trace_text.specs.Reading.{held, held_after, in_section, is_away}

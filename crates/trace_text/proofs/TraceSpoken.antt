@@ -2,18 +2,18 @@
 use Rattle.std.proofs.Common.{◌≡◌, ℕ, Bool, true, false, List, [], ◌∷◌, length, Option, Some, None, Result, Ok, Err, refl, sym, ap, subst, ◌∙◌, cond}
 use Rattle.std.specs.Prelude.{is_some, ◌+◌, not}
 use Rattle.std.specs.List.{list_all}
-use Rattle.text_lines.specs.declared.refused.TraceKind.{TraceKind}
-use Rattle.text_lines.specs.declared.refused.TraceKind.TheVariants as kinds
-use Rattle.text_lines.specs.Fields.{wrong}
-use Rattle.text_lines.specs.TextLines.{TextLine, Test, AreRight, IsRightText, fields_of, is_allowed, is_end, is_ended, is_skipped, spoken}
+use Rattle.trace_lines.specs.declared.refused.TraceKind.{TraceKind}
+use Rattle.trace_lines.specs.declared.refused.TraceKind.TheVariants as kinds
+use Rattle.trace_lines.specs.Fields.{wrong}
+use Rattle.trace_lines.specs.TextLines.{TextLine, Test, AreRight, IsRightText, fields_of, is_allowed, is_end, is_ended, is_skipped, spoken}
 use Rattle.trace_text.specs.declared.trace_reading.parsed_line.ParsedLine.{ParsedLine}
-use Rattle.trace_text.specs.declared.trace_reading.stage.Stage.{Stage}
-use Rattle.trace_text.specs.declared.trace_reading.stage.Stage.TheVariants as stages
-use Rattle.trace_text.specs.declared.version.Version.{Version}
+use Rattle.trace_text.specs.declared.trace_reading.reader.Stage.{Stage}
+use Rattle.trace_text.specs.declared.trace_reading.reader.Stage.TheVariants as stages
+use Rattle.trace_text.specs.declared.trace.Version.{Version}
 use Rattle.trace_text.specs.Grammar.{and_parsed, conflict_after, head_wrong, last_stage, or_conflict, parsed_lines, stage_of, tells, trace_test, version_of, version_or_first, workers_of}
 use Rattle.trace_text.specs.TraceKnown.{is_last}
 use Rattle.trace_text.specs.TraceLine.{says, version_in}
-use Rattle.schedule_text.proofs.Steps.{bound}
+use Rattle.trace_schedule.proofs.Steps.{bound}
 use Rattle.trace_text.proofs.TraceSaying.{says_right}
 use Rattle.trace_text.proofs.TraceTold.{IsParsed, Told}
 

@@ -1,8 +1,8 @@
 -- A text of a trace is a text of no other, and the trace is valid.
 use Rattle.std.proofs.Common.{◌≡◌, ℕ, List, refl, ap, sym, subst, ◌∙◌}
-use Rattle.text_lines.specs.Taking.{ShowsText}
-use Rattle.text_lines.specs.TextLines.{TextLine}
-use Rattle.text_lines.proofs.OneVerdict.{one_right_reading}
+use Rattle.trace_lines.specs.Taking.{ShowsText}
+use Rattle.trace_lines.specs.TextLines.{TextLine}
+use Rattle.trace_lines.proofs.OneVerdict.{one_right_reading}
 use Rattle.trace_text.specs.declared.trace.Trace.{Trace}
 use Rattle.trace_text.specs.declared.trace_reading.parsed_line.ParsedLine.{ParsedLine}
 use Rattle.trace_text.specs.Grammar.{IsTraceText, entries_of, head_of, parsed_lines, trace_of, trace_test, version_of, workers_of}

@@ -1,16 +1,16 @@
 -- What a line says by its word, and the two words of most lines.
 use Rattle.std.proofs.Common.{◌≡◌, ℕ, ◌≤◌, get_or, length, drop, List, [], ◌∷◌, true, false, Option, Some, None, Result, Ok, Err, refl, sym, ap, ◌∙◌, arith}
-use Rattle.text_lines.specs.declared.refused.TraceKind.{TraceKind}
-use Rattle.text_lines.specs.declared.refused.TraceKind.TheVariants as kinds
-use Rattle.text_lines.specs.Fields.{◌>>=◌}
-use Rattle.text_lines.specs.TextLines.{fields_of}
+use Rattle.trace_lines.specs.declared.refused.TraceKind.{TraceKind}
+use Rattle.trace_lines.specs.declared.refused.TraceKind.TheVariants as kinds
+use Rattle.trace_lines.specs.Fields.{◌>>=◌}
+use Rattle.trace_lines.specs.TextLines.{fields_of}
 use Rattle.trace_text.specs.declared.trace_reading.parsed_line.ParsedLine.{ParsedLine}
-use Rattle.trace_text.specs.declared.trace_reading.stage.Stage.{Stage}
-use Rattle.trace_text.specs.declared.trace_reading.word.Word.{Word}
-use Rattle.trace_text.specs.declared.trace_reading.word.Word.TheVariants as words
-use Rattle.trace_text.specs.declared.trace_reading.word.WorkWord.TheVariants as by_self
-use Rattle.trace_text.specs.declared.trace_reading.word.ZoneWord.TheVariants as in_zone
-use Rattle.trace_text.specs.declared.version.Version.{Version}
+use Rattle.trace_text.specs.declared.trace_reading.reader.Stage.{Stage}
+use Rattle.trace_text.specs.declared.trace_reading.fields.Word.{Word}
+use Rattle.trace_text.specs.declared.trace_reading.fields.Word.TheVariants as words
+use Rattle.trace_text.specs.declared.trace_reading.fields.WorkWord.TheVariants as by_self
+use Rattle.trace_text.specs.declared.trace_reading.fields.ZoneWord.TheVariants as in_zone
+use Rattle.trace_text.specs.declared.trace.Version.{Version}
 use Rattle.trace_text.specs.TraceLine.{is_known, known, may_follow, placed, parsed_by, says, word_named, word_or_wrong}
 use Rattle.trace_text.specs.TraceWord.{word_from}
 

@@ -1,7 +1,7 @@
 -- The reading on worked rows: which slots the lines fill, and who is away.
 use Rattle.std.proofs.Common.{◌≡◌, List, [], ◌∷◌, Some, None, refl, true, false}
-use Rattle.trace_text.specs.declared.op.Op.TheVariants.{Alloc, Free, Away, Back}
-use Rattle.trace_text.specs.declared.between.Between.TheVariants.{Give, SetMax}
+use Rattle.trace_text.specs.declared.trace.Op.TheVariants.{Alloc, Free, Away, Back}
+use Rattle.trace_text.specs.declared.trace.Between.TheVariants.{Give, SetMax}
 use Rattle.trace_text.specs.Lines.{Line, Does, Moves}
 use Rattle.trace_text.specs.Reading.{held, is_away}
 

@@ -2,7 +2,7 @@
 use Rattle.std.proofs.Common.{◌≡◌, ℕ, zero, suc, ◌+◌, ◌<◌, ◌≤◌, List, ◌∷◌, ◌++◌, map, refl, sym, ap, ap₂, subst, ◌∙◌, inl, inr, append_assoc, arith}
 use Rattle.std.proofs.lemmas.Bool.{cases_eq}
 use Rattle.std.specs.List.{range_with_len}
-use Rattle.trace_text.specs.declared.op.Op.{Op}
+use Rattle.trace_text.specs.declared.trace.Op.{Op}
 use Rattle.trace_text.specs.Lines.{Line, Does, worker_lines}
 use Rattle.trace_text.specs.Valid.{LinesFit}
 use Rattle.trace_text.proofs.LineOrder.{StillFit, behind, goes_behind}

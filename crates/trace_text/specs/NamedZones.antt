@@ -2,7 +2,7 @@
 use Rattle.std.specs.Prelude.{ℕ, ◌≡◌, ◌≢◌, ◌≤◌, List, [], map, length, slice_get, AllPairs}
 use Rattle.std.specs.Map.{keys_of, values_of}
 use Rattle.std.specs.Option.{option_map_or}
-use Rattle.trace_text.specs.declared.head.ZoneHead.{ZoneHead}
+use Rattle.trace_text.specs.declared.trace.ZoneHead.{ZoneHead}
 
 -- the name of the zone at this place; nothing where there is none
 abbrev pub zone_name : List ZoneHead → ℕ → List ℕ

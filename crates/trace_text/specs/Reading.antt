@@ -2,9 +2,9 @@
 -- A list of earlier lines has the last one first. Where a request is refused, its slot is filled in the reading all the
 -- same: the reading speaks of the text, not of a run.
 use Rattle.std.specs.Prelude.{ℕ, List, [], ◌∷◌, Bool, true, false, Option, Some, None, if◌then◌else◌, ◌==◌, ◌&&◌}
-use Rattle.trace_text.specs.declared.op.Op.{Op}
-use Rattle.trace_text.specs.declared.op.Op.TheVariants.{Alloc, Free, Enter, Exit, Away, Back}
-use Rattle.trace_text.specs.declared.between.Between.TheVariants.{Give, SetMax}
+use Rattle.trace_text.specs.declared.trace.Op.{Op}
+use Rattle.trace_text.specs.declared.trace.Op.TheVariants.{Alloc, Free, Enter, Exit, Away, Back}
+use Rattle.trace_text.specs.declared.trace.Between.TheVariants.{Give, SetMax}
 use Rattle.trace_text.specs.Lines.{Line, Does, Moves}
 
 -- what the slot holds after an operation of its worker, where it held `before`: the zone whose alloc filled it

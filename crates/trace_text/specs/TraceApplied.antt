@@ -1,7 +1,7 @@
 -- What the running state of a trace's reading takes in (own).
 use Rattle.std.specs.Prelude.{◌≡◌, List, [], ◌∷◌, ◌++◌, Option, is_some}
-use Rattle.text_lines.specs.declared.refused.TraceKind.{TraceKind}
-use Rattle.trace_text.specs.declared.trace_reading.entry.Entry.{Entry}
+use Rattle.trace_lines.specs.declared.refused.TraceKind.{TraceKind}
+use Rattle.trace_text.specs.declared.trace_reading.fields.Entry.{Entry}
 use Rattle.trace_text.specs.declared.trace_reading.reader.TraceReader.{TraceReader}
 use Rattle.trace_text.specs.declared.trace_reading.parsed_line.ParsedLine.{ParsedLine}
 use Rattle.trace_text.specs.declared.trace_reading.tables.Tables.{Tables}

@@ -1,11 +1,11 @@
 -- The running state of a trace's reading, and the lines that it is the state after (own).
 use Rattle.std.specs.Prelude.{ℕ, ◌≡◌, ◌≤◌, List, [], ◌∷◌, Bool, true, false}
 use Rattle.std.specs.List.{slice_split}
-use Rattle.text_lines.specs.TextLines.{TextLine, is_ended}
+use Rattle.trace_lines.specs.TextLines.{TextLine, is_ended}
 use Rattle.trace_text.specs.declared.trace_reading.reader.TraceReader.{TraceReader}
 use Rattle.trace_text.specs.declared.trace_reading.parsed_line.ParsedLine.{ParsedLine}
-use Rattle.trace_text.specs.declared.trace_reading.stage.Stage.{Stage}
-use Rattle.trace_text.specs.declared.trace_reading.stage.Stage.TheVariants as stages
+use Rattle.trace_text.specs.declared.trace_reading.reader.Stage.{Stage}
+use Rattle.trace_text.specs.declared.trace_reading.reader.Stage.TheVariants as stages
 use Rattle.trace_text.specs.declared.trace.Trace.{Trace}
 use Rattle.trace_text.specs.Grammar.{is_round, rounds_in, last_stage, version_of, workers_of, domains_of, clock_of, has_detail, zones_of, names_of, entries_of, parsed_lines, is_filled_by, is_open_by, is_away_by}
 use Rattle.trace_text.specs.Limits.{last_slot, most_workers}

@@ -3,35 +3,35 @@
 use Rattle.std.specs.Prelude.{ℕ, List, [], ◌∷◌, length, Bool, true, false, ◌&&◌, nat_le, nat_lt, if◌then◌else◌, Option, Some, None, Result, Ok, Err, codes}
 use Rattle.std.specs.List.{list_all}
 use Rattle.std.specs.Str.{bytes_eq}
-use Rattle.text_lines.specs.declared.refused.TraceKind.{TraceKind}
-use Rattle.text_lines.specs.declared.refused.TraceKind.TheVariants as kinds
-use Rattle.text_lines.specs.Fields.{◌>>=◌, no_field, one_field, two_fields, three_fields, four_fields, five_fields, number_in, ranged, number_within}
+use Rattle.trace_lines.specs.declared.refused.TraceKind.{TraceKind}
+use Rattle.trace_lines.specs.declared.refused.TraceKind.TheVariants as kinds
+use Rattle.trace_lines.specs.Fields.{◌>>=◌, no_field, one_field, two_fields, three_fields, four_fields, five_fields, number_in, ranged, number_within}
 use Rattle.zone_stats.specs.Name.{is_name_character}
-use Rattle.trace_text.specs.declared.head.ClockHead.{ClockHead}
-use Rattle.trace_text.specs.declared.head.NamesHead.{NamesHead}
-use Rattle.trace_text.specs.declared.head.ZoneHead.{ZoneHead}
-use Rattle.trace_text.specs.declared.head.ZoneKind.{ZoneKind}
-use Rattle.trace_text.specs.declared.head.ZoneKind.TheVariants.{Plain, Smr}
-use Rattle.trace_text.specs.declared.op.Op.TheVariants as ops
+use Rattle.trace_text.specs.declared.trace.ClockHead.{ClockHead}
+use Rattle.trace_text.specs.declared.trace.NamesHead.{NamesHead}
+use Rattle.trace_text.specs.declared.trace.ZoneHead.{ZoneHead}
+use Rattle.trace_text.specs.declared.trace.ZoneKind.{ZoneKind}
+use Rattle.trace_text.specs.declared.trace.ZoneKind.TheVariants.{Plain, Smr}
+use Rattle.trace_text.specs.declared.trace.Op.TheVariants as ops
 use Rattle.trace_text.specs.declared.trace_reading.parsed_line.ParsedLine.{ParsedLine}
 use Rattle.trace_text.specs.declared.trace_reading.parsed_line.ParsedLine.TheVariants as parsed
 use Rattle.trace_text.specs.declared.trace_reading.parsed_line.SecondHead.{SecondHead}
 use Rattle.trace_text.specs.declared.trace_reading.parsed_line.ZoneWork.TheVariants as works
-use Rattle.trace_text.specs.declared.trace_reading.stage.Stage.{Stage}
-use Rattle.trace_text.specs.declared.trace_reading.stage.Stage.TheVariants as stages
-use Rattle.trace_text.specs.declared.trace_reading.word.HeadWord.{HeadWord}
-use Rattle.trace_text.specs.declared.trace_reading.word.HeadWord.TheVariants as heads
-use Rattle.trace_text.specs.declared.trace_reading.word.Word.{Word}
-use Rattle.trace_text.specs.declared.trace_reading.word.Word.TheVariants as words
-use Rattle.trace_text.specs.declared.trace_reading.word.WorkWord.{WorkWord}
-use Rattle.trace_text.specs.declared.trace_reading.word.WorkWord.TheVariants as by_self
-use Rattle.trace_text.specs.declared.trace_reading.word.ZoneWord.{ZoneWord}
-use Rattle.trace_text.specs.declared.trace_reading.word.ZoneWord.TheVariants as in_zone
-use Rattle.trace_text.specs.declared.version.Version.{Version}
-use Rattle.trace_text.specs.declared.version.Version.TheVariants as versions
+use Rattle.trace_text.specs.declared.trace_reading.reader.Stage.{Stage}
+use Rattle.trace_text.specs.declared.trace_reading.reader.Stage.TheVariants as stages
+use Rattle.trace_text.specs.declared.trace_reading.fields.HeadWord.{HeadWord}
+use Rattle.trace_text.specs.declared.trace_reading.fields.HeadWord.TheVariants as heads
+use Rattle.trace_text.specs.declared.trace_reading.fields.Word.{Word}
+use Rattle.trace_text.specs.declared.trace_reading.fields.Word.TheVariants as words
+use Rattle.trace_text.specs.declared.trace_reading.fields.WorkWord.{WorkWord}
+use Rattle.trace_text.specs.declared.trace_reading.fields.WorkWord.TheVariants as by_self
+use Rattle.trace_text.specs.declared.trace_reading.fields.ZoneWord.{ZoneWord}
+use Rattle.trace_text.specs.declared.trace_reading.fields.ZoneWord.TheVariants as in_zone
+use Rattle.trace_text.specs.declared.trace.Version.{Version}
+use Rattle.trace_text.specs.declared.trace.Version.TheVariants as versions
 use Rattle.trace_text.specs.Limits.{last_slot}
 use Rattle.trace_text.specs.Valid.{changes_limits, lets_leave}
-use Rattle.schedule_text.specs.ScheduleGrammar.{start_in, window_in}
+use Rattle.trace_schedule.specs.ScheduleGrammar.{start_in, window_in}
 
 -- ---- the first line
 

@@ -1,16 +1,16 @@
 -- The tables of a trace's reading (own): which slots are filled, which workers are in a section, and which are away.
-use Rattle.std.specs.Prelude.{ℕ, ◌≡◌, ◌<◌, ◌≤◌, ◌*◌, All, length, false}
-use Rattle.trace_text.specs.declared.between.Between.TheVariants.{Give, SetMax}
-use Rattle.trace_text.specs.declared.trace_reading.entry.Entry.{Entry}
-use Rattle.trace_text.specs.declared.trace_reading.entry.Entry.TheVariants as entries
+use Rattle.std.specs.Prelude.{ℕ, ◌≡◌, ◌<◌, ◌≤◌, All, length, false}
+use Rattle.trace_text.specs.declared.trace.Between.TheVariants.{Give, SetMax}
+use Rattle.trace_text.specs.declared.trace_reading.fields.Entry.{Entry}
+use Rattle.trace_text.specs.declared.trace_reading.fields.Entry.TheVariants as entries
 use Rattle.trace_text.specs.declared.trace_reading.tables.Tables.{Tables}
 pub use Rattle.trace_text.specs.Limits.{most_workers}
-use Rattle.trace_text.specs.Limits.{last_slot, slots}
+use Rattle.trace_text.specs.Limits.{last_slot}
 pub use Rattle.trace_text.specs.TraceShown.{OpSlotFits}
 use Rattle.trace_text.specs.TraceShown.{slot_at, is_marked, filled_after, opened_after, left_after}
 
+-- each worker has a place in the two tables of workers; that of the slots grows
 pub record AreWhole (tables : Tables) : Type 0 where
-  pub slots_whole : length tables.slots.items ≡ most_workers * slots
   pub sections_whole : length tables.sections.items ≡ most_workers
   pub away_whole : length tables.away.items ≡ most_workers
 

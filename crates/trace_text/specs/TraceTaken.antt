@@ -1,10 +1,10 @@
 -- What the running state of a trace's reading does with a line by its word (own).
 use Rattle.std.specs.Prelude.{ℕ, ◌≡◌, List, false, Result, Ok}
-use Rattle.text_lines.specs.declared.refused.LineRefused.{LineRefused}
-use Rattle.text_lines.specs.Taking.{ReadsLine}
+use Rattle.trace_lines.specs.declared.refused.LineRefused.{LineRefused}
+use Rattle.trace_lines.specs.Taking.{ReadsLine}
 use Rattle.trace_text.specs.declared.trace_reading.reader.TraceReader.{TraceReader}
 use Rattle.trace_text.specs.declared.trace_reading.parsed_line.ParsedLine.{ParsedLine}
-use Rattle.trace_text.specs.declared.trace_reading.word.Word.{Word}
+use Rattle.trace_text.specs.declared.trace_reading.fields.Word.{Word}
 use Rattle.trace_text.specs.Grammar.{trace_test}
 use Rattle.trace_text.specs.TraceKnown.{Knows, is_start, is_last}
 use Rattle.trace_text.specs.TraceLine.{says, parsed_by}

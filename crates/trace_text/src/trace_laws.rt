@@ -1,4 +1,4 @@
-//! The laws of traces and their texts. Each call does nothing: its contract is the law.
+//! The laws of traces and their texts. A call does nothing: its contract is the law.
 ghost use Rattle.trace_text.specs.TraceLaws.{TextsAreOfOneTrace, TextsAreOfValidTraces, TracesAreNoLonger};
 
 /// Bytes are a text of one trace at most.

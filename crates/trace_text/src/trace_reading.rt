@@ -1,7 +1,7 @@
 //! The reading of traces.
 ghost use Rattle.std.specs.Prelude.{IfOk, IsErrOf};
-ghost use Rattle.text_lines.specs.TextLines.{IsRefusedAt};
-ghost use Rattle.text_lines.specs.declared.refused.TraceRefused.{TraceRefused as Refused};
+ghost use Rattle.trace_lines.specs.TextLines.{IsRefusedAt};
+ghost use Rattle.trace_lines.specs.declared.refused.TraceRefused.{TraceRefused as Refused};
 ghost use Rattle.trace_text.specs.Grammar.{IsTraceText, trace_test};
 ghost use Rattle.trace_text.specs.Valid.{IsValid};
 
@@ -9,25 +9,14 @@ use crate::trace_laws::texts_are_of_valid_traces;
 use crate::{ParseRefused, Trace};
 use reader::TraceReader;
 use std::alloc::Global;
-use text_lines::read_lines;
+use trace_lines::read_lines;
 
-mod conflict;
-mod entry;
 mod fields;
 mod head;
-mod name_field;
-mod number;
 mod parsed_line;
-mod part_so_far;
 mod reader;
 mod rounds;
-mod rounds_so_far;
-mod slots;
-mod stage;
 mod tables;
-mod word;
-mod work;
-mod zones;
 
 /// Reads a trace. The first bad line is named, and the first thing that is wrong with it.
 ///

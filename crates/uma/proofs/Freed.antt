@@ -2,7 +2,7 @@
 use Rattle.std.proofs.Common.{◌≡◌, Bool, true, false, subst}
 use Rattle.zone_stats.specs.declared.ledger.SeatLedger.{SeatLedger}
 use Rattle.zone_stats.specs.LedgerSteps.{CountsFree}
-use Rattle.uma_life.specs.declared.live.Live.{Live}
+use Rattle.uma_life.specs.declared.states.Live.{Live}
 use Rattle.uma.specs.declared.local.Local.{Local}
 use Rattle.uma.specs.Pool.{pool_plan}
 use Rattle.uma.specs.Local.{pool_of, ledger_in, KeepsLocal, KeepsUsable, Puts, Defers, Frees}

@@ -3,8 +3,8 @@ use Rattle.std.proofs.Common.{◌≡◌, ℕ, Option, Some, None, refl, sym, sub
 use Rattle.std.specs.Option.{option_map}
 use Rattle.std.specs.Prelude.{IfSome, IfNone}
 use Rattle.smr_clock.specs.declared.view.View.{View}
-use Rattle.name_rows.specs.declared.part.Part.{Part}
-use Rattle.name_cache.specs.declared.receipt.Receipt.{Receipt}
+use Rattle.name_rows.specs.declared.names.Part.{Part}
+use Rattle.name_cache.specs.declared.binding.Receipt.{Receipt}
 use Rattle.name_cache.specs.Bind.{Binds}
 use Rattle.name_cache.specs.Known.{IsAbove, known_in}
 use Rattle.name_cache.specs.Types.{ZoneOfEntries, EntrySeat}

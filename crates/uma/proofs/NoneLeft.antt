@@ -5,7 +5,7 @@ use Rattle.smr_clock.specs.declared.clock.Clock.{Clock}
 use Rattle.smr_clock.specs.declared.host.Host.{Ghosts}
 use Rattle.smr_clock.specs.declared.pass.Pass.{Pass}
 use Rattle.smr_clock.specs.Belongs.{clock_id}
-use Rattle.uma.specs.declared.passes.ReadyPasses.{ReadyPasses}
+use Rattle.uma.specs.declared.pool.ReadyPasses.{ReadyPasses}
 use Rattle.uma.specs.NoPass.{HasNoPass}
 use Rattle.uma.specs.Passes.{IsReady}
 

@@ -7,9 +7,9 @@ use Rattle.zone_stats.specs.LedgerSteps.{CountsCtor, CountsTurned}
 use Rattle.uma_life.specs.Cached.{cached_body}
 use Rattle.uma_seat.specs.declared.seat.SeatCache.{SeatCache}
 use Rattle.uma_seat.specs.Seat.{ledger_of}
-use Rattle.uma_zone.specs.declared.alloc_ask.AllocAsk.{AllocAsk}
-use Rattle.uma_zone.specs.declared.alloc_ask.AllocRefused.{AllocRefused}
-use Rattle.uma_zone.specs.declared.alloc_ask.AllocRefused.TheVariants.{Refused}
+use Rattle.uma_zone.specs.declared.zone.alloc.AllocAsk.{AllocAsk}
+use Rattle.uma_zone.specs.declared.zone.alloc.AllocRefused.{AllocRefused}
+use Rattle.uma_zone.specs.declared.zone.alloc.AllocRefused.TheVariants.{Refused}
 use Rattle.uma_zone.specs.declared.zone.Zone.{Zone}
 use Rattle.uma_zone.specs.Alloc.{AllocIsRefused}
 use Rattle.uma.specs.Refusing.{CountsFail, IsCause}

@@ -14,9 +14,9 @@ use mir.Syntax.{Sym}
 use Rattle.std.proofs.Common.{List, [], ◌∷◌}
 use Rattle.keyed_lock.specs.contracts.lock.KeyedLock as KeyedLock
 use Rattle.keyed_lock.proofs.lock.KeyedLock.TheSendSync as lock
-use Rattle.smr_clock.specs.contracts.bare.Bare as Bare
-use Rattle.smr_clock.specs.contracts.bare.BareHost.TheImpl as bare_host
-use Rattle.smr_clock.proofs.bare.Bare.TheSendSync as bare
+use Rattle.smr_clock.specs.contracts.host.Bare as Bare
+use Rattle.smr_clock.specs.contracts.host.BareHost.TheImpl as bare_host
+use Rattle.smr_clock.proofs.host.Bare.TheSendSync as bare
 use Rattle.smr_clock.specs.contracts.clock.Clock as Clock
 use Rattle.smr_clock.proofs.clock.Clock.TheSendSync as clock
 use Rattle.smr_clock.specs.contracts.pass.Pass as Pass
@@ -24,25 +24,25 @@ use Rattle.smr_clock.specs.declared.host.Host as host
 use Rattle.smr_clock.proofs.pass.Pass.TheSendSync as pass
 use Rattle.uma_item.specs.contracts.item.Item as Item
 use Rattle.uma_item.proofs.item.Item.TheSendSync as item
-use Rattle.uma_item.specs.contracts.trail_hooks.TrailHooks as TrailHooks
-use Rattle.uma_item.proofs.trail_hooks.TrailHooks.TheSendSync as trail
-use Rattle.uma_life.specs.contracts.live.Live as Live
-use Rattle.uma_life.proofs.live.Live.TheSendSync as live
-use Rattle.uma_life.specs.declared.body.Body as body
+use Rattle.uma_item.specs.contracts.trail.TrailHooks as TrailHooks
+use Rattle.uma_item.proofs.trail.TrailHooks.TheSendSync as trail
+use Rattle.uma_life.specs.contracts.states.Live as Live
+use Rattle.uma_life.proofs.states.Live.TheSendSync as live
+use Rattle.uma_life.specs.declared.hooks.Body as body
 use Rattle.uma_life.specs.declared.hooks.Hooks as hooks
 use Rattle.uma_zone.proofs.Shared.{zone_sync, seat_send}
 use Rattle.name_cache.proofs.Shared.{cache_sync, entry_seat_send}
 use Rattle.name_rows.specs.contracts.names.Names as Names
 use Rattle.name_rows.specs.contracts.names.NamesHost.TheImpl as names_host
-use Rattle.name_rows.specs.contracts.part.Part as Part
+use Rattle.name_rows.specs.contracts.names.Part as Part
 use Rattle.uma.specs.contracts.directory.Directory as Directory
-use Rattle.uma.specs.contracts.directory_local.DirectoryLocal as DirectoryLocal
+use Rattle.uma.specs.contracts.directory.DirectoryLocal as DirectoryLocal
 use Rattle.uma.specs.contracts.local.Local as Local
-use Rattle.uma.specs.contracts.passes.PassKey as PassKey
-use Rattle.uma.specs.contracts.passes.PassRule as PassRule
-use Rattle.uma.specs.contracts.passes.PassRuleLockRuleReadyPassesPassKey.TheImpl as rule
-use Rattle.uma.specs.contracts.passes.ReadyPasses as ReadyPasses
-use Rattle.uma.proofs.name_plan.NamePlan.TheSendSync as name_plan
+use Rattle.uma.specs.contracts.pool.PassKey as PassKey
+use Rattle.uma.specs.contracts.pool.PassRule as PassRule
+use Rattle.uma.specs.contracts.pool.PassRuleLockRuleReadyPassesPassKey.TheImpl as rule
+use Rattle.uma.specs.contracts.pool.ReadyPasses as ReadyPasses
+use Rattle.uma.proofs.plan.NamePlan.TheSendSync as name_plan
 use Rattle.uma.proofs.plan.Plan.TheSendSync as plan
 use Rattle.uma.specs.contracts.pool.Pool as Pool
 

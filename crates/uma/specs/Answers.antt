@@ -1,12 +1,12 @@
 -- Own: how the calls of a local and of a directory's local end, each in one record.
 use Rattle.std.specs.Prelude.{◌≡◌, ◌==◌, ℕ, Bool, true, false, not, Option, Result, OnOk, OnErr, IfOk, IfErr, IfSome, IfNone}
 use Rattle.zone_stats.specs.LedgerSteps.{HasRoom, CountsAlloc, CountsFree}
-use Rattle.uma_life.specs.declared.live.Live.{Live}
+use Rattle.uma_life.specs.declared.states.Live.{Live}
 use Rattle.uma_life.specs.Live.{live_domain}
 use Rattle.uma_seat.specs.Seat.{seat_domain}
-use Rattle.uma.specs.declared.directory_local.DirectoryLocal.{DirectoryLocal}
+use Rattle.uma.specs.declared.directory.DirectoryLocal.{DirectoryLocal}
 use Rattle.uma.specs.declared.local.Local.{Local}
-use Rattle.uma.specs.declared.not_freed.NotFreed.{NotFreed}
+use Rattle.uma.specs.declared.local.NotFreed.{NotFreed}
 use Rattle.uma.specs.declared.refused.Refused.{Refused}
 use Rattle.uma.specs.Directory.{BindsName, FindsNone, LooksUp, RefusesBind, RefusesUnbind, StillKnows, TakesOut, WasBound, directory_of, known_to}
 use Rattle.uma.specs.Local.{pool_of, ledger_in, Allocs, RefusesAlloc, CanHold, Puts, Defers, Frees, IsNotReady, KeepsLocal, KeepsUsable}

@@ -2,7 +2,7 @@
 use Rattle.std.specs.Prelude.{ℕ}
 use Rattle.uma_item.specs.declared.item.Item.{Item}
 use Rattle.uma_item.specs.Item.{item_data}
-use Rattle.uma_life.specs.declared.live.Live.{Live}
+use Rattle.uma_life.specs.declared.states.Live.{Live}
 use Rattle.uma_life.specs.Live.{live_body, live_no}
 
 -- its number

@@ -1,25 +1,25 @@
 -- Own: what a local knows of its directory, and how its calls end. A record of a row is what its word says from one store to the next, so whatever a known record binds was bound by some worker.
 use Rattle.std.specs.Prelude.{◌≡◌, ℕ, List, Option, Some}
-use Rattle.smr_clock.specs.declared.refused.Overtaken.{Overtaken}
+use Rattle.smr_clock.specs.declared.polls.Overtaken.{Overtaken}
 use Rattle.smr_clock.specs.Belongs.{view}
 use Rattle.smr_clock.specs.Sections.{Misses}
 use Rattle.zone_stats.specs.declared.ledger.SeatLedger.{SeatLedger}
 use Rattle.zone_stats.specs.LedgerSteps.{HasRoom}
 use Rattle.uma_seat.specs.Seat.{ledger_of}
-use Rattle.name_rows.specs.declared.records.Bound.{Bound}
-use Rattle.name_rows.specs.declared.records.Record.{Record}
+use Rattle.name_rows.specs.declared.names.Bound.{Bound}
+use Rattle.name_rows.specs.declared.names.Record.{Record}
 use Rattle.name_rows.specs.Records.{In}
-use Rattle.name_cache.specs.declared.bind_refused.BindRefused.{BindRefused}
-use Rattle.name_cache.specs.declared.bind_refused.BindRefused.TheVariants as cache
-use Rattle.name_cache.specs.declared.receipt.Receipt.{Receipt}
+use Rattle.name_cache.specs.declared.binding.BindRefused.{BindRefused}
+use Rattle.name_cache.specs.declared.binding.BindRefused.TheVariants as cache
+use Rattle.name_cache.specs.declared.binding.Receipt.{Receipt}
 use Rattle.name_cache.specs.Bind.{Binds, HasRoomToBind, RefusesToBind, WantsMemory}
 use Rattle.name_cache.specs.Cache.{cache_zone, row_count}
 use Rattle.name_cache.specs.Known.{IsAbove, known_in}
 use Rattle.name_cache.specs.Look.{Looks}
 use Rattle.name_cache.specs.Unbind.{FindsUnbound, Unbinds}
 use Rattle.uma.specs.declared.directory.Directory.{Directory}
-use Rattle.uma.specs.declared.directory_local.DirectoryLocal.{DirectoryLocal}
-use Rattle.uma.specs.declared.name_plan.NamePlan.{NamePlan}
+use Rattle.uma.specs.declared.directory.DirectoryLocal.{DirectoryLocal}
+use Rattle.uma.specs.declared.plan.NamePlan.{NamePlan}
 use Rattle.uma.specs.declared.refused.Refused.{Refused}
 use Rattle.uma.specs.declared.refused.Refused.TheVariants.{Taken, Turned, Unripe, Worn, Late, Counts, Memory}
 use Rattle.name_rows.specs.contracts.names.NamesHost.TheImpl.{ghosts as names}

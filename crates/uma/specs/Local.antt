@@ -4,10 +4,10 @@ use Rattle.zone_stats.specs.declared.ledger.SeatLedger.{SeatLedger}
 use Rattle.zone_stats.specs.LedgerSteps.{HasRoom, CountsFree, IsNew}
 use Rattle.uma_seat.specs.Seat.{ledger_of, spares_of, usable_of, shelf_of, freed_of, HasNoCross}
 use Rattle.uma_seat.specs.Stack.{stack_at, with_item, is_filled_by_one}
-use Rattle.uma_zone.specs.declared.alloc_ask.AllocRefused.TheVariants as zone
+use Rattle.uma_zone.specs.declared.zone.alloc.AllocRefused.TheVariants as zone
 use Rattle.uma_zone.specs.Alloc.{Serves, AllocIsRefused}
 use Rattle.uma_zone.specs.Free.{Frees as FreesOfZone}
-use Rattle.uma_life.specs.declared.live.Live.{Live}
+use Rattle.uma_life.specs.declared.states.Live.{Live}
 use Rattle.uma_life.specs.Live.{live_domain}
 use Rattle.uma.specs.declared.pool.Pool.{Pool}
 use Rattle.uma.specs.declared.local.Local.{Local}

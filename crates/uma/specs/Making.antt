@@ -2,7 +2,7 @@
 use Rattle.std.specs.Prelude.{◌≡◌, ◌<◌, ◌⊎◌}
 use Rattle.smr_core.specs.Making.{IsSeatCount}
 use Rattle.uma_zone.specs.Making.{RefusesPrimary}
-use Rattle.uma_zone.specs.declared.zone_refused.ZoneRefused.TheVariants as zone
+use Rattle.uma_zone.specs.declared.zone.make.ZoneRefused.TheVariants as zone
 use Rattle.uma.specs.declared.plan.Plan.{Plan}
 use Rattle.uma.specs.declared.refused.Refused.{Refused}
 use Rattle.uma.specs.declared.refused.Refused.TheVariants.{Workers, Size, Slabs, Bucket, Domains, Memory}

@@ -1,10 +1,10 @@
 -- Own: the numbers of a directory, and why none is made.
 use Rattle.std.specs.Prelude.{◌≡◌, ◌<◌, ◌≤◌, ◌⊎◌, ℕ, true}
 use Rattle.smr_core.specs.Making.{IsSeatCount}
-use Rattle.uma_zone.specs.declared.zone_set.ZoneSet.{ZoneSet}
+use Rattle.uma_zone.specs.declared.zone.make.ZoneSet.{ZoneSet}
 use Rattle.uma_zone.specs.Making.{IsBucketSize}
-use Rattle.uma_places.specs.Refused.{IsSlabCount}
-use Rattle.uma.specs.declared.name_plan.NamePlan.{NamePlan}
+use Rattle.uma_slabs.specs.Refused.{IsSlabCount}
+use Rattle.uma.specs.declared.plan.NamePlan.{NamePlan}
 use Rattle.uma.specs.declared.refused.Refused.{Refused}
 use Rattle.uma.specs.declared.refused.Refused.TheVariants.{Workers, Rows, Slabs, Bucket, Memory}
 

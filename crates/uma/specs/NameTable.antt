@@ -7,7 +7,7 @@ use Rattle.uma_keg.specs.declared.census.Census.{Census}
 use Rattle.uma_keg.specs.Census.{census_counts, census_out, census_table}
 use Rattle.name_cache.specs.Cache.{cache_home}
 use Rattle.uma.specs.declared.directory.Directory.{Directory}
-use Rattle.uma.specs.declared.name_ledger.NameLedger.{NameLedger}
+use Rattle.uma.specs.declared.plan.NameLedger.{NameLedger}
 
 -- the ledger is of a local of this directory
 abbrev pub IsNameLedgerOf : Directory → NameLedger → Type 0

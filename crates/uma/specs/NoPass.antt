@@ -3,7 +3,7 @@ use Rattle.std.specs.Prelude.{◌≡◌, []}
 use Rattle.smr_clock.specs.declared.clock.Clock.{Clock}
 use Rattle.smr_clock.specs.declared.host.Host.{Ghosts}
 use Rattle.smr_clock.specs.Belongs.{clock_id}
-use Rattle.uma.specs.declared.passes.ReadyPasses.{ReadyPasses}
+use Rattle.uma.specs.declared.pool.ReadyPasses.{ReadyPasses}
 
 module _ {H P : Type 0} where
   -- The passes of the clock that nobody has yet, as they stood under their lock: there was none.

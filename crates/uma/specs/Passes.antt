@@ -1,6 +1,6 @@
 -- Own: the passes of a pool's clock that no local has yet.
 use Rattle.std.specs.Prelude.{◌≡◌}
-use Rattle.smr_core.specs.declared.phase.Phase.TheVariants.{Outside}
+use Rattle.smr_core.specs.declared.holder.Phase.TheVariants.{Outside}
 use Rattle.smr_clock.specs.declared.clock.Clock.{Clock}
 use Rattle.smr_clock.specs.declared.host.Host.{Ghosts}
 use Rattle.smr_clock.specs.declared.pass.Pass.{Pass}

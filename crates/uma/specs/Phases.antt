@@ -1,7 +1,7 @@
 -- Own: where a reader's pass stands between two calls.
 use Rattle.std.specs.Prelude.{Bool, true, false}
-use Rattle.smr_core.specs.declared.phase.Phase.{Phase}
-use Rattle.smr_core.specs.declared.phase.Phase.TheVariants.{Outside, Inside}
+use Rattle.smr_core.specs.declared.holder.Phase.{Phase}
+use Rattle.smr_core.specs.declared.holder.Phase.TheVariants.{Outside, Inside}
 
 -- outside of any section, or in one whose guard was forgotten
 abbrev pub is_settled : Phase → Bool

@@ -1,6 +1,6 @@
 -- Own: the numbers of a pool.
 use Rattle.std.specs.Prelude.{ℕ, false}
-use Rattle.uma_zone.specs.declared.zone_set.ZoneSet.{ZoneSet}
+use Rattle.uma_zone.specs.declared.zone.make.ZoneSet.{ZoneSet}
 use Rattle.uma_zone.specs.Making.{AcceptsSet}
 use Rattle.smr_core.specs.Making.{IsSeatCount}
 use Rattle.uma.specs.declared.plan.Plan.{Plan}

@@ -1,7 +1,7 @@
 -- Own: what contracts see of a pool.
 use Rattle.std.specs.Prelude.{◌≡◌}
 use Rattle.uma_bucket.specs.Home.{Home, IsHome}
-use Rattle.uma_life.specs.declared.live.Live.{Live}
+use Rattle.uma_life.specs.declared.states.Live.{Live}
 use Rattle.uma_life.specs.Live.{live_ticket}
 use Rattle.uma_zone.specs.Zone.{zone_hooks, zone_home}
 use Rattle.uma.specs.Plan.{IsGood}

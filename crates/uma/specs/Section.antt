@@ -4,9 +4,9 @@ use Rattle.smr_core.specs.ClockState.{IsInSection}
 use Rattle.smr_clock.specs.Belongs.{clock_id, holder}
 use Rattle.uma.specs.declared.pool.Pool.{Pool}
 use Rattle.uma.specs.declared.reader.Reader.{Reader}
-use Rattle.uma.specs.declared.section.Section.{Section}
+use Rattle.uma.specs.declared.reader.Section.{Section}
 
--- The reader is in a section with its mark: the write hand as it was entered.
+-- The reader is in a section with its mark: the write sequence as it was entered.
 abbrev pub IsOpen : Section → Type 0
 IsOpen section = (mark : ℕ) × IsInSection (holder section.reader.now.pass) mark
 

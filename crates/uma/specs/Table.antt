@@ -7,7 +7,7 @@ use Rattle.zone_stats.specs.Name.{IsName}
 use Rattle.uma_keg.specs.declared.census.Census.{Census}
 use Rattle.uma_keg.specs.Census.{census_counts, census_out, census_table}
 use Rattle.uma.specs.declared.pool.Pool.{Pool}
-use Rattle.uma.specs.declared.pool_ledger.PoolLedger.{PoolLedger}
+use Rattle.uma.specs.declared.stats.PoolLedger.{PoolLedger}
 use Rattle.uma.specs.declared.refused.Refused.{Refused}
 use Rattle.uma.specs.declared.refused.Refused.TheVariants.{Name, Memory}
 use Rattle.uma.specs.Pool.{pool_home, pool_plan}

@@ -1,6 +1,6 @@
 -- Own: why a pool gives no local and no reader.
 use Rattle.std.specs.Prelude.{◌≡◌}
-use Rattle.smr_clock.specs.contracts.bare.BareHost.TheImpl.{ghosts as bare}
+use Rattle.smr_clock.specs.contracts.host.BareHost.TheImpl.{ghosts as bare}
 use Rattle.uma.specs.declared.pool.Pool.{Pool}
 use Rattle.uma.specs.declared.refused.Refused.{Refused}
 use Rattle.uma.specs.declared.refused.Refused.TheVariants.{Taken, Memory}

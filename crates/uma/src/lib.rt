@@ -1,74 +1,46 @@
-//! One door for people: a pool of items, what each worker has of it, and its table.
+//! The public API: pools of items with readers that hold no lock, each worker's cache, a directory of names, and a table. A crate that
+//! names this one in crates.txt needs no other of this repository.
 //!
-//! A [`Plan`] has a pool's numbers, most of them with defaults. A [`Pool`] is a zone with its clock; all workers share it by reference.
-//! A [`Local`] is what one worker has of it, a pass and a seat: it allocates, frees, reads and drains. A [`Reader`] has a pass alone, and
-//! reads. A [`Table`] prints what pools counted. A [`Directory`] is a cache of names with its clock, and a [`DirectoryLocal`] what one
-//! worker has of that. Whoever names this crate in crates.txt needs no other of the repository.
+//! A [`Plan`] has a pool's numbers, most of them with defaults. A [`Pool`] is a zone with its clock; all workers share it by reference. A
+//! [`Local`] is one worker's cache: it allocates, frees, reads and drains. A [`Reader`] only reads. A [`Section`] is a read-side critical
+//! section, and ends when it is dropped. A [`Directory`] is a cache of names, and a [`DirectoryLocal`] one worker's way into it. A
+//! [`Table`] prints what pools counted.
 //!
-//! Nothing new is proved below: each contract hands on what uma_zone, uma_reclaim, smr_clock and zone_stats tell of the very call, over
-//! the parts of a local (`specs/Local`). So an item that a local allocates came from where its zone says, with the right to what is
-//! reserved or without it, and was counted once; a free counts one free; a refusal has its cause. As many are allocated as are freed and
-//! held.
+//! ```
+//! let pool = Pool::new(alloc, Plan::new(1, 64).with_limit(2), Filled { value: 7u64 })?;  // one worker; items of 64 bytes
+//! let mut local = pool.local(&rt, alloc)?;
+//! let held = local.alloc(&rt, alloc, 0)?;                                                // 0: the argument of `ctor`
+//! local.free(&rt, alloc, held)?;
+//! ```
 //!
-//! # Choices
+//! A pool `with_readers` defers its frees: `local.free` leaves the item as it is until no section that was open at the free can see it.
 //!
-//! - A pool with readers and one without are one type, with a number of the plan between them: the same calls serve both, and `free`
-//!   alone does another thing.
-//! - The types are generic over an item and its hooks, `Pool<T, K>`, and people name them by data and hooks, as [`DataPool`] and
-//!   [`Held`]: a struct generic over the data would have to repeat the bounds of the item and of its hooks, whose meaning would then
-//!   hide what a user wrote.
-//! - [`Pool::new`] takes hooks once, and they are `Copy`: a zone has them for requests, and its keg for slabs. What hooks share with
-//!   others they hold by reference.
-//! - The passes of the clock that no local has lie behind a lock, so that a local is had from a shared pool. A dropped local takes its
-//!   pass along, since a drop can't wait.
-//! - A reader's section is a guard ([`Section`]), whose drop leaves it. A guard that was forgotten leaves its section before the next.
-//! - A local's section is a closure's ([`Local::read`]). A guard that borrows a local was tried: it is proved, its drop too, but who called
-//!   it doesn't know any more of which pool the local is. The checker tells what a guard left behind a `&mut` only where the type there
-//!   names no lifetime, and a local names that of its pool; of a clause `follows` or `RestsIfErr` over the local's row it says that it
-//!   proves one only where the body hands on one field or a call's result, and with the lifetime as `named 0` or `named 1` the caller's
-//!   goal, that the local's pool is the same, stays open. Of a reader its type says all that is needed.
-//! - Who shares a pool among threads, or sends a local to one, cites the lemmas of `proofs/Shared` in an answer of the function that starts
-//!   the thread: the checker finds such facts by itself only for types without snapshots, as a [`Reader`].
-//! - A free that needs a spare bucket makes one, and one is enough where there is no memory for two.
-//! - A table sums up the ledgers that it is handed, each of a local of that pool: which locals a pool gave it doesn't know, since these are
-//!   with their workers.
-//! - `Taken` says that under their lock no pass was left. That each went to a worker who is still there no clause says; nor why memory was
-//!   wanting.
+//! # What is promised
+//!
+//! - An item that is allocated came from where its zone says, with the right to the reserve or without it, and was counted once
+//!   (`Local::alloc`: `AnswersAlloc`).
+//! - A free counts one free (`Local::free`: `AnswersFree`). As many items are allocated as are freed and held.
+//! - A refusal names its cause ([`Refused`]). The contract doesn't say why memory ran out.
+//! - A lookup returns what was bound to that name (`DirectoryLocal::look`: `looked`).
+//!
+//! The promises of safe reuse are those of uma_zone and smr_clock: `freed_items_wait`, `no_section_is_before_a_known_goal`.
 #![tactic(auto)]
 
 mod directory;
-mod directory_local;
-mod directory_stats;
-mod draining;
-mod filled;
 mod local;
-mod name_ledger;
-mod name_plan;
-mod not_freed;
-mod passes;
 mod plan;
 mod pool;
-mod pool_ledger;
 mod reader;
 mod refused;
-mod section;
 mod stats;
-mod table;
 
-pub use directory::Directory;
-pub use directory_local::DirectoryLocal;
-pub use filled::Filled;
-pub use local::Local;
-pub use name_ledger::NameLedger;
-pub use name_plan::NamePlan;
-pub use not_freed::NotFreed;
-pub use plan::Plan;
+pub use directory::{Directory, DirectoryLocal};
+pub use local::{Filled, Local, NotFreed};
+pub use plan::{NameLedger, NamePlan, Plan};
 pub use pool::{DataPool, Pool};
-pub use pool_ledger::PoolLedger;
-pub use reader::Reader;
+pub use reader::{Reader, Section};
 pub use refused::Refused;
-pub use section::Section;
-pub use table::Table;
+pub use stats::{PoolLedger, Table};
 pub use uma_item::{Item, ItemHooks, TrailHooks};
 pub use uma_life::{Body, Hooks, Live, Memory};
 pub use zone_stats::{Refusal, SeatLedger, ZoneLine};

@@ -1,19 +1,73 @@
 ghost use Rattle.std.specs.Prelude.{◌≡◌, IfOk, IfErr, true, false};
-ghost use Rattle.smr_core.specs.declared.phase.Phase.{Phase};
+ghost use Rattle.smr_core.specs.declared.holder.Phase.{Phase};
 ghost use Rattle.smr_clock.specs.Belongs.{IsPassOf, holder};
 ghost use Rattle.uma_zone.specs.Zone.{IsSeatOf};
 
-use crate::not_freed::NotFreed;
 use crate::pool::Pool;
-use crate::pool_ledger::PoolLedger;
 use crate::refused::Refused;
+use crate::stats::PoolLedger;
 use smr_clock::{Bare, Pass};
 use std::alloc::Global;
+use std::error::Error;
+use std::fmt;
 use std::snapshot::Snapshot;
 use std::sync::Wait;
-use uma_life::{Body, Hooks, Live};
+use uma_item::ItemHooks;
+use uma_life::{Body, Hooks, Live, Memory};
+use uma_reclaim::drain_seat;
 use uma_seat::SeatCache;
 use uma_zone::{AllocAsk, AllocRefused};
+
+/// An item that wasn't freed: whoever held it holds it still.
+#[derive(Drop)]
+pub struct NotFreed<T: Body> {
+    pub item: Live<T>,
+    pub why: Refused,
+}
+
+impl<T: Body> fmt::Display for NotFreed<T> {
+    fn fmt<W: fmt::Write>(&self, f: &mut fmt::Formatter<W>) -> fmt::Result {
+        write!(f, "not freed: {}", self.why)
+    }
+}
+
+impl<T: Body> fmt::Debug for NotFreed<T> {
+    fn fmt<W: fmt::Write>(&self, f: &mut fmt::Formatter<W>) -> fmt::Result {
+        write!(f, "not freed: {:?}", self.why)
+    }
+}
+
+impl<T: Body + Drop> Error for NotFreed<T> {}
+
+/// Hooks that refuse nothing: each item's data begins as this value, and stays as its last holder left it.
+#[derive(Clone, Copy, Debug)]
+pub struct Filled<B> {
+    pub value: B,
+}
+
+impl<B: Copy> ItemHooks<B> for Filled<B> {
+    ghost use Rattle.std.specs.Prelude.{◌≡◌};
+
+    ghost makes = { λ hooks number made. made ≡ hooks.value };
+
+    fn make<R: Wait>(&self, _rt: &R, _alloc: Global, _no: u32) -> Result<B, Memory> {
+        Ok(self.value)
+    }
+
+    fn init(&self, _zone: u8, _item: &mut B) -> Result<(), u8> {
+        Ok(())
+    }
+
+    fn ctor(&self, _zone: u8, _item: &mut B, _arg: u64) -> Result<(), u8> {
+        Ok(())
+    }
+
+    fn dtor(&self, _zone: u8, _item: &mut B) {}
+
+    fn fini(&self, _zone: u8, _item: &mut B) {}
+
+    fn bury<R: Wait>(&self, _rt: &R, _item: B) {}
+}
 
 /// What one worker has of a pool: a cache of items, with what it counted. It may be sent to another thread, and is used by one at a
 /// time. A dropped one keeps what it had cached: [`Local::drain`] it first.
@@ -33,13 +87,20 @@ impl<'a, T: Body + Drop, K: Hooks<T>> Local<'a, T, K> {
     ghost use Rattle.uma.specs.Pool.{IsItemOf};
     ghost use Rattle.uma.specs.Table.{IsLedgerOf};
 
-    /// An item whose `ctor` took this argument. It is the one that was freed last here, where there is one; else the local
-    /// gets a bucket of its domain, or fetches some from the slabs. Waits until it has the pool's locks, where it has no item cached.
+    /// Allocates an item and runs `ctor` on it. It takes the item that was freed last on this local, if there is one.
+    /// Otherwise the local gets a bucket from its memory domain, or fetches items from the slabs. It blocks on the
+    /// pool's locks only if the local has no item cached.
+    ///
+    /// # Arguments
+    ///
+    /// - `arg`: the argument of `ctor`, any number.
     ///
     /// # Errors
     ///
-    /// `Turned` where the limit is reached, all slabs are in use, what is free is reserved, or `init` or `ctor` refused; that is counted.
-    /// `Counts` where the local's counts are full. `Memory` where memory is wanting.
+    /// - `Counts`: the local has counted 2^63 requests or frees.
+    /// - `Turned`: the limit is reached, all slabs are in use, the free items are reserved, or `init` or `ctor` refused
+    ///   the item. The local counts it.
+    /// - `Memory`: out of memory. It isn't counted.
     #[inline(always)]
     pub fn alloc<R: Wait>(&mut self, rt: &R, alloc: Global, arg: u64) -> Result<Live<T>, Refused>
         ensures { AnswersAlloc arg false self.old result self.new }
@@ -47,11 +108,15 @@ impl<'a, T: Body + Drop, K: Hooks<T>> Local<'a, T, K> {
         self.ask(rt, alloc, arg, false)
     }
 
-    /// An item as [`Local::alloc`] gives it, and if need be one of those that are reserved.
+    /// Allocates an item as [`Local::alloc`] does, and may use the reserve.
+    ///
+    /// # Arguments
+    ///
+    /// - `arg`: the argument of `ctor`, any number.
     ///
     /// # Errors
     ///
-    /// As `alloc`, but what is reserved refuses nothing.
+    /// As [`Local::alloc`], but the reserve refuses nothing.
     #[inline]
     pub fn alloc_reserved<R: Wait>(
         &mut self,
@@ -88,14 +153,16 @@ impl<'a, T: Body + Drop, K: Hooks<T>> Local<'a, T, K> {
         }
     }
 
-    /// Frees an item of the pool: `dtor` runs, and the item is cached here for a later request. In a pool with readers it stays built
-    /// until no section may see it, and only then may a request have it. Takes memory only where the local has no spare bucket, and
-    /// waits only then.
+    /// Frees an item of the pool: `dtor` runs, and the local caches the item for a later request. In a pool with
+    /// readers the item stays built, and no request gets it, until no section may see it. The call allocates and blocks
+    /// only if the local has no spare bucket.
     ///
     /// # Errors
     ///
-    /// The item comes back. `Memory` where the local has no spare bucket and there is no memory for one; `Counts` where its counts are
-    /// full.
+    /// The caller gets the item back in `item`, and the reason in `why`.
+    ///
+    /// - `Counts`: the local has counted 2^63 requests or frees.
+    /// - `Memory`: out of memory for a spare bucket.
     #[inline(always)]
     pub fn free<R: Wait>(&mut self, rt: &R, alloc: Global, held: Live<T>) -> Result<(), NotFreed<T>>
         requires { IsItemOf (pool_of self.old) held }
@@ -108,8 +175,8 @@ impl<'a, T: Body + Drop, K: Hooks<T>> Local<'a, T, K> {
         Ok(())
     }
 
-    /// Frees an item, for which [`Local::make_ready`] has seen to a bucket: what it does is what [`Local::free`] does, but it neither fails
-    /// nor waits, and takes no memory.
+    /// Frees an item as [`Local::free`] does, but never fails. A call of [`Local::make_ready`] must come first, so that
+    /// the local has a bucket for the item.
     #[inline(always)]
     pub fn put(&mut self, held: Live<T>)
         requires { CanPut self.old held }
@@ -124,12 +191,13 @@ impl<'a, T: Body + Drop, K: Hooks<T>> Local<'a, T, K> {
         pool.zone.free(&mut self.seat, held);
     }
 
-    /// Sees to it that a free can be counted, and that there is a bucket for what is freed: so the next `put` may be called. Waits, and
-    /// takes memory, only where the local has no spare bucket.
+    /// Makes the local ready for one [`Local::put`]: the free can be counted, and there is a bucket for the item. The
+    /// call allocates and blocks only if the local has no spare bucket.
     ///
     /// # Errors
     ///
-    /// As [`Local::free`].
+    /// - `Counts`: the local has counted 2^63 requests or frees.
+    /// - `Memory`: out of memory for a spare bucket.
     #[inline(always)]
     pub fn make_ready<R: Wait>(&mut self, rt: &R, alloc: Global) -> Result<(), Refused>
         ensures { AnswersReady self.old result self.new }
@@ -151,13 +219,14 @@ impl<'a, T: Body + Drop, K: Hooks<T>> Local<'a, T, K> {
         Ok(())
     }
 
-    /// Runs `look` within a section, and answers what it does: from the beginning of the section to its end no item becomes usable again
-    /// that was freed meanwhile, in a pool with readers. The section always ends with the call. It waits for nobody, and nobody waits
-    /// for it, so it is to be short.
+    /// Runs `look` within a section and returns its result. In a pool with readers no item that is freed meanwhile
+    /// becomes usable before the section ends. The section always ends with the call. An open section delays the reuse
+    /// of freed items, so it should be short.
     ///
     /// # Errors
     ///
-    /// `Late` where the pool's clock went on by its whole window while the section was entered. `look` wasn't called then.
+    /// `Late`: the pool's clock advanced by its whole window of 1,024 while the section was entered. `look` wasn't
+    /// called. Read again.
     pub fn read<X, F: FnOnce() -> X>(&mut self, look: F) -> Result<X, Refused>
     where
         F: Drop,
@@ -176,14 +245,14 @@ impl<'a, T: Body + Drop, K: Hooks<T>> Local<'a, T, K> {
         Ok(found)
     }
 
-    /// The pool that it is of.
+    /// Returns the pool of the local.
     pub fn pool(&self) -> &'a Pool<T, K>
         ensures { result.now ≡ pool_of self.now }
     {
         self.pool
     }
 
-    /// What it counted.
+    /// Returns the counts of the local: requests, allocs, fails, frees and cross frees.
     pub fn ledger(&self) -> PoolLedger<T, K>
         ensures counts { result.counts ≡ ledger_in self.now }
         ensures pool { IsLedgerOf (pool_of self.now) result }
@@ -191,6 +260,37 @@ impl<'a, T: Body + Drop, K: Hooks<T>> Local<'a, T, K> {
         PoolLedger {
             counts: self.seat.ledger(),
             pool: Snapshot::of(self.pool),
+        }
+    }
+}
+
+impl<T: Body + Drop, K: Hooks<T>> Local<'_, T, K> {
+    ghost use Rattle.uma.specs.Drained.{EndsDrain, GivesBack};
+
+    /// Returns every item that is cached on the local, and every item listed in the pool's memory domains, to the
+    /// slabs, and then gives up the slabs that are wholly free, as long as the reserve stays. The result is the count
+    /// of items that went back. In a pool with readers the items that a section may still see stay. It blocks on the
+    /// pool's locks.
+    ///
+    /// # Errors
+    ///
+    /// `Memory`: out of memory. The local still has all its items.
+    pub fn drain<R: Wait>(&mut self, rt: &R, alloc: Global) -> Result<u64, Refused>
+        ensures items { IfOk result (λ items. GivesBack items self.old) }
+        ensures ends { EndsDrain self.old result self.new }
+    {
+        let pool = self.pool;
+        let drained = drain_seat(
+            rt,
+            alloc,
+            &pool.zone,
+            &pool.clock,
+            &mut self.pass,
+            &mut self.seat,
+        );
+        match drained {
+            Ok(done) => Ok(done.items),
+            Err(_) => Err(Refused::Memory),
         }
     }
 }

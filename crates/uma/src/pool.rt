@@ -1,24 +1,99 @@
-ghost use Rattle.std.specs.Prelude.{◌≡◌, ◌<◌, false, All, IfOk, IfErr, IfSome, IfNone, OnOk};
+ghost use Rattle.std.specs.Prelude.{◌≡◌, [], All, IfSome, IfNone, ◌<◌, false, IfOk, IfErr, OnOk};
 ghost use Rattle.keyed_lock.specs.KeyedLock.{lock_key};
 ghost use Rattle.smr_clock.specs.Belongs.{clock_id};
-ghost use Rattle.uma_zone.specs.Zone.{zone_clock, zone_size, zone_cap, zone_bucket, zone_limit, zone_reserve, zone_domains, zone_smr};
 ghost use Rattle.uma.specs.Passes.{IsReady};
+ghost use Rattle.uma_zone.specs.Zone.{zone_clock, zone_size, zone_cap, zone_bucket, zone_limit, zone_reserve, zone_domains, zone_smr};
 ghost use Rattle.uma.specs.Plan.{IsGood};
-ghost use Rattle.uma.specs.Making.{RefusesPlan};
 
 use crate::local::Local;
-use crate::passes::{PassLock, lock_up};
 use crate::plan::Plan;
 use crate::reader::Reader;
 use crate::refused::Refused;
-use smr_clock::{Bare, Clock, Pass};
+use keyed_lock::{KeyedLock, LockRule};
+use smr_clock::{Bare, Clock, Host, Pass};
 use std::alloc::Global;
+use std::snapshot::Snapshot;
 use std::sync::Wait;
 use uma_item::{Item, ItemHooks, TrailHooks};
 use uma_life::{Body, Hooks};
 use uma_zone::Zone;
 
-/// Where both hands of a pool's clock begin, and how far its write hand may go ahead of its read hand.
+/// Of which clock passes are. For contracts alone.
+#[derive(Drop)]
+pub struct PassKey<H: Host> {
+    pub clock: Snapshot<Clock<H>>,
+}
+
+/// The passes of a clock that nobody has yet. Each is outside of any section.
+#[derive(Drop)]
+pub struct ReadyPasses<H: Host> {
+    passes: Vec<Pass<H>>,
+    clock: Snapshot<Clock<H>>,
+    ghost ready: { All (IsReady clock.value) passes.items },
+}
+
+/// The passes are of the key's clock.
+pub struct PassRule;
+
+impl<H: Host> LockRule<ReadyPasses<H>, PassKey<H>> for PassRule {
+    ghost use Rattle.std.specs.Prelude.{◌≡◌};
+    ghost use Rattle.smr_clock.specs.Belongs.{clock_id};
+
+    ghost keeps = { λ key ready. clock_id ready.clock.value ≡ clock_id key.clock.value };
+}
+
+/// The lock of such passes.
+pub(crate) type PassLock<H> = KeyedLock<ReadyPasses<H>, PassKey<H>, PassRule>;
+
+impl<H: Host> ReadyPasses<H> {
+    pub(crate) fn new(clock: &Clock<H>, passes: Vec<Pass<H>>) -> ReadyPasses<H>
+        requires { All (IsReady clock.now) passes.items }
+        ensures { result.clock.value ≡ clock.now }
+    {
+        ReadyPasses {
+            passes,
+            clock: Snapshot::of(clock),
+        }
+    }
+
+    /// Takes one of them.
+    pub(crate) fn take(&mut self) -> Option<Pass<H>>
+        ensures ready { IfSome result (IsReady self.old.clock.value) }
+        ensures none { IfNone result (self.old.passes.items ≡ []) }
+        ensures same { self.new.clock ≡ self.old.clock }
+    {
+        self.passes.pop()
+    }
+
+    /// Puts one back. It has the room of one that was taken.
+    pub(crate) fn put(&mut self, pass: Pass<H>)
+        requires { IsReady self.old.clock.value pass }
+        ensures { self.new.clock ≡ self.old.clock }
+    {
+        let _ = self.passes.push(pass);
+    }
+}
+
+// Puts passes of this clock under a lock.
+pub(crate) fn lock_up<H: Host>(
+    alloc: Global,
+    clock: &Clock<H>,
+    passes: Vec<Pass<H>>,
+) -> Option<PassLock<H>>
+    requires { All (IsReady clock.now) passes.items }
+    ensures { IfSome result (λ lock. clock_id (lock_key lock).clock.value ≡ clock_id clock.now) }
+{
+    let key = PassKey {
+        clock: Snapshot::of(clock),
+    };
+    let ready = ReadyPasses::new(clock, passes);
+    match KeyedLock::new(alloc, ready, &key) {
+        Ok(lock) => Some(lock),
+        Err(_ready) => None,
+    }
+}
+
+/// Where both sequences of a pool's clock begin, and how far its write sequence may go ahead of its read sequence.
 const START: u64 = 1;
 
 const WINDOW: u64 = 1_024;
@@ -49,9 +124,11 @@ pub struct Pool<T: Body, K: Hooks<T>> {
 pub type DataPool<B, K> = Pool<Item<B>, TrailHooks<K>>;
 
 impl<B: Drop, K: ItemHooks<B> + Copy> Pool<Item<B>, TrailHooks<K>> {
+    ghost use Rattle.uma.specs.Making.{RefusesPlan};
     ghost use Rattle.uma.specs.Pool.{IsMade};
 
-    /// An empty pool with the numbers of the plan. Its hooks are `Copy`: what they share with others they hold by reference.
+    /// Makes an empty pool with the numbers of the plan. The hooks are `Copy`: they hold by reference what they share
+    /// with others.
     ///
     /// # Errors
     ///
@@ -65,19 +142,22 @@ impl<B: Drop, K: ItemHooks<B> + Copy> Pool<Item<B>, TrailHooks<K>> {
 }
 
 impl<T: Body + Drop, K: Hooks<T>> Pool<T, K> {
+    ghost use Rattle.uma.specs.Making.{RefusesPlan};
     ghost use Rattle.uma.specs.Pool.{IsMade, pool_plan, pool_home};
     ghost use Rattle.uma.specs.Local.{IsNewLocal};
-    ghost use Rattle.smr_clock.specs.contracts.bare.BareHost.TheImpl.{ghosts as bare};
+    ghost use Rattle.smr_clock.specs.contracts.host.BareHost.TheImpl.{ghosts as bare};
     ghost use Rattle.uma.specs.NoPass.{HasNoPass};
     ghost use Rattle.uma.specs.Section.{IsReaderOf};
     ghost use Rattle.uma.specs.Taken.{RefusesLocal, RefusesReader};
 
-    /// An empty pool with the numbers of the plan, by hooks for the requests, and the same for the items of the slabs.
+    /// Makes an empty pool of items with any body. `hooks` runs on each request and each free, and `slab_hooks` when a
+    /// slab is brought in or given up.
     ///
     /// # Errors
     ///
-    /// `Workers`, `Size`, `Slabs`, `Bucket` and `Domains`, in this order, exactly where that number of the plan is out of its range, and
-    /// else `Memory`.
+    /// - `Workers`, `Size`, `Slabs`, `Bucket`, `Domains`: that number of the plan is out of its range. They are tested
+    ///   in this order.
+    /// - `Memory`: out of memory.
     pub fn over(alloc: Global, plan: Plan, hooks: K, slab_hooks: K) -> Result<Pool<T, K>, Refused>
         ensures made { IfOk result (IsMade plan hooks) }
         ensures origin { IfOk result (λ pool. (pool_home pool).book.origin ≡ K.origin slab_hooks) }
@@ -100,18 +180,19 @@ impl<T: Body + Drop, K: Hooks<T>> Pool<T, K> {
         })
     }
 
-    /// What the pool was made with.
+    /// Returns the plan that the pool was made with.
     pub fn plan(&self) -> Plan
         ensures { result ≡ pool_plan self.now }
     {
         self.plan
     }
 
-    /// A local of the pool in its first memory domain, for one worker at a time. Waits until it has the pool's locks.
+    /// Returns a local of the pool in memory domain 0, for one worker at a time. It blocks on the pool's locks.
     ///
     /// # Errors
     ///
-    /// `Taken` where as many locals and readers were given as the plan has workers, and else `Memory`: another may ask then.
+    /// - `Taken`: every worker of the plan has a local or a reader.
+    /// - `Memory`: out of memory. The worker's place is free again.
     pub fn local<'a, R: Wait>(&'a self, rt: &R, alloc: Global) -> Result<Local<'a, T, K>, Refused>
         ensures made { IfOk result (IsNewLocal self.now) }
         ensures refused { IfErr result (RefusesLocal self.now) }
@@ -119,7 +200,15 @@ impl<T: Body + Drop, K: Hooks<T>> Pool<T, K> {
         self.local_in(rt, alloc, 0)
     }
 
-    /// A local of the pool in this memory domain, as [`Pool::local`].
+    /// Returns a local of the pool in a memory domain, for one worker at a time. It blocks on the pool's locks.
+    ///
+    /// # Arguments
+    ///
+    /// - `domain`: the number of the memory domain, below the plan's count of domains.
+    ///
+    /// # Errors
+    ///
+    /// As [`Pool::local`].
     pub fn local_in<'a, R: Wait>(
         &'a self,
         rt: &R,
@@ -148,11 +237,12 @@ impl<T: Body + Drop, K: Hooks<T>> Pool<T, K> {
         }
     }
 
-    /// Who only reads the pool, one of its workers. Waits until it has the lock of the passes.
+    /// Returns a reader of the pool, which allocates nothing and counts as one of the pool's workers. It blocks on the
+    /// lock of the passes.
     ///
     /// # Errors
     ///
-    /// `Taken` as [`Pool::local`].
+    /// `Taken`: every worker of the plan has a local or a reader.
     pub fn reader<R: Wait>(&self, rt: &R) -> Result<Reader<'_>, Refused>
         ensures pool { IfOk result (IsReaderOf self.now) }
         ensures refused { IfErr result (RefusesReader self.now) }

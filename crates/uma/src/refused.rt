@@ -21,7 +21,7 @@ pub enum Refused {
     Taken { workers: u32 },
     /// The request was turned away, and is counted: the limit is reached, say, or the pool's own `ctor` refused.
     Turned { refusal: Refusal },
-    /// A section may still see the entry by which a name was to be bound: the read hand is below its stamp. Bind again.
+    /// A section may still see the entry by which a name was to be bound: the read sequence is below its stamp. Bind again.
     Unripe { read: u64, stamp: u64 },
     /// The row of a name was written some 2^44 times. A new directory goes on.
     Worn { row: u32, version: u64 },

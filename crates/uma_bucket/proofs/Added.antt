@@ -4,17 +4,17 @@ use Rattle.std.specs.List.{sum_by, filter_map, list_all, cons_option}
 use Rattle.std.proofs.lemmas.List.{length-take, get_or-replicate, get_or_past}
 use Rattle.std.proofs.lemmas.Bool.{cases_lt}
 use Rattle.std.proofs.lemmas.List.Sums.{sum_by-cons, sum_by-le}
-use Rattle.uma_life.specs.declared.tally_sum.ZoneTallySum.{ZoneTallySum}
-use Rattle.uma_life.specs.declared.ticket.Ticket.{Ticket}
+use Rattle.uma_life.specs.declared.tally.ZoneTallySum.{ZoneTallySum}
+use Rattle.uma_life.specs.declared.states.Ticket.{Ticket}
 use Rattle.uma_life.specs.Hook.{Hook, KegInit, ZoneInit, Ctor, Dtor, ZoneFini, KegFini}
 use Rattle.uma_life.specs.Sum.{sum_of, zone_sums, no_zone_sums, AreBelow}
 use Rattle.uma_life.specs.Trail.{ShowsSame}
-use Rattle.uma_life.specs.declared.cached.Cached.{Cached}
-use Rattle.uma_life.specs.declared.outside.Outside.{Outside}
+use Rattle.uma_life.specs.declared.states.Cached.{Cached}
+use Rattle.uma_life.specs.declared.states.Outside.{Outside}
 use Rattle.uma_life.specs.Outside.{is_live, cached_where, live_where}
 use Rattle.uma_life.proofs.Outsides.{cached_there, live_there}
 use Rattle.uma_bucket.specs.declared.freed.Freed.{Freed}
-use Rattle.uma_bucket.specs.declared.sums.Sums.{Sums}
+use Rattle.uma_bucket.specs.declared.shelved.Sums.{Sums}
 use Rattle.uma_bucket.specs.Room.{is_cached, is_freed, cached_in, freed_in, freed_of, times_held}
 use Rattle.uma_bucket.specs.Home.{Home, AreHome}
 use Rattle.uma_bucket.specs.Sums.{nothing_held, times_cached, times_freed, Adds, AddsItems, AreOfAtMost, Balance, IsNothing, Joins}

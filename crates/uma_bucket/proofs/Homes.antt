@@ -2,7 +2,7 @@
 use Rattle.std.proofs.Common.{◌≡◌, List, [], ◌∷◌, ◌++◌, map, Some, sym, ap, ◌∙◌, subst}
 use Rattle.std.proofs.lemmas.List.{map-append}
 use Rattle.std.proofs.lemmas.List.Elements.{All-push, All-pop}
-use Rattle.uma_life.specs.declared.ticket.Ticket.{Ticket}
+use Rattle.uma_life.specs.declared.states.Ticket.{Ticket}
 use Rattle.uma_bucket.specs.Home.{Home, IsHome, AreHome}
 
 pub home_push : {A : Type 0} (home : Home) (ticket : A → Ticket) (xs ys : List A) (x : A) → ys ≡ xs ++ x ∷ [] → AreHome home (map ticket xs) → IsHome home (ticket x) → AreHome home (map ticket ys)

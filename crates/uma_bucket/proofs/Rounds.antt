@@ -4,9 +4,9 @@ use Rattle.std.specs.List.{filter_map, list_all, cons_option, AllZip}
 use Rattle.std.proofs.Math.Seq.{drop-cons, set-append_seam, get_or-append_seam}
 use Rattle.std.proofs.lemmas.List.{length-take}
 use Rattle.std.proofs.lemmas.List.Elements.{all_zip_more, length_all_zip}
-use Rattle.uma_life.specs.declared.cached.Cached.{Cached}
-use Rattle.uma_life.specs.declared.live.Live.{Live}
-use Rattle.uma_life.specs.declared.outside.Outside.{Outside}
+use Rattle.uma_life.specs.declared.states.Cached.{Cached}
+use Rattle.uma_life.specs.declared.states.Live.{Live}
+use Rattle.uma_life.specs.declared.states.Outside.{Outside}
 use Rattle.uma_life.specs.Outside.{FinishesOutside}
 use Rattle.uma_bucket.specs.declared.freed.Freed.{Freed}
 use Rattle.uma_bucket.specs.Freed.{IsFinished}

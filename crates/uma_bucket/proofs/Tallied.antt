@@ -6,11 +6,11 @@ use Rattle.std.proofs.lemmas.Bool.{cases_lt}
 use Rattle.std.proofs.lemmas.List.{get_or_past}
 use Rattle.std.proofs.lemmas.List.Elements.{All-head, All-tail}
 use Rattle.std.proofs.lemmas.List.Sums.{sum_by-cons}
-use Rattle.uma_life.specs.declared.body_phase.BodyPhase.{BodyPhase}
-use Rattle.uma_life.specs.declared.body_phase.BodyPhase.TheVariants.{Raw, Kept, Zoned, Built, Gone}
+use Rattle.uma_life.specs.declared.tally.BodyPhase.{BodyPhase}
+use Rattle.uma_life.specs.declared.tally.BodyPhase.TheVariants.{Raw, Kept, Zoned, Built, Gone}
 use Rattle.uma_life.specs.declared.tally.Tally.{Tally}
-use Rattle.uma_life.specs.declared.cached.Cached.{Cached}
-use Rattle.uma_life.specs.declared.ticket.Ticket.{Ticket}
+use Rattle.uma_life.specs.declared.states.Cached.{Cached}
+use Rattle.uma_life.specs.declared.states.Ticket.{Ticket}
 use Rattle.uma_life.specs.Cached.{cached_body, cached_ticket, cached_zone}
 use Rattle.uma_life.specs.Hook.{Hook, KegInit, ZoneInit, Ctor, Dtor, ZoneFini, KegFini, counts_of}
 use Rattle.uma_life.specs.Life.{no_counts}

@@ -3,12 +3,12 @@ use denote.RawPtr.{Ptr}
 use Rattle.std.specs.Prelude.{◌≡◌, ◌<◌, ◌≤◌, ◌⊎◌, ℕ, List, [], ◌∷◌, ◌++◌, length, map, option_to_list, Option, IfSome, IfNone, Result, Err, IfOk, IfErr}
 use Rattle.std.specs.List.{filter_map}
 use Rattle.std.specs.Vec.{vec_ptr}
-use Rattle.uma_life.specs.declared.cached.Cached.{Cached}
-use Rattle.uma_life.specs.declared.ticket.Ticket.{Ticket}
+use Rattle.uma_life.specs.declared.states.Cached.{Cached}
+use Rattle.uma_life.specs.declared.states.Ticket.{Ticket}
 use Rattle.uma_life.specs.Cached.{cached_ticket}
 use Rattle.uma_bucket.specs.declared.bucket.Bucket.{Bucket}
-use Rattle.uma_bucket.specs.declared.refused.BucketRefused.{BucketRefused}
-use Rattle.uma_bucket.specs.declared.refused.BucketRefused.TheVariants.{Size, Memory}
+use Rattle.uma_bucket.specs.declared.bucket.BucketRefused.{BucketRefused}
+use Rattle.uma_bucket.specs.declared.bucket.BucketRefused.TheVariants.{Size, Memory}
 use Rattle.uma_bucket.specs.Room.{cached_in}
 use Rattle.uma_bucket.specs.Home.{Home, IsHome, AreHome}
 

@@ -1,14 +1,14 @@
 -- Own: what becomes of the items of a ripe bucket.
 use Rattle.std.specs.Prelude.{◌≡◌, ℕ, List}
 use Rattle.std.specs.List.{AllZip}
-use Rattle.smr_clock.specs.declared.note.Note.{Note}
+use Rattle.smr_clock.specs.declared.pass.Note.{Note}
 use Rattle.smr_clock.specs.Goals.{number_of}
 use Rattle.smr_clock.specs.Notes.{note_knows}
-use Rattle.uma_life.specs.declared.cached.Cached.{Cached}
+use Rattle.uma_life.specs.declared.states.Cached.{Cached}
 use Rattle.uma_bucket.specs.declared.bucket.Bucket.{Bucket}
 use Rattle.uma_bucket.specs.declared.freed.Freed.{Freed}
-use Rattle.uma_bucket.specs.declared.loose.Loose.{Loose}
-use Rattle.uma_bucket.specs.declared.ripe.Ripe.{Ripe}
+use Rattle.uma_bucket.specs.declared.freed.Loose.{Loose}
+use Rattle.uma_bucket.specs.declared.freed.Ripe.{Ripe}
 use Rattle.uma_bucket.specs.Bucket.{items_of, tickets_of, size_of, place_of}
 use Rattle.uma_bucket.specs.Freed.{IsFinished}
 use Rattle.uma_bucket.specs.Home.{Home, AreHome}

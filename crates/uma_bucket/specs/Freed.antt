@@ -1,9 +1,9 @@
 -- Own: what contracts see of a freed item, and what it becomes.
 use Rattle.std.specs.Prelude.{◌≡◌, ℕ}
-use Rattle.uma_life.specs.declared.cached.Cached.{Cached}
-use Rattle.uma_life.specs.declared.live.Live.{Live}
+use Rattle.uma_life.specs.declared.states.Cached.{Cached}
+use Rattle.uma_life.specs.declared.states.Live.{Live}
 use Rattle.uma_life.specs.declared.tally.Tally.{Tally}
-use Rattle.uma_life.specs.declared.ticket.Ticket.{Ticket}
+use Rattle.uma_life.specs.declared.states.Ticket.{Ticket}
 use Rattle.uma_life.specs.Hook.{Dtor, after}
 use Rattle.uma_life.specs.Cached.{cached_body, cached_ticket}
 use Rattle.uma_life.specs.Live.{live_body, live_ticket, live_zone}

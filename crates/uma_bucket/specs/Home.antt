@@ -2,7 +2,7 @@
 use Rattle.std.specs.Prelude.{◌≡◌, ◌<◌, ℕ, List}
 use Rattle.std.specs.List.{All}
 use Rattle.deed_book.specs.Deed.{BookId}
-use Rattle.uma_life.specs.declared.ticket.Ticket.{Ticket}
+use Rattle.uma_life.specs.declared.states.Ticket.{Ticket}
 use Rattle.uma_life.specs.Ticket.{ticket_table, ticket_zone, ticket_domain}
 
 -- a book of numbers, a zone of its keg, and how many memory domains the keg's slabs may be of

@@ -1,13 +1,13 @@
 -- Own: what the buckets of an inbox have in common, and of which inbox its ports and its taker are.
 use Rattle.deed_book.specs.Deed.{TableId}
 use Rattle.deed_book.specs.Book.{book_table}
-use Rattle.smr_clock.specs.declared.setup.Setup.{Setup}
+use Rattle.smr_clock.specs.declared.clock.Setup.{Setup}
 use Rattle.smr_clock.specs.Belongs.{clock_id}
-use Rattle.inbox.specs.declared.port.Port.{Port}
-use Rattle.inbox.specs.declared.taker.Taker.{Taker}
+use Rattle.inbox.specs.declared.inbox.Port.{Port}
+use Rattle.inbox.specs.declared.inbox.Taker.{Taker}
 use Rattle.inbox.specs.Inbox.{InboxId, port_inbox, port_key, taker_inbox, taker_key}
 use Rattle.uma_bucket.specs.declared.shelved.Shelved.{Shelved}
-use Rattle.uma_bucket.specs.declared.inbox_key.InboxKey.{InboxKey}
+use Rattle.uma_bucket.specs.declared.shelved.InboxKey.{InboxKey}
 use Rattle.uma_bucket.specs.Home.{Home}
 
 -- An inbox, the clock of the notes of its sealed buckets, and where all its items are at home.

@@ -3,7 +3,7 @@ use Rattle.std.specs.Prelude.{◌≡◌, ◌≤◌, ℕ, Bool, true, Vec, vec_le
 use Rattle.std.specs.declared.alloc.Global.{Global}
 use Rattle.std.specs.Vec.{vec_capacity}
 use Rattle.std.specs.List.{list_all}
-use Rattle.uma_life.specs.declared.outside.Outside.{Outside}
+use Rattle.uma_life.specs.declared.states.Outside.{Outside}
 
 -- The size is in its range, the room for so many items was taken whole, and each item there passes the test of the bucket's kind.
 pub record IsKept {T : Type 0} {g : _} (test : Outside T g → Bool) (room : Vec (Outside T g) Global) (size : ℕ) : Type 0 where

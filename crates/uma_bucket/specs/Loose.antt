@@ -3,12 +3,12 @@ use denote.RawPtr.{Ptr}
 use Rattle.std.specs.Prelude.{◌≡◌, ℕ, List, [], ◌∷◌, ◌++◌, map, Result, Err, IfOk, IfErr}
 use Rattle.std.specs.List.{filter_map}
 use Rattle.std.specs.Vec.{vec_ptr}
-use Rattle.uma_life.specs.declared.ticket.Ticket.{Ticket}
+use Rattle.uma_life.specs.declared.states.Ticket.{Ticket}
 use Rattle.uma_bucket.specs.declared.bucket.Bucket.{Bucket}
 use Rattle.uma_bucket.specs.declared.freed.Freed.{Freed}
-use Rattle.uma_bucket.specs.declared.loose.Loose.{Loose}
-use Rattle.uma_bucket.specs.declared.refused.BucketRefused.{BucketRefused}
-use Rattle.uma_bucket.specs.declared.refused.BucketRefused.TheVariants.{Size}
+use Rattle.uma_bucket.specs.declared.freed.Loose.{Loose}
+use Rattle.uma_bucket.specs.declared.bucket.BucketRefused.{BucketRefused}
+use Rattle.uma_bucket.specs.declared.bucket.BucketRefused.TheVariants.{Size}
 use Rattle.uma_bucket.specs.Bucket.{size_of, place_of, IsOutOfRange, BucketIsRefused}
 use Rattle.uma_bucket.specs.Freed.{freed_ticket}
 use Rattle.uma_bucket.specs.Room.{freed_in}

@@ -2,19 +2,19 @@
 use Rattle.std.specs.Prelude.{◌≡◌, ℕ, List, true, Result, IfOk, IfErr}
 use mathlib.Core.Option.{some}
 use lib.ListN.{get_elem?}
-use Rattle.smr_clock.specs.declared.setup.Setup.{Setup}
+use Rattle.smr_clock.specs.declared.clock.Setup.{Setup}
 use Rattle.smr_clock.specs.declared.view.View.{View}
-use Rattle.smr_clock.specs.declared.goal.Goal.{Goal}
-use Rattle.smr_clock.specs.declared.note.Note.{Note}
+use Rattle.smr_clock.specs.declared.pass.Goal.{Goal}
+use Rattle.smr_clock.specs.declared.pass.Note.{Note}
 use Rattle.smr_clock.specs.Belongs.{TableId}
 use Rattle.smr_clock.specs.Goals.{tag_of}
 use Rattle.smr_clock.specs.Notes.{note_knows, note_clock}
 use Rattle.smr_clock.specs.Polls.{Polls}
 use Rattle.smr_clock.specs.Moments.{Moment}
 use Rattle.smr_clock.specs.SafeReuse.{Follow, StaysOver}
-use Rattle.uma_bucket.specs.declared.loose.Loose.{Loose}
-use Rattle.uma_bucket.specs.declared.sealed.Sealed.{Sealed}
-use Rattle.uma_bucket.specs.declared.ripe.Ripe.{Ripe}
+use Rattle.uma_bucket.specs.declared.freed.Loose.{Loose}
+use Rattle.uma_bucket.specs.declared.freed.Sealed.{Sealed}
+use Rattle.uma_bucket.specs.declared.freed.Ripe.{Ripe}
 use Rattle.uma_bucket.specs.Sealed.{sealed_bucket, sealed_goal, sealed_note, sealed_knows, IsSealedAt, SaidNo}
 
 module _ {T H P : Type 0} {g h : _} where

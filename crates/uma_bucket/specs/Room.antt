@@ -1,7 +1,7 @@
 -- Own: what lies in the room of a bucket: items outside their keg, cached ones or freed ones.
 use Rattle.std.specs.Prelude.{ℕ, Bool, not, Option, Some, None}
-use Rattle.uma_life.specs.declared.live.Live.{Live}
-use Rattle.uma_life.specs.declared.outside.Outside.{Outside}
+use Rattle.uma_life.specs.declared.states.Live.{Live}
+use Rattle.uma_life.specs.declared.states.Outside.{Outside}
 use Rattle.uma_life.specs.Hook.{Hook}
 pub use Rattle.uma_life.specs.Outside.{cached_in}
 use Rattle.uma_life.specs.Outside.{is_live, live_in, outside_tally}

@@ -1,19 +1,19 @@
 -- Own: what contracts see of a sealed bucket, and what its making and its polls come to.
 use Rattle.std.specs.Prelude.{◌≡◌, ◌≤◌, Bool, true, false, Result, IfOk, IfErr}
-use Rattle.smr_clock.specs.declared.setup.Setup.{Setup}
+use Rattle.smr_clock.specs.declared.clock.Setup.{Setup}
 use Rattle.smr_clock.specs.declared.view.View.{View}
 use Rattle.smr_clock.specs.declared.clock.Clock.{Clock}
-use Rattle.smr_clock.specs.declared.goal.Goal.{Goal}
-use Rattle.smr_clock.specs.declared.note.Note.{Note}
+use Rattle.smr_clock.specs.declared.pass.Goal.{Goal}
+use Rattle.smr_clock.specs.declared.pass.Note.{Note}
 use Rattle.smr_clock.specs.declared.pass.Pass.{Pass}
-use Rattle.smr_clock.specs.declared.refused.AdvanceRefused.{AdvanceRefused}
+use Rattle.smr_clock.specs.declared.polls.AdvanceRefused.{AdvanceRefused}
 use Rattle.smr_clock.specs.Advances.{Advances, AdvanceIsRefused as RefusesAdvance}
 use Rattle.smr_clock.specs.Belongs.{TableId, IsPassOf, clock_id, view, holder}
 use Rattle.smr_clock.specs.Goals.{number_of, tag_of}
 use Rattle.smr_clock.specs.Notes.{note_knows, note_holder, note_clock, Notes}
 use Rattle.smr_clock.specs.Polls.{Polls, SaysNo}
-use Rattle.uma_bucket.specs.declared.loose.Loose.{Loose}
-use Rattle.uma_bucket.specs.declared.sealed.Sealed.{Sealed}
+use Rattle.uma_bucket.specs.declared.freed.Loose.{Loose}
+use Rattle.uma_bucket.specs.declared.freed.Sealed.{Sealed}
 
 module _ {T H P : Type 0} {g h : _} where
   -- its items, with their room

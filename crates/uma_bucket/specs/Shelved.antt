@@ -1,10 +1,10 @@
 -- Own: what contracts see of a full bucket on its way to the lists of a domain.
 use Rattle.std.specs.Prelude.{◌≡◌, ◌<◌, ℕ, List, [], ◌∷◌, length}
 use Rattle.std.specs.List.{All}
-use Rattle.smr_clock.specs.declared.setup.Setup.{Setup}
+use Rattle.smr_clock.specs.declared.clock.Setup.{Setup}
 use Rattle.smr_clock.specs.Belongs.{TableId}
 use Rattle.smr_clock.specs.Notes.{note_clock}
-use Rattle.uma_life.specs.declared.ticket.Ticket.{Ticket}
+use Rattle.uma_life.specs.declared.states.Ticket.{Ticket}
 use Rattle.uma_bucket.specs.declared.shelved.Shelved.{Shelved}
 use Rattle.uma_bucket.specs.declared.shelved.Shelved.TheVariants.{Plain, Loose, Sealed}
 use Rattle.uma_bucket.specs.Bucket.{items_of, tickets_of}

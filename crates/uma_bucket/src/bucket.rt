@@ -2,10 +2,41 @@ ghost use Rattle.std.specs.Prelude.{◌≡◌, ◌<◌, ◌^◌, [], length};
 ghost use Rattle.uma_bucket.specs.Room.{is_cached};
 ghost use Rattle.uma_bucket.specs.Kept.{IsKept};
 
-use crate::refused::BucketRefused;
-use crate::sums::Sums;
-use std::alloc::Global;
+use crate::shelved::Sums;
+use std::alloc::{AllocError, Global};
+use std::error::Error;
+use std::fmt;
 use uma_life::{Body, Cached, Outside};
+
+/// Why a bucket wasn't made.
+#[derive(Clone, Copy, Debug, PartialEq, Eq)]
+pub enum BucketRefused {
+    /// The size isn't 4 to 64 items. It is tested before memory.
+    Size { size: u32 },
+    Memory,
+}
+
+impl fmt::Display for BucketRefused {
+    fn fmt<W: fmt::Write>(&self, f: &mut fmt::Formatter<W>) -> fmt::Result {
+        match self {
+            BucketRefused::Size { size } => write!(f, "a bucket of {size} items: it has 4 to 64"),
+            BucketRefused::Memory => write!(f, "out of memory"),
+        }
+    }
+}
+
+impl Error for BucketRefused {}
+
+impl From<AllocError> for BucketRefused {
+    ghost use Rattle.std.specs.Prelude.{◌≡◌};
+    ghost use Rattle.uma_bucket.specs.declared.bucket.BucketRefused.TheVariants.{Memory};
+
+    ghost from_gives = { λ _ refused. refused ≡ Memory };
+
+    fn from(_refused: AllocError) -> BucketRefused {
+        BucketRefused::Memory
+    }
+}
 
 /// The least and the greatest count of items that a bucket can have room for.
 const LEAST_SIZE: u32 = 4;

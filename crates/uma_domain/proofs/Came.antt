@@ -4,13 +4,13 @@ use Rattle.std.proofs.lemmas.List.{append-nil}
 use Rattle.std.proofs.lemmas.List.Elements.{All-nil, All-cons, All-head, filter_map-append}
 use Rattle.std.proofs.lemmas.List.Sums.{sum_by-append}
 use Rattle.std.specs.List.{filter_map}
-use Rattle.smr_clock.specs.declared.setup.Setup.{Setup}
+use Rattle.smr_clock.specs.declared.clock.Setup.{Setup}
 use Rattle.smr_clock.specs.Belongs.{TableId}
 use Rattle.inbox.specs.Inbox.{items_of, popped_by}
 use Rattle.inbox.specs.Views.{item_of}
 use Rattle.uma_bucket.specs.declared.bucket.Bucket.{Bucket}
-use Rattle.uma_bucket.specs.declared.loose.Loose.{Loose}
-use Rattle.uma_bucket.specs.declared.sealed.Sealed.{Sealed}
+use Rattle.uma_bucket.specs.declared.freed.Loose.{Loose}
+use Rattle.uma_bucket.specs.declared.freed.Sealed.{Sealed}
 use Rattle.uma_bucket.specs.declared.shelved.Shelved.{Shelved}
 use Rattle.uma_bucket.specs.declared.shelved.Shelved.TheVariants.{Plain as Plain', Loose as Loose', Sealed as Sealed'}
 use Rattle.uma_bucket.specs.Home.{Home}
@@ -18,7 +18,7 @@ use Rattle.uma_bucket.specs.Inboxes.{InboxOrigin}
 use Rattle.uma_bucket.specs.Shelved.{count_of, CanBeListed}
 use Rattle.uma_domain.specs.declared.lists.Lists.{Lists}
 use Rattle.uma_domain.specs.declared.locked.Locked.{Locked}
-use Rattle.uma_domain.specs.declared.working.Working.{Working}
+use Rattle.uma_domain.specs.declared.lists.Working.{Working}
 use Rattle.uma_domain.specs.Frames.{KeepsAll}
 use Rattle.uma_domain.specs.Identity.{Identity, origin_of}
 use Rattle.uma_domain.specs.Listed.{IsPlainOf, IsLooseOf, IsSealedOf}

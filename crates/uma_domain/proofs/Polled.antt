@@ -3,13 +3,13 @@ use Rattle.std.proofs.Common.{◌≡◌, ◌<◌, ◌≤◌, ◌+◌, ℕ, List,
 use Rattle.std.specs.List.{remove}
 use Rattle.std.proofs.lemmas.List.{drop_more, drop_at, take_at, length-take-le, take_all, drop_all, append-nil}
 use Rattle.std.proofs.lemmas.List.Elements.{All-get_or, all_zip_more, length_all_zip}
-use Rattle.smr_clock.specs.declared.setup.Setup.{Setup}
+use Rattle.smr_clock.specs.declared.clock.Setup.{Setup}
 use Rattle.smr_clock.specs.Belongs.{TableId}
 use Rattle.smr_clock.specs.Goals.{tag_of}
 use Rattle.smr_clock.specs.Notes.{note_clock, note_knows}
 use Rattle.smr_clock.specs.Polls.{Polls}
-use Rattle.uma_bucket.specs.declared.sealed.Sealed.{Sealed}
-use Rattle.uma_bucket.specs.declared.ripe.Ripe.{Ripe}
+use Rattle.uma_bucket.specs.declared.freed.Sealed.{Sealed}
+use Rattle.uma_bucket.specs.declared.freed.Ripe.{Ripe}
 use Rattle.uma_bucket.specs.Ripe.{ripe_bucket, ripe_goal, ripe_note}
 use Rattle.uma_bucket.specs.Sealed.{sealed_bucket, sealed_goal, sealed_note, sealed_knows, IsSealedAt, IsSameBucket, IsPolled, SaidNo}
 use Rattle.uma_domain.specs.Scans.{Stays, AllStay, TakesRipe, TriesAt}

@@ -13,20 +13,20 @@ use Rattle.inbox.proofs.Shared.{taker_field_send}
 use Rattle.inbox.proofs.inbox.Inbox.TheSendSync as inbox
 use Rattle.keyed_lock.proofs.lock.KeyedLock.TheSendSync as lock
 use Rattle.uma_bucket.proofs.bucket.Bucket.TheSendSync as bucket
-use Rattle.uma_bucket.proofs.loose.Loose.TheSendSync as loose
-use Rattle.uma_bucket.proofs.sealed.Sealed.TheSendSync as sealed
+use Rattle.uma_bucket.proofs.freed.Loose.TheSendSync as loose
+use Rattle.uma_bucket.proofs.freed.Sealed.TheSendSync as sealed
 use Rattle.uma_bucket.proofs.shelved.Shelved.TheSendSync as shelved
 use Rattle.smr_clock.specs.declared.host.Host as host
 use Rattle.uma_bucket.specs.contracts.bucket.Bucket as Bucket
-use Rattle.uma_bucket.specs.contracts.loose.Loose as Loose
-use Rattle.uma_bucket.specs.contracts.inbox_key.InboxKey as InboxKey
-use Rattle.uma_bucket.specs.contracts.sealed.Sealed as Sealed
+use Rattle.uma_bucket.specs.contracts.freed.Loose as Loose
+use Rattle.uma_bucket.specs.contracts.shelved.InboxKey as InboxKey
+use Rattle.uma_bucket.specs.contracts.freed.Sealed as Sealed
 use Rattle.uma_bucket.specs.contracts.shelved.Shelved as Shelved
 use Rattle.uma_domain.specs.contracts.domain.Domain as Domain
 use Rattle.uma_domain.specs.contracts.lists.Lists as Lists
 use Rattle.uma_domain.specs.contracts.locked.Locked as Locked
-use Rattle.uma_domain.specs.contracts.working.Working as Working
-use Rattle.uma_life.specs.declared.body.Body as body
+use Rattle.uma_domain.specs.contracts.lists.Working as Working
+use Rattle.uma_life.specs.declared.hooks.Body as body
 
 working_send : IsSend Working.the_field.row
 working_send = struct_send (shape Working.the_type) (search sendable, (search sendable, (search sendable, tt)))

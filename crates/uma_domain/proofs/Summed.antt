@@ -4,7 +4,7 @@ use Rattle.std.proofs.lemmas.List.{take_all}
 use Rattle.std.proofs.lemmas.List.Sums.{sum_by_more, sum_by-cons}
 use Rattle.uma_life.specs.Hook.{Hook}
 use Rattle.uma_life.specs.Sum.{sum_of}
-use Rattle.uma_bucket.specs.declared.sums.Sums.{Sums}
+use Rattle.uma_bucket.specs.declared.shelved.Sums.{Sums}
 use Rattle.uma_bucket.specs.Sums.{nothing_held, Adds, AreOfAtMost, Balance}
 
 -- the sums of so many items that passed each hook so often, so many of them deferred

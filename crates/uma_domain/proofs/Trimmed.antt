@@ -3,10 +3,10 @@ use Rattle.std.proofs.Common.{◌≡◌, ◌<◌, ◌≤◌, ◌+◌, ◌-◌, �
 use Rattle.std.proofs.lemmas.List.{take-append-drop, drop_more, drop_at, take_at, length-take-le, length_push, drop_all, append-nil, map_push, get_or_default}
 use Rattle.std.proofs.lemmas.List.Sums.{sum_by-cons, sum_by_push}
 use Rattle.uma_bucket.specs.declared.bucket.Bucket.{Bucket}
-use Rattle.uma_bucket.specs.declared.sealed.Sealed.{Sealed}
-use Rattle.uma_bucket.specs.declared.ripe.Ripe.{Ripe}
-use Rattle.uma_domain.specs.declared.taken.TakenBucket.{TakenBucket}
-use Rattle.uma_domain.specs.declared.taken.TakenBucket.TheVariants.{Plain as Plain', Ripe as Ripe'}
+use Rattle.uma_bucket.specs.declared.freed.Sealed.{Sealed}
+use Rattle.uma_bucket.specs.declared.freed.Ripe.{Ripe}
+use Rattle.uma_domain.specs.declared.trims.TakenBucket.{TakenBucket}
+use Rattle.uma_domain.specs.declared.trims.TakenBucket.TheVariants.{Plain as Plain', Ripe as Ripe'}
 use Rattle.uma_domain.specs.Listed.{plain_len, loose_len, sealed_len, ripe_len}
 use Rattle.uma_domain.specs.Scans.{TriesAt, TrimsSealed}
 use Rattle.uma_domain.specs.Trim.{Trims, TrimsPlainInto, TrimsSealedInto}

@@ -1,20 +1,20 @@
 -- What a call of a domain did to its lists, from what the lists' own call did.
 use Rattle.std.proofs.Common.{◌≡◌, ℕ, Option, Some, None, IfSome, IfNone, Result, Ok, Err, IfOk, OnOk, OnErr, All, sym, ◌∙◌, subst}
-use Rattle.deed_book.specs.declared.fail_share.FailShare.{FailShare}
+use Rattle.deed_book.specs.declared.fail_book.FailShare.{FailShare}
 use Rattle.smr_clock.specs.declared.clock.Clock.{Clock}
 use Rattle.smr_clock.specs.declared.pass.Pass.{Pass}
-use Rattle.smr_clock.specs.declared.setup.Setup.{Setup}
+use Rattle.smr_clock.specs.declared.clock.Setup.{Setup}
 use Rattle.smr_clock.specs.declared.view.View.{View}
 use Rattle.smr_clock.specs.Belongs.{TableId}
 use Rattle.uma_bucket.specs.declared.bucket.Bucket.{Bucket}
-use Rattle.uma_bucket.specs.declared.loose.Loose.{Loose}
-use Rattle.uma_bucket.specs.declared.sealed.Sealed.{Sealed}
-use Rattle.uma_bucket.specs.declared.ripe.Ripe.{Ripe}
-use Rattle.uma_bucket.specs.declared.sums.Sums.{Sums}
+use Rattle.uma_bucket.specs.declared.freed.Loose.{Loose}
+use Rattle.uma_bucket.specs.declared.freed.Sealed.{Sealed}
+use Rattle.uma_bucket.specs.declared.freed.Ripe.{Ripe}
+use Rattle.uma_bucket.specs.declared.shelved.Sums.{Sums}
 use Rattle.uma_domain.specs.declared.domain.Domain.{Domain}
 use Rattle.uma_domain.specs.declared.lists.Lists.{Lists}
 use Rattle.uma_domain.specs.declared.locked.Locked.{Locked}
-use Rattle.uma_domain.specs.declared.taken.Taken.{Taken}
+use Rattle.uma_domain.specs.declared.trims.Taken.{Taken}
 use Rattle.uma_domain.specs.Domain.{domain_identity}
 use Rattle.uma_domain.specs.Frames.{KeepsButPlain, KeepsButLoose, KeepsButSealed, KeepsButTried}
 use Rattle.uma_domain.specs.Giving.{TrimsUnused, TakesCandidates, GivesOwn}

@@ -1,7 +1,7 @@
 -- Own: what contracts see of a domain.
 use Rattle.std.specs.Prelude.{◌≡◌, Bool}
 use Rattle.keyed_lock.specs.KeyedLock.{lock_key}
-use Rattle.smr_clock.specs.declared.setup.Setup.{Setup}
+use Rattle.smr_clock.specs.declared.clock.Setup.{Setup}
 use Rattle.smr_clock.specs.Belongs.{TableId}
 use Rattle.uma_bucket.specs.Home.{Home}
 use Rattle.uma_domain.specs.declared.domain.Domain.{Domain}

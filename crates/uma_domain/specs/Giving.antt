@@ -2,7 +2,7 @@
 use Rattle.std.specs.Prelude.{◌≡◌, [], Result, IfOk, OnErr}
 use Rattle.std.specs.List.{All}
 use Rattle.uma_domain.specs.declared.lists.Lists.{Lists}
-use Rattle.uma_domain.specs.declared.taken.Taken.{Taken}
+use Rattle.uma_domain.specs.declared.trims.Taken.{Taken}
 use Rattle.uma_domain.specs.Listed.{listed}
 use Rattle.uma_domain.specs.Lists.{lists_identity, plain_in, loose_in, sealed_in, working_in, missed_in}
 use Rattle.uma_domain.specs.Taken.{taken_in, IsTakenOf}

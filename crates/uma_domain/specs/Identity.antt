@@ -3,13 +3,13 @@ use Rattle.std.specs.Prelude.{ℕ, Bool}
 use Rattle.deed_book.specs.Deed.{BookId, TableId}
 use Rattle.deed_book.specs.Book.{book_table}
 use Rattle.deed_book.specs.FailBook.{fail_book_table}
-use Rattle.smr_clock.specs.declared.setup.Setup.{Setup}
+use Rattle.smr_clock.specs.declared.clock.Setup.{Setup}
 use Rattle.smr_clock.specs.Belongs.{clock_id}
 use Rattle.inbox.specs.Inbox.{InboxId}
 use Rattle.inbox.specs.Name.{name_id}
 use Rattle.uma_bucket.specs.Home.{Home}
 use Rattle.uma_bucket.specs.Inboxes.{InboxOrigin}
-use Rattle.uma_domain.specs.declared.key.DomainKey.{DomainKey}
+use Rattle.uma_domain.specs.declared.domain.DomainKey.{DomainKey}
 
 -- What never changes of a domain: the clock of its sealed buckets' notes, where all its items are at home, its book of misses, whether readers of its zone hold no lock, and its inbox.
 pub record Identity : Type 0 where

@@ -1,9 +1,9 @@
 -- Own: which buckets a domain may list, and how many items they have.
 use Rattle.std.specs.Prelude.{◌<◌, ◌+◌, ℕ, List, length, sum_by}
 use Rattle.uma_bucket.specs.declared.bucket.Bucket.{Bucket}
-use Rattle.uma_bucket.specs.declared.loose.Loose.{Loose}
-use Rattle.uma_bucket.specs.declared.sealed.Sealed.{Sealed}
-use Rattle.uma_bucket.specs.declared.ripe.Ripe.{Ripe}
+use Rattle.uma_bucket.specs.declared.freed.Loose.{Loose}
+use Rattle.uma_bucket.specs.declared.freed.Sealed.{Sealed}
+use Rattle.uma_bucket.specs.declared.freed.Ripe.{Ripe}
 use Rattle.uma_bucket.specs.Bucket.{items_of, tickets_of}
 use Rattle.uma_bucket.specs.Home.{Home, AreHome}
 use Rattle.uma_bucket.specs.Loose.{loose_items, loose_tickets}

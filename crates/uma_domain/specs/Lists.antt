@@ -1,15 +1,15 @@
 -- Own: what contracts see of the lists under a domain's lock.
 use Rattle.std.specs.Prelude.{◌≡◌, ◌<◌, ◌^◌, ℕ, List, [], ◌∷◌, ◌++◌, length}
 use Rattle.deed_book.specs.declared.fail_book.FailBook.{FailBook}
-use Rattle.deed_book.specs.declared.fail_share.FailShare.{FailShare}
+use Rattle.deed_book.specs.declared.fail_book.FailShare.{FailShare}
 use Rattle.deed_book.specs.FailBook.{fail_book_table, causes_of}
 use Rattle.deed_book.specs.FailShare.{causes_in, share_table}
 use Rattle.deed_book.specs.FailViews.{cause}
 use Rattle.uma_bucket.specs.declared.bucket.Bucket.{Bucket}
-use Rattle.uma_bucket.specs.declared.loose.Loose.{Loose}
-use Rattle.uma_bucket.specs.declared.sealed.Sealed.{Sealed}
+use Rattle.uma_bucket.specs.declared.freed.Loose.{Loose}
+use Rattle.uma_bucket.specs.declared.freed.Sealed.{Sealed}
 use Rattle.uma_domain.specs.declared.lists.Lists.{Lists}
-use Rattle.uma_domain.specs.declared.working.Working.{Working}
+use Rattle.uma_domain.specs.declared.lists.Working.{Working}
 use Rattle.uma_domain.specs.Identity.{Identity, key_identity}
 use Rattle.uma_domain.specs.Listed.{listed}
 use Rattle.uma_domain.specs.Working.{begun}

@@ -1,13 +1,13 @@
 -- Own: a bucket that comes to a domain is listed as the newest of its kind, or comes back.
 use Rattle.std.specs.Prelude.{◌≡◌, ◌<◌, ◌≤◌, ◌+◌, ◌^◌, ◌⊎◌, ℕ, List, [], ◌∷◌, ◌++◌, Result, is_ok, if◌then◌else◌, IfErr, OnOk, OnErr}
 use Rattle.std.specs.VecDeque.{deque_len, deque_capacity}
-use Rattle.inbox.specs.declared.port.Port.{Port}
+use Rattle.inbox.specs.declared.inbox.Port.{Port}
 use Rattle.inbox.specs.Inbox.{sent_by}
-use Rattle.uma_bucket.specs.declared.inbox_key.InboxKey.{InboxKey}
+use Rattle.uma_bucket.specs.declared.shelved.InboxKey.{InboxKey}
 use Rattle.uma_bucket.specs.declared.shelved.Shelved.{Shelved}
 use Rattle.uma_bucket.specs.Inboxes.{port_origin}
 use Rattle.uma_domain.specs.declared.lists.Lists.{Lists}
-use Rattle.uma_domain.specs.declared.working.Working.{Working}
+use Rattle.uma_domain.specs.declared.lists.Working.{Working}
 use Rattle.uma_domain.specs.Identity.{Identity, origin_of}
 use Rattle.uma_domain.specs.Lists.{working_in}
 use Rattle.uma_domain.specs.Working.{after}

@@ -3,9 +3,9 @@ use Rattle.std.specs.Prelude.{◌≡◌, ◌≤◌, ◌<◌, ◌+◌, ◌-◌, �
 use Rattle.std.specs.List.{All, AllZip}
 use Rattle.std.specs.VecDeque.{deque_len, deque_capacity}
 use Rattle.std.specs.declared.collections.VecDeque.{VecDeque}
-use Rattle.smr_clock.specs.declared.setup.Setup.{Setup}
-use Rattle.uma_bucket.specs.declared.sealed.Sealed.{Sealed}
-use Rattle.uma_bucket.specs.declared.ripe.Ripe.{Ripe}
+use Rattle.smr_clock.specs.declared.clock.Setup.{Setup}
+use Rattle.uma_bucket.specs.declared.freed.Sealed.{Sealed}
+use Rattle.uma_bucket.specs.declared.freed.Ripe.{Ripe}
 use Rattle.uma_bucket.specs.Ripe.{ripe_note, SaidYes}
 use Rattle.uma_bucket.specs.Sealed.{sealed_note, SaidNo, IsSealedAt}
 use Rattle.smr_clock.specs.Belongs.{TableId}

@@ -4,11 +4,11 @@ use Rattle.std.specs.List.{filter_map}
 use Rattle.inbox.specs.Inbox.{items_of, popped_by}
 use Rattle.inbox.specs.Rule.{AreAll}
 use Rattle.uma_bucket.specs.declared.bucket.Bucket.{Bucket}
-use Rattle.uma_bucket.specs.declared.loose.Loose.{Loose}
-use Rattle.uma_bucket.specs.declared.sealed.Sealed.{Sealed}
+use Rattle.uma_bucket.specs.declared.freed.Loose.{Loose}
+use Rattle.uma_bucket.specs.declared.freed.Sealed.{Sealed}
 use Rattle.uma_bucket.specs.declared.shelved.Shelved.{Shelved}
 use Rattle.uma_bucket.specs.declared.shelved.Shelved.TheVariants.{Plain as Plain', Loose as Loose', Sealed as Sealed'}
-use Rattle.uma_bucket.specs.declared.sums.Sums.{Sums}
+use Rattle.uma_bucket.specs.declared.shelved.Sums.{Sums}
 use Rattle.uma_bucket.specs.Shelved.{count_of}
 use Rattle.uma_bucket.specs.Sums.{nothing_held, Adds}
 use Rattle.uma_domain.specs.declared.lists.Lists.{Lists}

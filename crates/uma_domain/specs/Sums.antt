@@ -2,9 +2,9 @@
 use Rattle.std.specs.Prelude.{◌+◌, ◌-◌, ◌^◌, ℕ, List, sum_by, Result, IfOk, OnErr}
 use Rattle.uma_life.specs.Hook.{Hook}
 use Rattle.uma_bucket.specs.declared.bucket.Bucket.{Bucket}
-use Rattle.uma_bucket.specs.declared.loose.Loose.{Loose}
-use Rattle.uma_bucket.specs.declared.sealed.Sealed.{Sealed}
-use Rattle.uma_bucket.specs.declared.sums.Sums.{Sums}
+use Rattle.uma_bucket.specs.declared.freed.Loose.{Loose}
+use Rattle.uma_bucket.specs.declared.freed.Sealed.{Sealed}
+use Rattle.uma_bucket.specs.declared.shelved.Sums.{Sums}
 use Rattle.uma_bucket.specs.Bucket.{items_of}
 use Rattle.uma_bucket.specs.Loose.{loose_items}
 use Rattle.uma_bucket.specs.Sealed.{sealed_bucket}

@@ -1,9 +1,9 @@
 -- Own: what contracts see of the buckets that a domain gave back.
 use Rattle.std.specs.Prelude.{◌≡◌, ◌≤◌, ℕ, List, []}
 use Rattle.std.specs.VecDeque.{deque_len, deque_capacity}
-use Rattle.uma_domain.specs.declared.taken.Taken.{Taken}
-use Rattle.uma_domain.specs.declared.taken.TakenBucket.{TakenBucket}
-use Rattle.uma_domain.specs.declared.taken.TakenBucket.TheVariants.{Plain as Plain', Ripe as Ripe'}
+use Rattle.uma_domain.specs.declared.trims.Taken.{Taken}
+use Rattle.uma_domain.specs.declared.trims.TakenBucket.{TakenBucket}
+use Rattle.uma_domain.specs.declared.trims.TakenBucket.TheVariants.{Plain as Plain', Ripe as Ripe'}
 use Rattle.uma_domain.specs.Identity.{Identity}
 use Rattle.uma_domain.specs.Listed.{IsPlainOf, IsRipeOf}
 

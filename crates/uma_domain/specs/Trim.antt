@@ -3,14 +3,14 @@ use Rattle.std.specs.Prelude.{◌≡◌, ◌≤◌, ◌<◌, ◌+◌, ◌-◌, �
 use Rattle.std.specs.List.{All}
 use Rattle.std.specs.VecDeque.{deque_len, deque_capacity}
 use Rattle.std.specs.declared.collections.VecDeque.{VecDeque}
-use Rattle.smr_clock.specs.declared.setup.Setup.{Setup}
+use Rattle.smr_clock.specs.declared.clock.Setup.{Setup}
 use Rattle.smr_clock.specs.Belongs.{TableId}
 use Rattle.uma_bucket.specs.declared.bucket.Bucket.{Bucket}
-use Rattle.uma_bucket.specs.declared.sealed.Sealed.{Sealed}
-use Rattle.uma_bucket.specs.declared.ripe.Ripe.{Ripe}
+use Rattle.uma_bucket.specs.declared.freed.Sealed.{Sealed}
+use Rattle.uma_bucket.specs.declared.freed.Ripe.{Ripe}
 use Rattle.uma_bucket.specs.Sealed.{IsSealedAt}
-use Rattle.uma_domain.specs.declared.taken.TakenBucket.{TakenBucket}
-use Rattle.uma_domain.specs.declared.taken.TakenBucket.TheVariants.{Plain as Plain', Ripe as Ripe'}
+use Rattle.uma_domain.specs.declared.trims.TakenBucket.{TakenBucket}
+use Rattle.uma_domain.specs.declared.trims.TakenBucket.TheVariants.{Plain as Plain', Ripe as Ripe'}
 use Rattle.uma_domain.specs.Listed.{plain_len, sealed_len, ripe_len}
 use Rattle.uma_domain.specs.Scans.{TakesAllRipe, TrimsSealed}
 

@@ -2,22 +2,22 @@
 use Rattle.std.specs.Prelude.{◌≡◌, ◌+◌, ◌-◌, ◌<◌, ◌≤◌, ◌⊎◌, ℕ, [], ◌∷◌, ◌++◌, Result, IfOk, IfErr, OnOk, OnErr}
 use Rattle.std.specs.List.{All}
 use Rattle.smr_clock.specs.declared.view.View.{View}
-use Rattle.inbox.specs.declared.port.Port.{Port}
+use Rattle.inbox.specs.declared.inbox.Port.{Port}
 use Rattle.inbox.specs.Inbox.{port_number, sent_by, turned_by, popped_by}
 use Rattle.inbox.specs.Rule.{AreAll}
 use Rattle.uma_bucket.specs.declared.bucket.Bucket.{Bucket}
-use Rattle.uma_bucket.specs.declared.inbox_key.InboxKey.{InboxKey}
-use Rattle.uma_bucket.specs.declared.loose.Loose.{Loose}
-use Rattle.uma_bucket.specs.declared.sealed.Sealed.{Sealed}
-use Rattle.uma_bucket.specs.declared.ripe.Ripe.{Ripe}
+use Rattle.uma_bucket.specs.declared.shelved.InboxKey.{InboxKey}
+use Rattle.uma_bucket.specs.declared.freed.Loose.{Loose}
+use Rattle.uma_bucket.specs.declared.freed.Sealed.{Sealed}
+use Rattle.uma_bucket.specs.declared.freed.Ripe.{Ripe}
 use Rattle.uma_bucket.specs.declared.shelved.Shelved.{Shelved}
 use Rattle.uma_bucket.specs.declared.shelved.Shelved.TheVariants.{Plain as Plain', Loose as Loose', Sealed as Sealed'}
-use Rattle.uma_bucket.specs.declared.sums.Sums.{Sums}
+use Rattle.uma_bucket.specs.declared.shelved.Sums.{Sums}
 use Rattle.uma_bucket.specs.Inboxes.{port_origin}
 use Rattle.uma_domain.specs.declared.domain.Domain.{Domain}
 use Rattle.uma_domain.specs.declared.lists.Lists.{Lists}
 use Rattle.uma_domain.specs.declared.locked.Locked.{Locked}
-use Rattle.uma_domain.specs.declared.taken.Taken.{Taken}
+use Rattle.uma_domain.specs.declared.trims.Taken.{Taken}
 use Rattle.uma_domain.specs.Domain.{domain_identity}
 use Rattle.uma_domain.specs.Frames.{KeepsAll, KeepsListed, KeepsButPlain, KeepsButLoose, KeepsButSealed, KeepsButPolled, KeepsButSealing, KeepsButCandidates}
 use Rattle.uma_domain.specs.Listed.{listed, plain_len, loose_len, sealed_len, ripe_len}

@@ -1,6 +1,6 @@
 -- Own: the working set of a domain, after FreeBSD's uma(9): how many of its items were in use for a while.
 use Rattle.std.specs.Prelude.{◌≤◌, ◌<◌, ◌-◌, ◌^◌, ℕ, min, max}
-use Rattle.uma_domain.specs.declared.working.Working.{Working}
+use Rattle.uma_domain.specs.declared.lists.Working.{Working}
 
 -- the counts after a put or a take that left so many items
 abbrev pub after : Working → ℕ → Working

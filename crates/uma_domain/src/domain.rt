@@ -5,23 +5,48 @@ ghost use Rattle.keyed_lock.specs.KeyedLock.{lock_key};
 ghost use Rattle.smr_clock.specs.Belongs.{clock_id, view};
 ghost use Rattle.uma_bucket.specs.Inboxes.{port_origin, taker_origin};
 ghost use Rattle.uma_bucket.specs.Shelved.{CanBeListed};
-ghost use Rattle.uma_domain.specs.Identity.{home_of, key_identity, origin_of};
-ghost use Rattle.uma_domain.specs.Listed.{IsPlainOf, IsLooseOf, IsSealedOf, IsRipeOf};
+ghost use Rattle.uma_domain.specs.Identity.{key_identity};
 
-use crate::key::DomainKey;
 use crate::lists::Lists;
 use crate::locked::Locked;
-use crate::rule::ListsOfKey;
-use crate::taken::Taken;
+use crate::trims::Taken;
 use deed_book::{Book, FailBook, FailShare, Memory};
 use inbox::InboxName;
-use keyed_lock::KeyedLock;
+use keyed_lock::{KeyedLock, LockRule};
 use smr_clock::{Clock, Host, Pass};
 use std::alloc::Global;
 use std::snapshot::Snapshot;
 use std::sync::Wait;
 use uma_bucket::{Bucket, Inbox, InboxKey, Loose, Port, Ripe, Sealed, Shelved, Sums, Taker};
 use uma_life::Body;
+
+/// Which domain it is: the key of its lock. The snapshots stand for the clock of its zone, for the book of its keg's item
+/// numbers, and for its own book of misses.
+#[derive(Drop)]
+pub struct DomainKey<H: Host> {
+    pub clock: Snapshot<Clock<H>>,
+    pub book: Snapshot<Book>,
+    pub misses: Snapshot<FailBook>,
+    /// The zone's number in its keg.
+    pub zone: u8,
+    /// How many domains the zone has.
+    pub domains: u8,
+    /// Whether readers of the zone hold no lock, so that a freed item waits until no section may see it.
+    pub smr: bool,
+    /// Its inbox.
+    pub inbox: InboxName,
+}
+
+/// The lists are those of the domain that the key names.
+pub struct ListsOfKey;
+
+impl<T: Body, H: Host> LockRule<Box<Locked<T, H>>, DomainKey<H>> for ListsOfKey {
+    ghost use Rattle.std.specs.Prelude.{◌≡◌};
+    ghost use Rattle.uma_domain.specs.Identity.{key_identity};
+    ghost use Rattle.uma_domain.specs.Lists.{lists_identity};
+
+    ghost keeps = { λ key locked. lists_identity locked.value.lists ≡ key_identity key };
+}
 
 /// The lists of one memory domain of a zone, behind a lock, and its inbox, into which a seat pushes by a port without it.
 ///
@@ -38,11 +63,22 @@ pub struct Domain<T: Body, H: Host> {
 }
 
 impl<T: Body + Drop, H: Host> Domain<T, H> {
+    ghost use Rattle.uma_domain.specs.Identity.{origin_of, home_of};
     ghost use Rattle.uma_domain.specs.Domain.{IsMadeFor};
     ghost use Rattle.uma_domain.specs.Lists.{IsUnusedBook};
 
-    /// A domain with empty lists and an empty inbox, of a zone with so many domains over the keg whose item numbers are those
-    /// of the book. `smr` says whether readers of the zone hold no lock. The clock is that of the zone.
+    /// Makes a domain with empty lists and an empty inbox. `clock` is the clock of the zone, and `book` has the item
+    /// numbers of its keg.
+    ///
+    /// # Arguments
+    ///
+    /// - `zone`: the number of the zone in its keg, 0 to 7.
+    /// - `domains`: the zone's count of memory domains, 1 to 4.
+    /// - `smr`: whether readers of the zone hold no lock.
+    ///
+    /// # Errors
+    ///
+    /// `Memory`: out of memory, or too many handles of the clock.
     pub fn new(
         alloc: Global,
         clock: &Clock<H>,
@@ -102,13 +138,20 @@ impl<T: Body + Drop, H: Host> Domain<T, H> {
 
 /// What goes by the inbox.
 impl<T: Body + Drop, H: Host> Domain<T, H> {
+    ghost use Rattle.uma_domain.specs.Listed.{IsSealedOf};
+    ghost use Rattle.uma_domain.specs.Listed.{IsLooseOf};
+    ghost use Rattle.uma_domain.specs.Listed.{IsPlainOf};
+    ghost use Rattle.uma_domain.specs.Identity.{origin_of};
     ghost use Rattle.uma_domain.specs.Domain.{domain_identity};
     ghost use Rattle.uma_domain.specs.Sums.{TellsSums};
     ghost use Rattle.uma_domain.specs.UnderLock.{PutsByPort, SettlesInbox, SettlesPart, SumsListed};
 
-    /// Hands a full plain bucket over by a port: pushes it into the inbox. Where the inbox hands it back, the bucket is
-    /// listed as the newest plain one, under the lock. It comes back where memory is wanting for that too, or where 2^32
-    /// items or more would be listed.
+    /// Puts a full plain bucket into the inbox by a port. If the inbox returns the bucket, the call blocks on the
+    /// domain's lock and lists it as the newest plain one.
+    ///
+    /// # Errors
+    ///
+    /// The caller gets the bucket back: out of memory, or 2^32 items or more would be listed.
     pub fn put_plain<R: Wait>(
         &self,
         rt: &R,
@@ -127,9 +170,12 @@ impl<T: Body + Drop, H: Host> Domain<T, H> {
         }
     }
 
-    /// Hands a full loose bucket over by a port: pushes it into the inbox. Where the inbox hands it back, the bucket is
-    /// listed as the newest loose one, under the lock. It comes back where memory is wanting for that too, or where 2^32
-    /// items or more would be listed.
+    /// Puts a full loose bucket into the inbox by a port. If the inbox returns the bucket, the call blocks on the
+    /// domain's lock and lists it as the newest loose one.
+    ///
+    /// # Errors
+    ///
+    /// The caller gets the bucket back: out of memory, or 2^32 items or more would be listed.
     pub fn put_loose<R: Wait>(
         &self,
         rt: &R,
@@ -148,9 +194,12 @@ impl<T: Body + Drop, H: Host> Domain<T, H> {
         }
     }
 
-    /// Hands a full sealed bucket over by a port: pushes it into the inbox. Where the inbox hands it back, the bucket is
-    /// listed as the newest sealed one, under the lock. It comes back where memory is wanting for that too, or where 2^32
-    /// items or more would be listed.
+    /// Puts a full sealed bucket into the inbox by a port. If the inbox returns the bucket, the call blocks on the
+    /// domain's lock and lists it as the newest sealed one.
+    ///
+    /// # Errors
+    ///
+    /// The caller gets the bucket back: out of memory, or 2^32 items or more would be listed.
     pub fn put_sealed<R: Wait>(
         &self,
         rt: &R,
@@ -169,9 +218,14 @@ impl<T: Body + Drop, H: Host> Domain<T, H> {
         }
     }
 
-    /// Lists what is in the inbox, each bucket as the newest of its kind, in the order in which they come, until the inbox is
-    /// empty or 65,536 buckets were listed in this call. Answers how many were. Where memory is wanting, or where 2^32 items
-    /// or more could be listed, what was listed stays listed, and the rest is in the inbox.
+    /// Moves the buckets in the inbox into the lists, each as the newest of its kind, in the order in which they come.
+    /// It ends when the inbox is empty, or after 65,536 buckets, and returns how many it listed. It blocks on the
+    /// domain's lock.
+    ///
+    /// # Errors
+    ///
+    /// `Memory`: out of memory, or 2^32 items or more could be listed. The buckets that were listed stay listed, and
+    /// the others are in the inbox.
     pub fn settle<R: Wait>(&self, rt: &R) -> Result<u32, Memory>
         ensures settled { IfOk result (SettlesInbox self.now) }
         ensures stays { OnErr result (SettlesPart self.now) }
@@ -180,9 +234,13 @@ impl<T: Body + Drop, H: Host> Domain<T, H> {
         guard.value.settle(rt, &self.inbox)
     }
 
-    /// How often the items listed and those in the inbox passed each hook, and how many of them are freed: settles first. In
-    /// the domain's own zone the ctors exceed the dtors by those that are freed, and in every other zone they are equal,
-    /// modulo 2^64. Each is below 2^96.
+    /// Settles the inbox, and returns how often the listed items have passed each hook, and how many of them are
+    /// deferred. In the domain's own zone the ctors exceed the dtors by the deferred items, and in every other zone
+    /// they are equal, modulo 2^64. Each sum is below 2^96. It blocks on the domain's lock.
+    ///
+    /// # Errors
+    ///
+    /// `Memory`: out of memory for the settle.
     pub fn sums<R: Wait>(&self, rt: &R) -> Result<Sums, Memory>
         ensures { TellsSums (domain_identity self.now).home.zone (SumsListed self.now) (SettlesPart self.now) result }
     {
@@ -192,6 +250,7 @@ impl<T: Body + Drop, H: Host> Domain<T, H> {
 }
 
 impl<T: Body, H: Host> Domain<T, H> {
+    ghost use Rattle.uma_domain.specs.Listed.{IsRipeOf, IsSealedOf, IsLooseOf, IsPlainOf};
     ghost use Rattle.uma_domain.specs.Domain.{domain_identity};
     ghost use Rattle.uma_domain.specs.Frames.{KeepsPass};
     ghost use Rattle.uma_domain.specs.Looks.{CanLook, CanPoll, IsNewShare, LooksUnderLock};
@@ -199,7 +258,7 @@ impl<T: Body, H: Host> Domain<T, H> {
     ghost use Rattle.uma_domain.specs.Tries.{CanSeal};
     ghost use Rattle.uma_domain.specs.UnderLock.{PutsPlain, PutsLoose, PutsSealed, TakesPlain, FindsNoPlain, TakesOldestRipe, FindsNoneRipe, SealsLoose, TakesUnused, TakesEach, GivesUnderLock, CountsListed, TellsWorking};
 
-    /// The next port of the domain's inbox, which pushed nothing.
+    /// Returns the next port of the domain's inbox. Nothing was pushed by it. It blocks on the domain's lock.
     pub fn port<R: Wait>(&self, rt: &R) -> Port<T, H>
         ensures { IsNewPort (domain_identity self.now) result }
     {
@@ -234,7 +293,7 @@ impl<T: Body, H: Host> Domain<T, H> {
         guard.value.lists.put_sealed(bucket)
     }
 
-    /// A share of the domain's book of misses that has no cause.
+    /// Returns a share of the domain's book of misses that has no cause. It blocks on the domain's lock.
     pub fn open_misses<R: Wait>(&self, rt: &R) -> FailShare
         ensures { IsNewShare (domain_identity self.now) result }
     {
@@ -242,7 +301,8 @@ impl<T: Body, H: Host> Domain<T, H> {
         guard.value.lists.open_misses()
     }
 
-    /// Takes the newest plain bucket. None where there was none, which is one more miss in the share.
+    /// Takes the newest plain bucket. Returns None if there is none, which is one more miss in the share. It blocks on
+    /// the domain's lock.
     pub fn take_plain<R: Wait>(&self, rt: &R, share: &mut FailShare) -> Option<Bucket<T>>
         requires { CanLook false (domain_identity self.now) share.old }
         ensures { LooksUnderLock (IsPlainOf (domain_identity self.now).home) (TakesPlain self.now) (FindsNoPlain self.now) share.old result share.new }
@@ -251,8 +311,8 @@ impl<T: Body, H: Host> Domain<T, H> {
         guard.value.lists.take_plain(share)
     }
 
-    /// Takes the oldest sealed bucket whose poll in this call says yes. None where each listed one's poll said no, which is
-    /// one more miss in the share.
+    /// Takes the oldest sealed bucket whose poll in this call returns true. Returns None if the poll of each listed
+    /// bucket returns false, which is one more miss in the share. It blocks on the domain's lock.
     pub fn take_ripe<R: Wait>(
         &self,
         rt: &R,
@@ -266,7 +326,8 @@ impl<T: Body, H: Host> Domain<T, H> {
         guard.value.lists.take_ripe(clock, share)
     }
 
-    /// Each loose bucket tries once to be sealed, oldest first. Answers how many buckets were sealed.
+    /// Tries once to seal each loose bucket, oldest first, and returns how many were sealed. It blocks on the domain's
+    /// lock.
     pub fn seal_loose<R: Wait>(&self, rt: &R, clock: &Clock<H>, pass: &mut Pass<H>) -> u32
         requires { CanSeal (domain_identity self.now) clock.now pass.old }
         ensures pass { KeepsPass clock.now pass.old pass.new }
@@ -276,7 +337,12 @@ impl<T: Body, H: Host> Domain<T, H> {
         guard.value.lists.seal_loose(clock, pass)
     }
 
-    /// Takes what the domain didn't use since the last trim, and begins a new interval.
+    /// Takes the buckets that the domain didn't use since the last trim, and begins a new interval. It blocks on the
+    /// domain's lock.
+    ///
+    /// # Errors
+    ///
+    /// `Memory`: out of memory. Nothing changes.
     pub fn take_trim<R: Wait>(
         &self,
         rt: &R,
@@ -290,7 +356,12 @@ impl<T: Body, H: Host> Domain<T, H> {
         guard.value.lists.take_trim(alloc, clock)
     }
 
-    /// Takes every plain bucket, and each sealed one whose poll in this call says yes.
+    /// Takes every plain bucket, and each sealed bucket whose poll in this call returns true. It blocks on the domain's
+    /// lock.
+    ///
+    /// # Errors
+    ///
+    /// `Memory`: out of memory. Nothing changes.
     pub fn take_all<R: Wait>(
         &self,
         rt: &R,
@@ -304,7 +375,7 @@ impl<T: Body, H: Host> Domain<T, H> {
         guard.value.lists.take_all(alloc, clock)
     }
 
-    /// How many items are listed.
+    /// Returns the count of listed items, below 2^32. It blocks on the domain's lock.
     pub fn count<R: Wait>(&self, rt: &R) -> u64
         ensures few { result < 2 ^ 32 }
         ensures counted { CountsListed self.now result }
@@ -313,7 +384,7 @@ impl<T: Body, H: Host> Domain<T, H> {
         guard.value.lists.count()
     }
 
-    /// The least and the greatest count of items listed since the last trim.
+    /// Returns the least and the greatest count of listed items since the last trim. It blocks on the domain's lock.
     pub fn working<R: Wait>(&self, rt: &R) -> (u64, u64)
         ensures bounded { (result.0 ≤ result.1) × (result.1 < 2 ^ 32) }
         ensures told { TellsWorking self.now result.0 result.1 }

@@ -1,20 +1,63 @@
-ghost use Rattle.std.specs.Prelude.{◌≡◌, ◌≤◌, ◌+◌, length, All};
+ghost use Rattle.std.specs.Prelude.{◌≡◌, ◌≤◌, ◌+◌, length, All, true};
+ghost use Rattle.uma_domain.specs.Working.{IsBounded};
 ghost use Rattle.std.specs.VecDeque.{deque_len, deque_capacity};
 ghost use Rattle.deed_book.specs.FailBook.{fail_book_table, causes_of};
 ghost use Rattle.uma_domain.specs.Identity.{key_identity};
 ghost use Rattle.uma_domain.specs.Listed.{IsPlainOf, IsLooseOf, IsSealedOf, listed};
-ghost use Rattle.uma_domain.specs.Working.{IsBounded};
+ghost use Rattle.smr_clock.specs.Belongs.{clock_id, view};
 
-use crate::key::DomainKey;
-use crate::working::Working;
+use crate::domain::DomainKey;
+use crate::scans::{seal_each, take_first_ripe};
 use deed_book::{FailBook, FailShare};
 use listed::Log;
-use smr_clock::Host;
+use smr_clock::{Clock, Host, Pass};
 use std::alloc::Global;
 use std::collections::VecDeque;
 use std::snapshot::Snapshot;
-use uma_bucket::{Bucket, Loose, Sealed};
+use uma_bucket::{Bucket, Loose, Ripe, Sealed, Sums};
 use uma_life::Body;
+
+/// How many items a domain lists, and the least and the greatest such count since the last trim. Each is below 2^32.
+#[derive(Clone, Copy, Debug, PartialEq, Eq)]
+pub struct Working {
+    pub count: u64,
+    pub least: u64,
+    pub greatest: u64,
+}
+
+impl Working {
+    ghost use Rattle.uma_domain.specs.Working.{working_set, begun, after};
+
+    /// The counts where an interval begins.
+    pub(crate) fn at(count: u64) -> Working
+        ensures { result ≡ begun count }
+    {
+        Working {
+            count,
+            least: count,
+            greatest: count,
+        }
+    }
+
+    /// The counts after a put or a take that left so many items.
+    pub(crate) fn moved_to(&self, count: u64) -> Working
+        ensures { result ≡ after self.now count }
+    {
+        Working {
+            count,
+            least: self.least.min(count),
+            greatest: self.greatest.max(count),
+        }
+    }
+
+    /// How many items were in use since the last trim.
+    pub(crate) fn set(&self) -> u64
+        requires { self.now.least ≤ self.now.greatest }
+        ensures { result ≡ working_set self.now }
+    {
+        self.greatest - self.least
+    }
+}
 
 /// What a domain's lock keeps: plain, loose and sealed buckets, each kind with the oldest in front.
 ///
@@ -42,13 +85,13 @@ pub struct Lists<T: Body, H: Host> {
 }
 
 impl<T: Body, H: Host> Lists<T, H> {
+    ghost use Rattle.uma_domain.specs.Looks.{CountsMiss, CanLook, IsNewShare, TakesNewestPlain};
+    ghost use Rattle.uma_domain.specs.Lists.{sealed_in, loose_in, lists_identity, plain_in, working_in, AreNew, HasItems, IsUnusedBook};
+    ghost use Rattle.uma_domain.specs.Working.{begun};
     ghost use Rattle.std.specs.Prelude.{◌<◌, ◌^◌, [], false};
     ghost use Rattle.uma_domain.specs.Frames.{KeepsAll, KeepsButPlain, KeepsButLoose, KeepsButSealed};
     ghost use Rattle.uma_domain.specs.Listed.{plain_len, loose_len, sealed_len};
-    ghost use Rattle.uma_domain.specs.Lists.{lists_identity, plain_in, loose_in, sealed_in, working_in, AreNew, HasItems, IsUnusedBook};
-    ghost use Rattle.uma_domain.specs.Looks.{CanLook, CountsMiss, IsNewShare, TakesNewestPlain};
     ghost use Rattle.uma_domain.specs.Puts.{IsPlainFull, IsLooseFull, IsSealedFull, ListsNewest};
-    ghost use Rattle.uma_domain.specs.Working.{begun};
 
     /// Empty lists of the domain that the key names, with its book of misses, which has counted nothing.
     pub(crate) fn new(alloc: Global, key: &DomainKey<H>, misses: FailBook) -> Lists<T, H>
@@ -171,5 +214,83 @@ impl<T: Body, H: Host> Lists<T, H> {
         ensures bounded { (result.0 ≤ result.1) × (result.1 < 2 ^ 32) }
     {
         (self.working.least, self.working.greatest)
+    }
+}
+
+/// Sealed buckets, and loose ones that are to be sealed.
+impl<T: Body, H: Host> Lists<T, H> {
+    ghost use Rattle.uma_domain.specs.Tries.{SealsEach};
+    ghost use Rattle.uma_domain.specs.Tries.{CanSeal};
+    ghost use Rattle.uma_domain.specs.Scans.{AllStay};
+    ghost use Rattle.uma_domain.specs.Looks.{TakesFirstRipe};
+    ghost use Rattle.uma_domain.specs.Looks.{CountsMiss};
+    ghost use Rattle.uma_domain.specs.Looks.{CanPoll};
+    ghost use Rattle.uma_domain.specs.Looks.{CanLook};
+    ghost use Rattle.uma_domain.specs.Lists.{sealed_in};
+    ghost use Rattle.uma_domain.specs.Lists.{loose_in};
+    ghost use Rattle.uma_domain.specs.Lists.{lists_identity};
+    ghost use Rattle.uma_domain.specs.Frames.{KeepsButTried};
+    /// Takes the oldest sealed bucket whose poll in this call says yes. Those before it were polled once each and said no;
+    /// those behind it aren't polled. None exactly where each listed one's poll says no, which is one more miss in the book
+    /// and in the share.
+    pub fn take_ripe(&mut self, clock: &Clock<H>, share: &mut FailShare) -> Option<Ripe<T, H>>
+        requires { CanPoll (lists_identity self.old) clock.now share.old }
+        ensures { TakesFirstRipe self.old share.old result self.new share.new }
+    {
+        let before = Snapshot::of(&self.sealed);
+        let Some(ripe) = take_first_ripe(&mut self.sealed, clock) else {
+            self.miss_ripe(before, share);
+            return None;
+        };
+        let count = self.working.count - u64::from(ripe.len());
+        self.working = self.working.moved_to(count);
+        Some(ripe)
+    }
+
+    /// Counts a look for a ripe bucket. What was listed before it is handed in: each of these buckets was polled once since
+    /// then, and its poll said no.
+    pub(crate) fn miss_ripe(
+        &mut self,
+        before: Snapshot<VecDeque<Sealed<T, H>>>,
+        share: &mut FailShare,
+    )
+        requires look { CanLook true (lists_identity self.old) share.old }
+        requires said_no { AllStay before.value.items (sealed_in self.old) }
+        ensures { CountsMiss self.old share.old self.new share.new }
+    {
+        self.missed.push(());
+        self.misses.add(share, 0, 0, 0);
+    }
+
+    /// Each loose bucket tries once to be sealed, oldest first. Those that were sealed are the newest sealed ones, in that
+    /// order, and the others stay loose in theirs. Answers how many buckets were sealed.
+    pub fn seal_loose(&mut self, clock: &Clock<H>, pass: &mut Pass<H>) -> u32
+        requires { CanSeal (lists_identity self.old) clock.now pass.old }
+        ensures tried { SealsEach H.copied (clock_id clock.now) (view pass.old) (loose_in self.old) (sealed_in self.old) result (loose_in self.new) (sealed_in self.new) (view pass.new) }
+        ensures kept { KeepsButTried clock.now pass.old pass.new self.old self.new }
+    {
+        seal_each(&mut self.loose, &mut self.sealed, clock, pass)
+    }
+}
+
+/// Sums of what is listed.
+impl<T: Body, H: Host> Lists<T, H> {
+    ghost use Rattle.uma_domain.specs.Sums.{AreSumsOf};
+    /// How often the items listed passed each hook, and how many of them are freed. In the domain's own zone the ctors
+    /// exceed the dtors by those that are freed, and in every other zone they are equal, modulo 2^64. Each is below 2^96.
+    pub fn sums(&self) -> Sums
+        ensures { AreSumsOf self.now result }
+    {
+        let mut sums = Sums::none();
+        for plain_at in 0..self.plain.len() {
+            self.plain[plain_at].add_to(&mut sums);
+        }
+        for loose_at in 0..self.loose.len() {
+            self.loose[loose_at].add_to(&mut sums);
+        }
+        for sealed_at in 0..self.sealed.len() {
+            self.sealed[sealed_at].add_to(&mut sums);
+        }
+        sums
     }
 }

@@ -1,14 +1,43 @@
+ghost use Rattle.smr_clock.specs.Belongs.{clock_id, view};
+ghost use Rattle.uma_domain.specs.Tries.{CanTryEach, SealsEach, StaysTried};
 ghost use Rattle.std.specs.Prelude.{All};
-ghost use Rattle.smr_clock.specs.Belongs.{clock_id};
 ghost use Rattle.uma_bucket.specs.Sealed.{IsSealedAt};
 ghost use Rattle.uma_domain.specs.Scans.{CanTryAt, LeavesTried, ScansForRipe, TriesAt};
 ghost use Rattle.uma_domain.specs.Trim.{CanTrimSealed, IsNoLonger, TrimsSealedInto};
 
-use crate::taken::TakenBucket;
-use smr_clock::{Clock, Host};
+use crate::trims::TakenBucket;
+use smr_clock::{Clock, Host, Pass};
 use std::collections::VecDeque;
-use uma_bucket::{Ripe, Sealed};
+use uma_bucket::{Loose, Ripe, Sealed};
 use uma_life::Body;
+
+/// Each loose bucket tries once to be sealed, oldest first. What was sealed is the newest sealed, and the others stay.
+/// Answers how many were sealed.
+pub(crate) fn seal_each<T: Body, H: Host>(
+    loose: &mut VecDeque<Loose<T>>,
+    sealed: &mut VecDeque<Sealed<T, H>>,
+    clock: &Clock<H>,
+    pass: &mut Pass<H>,
+) -> u32
+    requires { CanTryEach clock.now pass.old loose.old sealed.old }
+    ensures tried { SealsEach H.copied (clock_id clock.now) (view pass.old) loose.old.items sealed.old.items result loose.new.items sealed.new.items (view pass.new) }
+    ensures stays { StaysTried clock.now pass.old pass.new loose.new sealed.new }
+{
+    let mut count = 0;
+    for _ in 0..loose.len() {
+        let Some(bucket) = loose.pop_front() else {
+            unreachable!()
+        };
+        match bucket.seal(clock, pass) {
+            Ok(bucket) => {
+                sealed.push_back_reserved(bucket);
+                count += 1;
+            }
+            Err((bucket, _)) => loose.push_back_reserved(bucket),
+        }
+    }
+    count
+}
 
 /// Polls the bucket at this place once. Where that says yes it is taken and ripe, and else it stays there.
 fn take_if_ripe<T: Body, H: Host>(

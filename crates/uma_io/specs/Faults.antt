@@ -1,6 +1,6 @@
 -- Counts of faults (own). A count is a `u64` that rises at each fault and stands still at its last value.
 use Rattle.std.specs.Prelude.{ℕ, ◌≡◌, ◌≤◌, ◌+◌, ◌-◌, ◌^◌, ◌<◌, ◌⊎◌, Result, Ok, IsErr, min}
-use Rattle.uma_io.specs.declared.failed.Failed.{Failed}
+use Rattle.uma_io.specs.declared.reading.Failed.{Failed}
 
 -- a count of faults rose in a call: it is greater after the call, or stands at its last value
 abbrev pub Rose : ℕ → ℕ → Type 0

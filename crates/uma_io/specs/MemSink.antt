@@ -1,6 +1,6 @@
 -- What contracts see of a sink into memory (own).
 use Rattle.std.specs.Prelude.{ℕ, ◌≡◌, ◌-◌, ◌<◌, ◌≤◌, ◌⊎◌, ◌↔◌, ◌++◌, List, Result, length, take, min, IfOk, OnErr, IsErr, Contains}
-use Rattle.uma_io.specs.declared.failed.Failed.{Failed}
+use Rattle.uma_io.specs.declared.reading.Failed.{Failed}
 use Rattle.uma_io.specs.Faults.{raised}
 
 pub record MemSinkState : Type 0 where

@@ -2,7 +2,7 @@
 -- before a call tells them after it, and one that does not tell them before does not tell them after.
 use Rattle.std.specs.Prelude.{ℕ, Option, ◌≡◌, ◌≤◌, ◌<◌, List, ◌++◌, Result, length, take, IfOk, OnErr}
 use Rattle.std.specs.Option.{option_map}
-use Rattle.uma_io.specs.declared.failed.Failed.{Failed}
+use Rattle.uma_io.specs.declared.reading.Failed.{Failed}
 use Rattle.uma_io.specs.Faults.{Rose}
 
 -- the bytes held after are those held before, and then the piece

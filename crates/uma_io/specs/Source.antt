@@ -2,7 +2,7 @@
 -- bytes before a call tells them after it, and one that does not tell them before does not tell them after.
 use Rattle.std.specs.Prelude.{ℕ, Option, ◌≡◌, ◌≤◌, ◌<◌, List, [], ◌++◌, Result, length, take, IfSome, IfOk, OnErr}
 use Rattle.std.specs.Option.{option_map}
-use Rattle.uma_io.specs.declared.failed.Failed.{Failed}
+use Rattle.uma_io.specs.declared.reading.Failed.{Failed}
 use Rattle.uma_io.specs.Faults.{Rose}
 
 -- the bytes left before are the piece, and then the bytes left after

@@ -1,37 +1,29 @@
-//! Sources and sinks of bytes that count their faults, and the reading and the writing of all bytes.
+//! Reading and writing all bytes of a stream, with faults of the stream told apart from one's own refusals.
 //!
-//! A program that reads a stream has to tell a fault of the outside from its own refusals. So a source and a sink count
-//! their faults: whoever answers that reading or writing failed shows by the count that there was a fault in this very
-//! call. What bytes a source has left, and what bytes a sink holds, is seen by contracts alone, and only where the object
-//! tells it: memory does, a file does not.
+//! A [`Source`] gives bytes and a [`Sink`] takes them. Each counts its *faults*, the calls that failed. A caller sees by the count that a
+//! failure came from the stream, in this very call. Contracts also know which bytes a source has left and which a sink holds, where the
+//! object can tell: [`MemSource`] and [`MemSink`] can, a file can't.
 //!
-//! - `read_all` asks for at most one byte past the most that may come, so it finds an input too long before it takes memory
-//!   for that piece. Bytes that were taken before a refusal are lost.
-//! - An error of std's reader or writer is a fault, also one that only says that a signal interrupted the call: nothing is
-//!   tried again. So is a sink that takes nothing of a piece that isn't empty. Writing no bytes never fails.
-//! - `StdSink` never flushes: hand it a writer that keeps nothing back.
-//! - A count of faults stands still at 2^64 - 1, and 'rose' includes a count that stands there.
+//! ```
+//! let mut source = StdSource::new(reader);
+//! let bytes = read_all(alloc, &mut source, 1 << 20)?;     // refused as `TooLong` above 1 MiB
+//! write_all(&mut StdSink::new(writer), bytes.as_slice())?;
+//! ```
+//!
+//! # What is promised
+//!
+//! - `read_all` returns all bytes that were left, at most `most` (`all`, `within`, `end`). It fails with `Fault` only if a fault was
+//!   counted in the call, and with `TooLong` only if more bytes were left (`fault`, `too_long`).
+//! - `write_all` adds all bytes to the sink (`written`). If it fails, a fault was counted and only a part was added (`rose`, `part`).
+//! - A count of faults never falls (`never_falls`). It stays at 2^64 - 1 once it is there, and `Rose` includes that case.
+//!
+//! `StdSink` never flushes, so give it a writer that keeps nothing back.
 #![tactic(auto)]
 
-mod counted;
-mod failed;
-mod mem_sink;
-mod mem_source;
-mod memory;
 mod reading;
 mod sink;
 mod source;
-mod std_sink;
-mod std_source;
-mod writing;
 
-pub use failed::Failed;
-pub use mem_sink::MemSink;
-pub use mem_source::MemSource;
-pub use memory::Memory;
-pub use reading::{ReadRefused, read_all};
-pub use sink::Sink;
-pub use source::Source;
-pub use std_sink::StdSink;
-pub use std_source::StdSource;
-pub use writing::{WriteFault, write_all};
+pub use reading::{Failed, Memory, ReadRefused, WriteFault, read_all, write_all};
+pub use sink::{MemSink, Sink, StdSink};
+pub use source::{MemSource, Source, StdSource};

@@ -1,13 +1,62 @@
-ghost use Rattle.std.specs.Prelude.{ℕ, ◌≡◌, ◌+◌, ◌-◌, ◌<◌, ◌≤◌, vec_len, IfSome, IfOk, IfErr, IsErrOf, OnOk};
-ghost use Rattle.uma_io.specs.Faults.{Rose};
+ghost use Rattle.uma_io.specs.Faults.{CountsFault, PassesOrCounts, Rose};
+ghost use Rattle.std.specs.Prelude.{ℕ, ◌≡◌, ◌+◌, ◌-◌, ◌<◌, ◌≤◌, vec_len, IfSome, IfOk, IfErr, IsErrOf, OnOk, OnErr};
 ghost use Rattle.uma_io.specs.Source.{Exhausts, HasMoreThan};
 ghost use Rattle.uma_io.specs.Reading.{AppendsTaken, EndsPiece, FaultsOrEnds, Loses};
+ghost use Rattle.uma_io.specs.Sink.{Adds, AddsPart};
 
-use crate::failed::Failed;
+use crate::sink::Sink;
 use crate::source::Source;
 use std::alloc::{AllocError, Global};
 use std::error::Error;
-use std::fmt;
+use std::{fmt, io};
+
+/// A call of a source or a sink failed, and the object's count of faults rose.
+#[derive(Debug, Clone, Copy, PartialEq, Eq)]
+pub struct Failed;
+
+impl fmt::Display for Failed {
+    fn fmt<W: fmt::Write>(&self, f: &mut fmt::Formatter<W>) -> fmt::Result {
+        write!(f, "a source or a sink failed")
+    }
+}
+
+impl Error for Failed {}
+
+/// The allocator had no room.
+#[derive(Debug, Clone, Copy, PartialEq, Eq)]
+pub struct Memory;
+
+impl fmt::Display for Memory {
+    fn fmt<W: fmt::Write>(&self, f: &mut fmt::Formatter<W>) -> fmt::Result {
+        write!(f, "out of memory")
+    }
+}
+
+impl Error for Memory {}
+
+impl From<AllocError> for Memory {
+    fn from(_: AllocError) -> Memory {
+        Memory
+    }
+}
+
+/// What an answer of the standard library becomes: each `Err` is a fault, and is counted, and an `Ok` is passed on.
+pub fn counted(answer: io::Result<usize>, faults: &mut u64) -> Result<usize, Failed>
+    ensures { PassesOrCounts answer faults.old result faults.new }
+{
+    match answer {
+        Ok(taken) => Ok(taken),
+        Err(_) => Err(fault(faults)),
+    }
+}
+
+/// Counts a fault.
+pub fn fault(faults: &mut u64) -> Failed
+    ensures { CountsFault faults.old faults.new }
+{
+    *faults = faults.saturating_add(1);
+    Failed
+}
 
 /// Why not all bytes were read.
 #[derive(Debug, Clone, Copy, PartialEq, Eq)]
@@ -115,4 +164,40 @@ fn asked(free: u64) -> usize
     } else {
         CHUNK
     }
+}
+
+/// The sink failed before it took all bytes.
+#[derive(Debug, Clone, Copy, PartialEq, Eq)]
+pub struct WriteFault;
+
+impl fmt::Display for WriteFault {
+    fn fmt<W: fmt::Write>(&self, f: &mut fmt::Formatter<W>) -> fmt::Result {
+        write!(f, "the sink failed")
+    }
+}
+
+impl Error for WriteFault {}
+
+impl From<Failed> for WriteFault {
+    fn from(_: Failed) -> WriteFault {
+        WriteFault
+    }
+}
+
+/// Writes all of `bytes`, in as many calls as the sink needs. It takes no memory.
+pub fn write_all<K: Sink>(sink: &mut K, bytes: &[u8]) -> Result<(), WriteFault>
+    ensures written { OnOk result (Adds (K.bytes_held sink.old) bytes.now (K.bytes_held sink.new)) }
+
+    // The one refusal comes only from a fault in this call, before the last byte was taken.
+    ensures rose { OnErr result (Rose (K.fault_count sink.old) (K.fault_count sink.new)) }
+    ensures part { OnErr result (AddsPart (K.bytes_held sink.old) bytes.now (K.bytes_held sink.new)) }
+
+    ensures never_falls { K.fault_count sink.old ≤ K.fault_count sink.new }
+{
+    let mut rest = bytes;
+    while !rest.is_empty() {
+        let taken = sink.write(rest)?;
+        rest = &rest[taken..];
+    }
+    Ok(())
 }

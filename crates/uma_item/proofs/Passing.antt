@@ -3,15 +3,15 @@ use Rattle.std.proofs.Common.{◌≡◌, ◌≢◌, ◌<◌, ◌-◌, ◌==◌, 
 use Rattle.std.proofs.lemmas.Bool.{ne_eqb}
 use Rattle.std.proofs.lemmas.Bool.Decides.{eqb_tells}
 use Rattle.std.proofs.lemmas.List.{get_or-set_same, get_or-set_other}
-use Rattle.uma_life.specs.declared.body_phase.BodyPhase.{BodyPhase}
-use Rattle.uma_life.specs.declared.body_phase.BodyPhase.TheVariants.{Kept, Zoned, Built}
-use Rattle.uma_life.specs.declared.zone_tally.ZoneTally.{ZoneTally}
+use Rattle.uma_life.specs.declared.tally.BodyPhase.{BodyPhase}
+use Rattle.uma_life.specs.declared.tally.BodyPhase.TheVariants.{Kept, Zoned, Built}
+use Rattle.uma_life.specs.declared.tally.ZoneTally.{ZoneTally}
 use Rattle.uma_life.specs.Life.{no_counts}
 use Rattle.uma_life.specs.Hook.{Ctor, Dtor, ZoneInit, ZoneFini, raised, base_phase, tally_after}
 use Rattle.uma_life.specs.Trail.{open_stays, open_builds, keg_inits_by, keg_finis_by}
 use Rattle.uma_life.specs.Word.{by_zone}
 use Rattle.uma_life.proofs.Tallies.{get_by_zone, set_by_zone}
-use Rattle.uma_item.specs.declared.stay_counts.StayCounts.{StayCounts}
+use Rattle.uma_item.specs.declared.item.StayCounts.{StayCounts}
 use Rattle.uma_item.specs.Counts.{less, no_stays, stay_at, refusal_of_stay, KeepsItsStays, counts_with, counts_by, tally_by}
 
 -- a count less one, and then one more, is the count

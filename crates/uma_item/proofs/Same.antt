@@ -7,7 +7,7 @@ use Rattle.uma_life.specs.Hook.{Hook, IsCode}
 use Rattle.uma_life.specs.Life.{Life}
 use Rattle.uma_life.specs.Passes.{PassesOrNot}
 use Rattle.uma_item.specs.declared.item.Item.{Item}
-use Rattle.uma_item.specs.declared.trailed.Trailed.{Trailed}
+use Rattle.uma_item.specs.declared.trail.Trailed.{Trailed}
 use Rattle.uma_item.specs.Counts.{kept_stays, KeepsItsStays}
 
 pub item_same : {B : Type 0} (a b : Item B) → a.whole ≡ b.whole → a ≡ b

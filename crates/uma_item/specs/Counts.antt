@@ -1,13 +1,13 @@
 -- Own: the counts of an item, derived from its phase and from the few that it keeps.
 use Rattle.std.specs.Prelude.{◌≡◌, ℕ, List, [], ◌∷◌, ◌+◌, ◌-◌, ◌%◌, ◌^◌, ◌==◌, Bool, true, false, Option, Some, None, length, replicate, slice_index_or}
 use Rattle.std.specs.declared.boxed.Box.{Box}
-use Rattle.uma_life.specs.declared.body_phase.BodyPhase.{BodyPhase}
+use Rattle.uma_life.specs.declared.tally.BodyPhase.{BodyPhase}
 use Rattle.uma_life.specs.declared.tally.Tally.{Tally}
-use Rattle.uma_life.specs.declared.zone_tally.ZoneTally.{ZoneTally}
+use Rattle.uma_life.specs.declared.tally.ZoneTally.{ZoneTally}
 use Rattle.uma_life.specs.Hook.{raised}
 use Rattle.uma_life.specs.Trail.{keg_inits_by, keg_finis_by, open_stays, open_builds}
 use Rattle.uma_life.specs.Word.{by_zone}
-use Rattle.uma_item.specs.declared.stay_counts.StayCounts.{StayCounts}
+use Rattle.uma_item.specs.declared.item.StayCounts.{StayCounts}
 
 -- a count less one or none, from 0 to 2^64 - 1
 abbrev pub less : ℕ → ℕ → ℕ

@@ -2,10 +2,10 @@
 use Rattle.std.specs.Prelude.{ℕ, List}
 use Rattle.uma_life.specs.Life.{Life}
 use Rattle.uma_life.specs.declared.tally.Tally.{Tally}
-use Rattle.uma_life.specs.declared.zone_tally.ZoneTally.{ZoneTally}
+use Rattle.uma_life.specs.declared.tally.ZoneTally.{ZoneTally}
 use Rattle.uma_item.specs.declared.item.Item.{Item}
-use Rattle.uma_item.specs.declared.trailed.Trailed.{Trailed}
-use Rattle.uma_item.specs.declared.stay_counts.StayCounts.{StayCounts}
+use Rattle.uma_item.specs.declared.trail.Trailed.{Trailed}
+use Rattle.uma_item.specs.declared.item.StayCounts.{StayCounts}
 use Rattle.uma_item.specs.Counts.{counts_by, kept_stays, tally_by}
 
 -- the data with its trail

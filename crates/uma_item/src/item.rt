@@ -1,10 +1,17 @@
 ghost use Rattle.std.specs.Prelude.{◌≡◌, ◌<◌, ◌≤◌};
-ghost use Rattle.uma_item.specs.Counts.{stay_at, kept_stays, KeepsItsStays};
+ghost use Rattle.uma_item.specs.Counts.{kept_stays, KeepsItsStays};
 ghost use Rattle.uma_life.specs.Trail.{keg_inits_by, keg_finis_by, open_builds, open_stays};
+ghost use Rattle.std.specs.Fn.{FnOnceReturnsAtMut};
 
-use crate::stay_counts::StayCounts;
-use crate::trailed::Trailed;
-use uma_life::{Body, BodyPhase, Tally, ZoneTally};
+use crate::trail::Trailed;
+use uma_life::{Body, BodyPhase, Live, Tally, ZoneTally};
+
+/// How often an item entered a secondary zone, and how often it was built there. The counts wrap.
+#[derive(Clone, Copy, Debug, PartialEq, Eq)]
+pub struct StayCounts {
+    pub inits: u64,
+    pub ctors: u64,
+}
 
 /// An item that keeps the user's data with its own trail, in one block that is made with its slab: what moves is one word.
 #[derive(Drop)]
@@ -56,9 +63,11 @@ fn keg_finis(phase: BodyPhase) -> u64
 }
 
 impl<B> Item<B> {
+    ghost use Rattle.uma_item.specs.Counts.{stay_at};
     ghost use Rattle.uma_item.specs.Item.{item_data, item_life, item_stays, item_counts, item_tally};
+    ghost use Rattle.uma_life.specs.Live.{live_body, live_ticket};
 
-    /// The user's data.
+    /// Returns the user's data.
     pub fn data(&self) -> &B
         ensures { result.now ≡ item_data self.now }
     {
@@ -116,6 +125,19 @@ impl<B> Item<B> {
                 self.counts(7),
             ],
         }
+    }
+
+    /// Changes the data of a live item in place. Returns the item and the result of `change`. The item keeps its phase,
+    /// counts, number, zone and domain, whatever `change` does.
+    pub fn change<R, F: FnOnce(&mut B) -> R>(live: Live<Item<B>>, change: F) -> (Live<Item<B>>, R)
+        requires { F.IsAlwaysCallable change }
+        ensures changed { FnOnceReturnsAtMut F.FnOnce change (item_data (live_body live)) result.1 (item_data (live_body result.0)) }
+        ensures life { item_life (live_body result.0) ≡ item_life (live_body live) }
+        ensures ticket { live_ticket result.0 ≡ live_ticket live }
+    {
+        let (mut item, ticket) = live.into_parts();
+        let answer = change(&mut item.whole.data);
+        (Live::from_parts(item, ticket), answer)
     }
 }
 

@@ -1,27 +1,26 @@
-//! Items that carry their own trail, so that people write only their data and what each hook does to it.
+//! Items for users that write only their data and what each hook does to it.
 //!
-//! `Item<B>` is a body that keeps the user's data `B` with its number, its phase and the counts that can't be derived.
-//! `ItemHooks<B>` is what a user writes: no count and no phase in sight. `TrailHooks` turns any of them into the hooks of a
+//! uma_life's hooks ask an implementation to keep an item's number, phase and counts. Here [`Item<B>`](Item) keeps them beside the user's
+//! data `B`, so a user writes [`ItemHooks<B>`](ItemHooks) without a count or a phase. [`TrailHooks`] turns such hooks into the hooks of a
 //! zone.
 //!
-//! - `ItemHooks` has no default bodies: a default body is proved once, for every implementation, so it can't promise what
-//!   an implementation's own ghost members say. These have defaults, by which the data is as before and nothing is refused.
-//! - Data and trail lie in one block (`Trailed`), which is made with the item: an item is one word, and each hook is lent
-//!   the data in place. `Item::change` lends that of a live item so, to a closure: a `&mut` that it returned would lend
-//!   the live item, whose ghost fields speak of the trail in the same block.
-//! - The counts of stays in secondary zones lie in a box that the maker of the hooks chooses. An item without it refuses to
-//!   enter such a zone, with the code 255, which a user's hooks may use too.
+//! ```
+//! let hooks = TrailHooks::new(mine);                      // mine: ItemHooks<B>; `with_stays` for secondary zones
+//! let data = live.body().data();                          // live: Live<Item<B>>
+//! let (live, old) = Item::change(live, |b| b.replace(7)); // lends the data of a live item to a closure
+//! ```
+//!
+//! # What is promised
+//!
+//! - The data is what the user's hooks left of it (`ItemHooks::init`, `ctor`: `left`), and a refusal leaves it as it was (`unchanged`).
+//! - `Item::change` changes the data alone (`changed`, `life`, `ticket`).
+//! - The trail agrees with the hooks that ran: `TrailHooks` keeps the contract of `uma_life::Hooks`.
+//!
+//! An item without the box of `with_stays` refuses to enter a secondary zone, with the code [`NO_STAYS`].
 #![tactic(auto)]
 
-mod changing;
 mod item;
-mod item_hooks;
-mod stay_counts;
 mod trail;
-mod trail_hooks;
-mod trailed;
 
-pub use item::Item;
-pub use item_hooks::ItemHooks;
-pub use stay_counts::StayCounts;
-pub use trail_hooks::{NO_STAYS, TrailHooks};
+pub use item::{Item, StayCounts};
+pub use trail::{ItemHooks, NO_STAYS, TrailHooks};

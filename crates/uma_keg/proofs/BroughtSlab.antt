@@ -3,12 +3,12 @@ use Rattle.std.proofs.Common.{◌≡◌, ◌≤◌, ◌<◌, ◌+◌, ◌*◌, �
 use Rattle.std.proofs.Math.Nat.{mod-lt}
 use Rattle.std.proofs.lemmas.Nat.{div-add-mod'}
 use Rattle.std.proofs.lemmas.Bool.{cases_eq}
-use Rattle.uma_places.proofs.Slabs.{slab_of, domain_at-in}
-use Rattle.uma_life.specs.declared.stored.Stored.{Stored}
+use Rattle.uma_slabs.proofs.Slabs.{slab_of, domain_at-in}
+use Rattle.uma_life.specs.declared.states.Stored.{Stored}
 use Rattle.uma_life.specs.Stored.{stored_no}
-use Rattle.uma_keg.specs.declared.slab_items.SlabItems.{SlabItems}
+use Rattle.uma_keg.specs.declared.slabs.SlabItems.{SlabItems}
 use Rattle.uma_keg.specs.declared.home_items.HomeItems.{HomeItems}
-use Rattle.uma_places.specs.Places.{KegPlaces, place_at, domain_at, Brings}
+use Rattle.uma_slabs.specs.Places.{KegPlaces, place_at, domain_at, Brings}
 use Rattle.uma_keg.specs.HomeLists.{item_on}
 use Rattle.uma_keg.specs.HomeItems.{IsAdded}
 use Rattle.uma_keg.specs.KegLaw.{PlacesLaw, is_used_place, is_free_place}

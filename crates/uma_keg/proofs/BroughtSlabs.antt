@@ -2,10 +2,10 @@
 use Rattle.std.proofs.Common.{◌≡◌, ◌≢◌, ◌≤◌, ◌<◌, ◌+◌, ◌/◌, ◌⊎◌, ℕ, Option, Some, None, IsSome, refl, inl, inr, arith, sym, ap, subst, ◌∙◌}
 use Rattle.std.specs.Option.{IsSomeAnd}
 use Rattle.std.proofs.lemmas.Bool.{cases_eq, cases_lt}
-use Rattle.uma_life.specs.declared.stored.Stored.{Stored}
-use Rattle.uma_keg.specs.declared.fetch_refused.FetchRefused.{FetchRefused}
+use Rattle.uma_life.specs.declared.states.Stored.{Stored}
+use Rattle.uma_keg.specs.declared.fetch.FetchRefused.{FetchRefused}
 use Rattle.uma_keg.specs.declared.keg.Keg.{Keg}
-use Rattle.uma_places.specs.Places.{KegPlaces, IsIn, domain_at, slab_count, free_count, Brings}
+use Rattle.uma_slabs.specs.Places.{KegPlaces, IsIn, domain_at, slab_count, free_count, Brings}
 use Rattle.uma_keg.specs.NewItems.{IsNewItem}
 use Rattle.uma_keg.specs.BringSlab.{AcceptsNumber, BringsSlab, RefusesSlab}
 use Rattle.uma_keg.specs.Fetch.{IsEnough, IsNewSlabs}

@@ -1,7 +1,7 @@
 -- Items that were ended, by their places and by their numbers.
 use Rattle.std.proofs.Common.{◌≡◌, List, [], ◌∷◌, ◌++◌, Option, All, sym, subst}
 use Rattle.std.proofs.lemmas.List.Elements.{All-same, All-push}
-use Rattle.uma_life.specs.declared.stored.Stored.{Stored}
+use Rattle.uma_life.specs.declared.states.Stored.{Stored}
 use Rattle.uma_keg.specs.declared.keg.Keg.{Keg}
 use Rattle.uma_keg.specs.Keg.{hooks_in}
 use Rattle.uma_keg.specs.Ended.{IsEndedAt}

@@ -6,8 +6,8 @@ use Rattle.std.proofs.lemmas.Bool.Decides.{nat_tests}
 use Rattle.std.proofs.lemmas.Nat.{div_below, le-div, div-mul-add, div-add-mod'}
 use Rattle.std.proofs.Math.Nat.{mod-lt}
 use Rattle.uma_keg.specs.KegLaw.{is_free_place}
-use Rattle.uma_places.specs.Places.{KegPlaces, place_at, domain_at, free_count}
-use Rattle.uma_places.specs.Dropping.{IsWhollyFree, IsUsedUp, HasNoneWhollyFree, Drops}
+use Rattle.uma_slabs.specs.Places.{KegPlaces, place_at, domain_at, free_count}
+use Rattle.uma_slabs.specs.Dropping.{IsWhollyFree, IsUsedUp, HasNoneWhollyFree, Drops}
 use Rattle.uma_keg.specs.Tallies.{sum_below}
 use Rattle.uma_keg.specs.FreeSlabs.{count_below, free_places, is_wholly_free, wholly_free_count, slabs_to_free}
 

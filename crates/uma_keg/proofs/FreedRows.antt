@@ -1,6 +1,6 @@
 -- How many slabs are given up at once, on worked rows: of three slabs of two places each, the second has a place in use. So five places are free, and two slabs wholly.
 use Rattle.std.proofs.Common.{◌≡◌, ℕ, [], ◌∷◌, true, false, Some, refl}
-use Rattle.uma_places.specs.Places.{KegPlaces, place_at, domain_at, free_count}
+use Rattle.uma_slabs.specs.Places.{KegPlaces, place_at, domain_at, free_count}
 use Rattle.uma_keg.specs.Tallies.{sum_below}
 use Rattle.uma_keg.specs.FreeSlabs.{free_places, wholly_free_count, slabs_to_free}
 

@@ -1,13 +1,13 @@
 -- A keg keeps its law where a wholly free slab is given up.
 use Rattle.std.proofs.Common.{◌≡◌, ◌≤◌, ◌+◌, ◌*◌, ◌/◌, ◌^◌, ℕ, List, Option, Some, None, is_some, inl, inr, arith, sym, ap, ◌∙◌}
 use Rattle.std.proofs.lemmas.Bool.{cases_eq}
-use Rattle.uma_life.specs.declared.tally_sum.TallySum.{TallySum}
+use Rattle.uma_life.specs.declared.tally.TallySum.{TallySum}
 use Rattle.uma_life.specs.Hook.{Hook}
 use Rattle.uma_life.specs.Sum.{sum_of}
 use Rattle.uma_keg.specs.declared.home_items.HomeItems.{HomeItems}
-use Rattle.uma_keg.specs.declared.slab_items.SlabItems.{SlabItems}
-use Rattle.uma_places.specs.Places.{KegPlaces, slab_count}
-use Rattle.uma_places.specs.Dropping.{Drops}
+use Rattle.uma_keg.specs.declared.slabs.SlabItems.{SlabItems}
+use Rattle.uma_slabs.specs.Places.{KegPlaces, slab_count}
+use Rattle.uma_slabs.specs.Dropping.{Drops}
 use Rattle.uma_keg.specs.HomeItems.{IsRemoved}
 use Rattle.uma_keg.specs.Tallies.{TallyLaw}
 use Rattle.uma_keg.specs.KegLaw.{PlacesLaw, is_used_place, is_free_place}

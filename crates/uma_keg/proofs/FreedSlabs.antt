@@ -3,9 +3,9 @@ use Rattle.std.proofs.Common.{◌≡◌, ◌≢◌, ◌<◌, ◌+◌, ◌*◌, �
 use Rattle.std.proofs.lemmas.Bool.{cases_eq, cases_lt}
 use Rattle.std.proofs.lemmas.Nat.{div_below, div-mul-add}
 use Rattle.uma_keg.specs.declared.keg.Keg.{Keg}
-use Rattle.uma_places.specs.Places.{KegPlaces, domain_at, IsIn, IsFree, IsSound, CountsOneSlab}
-use Rattle.uma_places.specs.Dropping.{IsWhollyFree, Drops}
-use Rattle.uma_life.specs.declared.tally_sum.TallySum.{TallySum}
+use Rattle.uma_slabs.specs.Places.{KegPlaces, domain_at, IsIn, IsFree, IsSound, CountsOneSlab}
+use Rattle.uma_slabs.specs.Dropping.{IsWhollyFree, Drops}
+use Rattle.uma_life.specs.declared.tally.TallySum.{TallySum}
 use Rattle.uma_life.specs.Sum.{sum_of}
 use Rattle.uma_keg.specs.Tallies.{sum_below}
 use Rattle.uma_keg.specs.Frames.{IsUnmoved}

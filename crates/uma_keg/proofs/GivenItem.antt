@@ -4,15 +4,15 @@ use Rattle.std.specs.List.{slice_get}
 use Rattle.std.proofs.lemmas.Bool.{cases_lt, cases_eq}
 use Rattle.std.proofs.lemmas.List.{get_or-set_same, get_or-set_other, get_or_past, length-set}
 use Rattle.std.proofs.lemmas.Option.{get_or_from_slice_get}
-use Rattle.uma_life.specs.declared.stored.Stored.{Stored}
+use Rattle.uma_life.specs.declared.states.Stored.{Stored}
 use Rattle.uma_life.specs.Stored.{stored_no}
 use Rattle.uma_keg.specs.declared.home_items.HomeItems.{HomeItems}
-use Rattle.uma_places.specs.Places.{KegPlaces, place_at, domain_at, IsOut, Gives}
+use Rattle.uma_slabs.specs.Places.{KegPlaces, place_at, domain_at, IsOut, Gives}
 use Rattle.uma_keg.specs.HomeItems.{item_at, has_slab, slab_room, places_each}
 use Rattle.uma_keg.specs.Outs.{out_of}
 use Rattle.uma_keg.specs.KegLaw.{PlacesLaw, ZonesLaw, zone_at, is_used_place, is_free_place}
 use Rattle.uma_keg.proofs.Outs.{out_accepted, tick_same, tick_other}
-use Rattle.uma_places.proofs.Slabs.{slab_of}
+use Rattle.uma_slabs.proofs.Slabs.{slab_of}
 
 used : (place : Option Bool) → is_used_place place ≡ true → place ≡ Some false
 used None is = cc

@@ -5,12 +5,12 @@ use Rattle.std.proofs.lemmas.Bool.{cases_eq, cases_lt}
 use Rattle.std.proofs.Math.Nat.{mod-lt}
 use Rattle.std.proofs.lemmas.List.Quantifiers.{position-Some}
 use Rattle.std.proofs.lemmas.List.Sums.{get_or-le-sum_by}
-use Rattle.uma_places.proofs.Marks.{position_counted}
+use Rattle.uma_slabs.proofs.Marks.{position_counted}
 use Rattle.std.proofs.lemmas.List.{get_or-set_same, get_or-set_other, get_or_default, get_or_past, get_or-replicate, length-replicate}
 use Rattle.std.proofs.lemmas.Nat.{div-add-mod'}
 use Rattle.std.proofs.lemmas.Option.{get_or_from_slice_get, slice_get-get_or}
-use Rattle.uma_life.specs.declared.stored.Stored.{Stored}
-use Rattle.uma_keg.specs.declared.slab_items.SlabItems.{SlabItems}
+use Rattle.uma_life.specs.declared.states.Stored.{Stored}
+use Rattle.uma_keg.specs.declared.slabs.SlabItems.{SlabItems}
 use Rattle.uma_keg.specs.SlabItems.{places_of_slab}
 use Rattle.uma_keg.specs.HomeLists.{slab_items_in, item_on, item_in, AreWhole}
 

@@ -2,14 +2,14 @@
 use Rattle.std.proofs.Common.{◌≡◌, ◌≤◌, ◌<◌, ◌+◌, ◌*◌, ◌^◌, ℕ, zero, suc, Option, None, Some, inl, inr, arith, sym, subst}
 use Rattle.std.proofs.lemmas.Bool.{cases_lt}
 use Rattle.std.proofs.lemmas.List.{get_or_past}
-use Rattle.uma_life.specs.declared.stored.Stored.{Stored}
+use Rattle.uma_life.specs.declared.states.Stored.{Stored}
 use Rattle.uma_life.specs.declared.tally.Tally.{Tally}
-use Rattle.uma_life.specs.declared.zone_tally.ZoneTally.{ZoneTally}
+use Rattle.uma_life.specs.declared.tally.ZoneTally.{ZoneTally}
 use Rattle.uma_life.specs.Hook.{Hook, KegInit, ZoneInit, Ctor, Dtor, ZoneFini, KegFini, counts_of}
 use Rattle.uma_life.specs.Life.{no_counts}
 use Rattle.uma_life.specs.Sum.{times_of, AreCounts}
 use Rattle.uma_life.specs.Trail.{OnTrail}
-use Rattle.uma_life.specs.declared.body_phase.BodyPhase.TheVariants.{Kept}
+use Rattle.uma_life.specs.declared.tally.BodyPhase.TheVariants.{Kept}
 use Rattle.uma_keg.specs.Tallies.{home_times, sum_below}
 
 no_counts_few : AreCounts no_counts

@@ -4,15 +4,15 @@ use Rattle.std.specs.Option.{IsSomeAnd}
 use Rattle.std.proofs.lemmas.Bool.{cases_lt}
 use Rattle.std.proofs.lemmas.List.{get_or_past, get_or-replicate, length-replicate, get_or_append_left, length_push, get_or_push}
 use Rattle.std.proofs.lemmas.List.Sums.{sum_by-cons}
-use Rattle.uma_life.specs.declared.stored.Stored.{Stored}
-use Rattle.uma_life.specs.declared.zone_tally.ZoneTally.{ZoneTally}
-use Rattle.uma_life.specs.declared.tally_sum.TallySum.{TallySum}
+use Rattle.uma_life.specs.declared.states.Stored.{Stored}
+use Rattle.uma_life.specs.declared.tally.ZoneTally.{ZoneTally}
+use Rattle.uma_life.specs.declared.tally.TallySum.{TallySum}
 use Rattle.uma_life.specs.Life.{Life, raw_life, no_counts}
 use Rattle.uma_life.specs.Hook.{Hook, KegInit, ZoneInit, Ctor, Dtor, ZoneFini, KegFini, after}
 use Rattle.uma_life.specs.Sum.{times_of, sum_of}
 use Rattle.uma_keg.specs.Tallies.{ended_times, times_in_vain, AddsVain}
-use Rattle.uma_life.specs.declared.refused.BringRefused.{BringRefused}
-use Rattle.uma_life.specs.declared.refused.BringRefused.TheVariants.{Init, Memory}
+use Rattle.uma_life.specs.declared.hooks.BringRefused.{BringRefused}
+use Rattle.uma_life.specs.declared.hooks.BringRefused.TheVariants.{Init, Memory}
 use Rattle.uma_life.specs.Bring.{RefusesToBring}
 use Rattle.uma_keg.specs.NewItems.{IsNewItem, AreNewItems, StopsAt, RefusesItems}
 

@@ -3,7 +3,7 @@ use Rattle.std.proofs.Common.{◌≡◌, ◌*◌, ℕ, false, List, [], ◌∷�
 use Rattle.std.proofs.lemmas.Bool.{cases_lt}
 use Rattle.std.proofs.lemmas.List.{get_or-replicate, get_or_past, length-replicate}
 use Rattle.uma_keg.specs.declared.home_items.HomeItems.{HomeItems}
-use Rattle.uma_places.specs.Places.{KegPlaces, IsNew}
+use Rattle.uma_slabs.specs.Places.{KegPlaces, IsNew}
 use Rattle.uma_keg.specs.HomeItems.{item_at, has_slab, slab_room, places_each}
 use Rattle.uma_keg.specs.KegLaw.{PlacesLaw, ZonesLaw, zone_at, is_used_place, is_free_place}
 use Rattle.uma_keg.proofs.Outs.{out_none}

@@ -6,18 +6,18 @@ use Rattle.std.proofs.lemmas.Bool.{cases_lt}
 use Rattle.std.proofs.lemmas.List.{get_or_past}
 use Rattle.std.proofs.lemmas.List.Sums.{sum_by-cons}
 use Rattle.std.proofs.lemmas.Nat.{div-add-mod'}
-use Rattle.uma_life.specs.declared.stored.Stored.{Stored}
+use Rattle.uma_life.specs.declared.states.Stored.{Stored}
 use Rattle.uma_life.specs.Life.{Life}
-use Rattle.uma_keg.specs.declared.slab_items.SlabItems.{SlabItems}
+use Rattle.uma_keg.specs.declared.slabs.SlabItems.{SlabItems}
 use Rattle.uma_keg.specs.declared.home_items.HomeItems.{HomeItems}
 use Rattle.uma_keg.specs.SlabItems.{places_of_slab}
-use Rattle.uma_places.specs.Places.{KegPlaces, Slab, slab_at, domain_at, slab_count, Brings}
+use Rattle.uma_slabs.specs.Places.{KegPlaces, Slab, slab_at, domain_at, slab_count, Brings}
 use Rattle.uma_keg.specs.HomeLists.{item_on}
 use Rattle.uma_keg.specs.HomeItems.{item_at, has_slab, slab_room, places_each, IsAdded}
 use Rattle.uma_keg.specs.KegLaw.{PlacesLaw}
 use Rattle.uma_keg.specs.NewItems.{IsNewItem, AreNewItems}
 use Rattle.uma_keg.specs.BringSlab.{IsNextIndex}
-use Rattle.uma_places.proofs.Slabs.{domain_at-absent}
+use Rattle.uma_slabs.proofs.Slabs.{domain_at-absent}
 use Rattle.uma_keg.proofs.BroughtSlab.{IsBrought}
 
 none_of : {X : Type 0} (o : Option X) → is_some o ≡ false → o ≡ None

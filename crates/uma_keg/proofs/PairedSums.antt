@@ -2,14 +2,14 @@
 use Rattle.std.proofs.Common.{◌≡◌, ◌<◌, ◌+◌, ◌*◌, ◌%◌, ◌^◌, ℕ, zero, suc, List, [], ◌∷◌, sum_by, Option, Some, None, refl, arith, sym, ap, ◌∙◌}
 use Rattle.std.proofs.Math.Nat.{mod-add-mod, add-mod-mod}
 use Rattle.std.proofs.lemmas.List.Sums.{sum_by-cons}
-use Rattle.uma_life.specs.declared.stored.Stored.{Stored}
-use Rattle.uma_life.specs.declared.tally_sum.TallySum.{TallySum}
+use Rattle.uma_life.specs.declared.states.Stored.{Stored}
+use Rattle.uma_life.specs.declared.tally.TallySum.{TallySum}
 use Rattle.uma_life.specs.Hook.{Hook, ZoneInit, Ctor, Dtor, ZoneFini}
 use Rattle.uma_life.specs.Sum.{sum_of, no_sums}
 use Rattle.uma_life.specs.Trail.{ShowsSame}
 use Rattle.uma_keg.specs.Tallies.{ended_times, home_times, sum_below, AddsVain}
-use Rattle.uma_life.specs.declared.refused.BringRefused.{BringRefused}
-use Rattle.uma_life.specs.declared.refused.BringRefused.TheVariants.{Init, Memory}
+use Rattle.uma_life.specs.declared.hooks.BringRefused.{BringRefused}
+use Rattle.uma_life.specs.declared.hooks.BringRefused.TheVariants.{Init, Memory}
 use Rattle.uma_keg.specs.NewItems.{RefusesItems}
 use Rattle.uma_keg.specs.Paired.{ArePaired}
 use Rattle.uma_keg.proofs.TallyLaws.{none_summed}

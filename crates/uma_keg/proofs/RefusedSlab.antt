@@ -1,13 +1,13 @@
 -- Why a keg brought no slab in, from why its items weren't made.
 use Rattle.std.proofs.Common.{◌≡◌, ◌<◌, ◌+◌, ◌*◌, ◌^◌, ℕ, Result, Ok, Err}
 use Rattle.std.specs.Prelude.{IfErr, OnErr}
-use Rattle.uma_keg.specs.declared.fetch_refused.FetchRefused.{FetchRefused}
-use Rattle.uma_life.specs.declared.refused.BringRefused.{BringRefused}
-use Rattle.uma_life.specs.declared.refused.BringRefused.TheVariants.{Init, Memory}
-use Rattle.uma_life.specs.declared.tally_sum.TallySum.{TallySum}
+use Rattle.uma_keg.specs.declared.fetch.FetchRefused.{FetchRefused}
+use Rattle.uma_life.specs.declared.hooks.BringRefused.{BringRefused}
+use Rattle.uma_life.specs.declared.hooks.BringRefused.TheVariants.{Init, Memory}
+use Rattle.uma_life.specs.declared.tally.TallySum.{TallySum}
 use Rattle.uma_life.specs.Sum.{AreBelow}
 use Rattle.uma_keg.specs.declared.keg.Keg.{Keg}
-use Rattle.uma_places.specs.Places.{KegPlaces, IsSound, slab_count}
+use Rattle.uma_slabs.specs.Places.{KegPlaces, IsSound, slab_count}
 use Rattle.uma_keg.specs.Keg.{places_in, stored_in, buried_in}
 use Rattle.uma_keg.specs.NewItems.{RefusesItems}
 use Rattle.uma_keg.specs.Tallies.{TallyLaw}

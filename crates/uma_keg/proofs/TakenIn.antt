@@ -7,8 +7,8 @@ use Rattle.std.proofs.lemmas.List.Elements.{All-cons, All-nil, All-push, All-hea
 use Rattle.deed_book.specs.BookLaw.{IsOutside, IsHome}
 use Rattle.uma_keg.specs.Outs.{out_of}
 use Rattle.deed_book.specs.Deed.{BookId}
-use Rattle.uma_life.specs.declared.live.Live.{Live}
-use Rattle.uma_keg.specs.declared.undeeded.Undeeded.{Undeeded}
+use Rattle.uma_life.specs.declared.states.Live.{Live}
+use Rattle.uma_keg.specs.declared.home_items.Undeeded.{Undeeded}
 use Rattle.uma_keg.specs.Lent.{Seen, seen_of, all_seen, lent_of, deed_of, seen_without, deed_without, together, TakesIn}
 use Rattle.uma_keg.proofs.Outs.{out_accepted}
 

@@ -4,16 +4,16 @@ use Rattle.std.proofs.lemmas.Bool.{cases_eq}
 use Rattle.std.proofs.lemmas.List.{get_or-set_same, get_or-set_other, length-set}
 use Rattle.std.proofs.lemmas.Option.{slice_get-get_or, slice_get_within, get_or_from_slice_get}
 use Rattle.deed_book.specs.BookLaw.{IsHome}
-use Rattle.uma_life.specs.declared.stored.Stored.{Stored}
+use Rattle.uma_life.specs.declared.states.Stored.{Stored}
 use Rattle.uma_keg.specs.declared.home_items.HomeItems.{HomeItems}
-use Rattle.uma_life.specs.declared.cached.Cached.{Cached}
+use Rattle.uma_life.specs.declared.states.Cached.{Cached}
 use Rattle.uma_life.specs.Stored.{stored_body}
 use Rattle.uma_life.specs.Cached.{cached_body, cached_no, cached_zone, cached_domain, cached_table}
 use Rattle.uma_life.specs.Hook.{ZoneInit, after}
 use Rattle.uma_keg.specs.declared.keg.Keg.{Keg}
 use Rattle.uma_keg.specs.Keg.{places_in, zones_in, table_in, stored_in}
-use Rattle.uma_places.specs.Places.{KegPlaces, domain_at, IsFree, Gives, CountsOneOut}
-use Rattle.uma_places.specs.Taking.{TakesPlaces}
+use Rattle.uma_slabs.specs.Places.{KegPlaces, domain_at, IsFree, Gives, CountsOneOut}
+use Rattle.uma_slabs.specs.Taking.{TakesPlaces}
 use Rattle.uma_keg.specs.TakeItem.{TakesItem, SamePlaces}
 use Rattle.uma_keg.specs.HomeItems.{item_at, has_slab, slab_room, places_each}
 use Rattle.uma_keg.specs.Outs.{out_of}

@@ -3,11 +3,11 @@ use Rattle.std.proofs.Common.{◌≡◌, ◌+◌, ◌/◌, ◌⊎◌, ℕ, [], �
 use Rattle.std.proofs.lemmas.Bool.{cases_eq}
 use Rattle.std.proofs.lemmas.List.{map-append, append_assoc, append-nil}
 use Rattle.std.proofs.lemmas.List.Elements.{All-nil, All-push}
-use Rattle.uma_life.specs.declared.cached.Cached.{Cached}
+use Rattle.uma_life.specs.declared.states.Cached.{Cached}
 use Rattle.uma_life.specs.Cached.{cached_no}
 use Rattle.uma_keg.specs.declared.keg.Keg.{Keg}
-use Rattle.uma_places.specs.Places.{KegPlaces, domain_at, KeepsSlabs}
-use Rattle.uma_places.specs.Taking.{TakesPlaces}
+use Rattle.uma_slabs.specs.Places.{KegPlaces, domain_at, KeepsSlabs}
+use Rattle.uma_slabs.specs.Taking.{TakesPlaces}
 use Rattle.uma_keg.specs.Keg.{places_in, zones_in, stored_in, IsSameKeg}
 use Rattle.uma_keg.specs.TakeItem.{IsTaken, TakesItem, KeepsItems}
 use Rattle.uma_keg.specs.TakeItems.{TakesAll, zones_with, IsAmong, numbers_of, TakesItems, TakesInto}

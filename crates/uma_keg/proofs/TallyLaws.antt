@@ -2,12 +2,12 @@
 use Rattle.std.proofs.Common.{◌≡◌, ◌≤◌, ◌<◌, ◌+◌, ◌*◌, ◌^◌, ℕ, suc, replicate, refl, inl, inr, arith, ap}
 use Rattle.std.proofs.lemmas.Bool.{cases_lt}
 use Rattle.std.proofs.lemmas.List.{get_or_past, get_or-replicate, length-replicate}
-use Rattle.uma_life.specs.declared.tally_sum.TallySum.{TallySum}
-use Rattle.uma_life.specs.declared.tally_sum.ZoneTallySum.{ZoneTallySum}
+use Rattle.uma_life.specs.declared.tally.TallySum.{TallySum}
+use Rattle.uma_life.specs.declared.tally.ZoneTallySum.{ZoneTallySum}
 use Rattle.uma_life.specs.Hook.{Hook, KegInit, ZoneInit, Ctor, Dtor, ZoneFini, KegFini}
 use Rattle.uma_life.specs.Sum.{sum_of, zone_sums, no_sums, no_zone_sums, AreBelow}
 use Rattle.std.proofs.Math.Nat.{mul-le-mul}
-use Rattle.uma_places.specs.Places.{KegPlaces, IsSound, slab_count}
+use Rattle.uma_slabs.specs.Places.{KegPlaces, IsSound, slab_count}
 use Rattle.uma_keg.specs.Tallies.{TallyLaw, AddsVain, times_in_vain, sum_below}
 
 no_sums_at : (zone : ℕ) → zone_sums (replicate 8 no_zone_sums) zone ≡ no_zone_sums

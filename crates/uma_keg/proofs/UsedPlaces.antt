@@ -3,11 +3,11 @@ use Rattle.std.proofs.Common.{◌≡◌, ◌<◌, ◌+◌, ◌*◌, ◌/◌, ℕ
 use Rattle.std.proofs.lemmas.List.Sums.{sum_by-cons}
 use Rattle.std.proofs.lemmas.Option.{slice_get-get_or}
 use Rattle.uma_keg.specs.declared.home_items.HomeItems.{HomeItems}
-use Rattle.uma_places.specs.Places.{KegPlaces, Slab, slab_at, place_at, places_by, out_count}
+use Rattle.uma_slabs.specs.Places.{KegPlaces, Slab, slab_at, place_at, places_by, out_count}
 use Rattle.uma_keg.specs.KegLaw.{PlacesLaw, is_used_place}
 use Rattle.uma_keg.specs.Tallies.{sum_below}
-use Rattle.uma_places.specs.UsedPlaces.{AreEven}
-use Rattle.uma_places.proofs.Slabs.{place_at-absent, place_at-number, slab_of-number}
+use Rattle.uma_slabs.specs.UsedPlaces.{AreEven}
+use Rattle.uma_slabs.proofs.Slabs.{place_at-absent, place_at-number, slab_of-number}
 use Rattle.uma_keg.proofs.TallyLaws.{sum_below-more, sum_below-none}
 
 -- sums over the numbers below one

@@ -1,16 +1,16 @@
 -- How a keg brings a slab in, or is refused. That keg_init runs on each item of a new slab, and that a refusal ends those made before it, is the rule of FreeBSD's uma(9); the least index is own.
 use Rattle.std.specs.Prelude.{◌≡◌, ◌≢◌, ◌<◌, ◌+◌, ◌*◌, ◌/◌, ◌^◌, ℕ, Some, None, Result, Err, IfErr, OnOk, OnErr}
 use Rattle.std.specs.Option.{IsSomeAnd}
-use Rattle.uma_life.specs.declared.refused.BringRefused.{BringRefused}
-use Rattle.uma_life.specs.declared.refused.BringRefused.TheVariants.{Init as InitItem, Memory as MemoryItem}
-use Rattle.uma_life.specs.declared.tally_sum.TallySum.{TallySum}
+use Rattle.uma_life.specs.declared.hooks.BringRefused.{BringRefused}
+use Rattle.uma_life.specs.declared.hooks.BringRefused.TheVariants.{Init as InitItem, Memory as MemoryItem}
+use Rattle.uma_life.specs.declared.tally.TallySum.{TallySum}
 use Rattle.uma_life.specs.Life.{raw_life}
 use Rattle.uma_life.specs.Hook.{Hook, IsCode}
 use Rattle.zone_stats.specs.declared.refusal.Refusal.TheVariants.{Full, Init}
-use Rattle.uma_keg.specs.declared.fetch_refused.FetchRefused.{FetchRefused}
-use Rattle.uma_keg.specs.declared.fetch_refused.FetchRefused.TheVariants.{Refused, Memory}
+use Rattle.uma_keg.specs.declared.fetch.FetchRefused.{FetchRefused}
+use Rattle.uma_keg.specs.declared.fetch.FetchRefused.TheVariants.{Refused, Memory}
 use Rattle.uma_keg.specs.declared.keg.Keg.{Keg}
-use Rattle.uma_places.specs.Places.{KegPlaces, IsIn, domain_at, slab_count, Brings, CountsOneSlab}
+use Rattle.uma_slabs.specs.Places.{KegPlaces, IsIn, domain_at, slab_count, Brings, CountsOneSlab}
 use Rattle.uma_keg.specs.NewItems.{IsNewItem, StopsAt}
 use Rattle.uma_keg.specs.Tallies.{AddsVain}
 use Rattle.uma_keg.specs.Keg.{places_in, zones_in, rights_in, stored_in, limit_in, fetches_in, hooks_in, buried_in, total_in, IsSameKeg}

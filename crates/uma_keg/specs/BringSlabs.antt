@@ -1,9 +1,9 @@
 -- How a keg brings in as many slabs as a fetch wants. That a keg whose free items are used up takes a new slab is FreeBSD's uma(9); that slabs are brought in until some item is free beyond the reserve, and at the least indices, is own.
 use Rattle.std.specs.Prelude.{◌≡◌, ◌≤◌, ◌<◌, ◌+◌, ◌*◌, ◌/◌, ◌↔◌, ℕ, Bool, IsTrue, Some, None}
 use Rattle.std.specs.Option.{IsSomeAnd}
-use Rattle.uma_keg.specs.declared.fetch_refused.FetchRefused.{FetchRefused}
+use Rattle.uma_keg.specs.declared.fetch.FetchRefused.{FetchRefused}
 use Rattle.uma_keg.specs.declared.keg.Keg.{Keg}
-use Rattle.uma_places.specs.Places.{KegPlaces, IsIn, IsFree, place_at, domain_at, slab_count, free_count, out_count}
+use Rattle.uma_slabs.specs.Places.{KegPlaces, IsIn, IsFree, place_at, domain_at, slab_count, free_count, out_count}
 use Rattle.uma_keg.specs.NewItems.{IsNewItem}
 use Rattle.uma_keg.specs.BringSlab.{AcceptsNumber, RefusesSlab}
 use Rattle.uma_keg.specs.Fetch.{Found, IsEnough}

@@ -3,14 +3,14 @@ use Rattle.std.specs.Prelude.{◌≡◌, ◌≤◌, ◌<◌, ◌+◌, ◌*◌, �
 use Rattle.deed_book.specs.Deed.{BookId}
 use Rattle.deed_book.specs.Book.{book_table}
 use Rattle.deed_book.specs.BookLaw.{IsOutside}
-use Rattle.uma_life.specs.declared.live.Live.{Live}
-use Rattle.uma_life.specs.declared.tally_sum.TallySum.{TallySum}
+use Rattle.uma_life.specs.declared.states.Live.{Live}
+use Rattle.uma_life.specs.declared.tally.TallySum.{TallySum}
 use Rattle.uma_life.specs.Hook.{Hook}
 use Rattle.uma_life.specs.Sum.{sum_of, AreBelow}
-use Rattle.uma_places.specs.declared.counts.KegCounts.{KegCounts}
+use Rattle.uma_slabs.specs.declared.places.KegCounts.{KegCounts}
 use Rattle.uma_keg.specs.declared.census.Census.{Census}
 use Rattle.uma_keg.specs.declared.keg.Keg.{Keg}
-use Rattle.uma_places.specs.Places.{IsSound, slab_count, free_count}
+use Rattle.uma_slabs.specs.Places.{IsSound, slab_count, free_count}
 use Rattle.uma_keg.specs.Keg.{places_in, zones_in, out_in, table_in, reserve_in, total_in, HasZone}
 use Rattle.uma_keg.specs.Lent.{all_seen, lent_of, deed_of}
 

@@ -1,6 +1,6 @@
 -- What a fetch finds, told by the counts of its keg and the zone's items outside and limit.
 use Rattle.std.specs.Prelude.{◌≤◌, ◌<◌, ◌^◌, ℕ}
-use Rattle.uma_places.specs.declared.counts.KegCounts.{KegCounts}
+use Rattle.uma_slabs.specs.declared.places.KegCounts.{KegCounts}
 use Rattle.uma_keg.specs.Fetch.{Found}
 
 abbrev pub found_by : KegCounts → ℕ → ℕ → Found

@@ -1,8 +1,8 @@
 -- What is buried of an item that is ended. That keg_fini runs on each item of a slab that is given up is the rule of FreeBSD's uma(9).
 use Rattle.std.specs.Prelude.{◌≡◌, ◌≤◌, ◌<◌, ◌+◌, ◌*◌, ◌^◌, List, Option, IfSome, All, length, sum_by}
-use Rattle.uma_life.specs.declared.stored.Stored.{Stored}
+use Rattle.uma_life.specs.declared.states.Stored.{Stored}
 use Rattle.uma_life.specs.Stored.{stored_body}
-use Rattle.uma_life.specs.declared.tally_sum.TallySum.{TallySum}
+use Rattle.uma_life.specs.declared.tally.TallySum.{TallySum}
 use Rattle.uma_life.specs.Hook.{Hook, KegFini, after}
 use Rattle.uma_life.specs.Sum.{sum_of, AreBelow}
 use Rattle.uma_keg.specs.Tallies.{ended_times}

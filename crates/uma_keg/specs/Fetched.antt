@@ -1,16 +1,16 @@
 -- What becomes of a keg by a fetch: how it ends, by what it found, what it asked for and what the hooks refused, and what it changed. The order of its tests is own, as is that items taken before a refusal are given; that a refusal by a hook ends it, and the item stays in the keg, is FreeBSD's uma(9).
 use Rattle.std.specs.Prelude.{◌≡◌, ◌≢◌, ◌≤◌, ◌<◌, ◌+◌, ◌^◌, ◌⊎◌, ℕ, true, false, Some, List, [], ◌∷◌, ◌++◌, Result, Err, All, length}
-use Rattle.uma_life.specs.declared.cached.Cached.{Cached}
+use Rattle.uma_life.specs.declared.states.Cached.{Cached}
 use Rattle.uma_life.specs.Cached.{cached_zone, cached_table}
 use Rattle.uma_life.specs.Hook.{Hook}
 use Rattle.zone_stats.specs.declared.refusal.Refusal.{Refusal}
 use Rattle.zone_stats.specs.declared.refusal.Refusal.TheVariants.{AtLimit, Reserved, Full, Init, Ctor}
-use Rattle.uma_keg.specs.declared.fetch_ask.FetchAsk.{FetchAsk}
-use Rattle.uma_keg.specs.declared.fetch_refused.FetchRefused.{FetchRefused}
-use Rattle.uma_keg.specs.declared.fetch_refused.FetchRefused.TheVariants.{Refused, Memory}
+use Rattle.uma_keg.specs.declared.fetch.FetchAsk.{FetchAsk}
+use Rattle.uma_keg.specs.declared.fetch.FetchRefused.{FetchRefused}
+use Rattle.uma_keg.specs.declared.fetch.FetchRefused.TheVariants.{Refused, Memory}
 use Rattle.uma_keg.specs.declared.keg.Keg.{Keg}
 use Rattle.uma_keg.specs.Fetch.{Wish, is_at_limit, IsNewSlabs, outcome_with, Outcome, Refuses, Gives, EndsAs}
-use Rattle.uma_places.specs.Places.{slab_count}
+use Rattle.uma_slabs.specs.Places.{slab_count}
 use Rattle.uma_keg.specs.Keg.{places_in, zones_in, out_in, table_in, limit_in, reserve_in, buried_in, total_in, IsSameKeg}
 pub use Rattle.uma_keg.specs.Frames.{IsUnmoved}
 use Rattle.uma_keg.specs.BringSlab.{RefusesNumber}

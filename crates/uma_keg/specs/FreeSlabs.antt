@@ -1,11 +1,11 @@
 -- How a keg gives up slabs. That a slab whose items are all free may be given up, that keg_fini runs on each of them, and that the reserve is kept, is the rule of FreeBSD's uma(9); the greatest index first, and how many are given up at once, are own.
 use Rattle.std.specs.Prelude.{◌≡◌, ◌≢◌, ◌≤◌, ◌<◌, ◌+◌, ◌-◌, ◌*◌, ◌/◌, ◌^◌, ◌⊎◌, ◌↔◌, ℕ, Bool, ◌&&◌, ◌==◌, nat_lt, min, if◌then◌else◌, Option, Some, None, IsNone, IfSome, IfNone, is_some}
-use Rattle.uma_life.specs.declared.stored.Stored.{Stored}
+use Rattle.uma_life.specs.declared.states.Stored.{Stored}
 use Rattle.uma_life.specs.Hook.{Hook}
 use Rattle.uma_life.specs.Sum.{sum_of}
 use Rattle.uma_keg.specs.declared.keg.Keg.{Keg}
-use Rattle.uma_places.specs.Places.{KegPlaces, place_at, domain_at, slab_count, free_count, out_count, CountsOneSlab}
-use Rattle.uma_places.specs.Dropping.{IsWhollyFree, IsUsedUp, HasNoneWhollyFree, Drops}
+use Rattle.uma_slabs.specs.Places.{KegPlaces, place_at, domain_at, slab_count, free_count, out_count, CountsOneSlab}
+use Rattle.uma_slabs.specs.Dropping.{IsWhollyFree, IsUsedUp, HasNoneWhollyFree, Drops}
 use Rattle.uma_keg.specs.KegLaw.{is_free_place}
 use Rattle.uma_keg.specs.Tallies.{ended_times, sum_below}
 use Rattle.uma_keg.specs.Ended.{IsEndedAt}

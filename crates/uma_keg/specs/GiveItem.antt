@@ -2,11 +2,11 @@
 use Rattle.std.specs.Prelude.{◌≡◌, ◌≢◌, ◌+◌, ℕ, None, slice_set}
 use Rattle.std.specs.Option.{IsSomeAnd}
 use Rattle.deed_book.specs.BookLaw.{IsOutside}
-use Rattle.uma_life.specs.declared.cached.Cached.{Cached}
+use Rattle.uma_life.specs.declared.states.Cached.{Cached}
 use Rattle.uma_life.specs.Cached.{cached_body, cached_no, cached_zone}
 use Rattle.uma_life.specs.Stored.{stored_body}
 use Rattle.uma_life.specs.Hook.{ZoneFini, after}
-use Rattle.uma_places.specs.Places.{Gives, CountsOneOut}
+use Rattle.uma_slabs.specs.Places.{Gives, CountsOneOut}
 use Rattle.uma_keg.specs.declared.keg.Keg.{Keg}
 use Rattle.uma_keg.specs.Keg.{places_in, zones_in, out_in, rights_in, stored_in, limit_in, fetches_in, buried_in, IsSameKeg}
 

@@ -1,8 +1,8 @@
 -- Own: what a keg's own contracts see of its items at home.
 use Rattle.std.specs.Prelude.{◌≡◌, ◌≢◌, ◌<◌, ◌/◌, ◌%◌, ℕ, Bool, true, false, Option, Some, None, IfSome, IfNone, is_some, length, vec_len}
-use Rattle.uma_life.specs.declared.stored.Stored.{Stored}
+use Rattle.uma_life.specs.declared.states.Stored.{Stored}
 use Rattle.uma_keg.specs.declared.home_items.HomeItems.{HomeItems}
-use Rattle.uma_keg.specs.declared.slab_items.SlabItems.{SlabItems}
+use Rattle.uma_keg.specs.declared.slabs.SlabItems.{SlabItems}
 use Rattle.uma_keg.specs.SlabItems.{places_of_slab}
 use Rattle.uma_keg.specs.HomeLists.{slab_items_in, item_in, item_on}
 

@@ -1,7 +1,7 @@
 -- Own: the items of a keg's slabs by index, and their items by number.
 use Rattle.std.specs.Prelude.{◌≡◌, ◌/◌, ◌%◌, ℕ, List, Option, Some, None, length, option_and_then, slice_index_or}
-use Rattle.uma_life.specs.declared.stored.Stored.{Stored}
-use Rattle.uma_keg.specs.declared.slab_items.SlabItems.{SlabItems}
+use Rattle.uma_life.specs.declared.states.Stored.{Stored}
+use Rattle.uma_keg.specs.declared.slabs.SlabItems.{SlabItems}
 use Rattle.uma_keg.specs.SlabItems.{places_of_slab}
 
 -- the item of a place, if it is there

@@ -1,10 +1,10 @@
 -- The law of a keg: its places, its book of numbers, its items and its zones agree between any two calls. That an item is in its keg or has one holder outside is the rule of FreeBSD's uma(9).
 use Rattle.std.specs.Prelude.{◌≡◌, ◌<◌, ◌*◌, ℕ, Bool, true, false, List, Option, Some, None, is_some, length, slice_index_or}
 use Rattle.deed_book.specs.BookLaw.{IsHome}
-use Rattle.uma_life.specs.declared.stored.Stored.{Stored}
+use Rattle.uma_life.specs.declared.states.Stored.{Stored}
 use Rattle.uma_life.specs.Stored.{stored_no, stored_origin}
 use Rattle.uma_keg.specs.declared.home_items.HomeItems.{HomeItems}
-use Rattle.uma_places.specs.Places.{KegPlaces, place_at, domain_at}
+use Rattle.uma_slabs.specs.Places.{KegPlaces, place_at, domain_at}
 use Rattle.uma_keg.specs.HomeItems.{item_at, has_slab, slab_room, places_each}
 use Rattle.uma_keg.specs.Outs.{out_of}
 

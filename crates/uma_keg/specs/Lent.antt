@@ -3,10 +3,10 @@ use Rattle.std.specs.Prelude.{◌≡◌, ℕ, ◌==◌, List, [], ◌∷◌, ◌
 use Rattle.deed_book.specs.declared.deed.Deed.{Deed}
 use Rattle.deed_book.specs.Deed.{BookId, deed_table, no_of, zone_of}
 use Rattle.deed_book.specs.BookLaw.{IsOutside}
-use Rattle.uma_life.specs.declared.live.Live.{Live}
+use Rattle.uma_life.specs.declared.states.Live.{Live}
 use Rattle.uma_life.specs.Live.{live_body, live_ticket, live_no, live_zone, live_domain, live_table}
 use Rattle.uma_life.specs.Ticket.{ticket_deed}
-use Rattle.uma_keg.specs.declared.undeeded.Undeeded.{Undeeded}
+use Rattle.uma_keg.specs.declared.home_items.Undeeded.{Undeeded}
 
 -- a live item but for which token its deed is
 pub record Seen (T : Type 0) : Type 0 where

@@ -1,10 +1,10 @@
 -- The items of a slab that is brought in. That keg_init runs on each, and that a refusal ends those made before it, is the rule of FreeBSD's uma(9).
 use Rattle.std.specs.Prelude.{◌≡◌, ◌≤◌, ◌<◌, ◌+◌, ◌^◌, ℕ, List, Option, None, IfSome, All, length, slice_index_or}
 use Rattle.std.specs.Option.{IsSomeAnd}
-use Rattle.uma_life.specs.declared.stored.Stored.{Stored}
-use Rattle.uma_life.specs.declared.tally_sum.TallySum.{TallySum}
-use Rattle.uma_life.specs.declared.refused.BringRefused.{BringRefused}
-use Rattle.uma_life.specs.declared.refused.BringRefused.TheVariants.{Init, Memory}
+use Rattle.uma_life.specs.declared.states.Stored.{Stored}
+use Rattle.uma_life.specs.declared.tally.TallySum.{TallySum}
+use Rattle.uma_life.specs.declared.hooks.BringRefused.{BringRefused}
+use Rattle.uma_life.specs.declared.hooks.BringRefused.TheVariants.{Init, Memory}
 use Rattle.uma_life.specs.Stored.{stored_body, stored_origin}
 use Rattle.uma_life.specs.Life.{raw_life}
 use Rattle.uma_life.specs.Hook.{KegInit, IsCode, after}

@@ -5,8 +5,8 @@ use Rattle.deed_book.specs.declared.deed.Deed.{Deed}
 use Rattle.deed_book.specs.Book.{book_table, zones_of}
 use Rattle.deed_book.specs.Deed.{deed_table, no_of}
 use Rattle.uma_life.specs.Sum.{no_sums}
-use Rattle.uma_places.specs.Places.{IsNew}
-use Rattle.uma_places.specs.Refused.{IsItemSize, IsSlabCount}
+use Rattle.uma_slabs.specs.Places.{IsNew}
+use Rattle.uma_slabs.specs.Refused.{IsItemSize, IsSlabCount}
 use Rattle.uma_keg.specs.declared.keg.Keg.{Keg}
 use Rattle.uma_keg.specs.Frames.{IsUnmoved}
 use Rattle.uma_keg.specs.Keg.{places_in, zones_in, table_in, rights_in, limit_in, fetches_in, reserve_in, size_in, hooks_in, buried_in, HasZone, IsSameKeg}

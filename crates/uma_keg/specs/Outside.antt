@@ -1,12 +1,12 @@
 -- Own: what a keg's own contracts see of the numbers outside.
 use Rattle.std.specs.Prelude.{◌≡◌, ◌<◌, ℕ, List, Option, Some, None, count_by, is_some, replicate, slice_index_or, slice_set, sum_by}
 use Rattle.deed_book.specs.declared.deed.Deed.{Deed}
-use Rattle.deed_book.specs.declared.origin.Origin.{Origin}
+use Rattle.deed_book.specs.declared.deed.Origin.{Origin}
 use Rattle.deed_book.specs.Deed.{BookId, deed_table, no_of, zone_of}
 use Rattle.deed_book.specs.Origin.{origin_numbers}
 use Rattle.deed_book.specs.BookLaw.{IsHome, IsOutside}
 use Rattle.deed_book.specs.Book.{book_table, zones_of}
-use Rattle.uma_keg.specs.declared.outside.Outside.{Outside}
+use Rattle.uma_keg.specs.declared.home_items.Outside.{Outside}
 use Rattle.uma_keg.specs.Outs.{out_of}
 
 abbrev pub outside_zones : Outside → List (Option ℕ)

@@ -1,6 +1,6 @@
 -- The hooks of an item come in pairs, and so do their sums. That inits and finis, and ctors and dtors, come in pairs is the rule of FreeBSD's uma(9).
 use Rattle.std.specs.Prelude.{◌<◌, ℕ}
-use Rattle.uma_life.specs.declared.tally_sum.TallySum.{TallySum}
+use Rattle.uma_life.specs.declared.tally.TallySum.{TallySum}
 use Rattle.uma_life.specs.Hook.{ZoneInit, Ctor, Dtor, ZoneFini}
 use Rattle.uma_life.specs.Sum.{sum_of}
 use Rattle.uma_life.specs.Trail.{ShowsSame}

@@ -3,10 +3,10 @@ use Rattle.std.specs.Prelude.{◌≡◌, ◌≤◌, ℕ, List, [], Option, All, 
 use Rattle.std.specs.declared.alloc.Global.{Global}
 use Rattle.std.specs.Vec.{vec_capacity}
 use Rattle.deed_book.specs.BookLaw.{IsOutside}
-use Rattle.uma_life.specs.declared.live.Live.{Live}
+use Rattle.uma_life.specs.declared.states.Live.{Live}
 use Rattle.uma_life.specs.Live.{live_table}
-use Rattle.uma_keg.specs.declared.outside.Outside.{Outside}
-use Rattle.uma_keg.specs.declared.undeeded.Undeeded.{Undeeded}
+use Rattle.uma_keg.specs.declared.home_items.Outside.{Outside}
+use Rattle.uma_keg.specs.declared.home_items.Undeeded.{Undeeded}
 use Rattle.uma_keg.specs.Outs.{out_of}
 use Rattle.uma_keg.specs.Outside.{outside_zones, outside_table}
 use Rattle.uma_keg.specs.Lent.{all_seen, lent_of, deed_of, deed_without, seen_without, together, TakesIn, IsWithoutOf}

@@ -1,13 +1,13 @@
 -- What becomes of a keg where one item is taken from it for a zone. That zone_init runs on an item that enters a secondary zone, and that an item which it refuses stays in the keg, is the rule of FreeBSD's uma(9).
 use Rattle.std.specs.Prelude.{◌≡◌, ◌≢◌, ◌<◌, ◌+◌, ◌/◌, ◌⊎◌, ℕ, Some, None, slice_set}
-use Rattle.uma_life.specs.declared.stored.Stored.{Stored}
-use Rattle.uma_life.specs.declared.cached.Cached.{Cached}
+use Rattle.uma_life.specs.declared.states.Stored.{Stored}
+use Rattle.uma_life.specs.declared.states.Cached.{Cached}
 use Rattle.uma_life.specs.Stored.{stored_body}
 use Rattle.uma_life.specs.Cached.{cached_body, cached_no, cached_zone, cached_domain, cached_table}
 use Rattle.uma_life.specs.Hook.{ZoneInit, after, IsCode}
 use Rattle.uma_keg.specs.declared.keg.Keg.{Keg}
-use Rattle.uma_places.specs.Places.{KegPlaces, place_at, domain_at, slab_count, free_count, out_count, IsFree, KeepsSlabs, CountsOneOut}
-use Rattle.uma_places.specs.Taking.{TakesPlaces, IsPartlyUsed}
+use Rattle.uma_slabs.specs.Places.{KegPlaces, place_at, domain_at, slab_count, free_count, out_count, IsFree, KeepsSlabs, CountsOneOut}
+use Rattle.uma_slabs.specs.Taking.{TakesPlaces, IsPartlyUsed}
 use Rattle.uma_keg.specs.Keg.{places_in, zones_in, out_in, table_in, stored_in, HasZone}
 
 -- An item is out in a zone: its deed is of the keg's book, its domain is its slab's, and it is the one that was at home. Its body, if the zone isn't 0, passed zone_init, and is as these hooks left it.

@@ -1,12 +1,12 @@
 -- What becomes of a keg where several items are taken from it for a zone, one after the other.
 use Rattle.std.specs.Prelude.{◌≡◌, ◌≢◌, ◌≤◌, ◌<◌, ◌+◌, ◌⊎◌, ℕ, List, [], ◌∷◌, ◌++◌, Option, Some, None, All, length, map, slice_set}
-use Rattle.uma_life.specs.declared.cached.Cached.{Cached}
+use Rattle.uma_life.specs.declared.states.Cached.{Cached}
 use Rattle.uma_life.specs.Cached.{cached_no}
 use Rattle.uma_bucket.specs.declared.bucket.Bucket.{Bucket}
 use Rattle.uma_bucket.specs.Bucket.{items_of, size_of}
 use Rattle.uma_keg.specs.declared.keg.Keg.{Keg}
-use Rattle.uma_places.specs.Places.{KegPlaces, slab_count, free_count, out_count, KeepsSlabs}
-use Rattle.uma_places.specs.Taking.{TakesPlaces}
+use Rattle.uma_slabs.specs.Places.{KegPlaces, slab_count, free_count, out_count, KeepsSlabs}
+use Rattle.uma_slabs.specs.Taking.{TakesPlaces}
 use Rattle.uma_keg.specs.Keg.{places_in, zones_in, out_in, stored_in, HasZone}
 use Rattle.uma_keg.specs.TakeItem.{IsTaken, RefusesItem, KeepsItems}
 

@@ -1,11 +1,11 @@
 -- Own: how often the items of a keg passed each hook, summed up over those at home and the buried.
 use Rattle.std.specs.Prelude.{◌≡◌, ◌≤◌, ◌+◌, ◌*◌, ◌^◌, ℕ, zero, suc, Option, Some, None}
-use Rattle.uma_life.specs.declared.stored.Stored.{Stored}
-use Rattle.uma_life.specs.declared.tally_sum.TallySum.{TallySum}
+use Rattle.uma_life.specs.declared.states.Stored.{Stored}
+use Rattle.uma_life.specs.declared.tally.TallySum.{TallySum}
 use Rattle.uma_life.specs.Stored.{stored_body}
 use Rattle.uma_life.specs.Hook.{Hook, KegInit, KegFini, after}
 use Rattle.uma_life.specs.Sum.{times_of, sum_of}
-use Rattle.uma_places.specs.Places.{KegPlaces, slab_count}
+use Rattle.uma_slabs.specs.Places.{KegPlaces, slab_count}
 
 -- how often the item of a place passed a hook, 0 where none is there
 abbrev pub home_times : {T : Type 0} {g : _} → Hook → Option (Stored T g) → ℕ

@@ -1,6 +1,6 @@
 -- Own: how a keg's items at home and the buried are summed up.
 use Rattle.std.specs.Prelude.{◌≡◌, ◌<◌, ◌+◌, ◌/◌, ◌^◌, ℕ}
-use Rattle.uma_life.specs.declared.tally_sum.TallySum.{TallySum}
+use Rattle.uma_life.specs.declared.tally.TallySum.{TallySum}
 use Rattle.uma_life.specs.Hook.{Hook}
 use Rattle.uma_life.specs.Sum.{sum_of, AreBelow}
 use Rattle.uma_keg.specs.declared.home_items.HomeItems.{HomeItems}

@@ -1,33 +1,33 @@
 ghost use Rattle.std.specs.Prelude.{◌≡◌, ◌<◌, ◌↔◌, [], IsTrue, IfOk, IfErr, replicate};
 ghost use Rattle.deed_book.specs.Book.{book_table, zones_of};
 ghost use Rattle.deed_book.specs.Deed.{deed_table};
-ghost use Rattle.uma_places.specs.Refused.{IsRefusedFor};
+ghost use Rattle.uma_slabs.specs.Refused.{IsRefusedFor};
 ghost use Rattle.uma_keg.specs.KegLaw.{PlacesLaw, ZonesLaw, AreOfOrigin};
 ghost use Rattle.uma_keg.specs.Tallies.{TallyLaw};
 ghost use Rattle.uma_keg.specs.Paired.{ArePaired};
+ghost use Rattle.uma_life.specs.Cached.{cached_table};
 
-use crate::fetch_refused::FetchRefused;
-use crate::home_items::HomeItems;
-use crate::outside::Outside;
+use crate::fetch::FetchRefused;
+use crate::home_items::{HomeItems, Outside};
 use crate::rights::new_rights;
 use deed_book::{Book, Deed, Names, Origin};
 use listed::Log;
 use std::alloc::Global;
 use std::marker::PhantomData;
 use std::snapshot::Snapshot;
-use uma_life::{Body, Hooks, TallySum};
-use uma_places::{KegCounts, KegRefused, Places};
+use uma_life::{Body, Cached, Hooks, TallySum};
+use uma_slabs::{KegCounts, KegRefused, Places};
 
 /// The store of items that a primary zone and its secondary zones share.
 ///
 /// The law that holds between any two calls:
 ///
 /// 1. A place of a slab that is in is free exactly where the item of its number is at home, and used exactly where the
-///    number is outside, in the book of the keg's numbers. An item at home has its number, and its slab's domain.
-/// 2. A zone exists exactly where its right is at home in the book of the keg's rights. One that doesn't exist has no
+///    number is allocated, in the book of the keg's numbers. An item in the keg has its number, and its slab's domain.
+/// 2. A zone exists exactly where its right is in the book of the keg's rights. One that doesn't exist has no
 ///    item outside.
 /// 3. In the sums of the buried hooks come in pairs.
-/// 4. The items at home, and the book of the keg's numbers, are of the origin of the keg's hooks.
+/// 4. The items at home, and the book of the keg's numbers, have the origin of the keg's hooks.
 ///
 /// Contracts alone see, for each zone, the list of how its fetches ended, each with its answer.
 #[derive(Drop)]
@@ -79,8 +79,10 @@ fn no_fetches() -> [Log<Result<u32, FetchRefused>>; 8]
 }
 
 impl<T: Body, K: Hooks<T>> Keg<T, K> {
+    ghost use Rattle.uma_keg.specs.GiveItem.{TakesBack};
+    ghost use Rattle.uma_keg.specs.SetLimit.{MayLimit, SetsLimit};
+    ghost use Rattle.uma_keg.specs.Keg.{table_in, limit_in, out_in, book_in, rights_in, HasZone, size_in};
     ghost use Rattle.uma_keg.specs.Census.{CountsKeg};
-    ghost use Rattle.uma_keg.specs.Keg.{out_in, book_in, rights_in, HasZone, limit_in, size_in};
     ghost use Rattle.uma_keg.specs.NewKeg.{IsNewKeg, AddsZone};
 
     /// A keg of items of `size` bytes, 8 to 4,096, with room for `slabs` slabs, 1 to 1,024, of which none is in, and of
@@ -193,5 +195,32 @@ impl<T: Body, K: Hooks<T>> Keg<T, K> {
         let (no, _) = self.rights.accept(right);
         self.limits[no as usize] = limit;
         no as u8
+    }
+
+    /// Sets the limit of a zone, at most 1,000,000, where 0 is none, and answers the former one. One that doesn't exist
+    /// yet gets another as it is added.
+    ///
+    /// A lowered limit takes nothing away: more items may then be outside than it allows, and no fetch gives one until
+    /// fewer are.
+    pub fn set_limit(&mut self, zone: u8, limit: u64) -> u64
+        requires { MayLimit zone limit }
+        ensures former { result ≡ limit_in self.old zone }
+        ensures set { SetsLimit self.old zone limit self.new }
+    {
+        let former = self.limits[zone as usize];
+        self.limits[zone as usize] = limit;
+        former
+    }
+
+    /// Takes an item of this keg back. It passes `zone_fini` of the hooks that are handed, those of its zone, but for zone 0,
+    /// and its place is free.
+    pub fn give(&mut self, hooks: &K, item: Cached<T>)
+        requires { cached_table item ≡ table_in self.old }
+        ensures { TakesBack self.old hooks.now item self.new }
+    {
+        let (stored, deed) = item.give_back(hooks);
+        let no = self.outside.accept(deed);
+        self.places.give(no);
+        self.home_items.put(no, stored);
     }
 }

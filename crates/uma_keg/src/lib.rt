@@ -1,59 +1,36 @@
-//! The kegs of a zone allocator: where a zone's slabs come from and go back to.
+//! Kegs: the stores of items of one size that zones fetch from and give back to, as in FreeBSD's uma(9).
 //!
-//! A [`Keg`] has slabs of 4,096 bytes for items of one size, and up to eight zones that share them. It has the items that
-//! are at home, and books of those that are outside, by zone. [`Places`] is what a keg knows of its slabs without the items
-//! themselves: which are in, and which of their places are free. An item's number is its slab's index times the items of a
-//! slab, plus its place in the slab.
+//! A [`Keg`] has slabs of 4,096 bytes, and up to eight zones share it: zone 0 is the primary one, and the others are secondary. The keg has
+//! the items that are *at home* (free in their slabs), and books of those that are *outside* (allocated or cached), by zone. A *fetch*
+//! moves items from the keg into a bucket. A zone may have a *limit* on its items outside, and a keg a *reserve* of free items that only
+//! some requests may use. A *right* is the deed by which a zone is added.
 //!
-//! - The 8 stands as a numeral in array types and clauses, where the search reckons with it; `MOST_ZONES` makes the eight
-//!   rights.
-//! - No sum of hooks comes to its end: a slab comes in only while each is below 2^120. `bring` and `fetch` answer `Memory`
-//!   where one isn't, before all else, also at the limit or a full keg (`sums_full`); no run comes there. A fetch goes over
-//!   the items at home only where the buried sums, which it tests first, are near that bound.
-//! - A refused slab costs what was made and ended of it, exactly. Which of its items is refused isn't pinned, since the
-//!   hooks' meaning may depend on more of a body than its life.
-//! - `specs/Fetch` gives count and refusal of a fetch as a closed form of the numbers that it begins with; `specs/Fetched`
-//!   adds hooks, memory and what changes. A fetch counts first and then takes the items one by one, which is the same as
-//!   testing limit and reserve before each.
-//! - An item that `zone_init` refuses is taken back at once, so such a keg's places are the same place by place, and not as
-//!   one value.
-//! - `keg_init` of new slabs is by the keg's own hooks, all else of a fetch by those of the zone that asks.
-//! - Why `free_slabs` stopped is a clause about the keg after it: no slab is wholly free, one more would take of the
-//!   reserve, or too many were ever brought in.
-//! - A census takes the deeds of the lent items in from last to first and issues them again from the last taken, so map and
-//!   order are back exactly; bodies, numbers, zones, domains and book are the same, the deeds are other tokens. Its memory
-//!   is taken before any deed. Hooks pair up over bodies at home and buried ones, not over those outside.
-//! - How each fetch of a zone ended is a list that contracts alone see, so whoever lists fetches elsewhere is held to each
-//!   of them.
-//! - `give` puts an item into its slab's domain whatever its ticket says, since anyone may make a ticket of any domain.
+//! ```
+//! let (mut keg, mut rights) = Keg::new(alloc, 256, 4, 0, hooks)?;     // 256 bytes, at most four slabs, no reserve
+//! let zone = keg.add_zone(right, 100);                                // right: one of `rights`; a limit of 100 items
+//! let count = keg.fetch(rt, alloc, &hooks, ask, &mut bucket)?;        // at least one item, or the refusal's cause
+//! keg.give(&hooks, item);                                             // one cached item back
+//! ```
+//!
+//! # What is promised
+//!
+//! - The keg's four laws at [`Keg`]: for one, a place is free exactly if the item of its number is at home.
+//! - `fetch` returns a count and a refusal that are a function of the keg's counts, as `specs/Fetch` says (`Keg::fetch`: `EndsFetch`). No
+//!   fetch exceeds the limit or takes of the reserve without a right to it (`fetches_keep_their_bounds`).
+//! - `free_slabs` gives up wholly free slabs as long as the reserve stays free (`Keg::free_slabs`: `frees`).
+//! - A [`Census`] counts the keg, its items outside and the hooks that ran (`Keg::census`: `census`).
+//!
+//! A fetch may allocate slabs, and calls the user's hooks. `give` doesn't allocate.
 #![tactic(auto)]
 
-mod bring;
-mod bring_slabs;
 mod census;
 mod fetch;
-mod fetch_ask;
-mod fetch_law;
-mod fetch_refused;
-mod free_slabs;
-mod give;
 mod home_items;
 mod keg;
-mod keg_census;
-mod new_items;
-mod outside;
-mod recount;
 mod rights;
-mod set_limit;
-mod slab_items;
-mod take_item;
-mod take_items;
-mod tallies;
-mod undeeded;
+mod slabs;
 
 pub use census::Census;
-pub use fetch_ask::FetchAsk;
-pub use fetch_law::fetches_keep_their_bounds;
-pub use fetch_refused::FetchRefused;
+pub use fetch::{FetchAsk, FetchRefused, fetches_keep_their_bounds};
 pub use keg::Keg;
-pub use uma_places::{KegCounts, KegRefused, Places};
+pub use uma_slabs::{KegCounts, KegRefused, Places};

@@ -1,9 +1,9 @@
 -- An item outside its keg is one item, in the state that its body's phase says.
 use Rattle.std.proofs.Common.{◌≡◌, ◌==◌, ℕ, Bool, true, false, cond, Some, refl, ap, ◌∙◌, subst}
-use Rattle.uma_life.specs.declared.body_phase.BodyPhase.TheVariants.{Kept, Zoned}
-use Rattle.uma_life.specs.declared.cached.Cached.{Cached}
-use Rattle.uma_life.specs.declared.live.Live.{Live}
-use Rattle.uma_life.specs.declared.outside.Outside.{Outside}
+use Rattle.uma_life.specs.declared.tally.BodyPhase.TheVariants.{Kept, Zoned}
+use Rattle.uma_life.specs.declared.states.Cached.{Cached}
+use Rattle.uma_life.specs.declared.states.Live.{Live}
+use Rattle.uma_life.specs.declared.states.Outside.{Outside}
 use Rattle.uma_life.specs.Hook.{Dtor, after}
 use Rattle.uma_life.specs.Life.{Life}
 use Rattle.uma_life.specs.Outside.{is_live, stands_so, cached_where, live_where, IsCachedItem, IsLiveItem, FinishesOutside}

@@ -2,10 +2,10 @@
 use Rattle.std.proofs.Common.{◌≡◌}
 use Rattle.std.proofs.Props.{props}
 use std.HLevel.{prop→path_p}
-use Rattle.uma_life.specs.declared.body_phase.BodyPhase.TheVariants.{Kept, Built}
-use Rattle.uma_life.specs.declared.stored.Stored.{Stored}
-use Rattle.uma_life.specs.declared.cached.Cached.{Cached}
-use Rattle.uma_life.specs.declared.live.Live.{Live}
+use Rattle.uma_life.specs.declared.tally.BodyPhase.TheVariants.{Kept, Built}
+use Rattle.uma_life.specs.declared.states.Stored.{Stored}
+use Rattle.uma_life.specs.declared.states.Cached.{Cached}
+use Rattle.uma_life.specs.declared.states.Live.{Live}
 use Rattle.uma_life.specs.Trail.{IsAt}
 use Rattle.uma_life.specs.Hook.{base_phase}
 use Rattle.deed_book.specs.Deed.{no_of, zone_of, deed_table}

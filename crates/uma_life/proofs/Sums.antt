@@ -2,10 +2,10 @@
 use Rattle.std.proofs.Common.{◌≡◌, ◌<◌, ◌+◌, ◌^◌, ℕ, List, length, get_or, inl, inr, refl, arith, ap}
 use Rattle.std.proofs.lemmas.Bool.{cases_lt}
 use Rattle.std.proofs.lemmas.List.{get_or_past}
-use Rattle.uma_life.specs.declared.zone_tally.ZoneTally.{ZoneTally}
+use Rattle.uma_life.specs.declared.tally.ZoneTally.{ZoneTally}
 use Rattle.uma_life.specs.declared.tally.Tally.{Tally}
-use Rattle.uma_life.specs.declared.tally_sum.ZoneTallySum.{ZoneTallySum}
-use Rattle.uma_life.specs.declared.tally_sum.TallySum.{TallySum}
+use Rattle.uma_life.specs.declared.tally.ZoneTallySum.{ZoneTallySum}
+use Rattle.uma_life.specs.declared.tally.TallySum.{TallySum}
 use Rattle.uma_life.specs.Life.{no_counts}
 use Rattle.uma_life.specs.Hook.{Hook, KegInit, ZoneInit, Ctor, Dtor, ZoneFini, KegFini}
 use Rattle.uma_life.specs.Sum.{no_zone_sums, times_of, sum_of, zone_sums, AreBelow, IsBelow, AreCounts, zone_sums_with, zone_sums_and, capped, capped_zone}

@@ -1,8 +1,8 @@
 -- Own: what contracts see of a cached item.
 use Rattle.std.specs.Prelude.{ℕ}
 use Rattle.deed_book.specs.Deed.{BookId}
-use Rattle.uma_life.specs.declared.cached.Cached.{Cached}
-use Rattle.uma_life.specs.declared.ticket.Ticket.{Ticket}
+use Rattle.uma_life.specs.declared.states.Cached.{Cached}
+use Rattle.uma_life.specs.declared.states.Ticket.{Ticket}
 use Rattle.uma_life.specs.Ticket.{ticket_no, ticket_zone, ticket_domain, ticket_table}
 
 abbrev pub cached_body : {T : Type 0} {g : _} → Cached T g → T

@@ -1,8 +1,8 @@
 -- The six hooks of an item, those of FreeBSD's uma(9): a keg's init and fini, a secondary zone's zinit and zfini, and ctor and dtor. Zone 0 of a keg is its primary zone, which has no zone_init and no zone_fini.
 use Rattle.std.specs.Prelude.{◌≡◌, ◌≤◌, ◌<◌, ◌+◌, ◌%◌, ◌^◌, ℕ, ◌==◌, cond, slice_index_or, slice_set}
-use Rattle.uma_life.specs.declared.body_phase.BodyPhase.{BodyPhase}
-use Rattle.uma_life.specs.declared.body_phase.BodyPhase.TheVariants.{Raw, Kept, Zoned, Built, Gone}
-use Rattle.uma_life.specs.declared.zone_tally.ZoneTally.{ZoneTally}
+use Rattle.uma_life.specs.declared.tally.BodyPhase.{BodyPhase}
+use Rattle.uma_life.specs.declared.tally.BodyPhase.TheVariants.{Raw, Kept, Zoned, Built, Gone}
+use Rattle.uma_life.specs.declared.tally.ZoneTally.{ZoneTally}
 use Rattle.uma_life.specs.declared.tally.Tally.{Tally}
 use Rattle.uma_life.specs.Life.{Life, no_counts}
 

@@ -1,8 +1,8 @@
 -- Own: what contracts see of a live item.
 use Rattle.std.specs.Prelude.{ℕ}
 use Rattle.deed_book.specs.Deed.{BookId}
-use Rattle.uma_life.specs.declared.live.Live.{Live}
-use Rattle.uma_life.specs.declared.ticket.Ticket.{Ticket}
+use Rattle.uma_life.specs.declared.states.Live.{Live}
+use Rattle.uma_life.specs.declared.states.Ticket.{Ticket}
 use Rattle.uma_life.specs.Ticket.{ticket_no, ticket_zone, ticket_domain, ticket_table}
 
 abbrev pub live_body : {T : Type 0} {g : _} → Live T g → T

@@ -1,6 +1,6 @@
 -- What each hook asks and answers, told by what bodies say of themselves.
 use Rattle.std.specs.Prelude.{◌≡◌, ℕ, List, Option, Some, None, Result, IfOk, IfErr}
-use Rattle.deed_book.specs.declared.refused.Memory.{Memory}
+use Rattle.deed_book.specs.declared.deed.Memory.{Memory}
 use Rattle.uma_life.specs.Hook.{Hook, after, IsCode}
 use Rattle.uma_life.specs.Life.{Life, raw_life}
 

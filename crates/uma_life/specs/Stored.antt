@@ -1,6 +1,6 @@
 -- Own: what contracts see of a stored item.
 use Rattle.std.specs.Prelude.{ℕ, List}
-use Rattle.uma_life.specs.declared.stored.Stored.{Stored}
+use Rattle.uma_life.specs.declared.states.Stored.{Stored}
 
 abbrev pub stored_body : {T : Type 0} {g : _} → Stored T g → T
 stored_body item = item.body

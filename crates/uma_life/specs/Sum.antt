@@ -1,9 +1,9 @@
 -- Own: the sums of tallies, which don't wrap.
 use Rattle.std.specs.Prelude.{◌≡◌, ◌<◌, ◌+◌, ◌-◌, ◌^◌, ℕ, List, length, min, replicate, slice_index_or}
-use Rattle.uma_life.specs.declared.zone_tally.ZoneTally.{ZoneTally}
+use Rattle.uma_life.specs.declared.tally.ZoneTally.{ZoneTally}
 use Rattle.uma_life.specs.declared.tally.Tally.{Tally}
-use Rattle.uma_life.specs.declared.tally_sum.ZoneTallySum.{ZoneTallySum}
-use Rattle.uma_life.specs.declared.tally_sum.TallySum.{TallySum}
+use Rattle.uma_life.specs.declared.tally.ZoneTallySum.{ZoneTallySum}
+use Rattle.uma_life.specs.declared.tally.TallySum.{TallySum}
 use Rattle.uma_life.specs.Life.{no_counts}
 use Rattle.uma_life.specs.Hook.{Hook, KegInit, ZoneInit, Ctor, Dtor, ZoneFini, KegFini, counts_of}
 

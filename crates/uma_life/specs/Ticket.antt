@@ -2,7 +2,7 @@
 use Rattle.std.specs.Prelude.{ℕ}
 use Rattle.deed_book.specs.declared.deed.Deed.{Deed}
 use Rattle.deed_book.specs.Deed.{no_of, zone_of, label_of, deed_table, BookId}
-use Rattle.uma_life.specs.declared.ticket.Ticket.{Ticket}
+use Rattle.uma_life.specs.declared.states.Ticket.{Ticket}
 
 -- its label is the domain of the item's slab
 abbrev pub ticket_deed : Ticket → Deed

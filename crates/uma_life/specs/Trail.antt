@@ -1,7 +1,7 @@
 -- The life trail of an item: how its phase and its counts agree. That inits and finis, and ctors and dtors, come in pairs is the rule of FreeBSD's uma(9); the counts are own.
 use Rattle.std.specs.Prelude.{◌≡◌, ◌<◌, ◌+◌, ◌%◌, ◌^◌, ℕ, Bool, true, false, ◌==◌, cond, length}
-use Rattle.uma_life.specs.declared.body_phase.BodyPhase.{BodyPhase}
-use Rattle.uma_life.specs.declared.body_phase.BodyPhase.TheVariants.{Raw, Zoned, Built, Gone}
+use Rattle.uma_life.specs.declared.tally.BodyPhase.{BodyPhase}
+use Rattle.uma_life.specs.declared.tally.BodyPhase.TheVariants.{Raw, Zoned, Built, Gone}
 use Rattle.uma_life.specs.declared.tally.Tally.{Tally}
 use Rattle.uma_life.specs.Life.{Life, no_tally}
 use Rattle.uma_life.specs.Hook.{base_phase, counts_of}

@@ -1,13 +1,67 @@
-ghost use Rattle.std.specs.Prelude.{◌≡◌, ◌⊎◌, ℕ, List, [], Option};
+ghost use Rattle.std.specs.Prelude.{◌≡◌, ℕ, List, [], ◌⊎◌, Option};
+ghost use Rattle.uma_life.specs.Life.{Life};
 ghost use Rattle.uma_life.specs.Hook.{KegInit, ZoneInit, Ctor, Dtor, ZoneFini, KegFini, MayPass};
 ghost use Rattle.uma_life.specs.Passes.{MakesRaw, Passes, PassesOrNot};
-ghost use Rattle.uma_life.specs.declared.body_phase.BodyPhase.TheVariants.{Raw, Gone};
+ghost use Rattle.uma_life.specs.declared.tally.BodyPhase.TheVariants.{Raw, Gone};
+ghost use Rattle.uma_life.specs.Word.{HooksRunInOrder};
 
-use crate::body::Body;
-use crate::tally::Tally;
+use crate::states::Live;
+use crate::tally::{BodyPhase, Tally};
 use deed_book::Memory;
+use listed::Listed;
 use std::alloc::Global;
+use std::error::Error;
+use std::fmt;
 use std::sync::Wait;
+
+/// Why an item wasn't brought in.
+#[derive(Clone, Copy, Debug, PartialEq, Eq)]
+pub enum BringRefused {
+    /// `keg_init` refused the body with this code.
+    Init { code: u8 },
+    Memory,
+}
+
+impl fmt::Display for BringRefused {
+    fn fmt<W: fmt::Write>(&self, f: &mut fmt::Formatter<W>) -> fmt::Result {
+        match self {
+            BringRefused::Init { code } => write!(f, "keg_init refused the item with code {code}"),
+            BringRefused::Memory => write!(f, "out of memory"),
+        }
+    }
+}
+
+impl Error for BringRefused {}
+
+impl From<Memory> for BringRefused {
+    ghost use Rattle.std.specs.Prelude.{◌≡◌};
+    ghost use Rattle.uma_life.specs.declared.hooks.BringRefused.TheVariants.{Memory};
+
+    ghost from_gives = { λ _ refused. refused ≡ Memory };
+
+    fn from(_refused: Memory) -> BringRefused {
+        BringRefused::Memory
+    }
+}
+
+/// What an item is made of. A body keeps its number and says where in its life it stands; hooks alone change phase and
+/// tally.
+pub trait Body {
+    ghost life: { Self → Life };
+
+    /// What the body is of, as numbers. Hooks keep it; where it isn't written it tells nothing.
+    ghost origin: { Self → List ℕ } = { λ body. [] };
+
+    /// The number of the item.
+    fn no(&self) -> u32
+        ensures { result ≡ (life self.now).no };
+
+    fn phase(&self) -> BodyPhase
+        ensures { result ≡ (life self.now).phase };
+
+    fn tally(&self) -> Tally
+        ensures { result ≡ (life self.now).tally };
+}
 
 /// The hooks of a zone, and what makes and unmakes bodies.
 ///
@@ -83,3 +137,13 @@ pub trait Hooks<T: Body>: Drop {
         requires { ((T.life body).phase ≡ Raw) ⊎ ((T.life body).phase ≡ Gone) }
         ensures { result ≡ (T.life body).tally };
 }
+
+/// A list of live items.
+pub type Lives<T> = Listed<Live<T>>;
+
+/// The law of every item's life, in words of hooks: an item can pass the prefixes of `keg_init stay* keg_fini` and no
+/// other words, where a stay in zone 0 is `(ctor dtor)*` and one in a zone of 1 to 7 is `zone_init (ctor dtor)*
+/// zone_fini`, all of one zone. The phase and the counts of such a word agree with the life trail.
+pub fn hooks_run_in_order()
+    ensures { HooksRunInOrder }
+{}

@@ -3,13 +3,13 @@ use Rattle.std.proofs.Common.{◌≡◌, ◌≢◌, ◌<◌, ◌+◌, ◌==◌, 
 use Rattle.std.proofs.lemmas.Bool.{cases_eq, eqb-true}
 use Rattle.std.proofs.lemmas.List.{length-append, length-map}
 use Rattle.std.proofs.lemmas.List.Sums.{sum_by-set}
-use Rattle.uma_life.specs.declared.cached.Cached.{Cached}
+use Rattle.uma_life.specs.declared.states.Cached.{Cached}
 use Rattle.uma_bucket.specs.declared.bucket.Bucket.{Bucket}
 use Rattle.uma_bucket.specs.Home.{Home, AreHome}
 use Rattle.uma_seat.specs.declared.seat.SeatCache.{SeatCache}
 use Rattle.uma_seat.specs.declared.seating.Seating.{Seating}
 use Rattle.uma_seat.specs.declared.counts.Counts.{Counts}
-use Rattle.uma_seat.specs.declared.plain_row.PlainRow.{PlainRow}
+use Rattle.uma_seat.specs.declared.rows.PlainRow.{PlainRow}
 use Rattle.uma_seat.specs.Counts.{fails_in}
 use Rattle.uma_seat.specs.Row.{stacks_of}
 use Rattle.uma_seat.specs.Seating.{home_of}

@@ -4,21 +4,21 @@ use Rattle.std.proofs.lemmas.List.{length-map}
 use Rattle.std.proofs.lemmas.List.Elements.{All-weaker}
 use Rattle.uma_life.specs.Cached.{cached_ticket}
 use Rattle.uma_bucket.specs.declared.bucket.Bucket.{Bucket}
-use Rattle.uma_bucket.specs.declared.loose.Loose.{Loose}
+use Rattle.uma_bucket.specs.declared.freed.Loose.{Loose}
 use Rattle.uma_bucket.specs.Bucket.{items_of, tickets_of}
 use Rattle.uma_bucket.specs.Freed.{freed_ticket}
 use Rattle.uma_bucket.specs.Home.{Home}
 use Rattle.uma_bucket.specs.Loose.{loose_items, loose_tickets}
 use Rattle.uma_bucket.specs.Ripe.{ripe_bucket}
-use Rattle.uma_domain.specs.declared.taken.Taken.{Taken}
-use Rattle.uma_domain.specs.declared.taken.TakenBucket.{TakenBucket}
-use Rattle.uma_domain.specs.declared.taken.TakenBucket.TheVariants.{Plain, Ripe}
+use Rattle.uma_domain.specs.declared.trims.Taken.{Taken}
+use Rattle.uma_domain.specs.declared.trims.TakenBucket.{TakenBucket}
+use Rattle.uma_domain.specs.declared.trims.TakenBucket.TheVariants.{Plain, Ripe}
 use Rattle.uma_domain.specs.Identity.{Identity}
 use Rattle.uma_domain.specs.Listed.{IsPlainOf, IsLooseOf}
 use Rattle.uma_domain.specs.Taken.{taken_in, IsTakenOf}
 use Rattle.uma_zone.specs.declared.zone.Zone.{Zone}
 use Rattle.uma_zone.specs.Zone.{zone_home, zone_clock}
-use Rattle.uma_reclaim.specs.declared.extent.Extent.{Extent}
+use Rattle.uma_reclaim.specs.declared.reclaim.Extent.{Extent}
 use Rattle.uma_reclaim.specs.Given.{IsFromZone}
 use Rattle.uma_reclaim.specs.Reclaimed.{IsTakenAt, TakesAt}
 

@@ -2,14 +2,14 @@
 use Rattle.std.proofs.Common.{◌≡◌, ◌+◌, ℕ, suc, Some, List, [], ◌∷◌, ◌++◌, length, map, Result, Ok, Err, IfOk, OnErr, fold, flat_map, refl, sym, ap, ◌∙◌, subst, arith}
 use Rattle.std.proofs.lemmas.List.{map-append, length-map}
 use Rattle.uma_domain.specs.declared.domain.Domain.{Domain}
-use Rattle.uma_domain.specs.declared.taken.Taken.{Taken}
-use Rattle.uma_domain.specs.declared.taken.TakenBucket.{TakenBucket}
+use Rattle.uma_domain.specs.declared.trims.Taken.{Taken}
+use Rattle.uma_domain.specs.declared.trims.TakenBucket.{TakenBucket}
 use Rattle.uma_domain.specs.Taken.{taken_in}
 use Rattle.uma_zone.specs.declared.zone.Zone.{Zone}
 use Rattle.uma_zone.specs.Zone.{zone_domain}
 use Rattle.uma_domain.specs.UnderLock.{TakesUnused, TakesEach, KeepsLists}
-use Rattle.uma_reclaim.specs.declared.extent.Extent.{Extent}
-use Rattle.uma_reclaim.specs.declared.extent.Extent.TheVariants.{Unused, All as All'}
+use Rattle.uma_reclaim.specs.declared.reclaim.Extent.{Extent}
+use Rattle.uma_reclaim.specs.declared.reclaim.Extent.TheVariants.{Unused, All as All'}
 use Rattle.uma_reclaim.specs.Reclaimed.{TakesExtent, IsTakenAt, TakesInTurn, KeepsListsAt, StopsTaking}
 use Rattle.uma_reclaim.specs.Told.{notes_in}
 

@@ -4,10 +4,10 @@ use Rattle.std.specs.List.{All}
 use Rattle.smr_clock.specs.declared.clock.Clock.{Clock}
 use Rattle.smr_clock.specs.declared.pass.Pass.{Pass}
 use Rattle.smr_clock.specs.Belongs.{view}
-use Rattle.uma_life.specs.declared.cached.Cached.{Cached}
+use Rattle.uma_life.specs.declared.states.Cached.{Cached}
 use Rattle.uma_life.specs.Cached.{cached_ticket}
 use Rattle.uma_bucket.specs.Home.{IsHome}
-use Rattle.uma_domain.specs.declared.taken.TakenBucket.{TakenBucket}
+use Rattle.uma_domain.specs.declared.trims.TakenBucket.{TakenBucket}
 use Rattle.uma_seat.specs.declared.seat.SeatCache.{SeatCache}
 use Rattle.uma_seat.specs.Seat.{usable_of, HasNoCross}
 use Rattle.uma_zone.specs.declared.zone.Zone.{Zone}

@@ -1,14 +1,14 @@
 -- Own: what goes back to the keg of what a domain gave up.
 use Rattle.std.specs.Prelude.{◌≡◌, ℕ, ◌^◌, ◌-◌, List, length, min, sum_by}
 use Rattle.std.specs.List.{All}
-use Rattle.uma_life.specs.declared.cached.Cached.{Cached}
-use Rattle.uma_bucket.specs.declared.ripe.Ripe.{Ripe as RipeBucket}
+use Rattle.uma_life.specs.declared.states.Cached.{Cached}
+use Rattle.uma_bucket.specs.declared.freed.Ripe.{Ripe as RipeBucket}
 use Rattle.uma_bucket.specs.Bucket.{items_of}
 use Rattle.uma_bucket.specs.Finished.{AreFinished}
 use Rattle.uma_bucket.specs.Loose.{loose_items}
 use Rattle.uma_bucket.specs.Ripe.{ripe_bucket, IsRipeAt}
-use Rattle.uma_domain.specs.declared.taken.TakenBucket.{TakenBucket}
-use Rattle.uma_domain.specs.declared.taken.TakenBucket.TheVariants.{Plain, Ripe}
+use Rattle.uma_domain.specs.declared.trims.TakenBucket.{TakenBucket}
+use Rattle.uma_domain.specs.declared.trims.TakenBucket.TheVariants.{Plain, Ripe}
 use Rattle.uma_domain.specs.Listed.{IsPlainOf, IsLooseOf, plain_len, ripe_len}
 use Rattle.uma_zone.specs.declared.zone.Zone.{Zone}
 use Rattle.uma_zone.specs.KegStates.{GivesItems, GivesItem}

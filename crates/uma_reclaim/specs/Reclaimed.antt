@@ -5,8 +5,8 @@ use Rattle.std.specs.declared.snapshot.Snapshot.{Snapshot}
 use Rattle.smr_clock.specs.declared.view.View.{View}
 use Rattle.uma_bucket.specs.declared.shelved.Shelved.{Shelved}
 use Rattle.uma_domain.specs.declared.domain.Domain.{Domain}
-use Rattle.uma_domain.specs.declared.taken.Taken.{Taken}
-use Rattle.uma_domain.specs.declared.taken.TakenBucket.{TakenBucket}
+use Rattle.uma_domain.specs.declared.trims.Taken.{Taken}
+use Rattle.uma_domain.specs.declared.trims.TakenBucket.{TakenBucket}
 use Rattle.uma_domain.specs.Taken.{taken_in}
 use Rattle.uma_domain.specs.UnderLock.{TakesUnused, TakesEach, KeepsLists}
 use Rattle.uma_seat.specs.declared.seat.SeatCache.{SeatCache}
@@ -17,9 +17,9 @@ use Rattle.uma_zone.specs.KegStates.{FreesSlabsOf}
 use Rattle.uma_zone.specs.OwnDomain.{SettlesFirst}
 use Rattle.uma_zone.specs.Stopped.{StopsSettling}
 use Rattle.uma_zone.specs.Zone.{lists_of, zone_cap, zone_domains, zone_domain}
-use Rattle.uma_reclaim.specs.declared.extent.Extent.{Extent}
-use Rattle.uma_reclaim.specs.declared.extent.Extent.TheVariants.{Unused, All as All'}
-use Rattle.uma_reclaim.specs.declared.reclaimed.Reclaimed.{Reclaimed}
+use Rattle.uma_reclaim.specs.declared.reclaim.Extent.{Extent}
+use Rattle.uma_reclaim.specs.declared.reclaim.Extent.TheVariants.{Unused, All as All'}
+use Rattle.uma_reclaim.specs.declared.reclaim.Reclaimed.{Reclaimed}
 use Rattle.uma_reclaim.specs.Cached.{cached_in}
 use Rattle.uma_reclaim.specs.Given.{IsFromZone, AreGiven, GivesEach, items_in, counted}
 use Rattle.uma_reclaim.specs.Told.{notes_in}

@@ -1,8 +1,8 @@
 -- Own: what the host's part of a pass takes in where ripe buckets go back to the keg.
 use Rattle.std.specs.Prelude.{◌≡◌, List, [], ◌∷◌, fold, flat_map}
 use Rattle.uma_bucket.specs.Ripe.{ripe_knows}
-use Rattle.uma_domain.specs.declared.taken.TakenBucket.{TakenBucket}
-use Rattle.uma_domain.specs.declared.taken.TakenBucket.TheVariants.{Plain, Ripe}
+use Rattle.uma_domain.specs.declared.trims.TakenBucket.{TakenBucket}
+use Rattle.uma_domain.specs.declared.trims.TakenBucket.TheVariants.{Plain, Ripe}
 
 module _ {T H P : Type 0} {g h : _} where
   -- the host's part of a ripe bucket's note; a plain bucket has no note

@@ -3,11 +3,7 @@ ghost use Rattle.smr_clock.specs.Belongs.{view};
 ghost use Rattle.uma_reclaim.specs.Frames.{LeavesDeferred, LeavesItems, MayReclaim};
 ghost use Rattle.uma_reclaim.specs.Reclaimed.{Drains, DrainsSeat, DrainStops, SeatDrainStops};
 
-use crate::domains::give_back;
-use crate::emptying::give_cached;
-use crate::extent::Extent;
-use crate::reclaimed::Reclaimed;
-use crate::settling::flush_and_settle;
+use crate::reclaim::{Extent, Reclaimed, flush_and_settle, give_back, give_cached};
 use deed_book::Memory;
 use smr_clock::{Clock, Host, Pass};
 use std::alloc::Global;
@@ -16,16 +12,18 @@ use uma_life::{Body, Hooks};
 use uma_seat::SeatCache;
 use uma_zone::Zone;
 
-/// Flushes the seat, settles each domain of the zone, gives back all that may be given back of what they list, and then has
-/// the keg give up its wholly free slabs, the greatest index first, as long as the reserve stays. That slabs go last, tests
-/// show.
+/// Flushes the seat, settles each domain of the zone, and returns all that may be returned of their lists to the keg.
+/// Then the keg gives up its wholly free slabs, the greatest index first, as long as the reserve stays. Slabs go last
+/// (tested).
 ///
-/// Of each domain each plain bucket goes back, and each sealed one whose poll says yes, after `dtor`. Sealed buckets whose
-/// poll says no, and loose ones, stay. Waits until it has the locks of the domains and of the keg.
+/// Each plain bucket of each domain goes back, and each sealed bucket whose poll returns true, after `dtor`. Sealed
+/// buckets whose poll returns false, and loose buckets, stay. It blocks on the locks of the domains and of the keg.
 ///
-/// After `Memory` each bucket of the seat's shelf is in an inbox or a list, or on the shelf still; the domains before the one
-/// for which memory was wanting are drained, and that one and those behind it list what they did, and what a settle listed.
-/// No slab is given up then.
+/// # Errors
+///
+/// `Memory`: out of memory. Each bucket of the seat's shelf is in an inbox or a list, or still on the shelf. The
+/// domains before the one that failed are drained. The one that failed and those after it list what they did, and what
+/// a settle listed. No slab is given up.
 pub fn drain<T: Body + Drop, K: Hooks<T>, H: Host, R: Wait>(
     rt: &R,
     alloc: Global,
@@ -45,10 +43,12 @@ pub fn drain<T: Body + Drop, K: Hooks<T>, H: Host, R: Wait>(
     Ok(done)
 }
 
-/// Does what [`drain`] does, and gives back the usable and the cross items of the seat besides, before the keg gives up
-/// slabs, as tests show. The seat's deferred items stay. Waits as `drain` does.
+/// Does what [`drain`] does, and also returns the usable and the cross items of the seat, before the keg gives up slabs
+/// (tested). The deferred items of the seat stay. It blocks as `drain` does.
 ///
-/// After `Memory` it is as after that of `drain`, and the seat has all its items still.
+/// # Errors
+///
+/// `Memory`: as after [`drain`], and the seat still has all its items.
 pub fn drain_seat<T: Body + Drop, K: Hooks<T>, H: Host, R: Wait>(
     rt: &R,
     alloc: Global,

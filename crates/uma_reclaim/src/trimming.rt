@@ -3,10 +3,7 @@ ghost use Rattle.smr_clock.specs.Belongs.{view};
 ghost use Rattle.uma_reclaim.specs.Frames.{LeavesItems, MayReclaim};
 ghost use Rattle.uma_reclaim.specs.Reclaimed.{Trims, TrimStops};
 
-use crate::domains::give_back;
-use crate::extent::Extent;
-use crate::reclaimed::Reclaimed;
-use crate::settling::flush_and_settle;
+use crate::reclaim::{Extent, Reclaimed, flush_and_settle, give_back};
 use deed_book::Memory;
 use smr_clock::{Clock, Host, Pass};
 use std::alloc::Global;
@@ -15,16 +12,19 @@ use uma_life::{Body, Hooks};
 use uma_seat::SeatCache;
 use uma_zone::Zone;
 
-/// Flushes the seat, settles each domain of the zone, and gives back what they didn't use since their last trim.
-/// No slab is given up.
+/// Flushes the seat, settles each domain of the zone, and returns to the keg what the domains didn't use since their
+/// last trim. It gives up no slab.
 ///
-/// Of each domain whole buckets go back to the keg, while the items that remain listed are at least its working set: the
-/// greatest less the least count of items that it listed since the last trim. First go the plain buckets, oldest first, and
-/// then the sealed ones whose poll says yes, oldest first, after `dtor`. Then both counts are what remains. Waits until it
-/// has the locks of the domains and of the keg.
+/// Whole buckets of each domain go back while the items that stay listed are at least the domain's working set. The
+/// working set is the greatest count of items that it listed since the last trim, less the least. The plain buckets go
+/// first, and then the sealed buckets whose poll returns true, after `dtor`; each kind goes oldest first. The least and
+/// the greatest count then start again from what stays. It blocks on the locks of the domains and of the keg.
 ///
-/// After `Memory` each bucket of the seat's shelf is in an inbox or a list, or on the shelf still; the domains before the one
-/// for which memory was wanting are trimmed, and that one and those behind it list what they did, and what a settle listed.
+/// # Errors
+///
+/// `Memory`: out of memory. Each bucket of the seat's shelf is in an inbox or a list, or still on the shelf. The
+/// domains before the one that failed are trimmed. The one that failed and those after it list what they did, and what
+/// a settle listed.
 pub fn trim<T: Body + Drop, K: Hooks<T>, H: Host, R: Wait>(
     rt: &R,
     alloc: Global,

@@ -3,11 +3,11 @@ use Rattle.std.proofs.Common.{◌≡◌, ℕ, zero, suc, List, [], ◌∷◌, So
 use Rattle.std.proofs.lemmas.Option.{none-some, same_Some}
 use Rattle.std.specs.Prelude.{slice_get}
 use Rattle.smr_clock.specs.declared.host.Host.{Ghosts}
-use Rattle.trace_text.specs.declared.round.Round.{Round}
-use Rattle.trace_worker.specs.declared.gate.Gate.{Ghosts as GateGhosts}
-use Rattle.trace_worker.specs.declared.worker_run.WorkerRun.{WorkerRun}
-use Rattle.trace_play.specs.Asks.{AllAsk, AsksRounds, GateCounts, gate_counts, not_asked}
-use Rattle.trace_play.proofs.RoundLists.{at_other}
+use Rattle.trace_text.specs.declared.trace.Round.{Round}
+use Rattle.replay_worker.specs.declared.gate.Gate.{Ghosts as GateGhosts}
+use Rattle.replay_worker.specs.declared.worker_run.WorkerRun.{WorkerRun}
+use Rattle.replay_rounds.specs.Asks.{AllAsk, AsksRounds, GateCounts, gate_counts, not_asked}
+use Rattle.replay_rounds.proofs.RoundLists.{at_other}
 use Rattle.uma_replay.specs.Asked.{AreGivenUp}
 use Rattle.uma_replay.specs.Playing.{gave_ups_of}
 

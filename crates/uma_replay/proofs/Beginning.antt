@@ -7,24 +7,24 @@ use Rattle.std.specs.Prelude.{IfSome, IsTrue, is_some, slice_get, sum, sum_by}
 use Rattle.smr_clock.specs.declared.clock.Clock.{Clock}
 use Rattle.smr_clock.specs.declared.host.Host.{Ghosts}
 use Rattle.smr_clock.specs.Belongs.{clock_id}
-use Rattle.trace_text.specs.declared.head.Head.{Head}
-use Rattle.trace_text.specs.declared.head.NamesHead.{NamesHead}
+use Rattle.trace_text.specs.declared.trace.Head.{Head}
+use Rattle.trace_text.specs.declared.trace.NamesHead.{NamesHead}
 use Rattle.trace_text.specs.declared.trace.Trace.{Trace}
 use Rattle.trace_text.specs.Lines.{lines_of}
 use Rattle.trace_text.specs.Valid.{IsValid}
-use Rattle.trace_worker.specs.declared.name_calls.NameCalls.{Ghosts as NameGhosts}
-use Rattle.trace_worker.specs.declared.name_work.NameWork.{NameWork}
-use Rattle.trace_worker.specs.declared.worker_run.WorkerRun.{WorkerRun}
-use Rattle.trace_worker.specs.declared.worker.Worker.{Worker}
-use Rattle.trace_worker.specs.Attendance.{worker_in}
-use Rattle.trace_worker.specs.NameSizes.{NameSizes, sizes_for}
-use Rattle.trace_worker.specs.NamesStand.{NamesStand}
-use Rattle.trace_worker.specs.Together.{AddsUp, AllNamed, AllStand, crew}
-use Rattle.trace_play.specs.declared.setting.Setting.{Setting}
-use Rattle.trace_play.specs.Setting.{IsSetUp}
-use Rattle.trace_play.specs.DoneBy.{done_by, is_by}
-use Rattle.trace_play.specs.Betweens.{DoRounds}
-use Rattle.trace_play.specs.Rounds.{GaveUpAsBefore, IsBegun, FitsTrace}
+use Rattle.replay_worker.specs.declared.name_calls.NameCalls.{Ghosts as NameGhosts}
+use Rattle.replay_worker.specs.declared.name_work.NameWork.{NameWork}
+use Rattle.replay_worker.specs.declared.worker_run.WorkerRun.{WorkerRun}
+use Rattle.replay_worker.specs.declared.worker.Worker.{Worker}
+use Rattle.replay_worker.specs.Attendance.{worker_in}
+use Rattle.replay_worker.specs.NameSizes.{NameSizes, sizes_for}
+use Rattle.replay_worker.specs.NamesStand.{NamesStand}
+use Rattle.replay_worker.specs.Together.{AddsUp, AllNamed, AllStand, crew}
+use Rattle.replay_rounds.specs.declared.setting.Setting.{Setting}
+use Rattle.replay_rounds.specs.Setting.{IsSetUp}
+use Rattle.replay_rounds.specs.DoneBy.{done_by, is_by}
+use Rattle.replay_rounds.specs.Betweens.{DoRounds}
+use Rattle.replay_rounds.specs.Rounds.{GaveUpAsBefore, IsBegun, FitsTrace}
 use Rattle.uma_replay.specs.Hall.{AreDone, NamesDone}
 use Rattle.uma_replay.specs.Playing.{AllBack, AreFirst, HaveEnded, gave_ups_of, name_works_of}
 use Rattle.uma_replay.proofs.Playing.{together_of}

@@ -6,12 +6,12 @@ use Rattle.smr_clock.specs.declared.clock.Clock.{Clock}
 use Rattle.smr_clock.specs.declared.host.Host.{Ghosts}
 use Rattle.smr_clock.specs.declared.view.View.{View}
 use Rattle.smr_clock.specs.Belongs.{IsPassOf}
-use Rattle.trace_worker.specs.declared.worker_run.WorkerRun.{WorkerRun}
-use Rattle.trace_worker.specs.declared.worker.Worker.{Worker}
-use Rattle.trace_worker.specs.Attendance.{worker_in}
-use Rattle.trace_worker.specs.Performs.{KeepsAll}
-use Rattle.trace_worker.specs.Together.{crew}
-use Rattle.trace_play.specs.Lending.{seen_slot}
+use Rattle.replay_worker.specs.declared.worker_run.WorkerRun.{WorkerRun}
+use Rattle.replay_worker.specs.declared.worker.Worker.{Worker}
+use Rattle.replay_worker.specs.Attendance.{worker_in}
+use Rattle.replay_worker.specs.Performs.{KeepsAll}
+use Rattle.replay_worker.specs.Together.{crew}
+use Rattle.replay_rounds.specs.Lending.{seen_slot}
 use Rattle.uma_replay.specs.Playing.{AllBack, AllStay, ComesBack, Stays}
 use Rattle.uma_replay.proofs.Pushed.{at_end}
 

@@ -3,14 +3,14 @@ use Rattle.std.proofs.Common.{◌≡◌, ℕ, zero, suc, ◌+◌, ◌%◌, ◌<�
 use Rattle.std.proofs.lemmas.List.Sums.{sum_by-cons}
 use Rattle.std.proofs.lemmas.Option.{none-some, same_Some}
 use Rattle.std.specs.Prelude.{slice_get, sum_by}
-use Rattle.trace_text.specs.declared.head.ClockHead.{ClockHead}
+use Rattle.trace_text.specs.declared.trace.ClockHead.{ClockHead}
 use Rattle.trace_text.specs.declared.trace.Trace.{Trace}
 use Rattle.trace_text.specs.Lines.{lines_of}
 use Rattle.trace_text.specs.Valid.{IsValid}
 use Rattle.zone_stats.specs.declared.report.ClockLine.{ClockLine}
-use Rattle.smr_core.specs.declared.phase.Phase.{Phase}
-use Rattle.trace_worker.specs.Counting.{looks, sections}
-use Rattle.trace_worker.specs.EntriesStand.{EntriesStand}
+use Rattle.smr_core.specs.declared.holder.Phase.{Phase}
+use Rattle.replay_worker.specs.Counting.{looks, sections}
+use Rattle.replay_worker.specs.EntriesStand.{EntriesStand}
 use Rattle.uma_replay.specs.Counting.{enter_count, is_look, kind_count}
 use Rattle.uma_replay.specs.Report.{ClockStands}
 use Rattle.uma_replay.proofs.KindCounts.{looks_are}
@@ -92,7 +92,7 @@ entries_most t ws entered late phase valid count each =
     (sum-workers-le (λ w. entered w + late w) ws (λ n. sections n lines + looks n lines) t.head.workers count (λ n w at. (each n w at).most)) both
     (sections_are t valid) (looks_are t valid)
 
--- what the hands of the line have to do with the clock
+-- what the sequences of the line have to do with the clock
 pub record HandsFit (c : ClockHead) (line : ClockLine) : Type 0 where
   pub read_odd : line.read % 2 ≡ 1
   pub write_odd : line.write % 2 ≡ 1

@@ -8,23 +8,23 @@ use Rattle.std.specs.Prelude.{◌==◌, slice_get, sum_by}
 use Rattle.std.specs.Option.{option_map_or}
 use Rattle.smr_clock.specs.declared.clock.Clock.{Clock}
 use Rattle.smr_clock.specs.declared.host.Host.{Ghosts}
-use Rattle.trace_text.specs.declared.head.Head.{Head}
-use Rattle.trace_text.specs.declared.head.NamesHead.{NamesHead}
-use Rattle.trace_text.specs.declared.head.ZoneHead.{ZoneHead}
+use Rattle.trace_text.specs.declared.trace.Head.{Head}
+use Rattle.trace_text.specs.declared.trace.NamesHead.{NamesHead}
+use Rattle.trace_text.specs.declared.trace.ZoneHead.{ZoneHead}
 use Rattle.trace_text.specs.declared.trace.Trace.{Trace}
 use Rattle.trace_text.specs.Lines.{Line, lines_of}
 use Rattle.trace_text.specs.Valid.{HeadFits, IsValid, sharer_count}
 use Rattle.zone_stats.specs.declared.report.Report.{Report}
-use Rattle.trace_worker.specs.declared.name_calls.NameCalls.{Ghosts as NameGhosts}
-use Rattle.trace_worker.specs.declared.name_work.NameWork.{NameWork}
-use Rattle.trace_worker.specs.declared.worker.Worker.{Worker}
-use Rattle.trace_worker.specs.NamesStand.{NamesStand}
-use Rattle.trace_worker.specs.Items.{CountedZone}
-use Rattle.trace_worker.specs.Worker.{phase_of}
-use Rattle.trace_worker.specs.Clocks.{start_of, window_of}
-use Rattle.trace_play.specs.Kegs.{keg_place, index_of, primaries}
-use Rattle.trace_play.specs.Lending.{AllFit, AreFew, KeepsWorkers}
-use Rattle.trace_play.specs.Clock.{AllLearn}
+use Rattle.replay_worker.specs.declared.name_calls.NameCalls.{Ghosts as NameGhosts}
+use Rattle.replay_worker.specs.declared.name_work.NameWork.{NameWork}
+use Rattle.replay_worker.specs.declared.worker.Worker.{Worker}
+use Rattle.replay_worker.specs.NamesStand.{NamesStand}
+use Rattle.replay_worker.specs.Items.{CountedZone}
+use Rattle.replay_worker.specs.Worker.{phase_of}
+use Rattle.replay_worker.specs.Clocks.{start_of, window_of}
+use Rattle.replay_rounds.specs.Kegs.{keg_place, index_of, primaries}
+use Rattle.replay_rounds.specs.Lending.{AllFit, AreFew, KeepsWorkers}
+use Rattle.replay_rounds.specs.Clock.{AllLearn}
 use Rattle.uma_replay.specs.declared.hall.Hall.{Hall}
 use Rattle.uma_replay.specs.Counting.{enter_count, is_done, is_entry, is_look}
 use Rattle.uma_replay.specs.Hall.{AreDone, HallStands, NamesDone}
@@ -40,7 +40,7 @@ use Rattle.uma_replay.proofs.Primaries.{keg_within}
 use Rattle.uma_replay.proofs.PlainStands.{StandsPlain, some_at}
 use Rattle.uma_replay.proofs.ReportStands.{HasPrimary, has_primary, stands_for}
 use Rattle.uma_replay.proofs.WithNames.{stands_named, stands_unnamed}
-use Rattle.trace_play.proofs.Lists.{All_there}
+use Rattle.replay_rounds.proofs.Lists.{All_there}
 use Rattle.uma_replay.proofs.Staying.{all_chain, all_stand, adds_stay, found_before, learn_stay, kept_stay}
 
 -- ---- on numbers

@@ -9,16 +9,16 @@ use Rattle.std.specs.Prelude.{◌%◌, All, IfSome, count_by, is_some, slice_get
 use Rattle.std.specs.List.{flat_map}
 use Rattle.std.specs.Option.{option_map_or}
 use Rattle.smr_clock.specs.declared.host.Host.{Ghosts}
-use Rattle.trace_text.specs.declared.head.NamesHead.{NamesHead}
-use Rattle.trace_text.specs.declared.head.ZoneHead.{ZoneHead}
+use Rattle.trace_text.specs.declared.trace.NamesHead.{NamesHead}
+use Rattle.trace_text.specs.declared.trace.ZoneHead.{ZoneHead}
 use Rattle.trace_text.specs.declared.trace.Trace.{Trace}
 use Rattle.trace_text.specs.Lines.{lines_of}
-use Rattle.uma_life.specs.declared.ticket.Ticket.{Ticket}
+use Rattle.uma_life.specs.declared.states.Ticket.{Ticket}
 use Rattle.uma_life.specs.Cached.{cached_ticket}
 use Rattle.uma_seat.specs.Seat.{usable_of, ledger_of, KeepsCounts}
 use Rattle.uma_seat.specs.Counts.{ledger_in}
-use Rattle.uma_zone.specs.declared.alloc_ask.AllocAsk.{AllocAsk}
-use Rattle.uma_zone.specs.declared.alloc_ask.AllocRefused.TheVariants.{Refused}
+use Rattle.uma_zone.specs.declared.zone.alloc.AllocAsk.{AllocAsk}
+use Rattle.uma_zone.specs.declared.zone.alloc.AllocRefused.TheVariants.{Refused}
 use Rattle.uma_zone.specs.Alloc.{AllocIsRefused}
 use Rattle.uma_zone.specs.SafeReuse.{usable_tickets}
 use Rattle.uma_zone.specs.Zone.{zone_smr}
@@ -28,18 +28,18 @@ use Rattle.zone_stats.specs.declared.refusal.Refusal.TheVariants.{AtLimit, Reser
 use Rattle.zone_stats.specs.declared.report.Report.{Report}
 use Rattle.zone_stats.specs.declared.report.ZoneLine.{ZoneLine}
 use Rattle.zone_stats.specs.LedgerSteps.{IsNew}
-use Rattle.trace_worker.specs.declared.name_calls.NameCalls.{Ghosts as NameGhosts}
-use Rattle.trace_worker.specs.declared.name_work.NameCounts.{NameCounts}
-use Rattle.trace_worker.specs.declared.name_work.NameWork.{NameWork}
-use Rattle.trace_worker.specs.declared.worker.Worker.{Worker}
-use Rattle.trace_worker.specs.declared.worker_run.WorkerRun.{WorkerRun}
-use Rattle.trace_worker.specs.Attendance.{worker_in}
-use Rattle.trace_worker.specs.Items.{CountedSeat, CountedZone, LiveItem}
-use Rattle.trace_worker.specs.NameLines.{line_state}
-use Rattle.trace_worker.specs.Requests.{GivesBack, Requests}
-use Rattle.trace_worker.specs.Together.{crew}
-use Rattle.trace_play.specs.Beginners.{IsBeginner}
-use Rattle.trace_play.proofs.RoundLists.{at_other}
+use Rattle.replay_worker.specs.declared.name_calls.NameCalls.{Ghosts as NameGhosts}
+use Rattle.replay_worker.specs.declared.name_work.NameCounts.{NameCounts}
+use Rattle.replay_worker.specs.declared.name_work.NameWork.{NameWork}
+use Rattle.replay_worker.specs.declared.worker.Worker.{Worker}
+use Rattle.replay_worker.specs.declared.worker_run.WorkerRun.{WorkerRun}
+use Rattle.replay_worker.specs.Attendance.{worker_in}
+use Rattle.replay_worker.specs.Items.{CountedSeat, CountedZone, LiveItem}
+use Rattle.replay_worker.specs.NameLines.{line_state}
+use Rattle.replay_worker.specs.Requests.{GivesBack, Requests}
+use Rattle.replay_worker.specs.Together.{crew}
+use Rattle.replay_rounds.specs.Beginners.{IsBeginner}
+use Rattle.replay_rounds.proofs.RoundLists.{at_other}
 use Rattle.uma_replay.specs.declared.hall.Hall.{Hall}
 use Rattle.uma_replay.specs.Counting.{report_zones}
 use Rattle.uma_replay.specs.Hall.{HallStands}

@@ -4,12 +4,12 @@ use Rattle.std.proofs.lemmas.Bool.{false≢true, true≢false}
 use Rattle.std.proofs.lemmas.List.Sums.{count_by_more_no, count_by_more_yes}
 use Rattle.std.proofs.lemmas.Option.{same_Some, slice_get-get_or, some_pair_parts}
 use Rattle.std.specs.Prelude.{slice_get}
-use Rattle.trace_text.specs.declared.head.ZoneHead.{ZoneHead}
+use Rattle.trace_text.specs.declared.trace.ZoneHead.{ZoneHead}
 use Rattle.uma_keg.specs.declared.census.Census.{Census}
 use Rattle.uma_keg.specs.Census.{census_outs}
-use Rattle.uma_life.specs.declared.tally_sum.TallySum.{TallySum}
+use Rattle.uma_life.specs.declared.tally.TallySum.{TallySum}
 use Rattle.zone_stats.specs.declared.report.KegLine.{KegLine}
-use Rattle.trace_play.specs.Kegs.{primaries}
+use Rattle.replay_rounds.specs.Kegs.{primaries}
 use Rattle.uma_replay.specs.Reporting.{AreKegs, AreKegsTo, IsKegAt, is_primary, keg_line, keg_number}
 use Rattle.uma_replay.proofs.Primaries.{keg_at, keg_within, number_all}
 use Rattle.uma_replay.proofs.Pushed.{ArePushed, ArePushed-more}

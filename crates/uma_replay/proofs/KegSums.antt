@@ -7,10 +7,10 @@ use Rattle.std.proofs.lemmas.List.Sums.{sum_by-cons}
 use Rattle.std.proofs.lemmas.Option.{none-some, same_Some, get_or_from_slice_get}
 use Rattle.std.specs.Prelude.{min, All, ◌==◌, is_some, slice_get, slice_index_or, sum_by}
 use Rattle.std.specs.Option.{option_map_or}
-use Rattle.trace_text.specs.declared.head.ZoneHead.{ZoneHead}
+use Rattle.trace_text.specs.declared.trace.ZoneHead.{ZoneHead}
 use Rattle.trace_text.specs.Valid.{sharer_count}
 use Rattle.zone_stats.specs.declared.report.ZoneLine.{ZoneLine}
-use Rattle.trace_play.specs.Kegs.{index_of, rights_after}
+use Rattle.replay_rounds.specs.Kegs.{index_of, rights_after}
 use Rattle.uma_replay.specs.Report.{items_of_keg}
 use Rattle.uma_replay.proofs.Upto.{upto, upto-none, upto-more, upto-same, upto-zero}
 use Rattle.uma_replay.proofs.ZoneFrees.{sum-upto}

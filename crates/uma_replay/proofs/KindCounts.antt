@@ -3,14 +3,14 @@ use Rattle.std.proofs.Common.{◌≡◌, ◌≢◌, ℕ, ◌+◌, ◌<◌, ◌�
 use Rattle.std.proofs.lemmas.Bool.{and_left, and_right, le-ltb, ne_eqb}
 use Rattle.std.proofs.lemmas.List.Elements.{All-head, All-tail}
 use Rattle.std.specs.Prelude.{All, ◌==◌, nat_lt, count_by}
-use Rattle.trace_text.specs.declared.between.Between.{Between}
-use Rattle.trace_text.specs.declared.head.Head.{Head}
-use Rattle.trace_text.specs.declared.op.Op.{Op}
-use Rattle.trace_text.specs.declared.op.Op.TheVariants.{Alloc, Bind, Unbind, Look}
+use Rattle.trace_text.specs.declared.trace.Between.{Between}
+use Rattle.trace_text.specs.declared.trace.Head.{Head}
+use Rattle.trace_text.specs.declared.trace.Op.{Op}
+use Rattle.trace_text.specs.declared.trace.Op.TheVariants.{Alloc, Bind, Unbind, Look}
 use Rattle.trace_text.specs.declared.trace.Trace.{Trace}
 use Rattle.trace_text.specs.Lines.{Line, Does, Moves, lines_of}
 use Rattle.trace_text.specs.Valid.{IsValid}
-use Rattle.trace_worker.specs.Counting.{argued, binds, is_ask_with_arg, is_bind as own_bind, is_look as own_look, is_unbind as own_unbind, looks, unbinds}
+use Rattle.replay_worker.specs.Counting.{argued, binds, is_ask_with_arg, is_bind as own_bind, is_look as own_look, is_unbind as own_unbind, looks, unbinds}
 use Rattle.uma_replay.specs.Counting.{arg_count, is_alloc_of, is_bind, is_done, is_look, is_request_of, is_unbind, kind_count, request_count, worker_ops}
 use Rattle.uma_replay.proofs.OwnCounts.{all_own, args_are, count-cons, lines_are, turned}
 use Rattle.uma_replay.proofs.Upto.{upto, upto-same, upto-zero}

@@ -8,20 +8,20 @@ use Rattle.std.proofs.lemmas.Option.{none-some, same_Some}
 use Rattle.std.specs.Prelude.{◌==◌, ◌%◌, All, IfSome, count_by, is_some}
 use Rattle.std.specs.Option.{option_map_or}
 use Rattle.smr_clock.specs.declared.host.Host.{Ghosts}
-use Rattle.trace_text.specs.declared.op.Op.{Op}
-use Rattle.trace_text.specs.declared.op.Op.TheVariants.{Alloc, Free, Enter, Exit, Bind, Unbind, Look, Trim, Drain, DrainSeat, Prealloc, Away, Back}
-use Rattle.uma_life.specs.declared.ticket.Ticket.{Ticket}
+use Rattle.trace_text.specs.declared.trace.Op.{Op}
+use Rattle.trace_text.specs.declared.trace.Op.TheVariants.{Alloc, Free, Enter, Exit, Bind, Unbind, Look, Trim, Drain, DrainSeat, Prealloc, Away, Back}
+use Rattle.uma_life.specs.declared.states.Ticket.{Ticket}
 use Rattle.zone_stats.specs.declared.ledger.SeatLedger.{SeatLedger}
 use Rattle.zone_stats.specs.declared.refusal.Refusal.{Refusal}
-use Rattle.trace_worker.specs.declared.name_calls.NameCalls.{Ghosts as NameGhosts}
-use Rattle.trace_worker.specs.declared.name_work.NameCounts.{NameCounts}
-use Rattle.trace_worker.specs.declared.name_work.NameWork.{NameWork}
-use Rattle.trace_worker.specs.Items.{CountedZone}
-use Rattle.trace_worker.specs.Knowing.{Loads, Told, bound_to}
-use Rattle.trace_worker.specs.NameCalls.{OnBoth}
-use Rattle.trace_worker.specs.NameLedger.{BindCounts, UnbindCounts, MayCountFree}
-use Rattle.trace_worker.specs.NameLines.{Changes, LineState}
-use Rattle.trace_worker.specs.NameWork.{CountsAnswer, CountsBind, CountsUnbind}
+use Rattle.replay_worker.specs.declared.name_calls.NameCalls.{Ghosts as NameGhosts}
+use Rattle.replay_worker.specs.declared.name_work.NameCounts.{NameCounts}
+use Rattle.replay_worker.specs.declared.name_work.NameWork.{NameWork}
+use Rattle.replay_worker.specs.Items.{CountedZone}
+use Rattle.replay_worker.specs.Knowing.{Loads, Told, bound_to}
+use Rattle.replay_worker.specs.NameCalls.{OnBoth}
+use Rattle.replay_worker.specs.NameLedger.{BindCounts, UnbindCounts, MayCountFree}
+use Rattle.replay_worker.specs.NameLines.{Changes, LineState}
+use Rattle.replay_worker.specs.NameWork.{CountsAnswer, CountsBind, CountsUnbind}
 use Rattle.uma_replay.specs.NameLines.{NameLine, FindsBound, RefusesEntry, WaitsForReaders}
 use Rattle.uma_replay.specs.Steps.{Step, seen}
 use Rattle.uma_replay.proofs.SeatLines.{Follow, step_by}

@@ -3,19 +3,19 @@ use Rattle.std.proofs.Common.{◌≡◌, ℕ, ◌+◌, ◌*◌, ◌<◌, ◌≤�
 use Rattle.std.proofs.lemmas.List.Elements.{All-get_or}
 use Rattle.std.proofs.lemmas.List.Sums.{sum_by_more}
 use Rattle.std.specs.Prelude.{◌==◌}
-use Rattle.uma_bucket.specs.declared.sums.Sums.{Sums}
+use Rattle.uma_bucket.specs.declared.shelved.Sums.{Sums}
 use Rattle.uma_bucket.specs.Sums.{nothing_held, Adds, AreOfAtMost, Balance}
 use Rattle.uma_bucket.proofs.Added.{fewer, none_passed}
 use Rattle.uma_bucket.proofs.Tallied.{both_show}
 use Rattle.uma_keg.specs.declared.census.Census.{Census}
 use Rattle.uma_keg.specs.Census.{census_counts, census_tally}
-use Rattle.uma_life.specs.declared.tally_sum.TallySum.{TallySum}
+use Rattle.uma_life.specs.declared.tally.TallySum.{TallySum}
 use Rattle.uma_life.specs.Hook.{Hook, Ctor, Dtor}
 use Rattle.uma_life.specs.Sum.{AreBelow, sum_of}
-use Rattle.trace_worker.specs.declared.name_calls.NameCalls.{Ghosts as NameGhosts}
-use Rattle.trace_worker.specs.declared.name_work.NameWork.{NameWork}
-use Rattle.trace_worker.specs.NameSums.{HasLinked}
-use Rattle.trace_play.proofs.Modulo.{shows_as}
+use Rattle.replay_worker.specs.declared.name_calls.NameCalls.{Ghosts as NameGhosts}
+use Rattle.replay_worker.specs.declared.name_work.NameWork.{NameWork}
+use Rattle.replay_worker.specs.NameSums.{HasLinked}
+use Rattle.replay_rounds.proofs.Modulo.{shows_as}
 use Rattle.uma_replay.specs.Names.{AreNameSums, AreSeatSums, AreSeats, NamesClose, seats_passed, seats_waiting}
 
 -- ---- on numbers

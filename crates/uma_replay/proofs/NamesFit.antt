@@ -7,14 +7,14 @@ use Rattle.std.proofs.lemmas.Option.{same_Some, slice_get_within}
 use Rattle.std.specs.Prelude.{Contains, IfSome, option_map, slice_get, sum_by}
 use Rattle.smr_clock.specs.declared.clock.Clock.{Clock}
 use Rattle.smr_clock.specs.declared.host.Host.{Ghosts}
-use Rattle.trace_text.specs.declared.head.ClockHead.{ClockHead}
-use Rattle.trace_text.specs.declared.head.NamesHead.{NamesHead}
+use Rattle.trace_text.specs.declared.trace.ClockHead.{ClockHead}
+use Rattle.trace_text.specs.declared.trace.NamesHead.{NamesHead}
 use Rattle.trace_text.specs.declared.trace.Trace.{Trace}
 use Rattle.trace_text.specs.Lines.{lines_of}
 use Rattle.trace_text.specs.Valid.{IsValid}
 use Rattle.uma_keg.specs.declared.census.Census.{Census}
 use Rattle.uma_keg.specs.Census.{census_counts, census_out}
-use Rattle.uma_life.specs.declared.tally_sum.TallySum.{TallySum}
+use Rattle.uma_life.specs.declared.tally.TallySum.{TallySum}
 use Rattle.uma_life.specs.Trail.{ShowsSame}
 use Rattle.zone_stats.specs.declared.ledger.SeatLedger.{SeatLedger}
 use Rattle.zone_stats.specs.declared.refusal.Refusal.{Refusal}
@@ -24,16 +24,16 @@ use Rattle.zone_stats.specs.declared.report.HookLine.{HookLine}
 use Rattle.zone_stats.specs.declared.report.KegLine.{KegLine}
 use Rattle.zone_stats.specs.declared.report.NamesLine.{NamesLine}
 use Rattle.zone_stats.specs.Line.{total_allocs, total_fails}
-use Rattle.trace_worker.specs.declared.name_calls.NameCalls.{Ghosts as NameGhosts}
-use Rattle.trace_worker.specs.declared.name_work.NameWork.{NameWork}
-use Rattle.trace_worker.specs.declared.worker.Worker.{Worker}
-use Rattle.trace_worker.specs.Counting.{binds, looks, unbinds}
-use Rattle.trace_worker.specs.Items.{CountedZone}
-use Rattle.trace_worker.specs.NameLedger.{NamesRefuse}
-use Rattle.trace_worker.specs.NameSizes.{NameSizes, sizes_for}
-use Rattle.trace_worker.specs.NamesStand.{NameLedgerStands, NamesStand}
-use Rattle.uma_replay.specs.declared.name_sums.NameCount.TheVariants.{Hits, Misses, Late, Binds, Unbound, Refused}
-use Rattle.uma_replay.specs.declared.names_part.NamesPart.{NamesPart}
+use Rattle.replay_worker.specs.declared.name_calls.NameCalls.{Ghosts as NameGhosts}
+use Rattle.replay_worker.specs.declared.name_work.NameWork.{NameWork}
+use Rattle.replay_worker.specs.declared.worker.Worker.{Worker}
+use Rattle.replay_worker.specs.Counting.{binds, looks, unbinds}
+use Rattle.replay_worker.specs.Items.{CountedZone}
+use Rattle.replay_worker.specs.NameLedger.{NamesRefuse}
+use Rattle.replay_worker.specs.NameSizes.{NameSizes, sizes_for}
+use Rattle.replay_worker.specs.NamesStand.{NameLedgerStands, NamesStand}
+use Rattle.uma_replay.specs.declared.names.NameCount.TheVariants.{Hits, Misses, Late, Binds, Unbound, Refused}
+use Rattle.uma_replay.specs.declared.names.NamesPart.{NamesPart}
 use Rattle.uma_replay.specs.Counting.{arg_count, entry_zone, is_bind, is_done, is_look, is_unbind, kind_count}
 use Rattle.uma_replay.specs.Hall.{NamesDone}
 use Rattle.uma_replay.specs.Limits.{KeepsOneOf}

@@ -8,15 +8,15 @@ use Rattle.std.proofs.lemmas.List.Sums.{sum_by-cons, sum_by-append}
 use Rattle.std.specs.Prelude.{All, Any, IsTrue, ◌==◌, ◌&&◌, nat_lt, count_by, slice_get}
 use Rattle.std.specs.List.{flat_map}
 use Rattle.std.specs.Option.{option_map_or}
-use Rattle.trace_text.specs.declared.between.Between.{Between}
-use Rattle.trace_text.specs.declared.head.Head.{Head}
-use Rattle.trace_text.specs.declared.op.Op.{Op}
-use Rattle.trace_text.specs.declared.op.Op.TheVariants.{Alloc}
-use Rattle.trace_text.specs.declared.round.Round.{Round}
+use Rattle.trace_text.specs.declared.trace.Between.{Between}
+use Rattle.trace_text.specs.declared.trace.Head.{Head}
+use Rattle.trace_text.specs.declared.trace.Op.{Op}
+use Rattle.trace_text.specs.declared.trace.Op.TheVariants.{Alloc}
+use Rattle.trace_text.specs.declared.trace.Round.{Round}
 use Rattle.trace_text.specs.declared.trace.Trace.{Trace}
 use Rattle.trace_text.specs.Lines.{Line, Does, Moves, worker_lines, lines_of}
 use Rattle.trace_text.specs.Valid.{OpFits, RoundFits}
-use Rattle.trace_worker.specs.Counting.{is_ask, is_ask_with_arg, is_ask_with, asked, argued, asked_with}
+use Rattle.replay_worker.specs.Counting.{is_ask, is_ask_with_arg, is_ask_with, asked, argued, asked_with}
 use Rattle.uma_replay.specs.Counting.{worker_ops, is_alloc_of, is_alloc_with, is_alloc_with_arg, is_request_of, is_bind, request_count, arg_count}
 use Rattle.uma_replay.proofs.WorkerSums.{IsLine}
 

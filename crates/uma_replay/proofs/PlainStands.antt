@@ -2,7 +2,7 @@
 use Rattle.std.proofs.Common.{◌≡◌, ℕ, zero, suc, ◌+◌, ◌-◌, ◌*◌, ◌<◌, ◌≤◌, List, [], ◌∷◌, false, length, map, Option, None, Some, refl, sym, ap, ◌∙◌, subst, arith, reverse}
 use Rattle.std.proofs.lemmas.Option.{same_Some, slice_get_within, get_or_from_slice_get}
 use Rattle.std.specs.Prelude.{All, IfSome, IsSome, is_some, slice_get, slice_index_or, sum_by}
-use Rattle.trace_text.specs.declared.head.ZoneHead.{ZoneHead}
+use Rattle.trace_text.specs.declared.trace.ZoneHead.{ZoneHead}
 use Rattle.trace_text.specs.declared.trace.Trace.{Trace}
 use Rattle.trace_text.specs.Limits.{last_slot}
 use Rattle.trace_text.specs.Lines.{Line, lines_of}
@@ -17,8 +17,8 @@ use Rattle.zone_stats.specs.declared.report.ZoneLine.{ZoneLine}
 use Rattle.zone_stats.specs.Ledger.{is_ctor}
 use Rattle.zone_stats.specs.Line.{zone_line, total_allocs, total_frees, used_items}
 use Rattle.uma_life.specs.Trail.{ShowsSame}
-use Rattle.trace_worker.specs.LedgerStands.{LedgerStands, KeptFits}
-use Rattle.trace_play.specs.Kegs.{per_slab, primaries, index_of, rights_after}
+use Rattle.replay_worker.specs.LedgerStands.{LedgerStands, KeptFits}
+use Rattle.replay_rounds.specs.Kegs.{per_slab, primaries, index_of, rights_after}
 use Rattle.uma_replay.specs.Limits.{last_limit}
 use Rattle.uma_replay.specs.Report.{ZoneLedgersFit, LedgerFits, FreesFit, IsLineOf, RefusalFits, ledgers_at, KegAddsUp, UsesAreBuilt, ClockLineFits, line_title, head_title}
 use Rattle.uma_replay.proofs.Filled.{filled_slots}

@@ -7,22 +7,22 @@ use Rattle.smr_clock.specs.declared.host.Host.{Ghosts}
 use Rattle.smr_clock.specs.Belongs.{IsPassOf}
 use Rattle.trace_text.specs.declared.trace.Trace.{Trace}
 use Rattle.trace_text.specs.Lines.{lines_of}
-use Rattle.trace_worker.specs.declared.gate.Gate.{Ghosts as GateGhosts}
-use Rattle.trace_worker.specs.declared.name_calls.NameCalls.{Ghosts as NameGhosts}
-use Rattle.trace_worker.specs.declared.name_work.NameWork.{NameWork}
-use Rattle.trace_worker.specs.declared.worker_run.WorkerRun.{WorkerRun}
-use Rattle.trace_worker.specs.declared.worker.Worker.{Worker}
-use Rattle.trace_worker.specs.Attendance.{worker_in}
-use Rattle.trace_worker.specs.Items.{CountedZone}
-use Rattle.trace_worker.specs.Together.{crew}
-use Rattle.trace_worker.specs.Worker.{seen_of}
-use Rattle.trace_play.specs.declared.setting.Setting.{Setting}
-use Rattle.trace_play.specs.Setting.{IsSetUp}
-use Rattle.trace_play.specs.Clock.{floor_of}
-use Rattle.trace_play.specs.Betweens.{DoRounds}
-use Rattle.trace_play.specs.Rounds.{AllAsked}
-use Rattle.trace_play.specs.RoundsPlayed.{IsPlayed}
-use Rattle.trace_play.proofs.AfterRound.{in_crew}
+use Rattle.replay_worker.specs.declared.gate.Gate.{Ghosts as GateGhosts}
+use Rattle.replay_worker.specs.declared.name_calls.NameCalls.{Ghosts as NameGhosts}
+use Rattle.replay_worker.specs.declared.name_work.NameWork.{NameWork}
+use Rattle.replay_worker.specs.declared.worker_run.WorkerRun.{WorkerRun}
+use Rattle.replay_worker.specs.declared.worker.Worker.{Worker}
+use Rattle.replay_worker.specs.Attendance.{worker_in}
+use Rattle.replay_worker.specs.Items.{CountedZone}
+use Rattle.replay_worker.specs.Together.{crew}
+use Rattle.replay_worker.specs.Worker.{seen_of}
+use Rattle.replay_rounds.specs.declared.setting.Setting.{Setting}
+use Rattle.replay_rounds.specs.Setting.{IsSetUp}
+use Rattle.replay_rounds.specs.Clock.{floor_of}
+use Rattle.replay_rounds.specs.Betweens.{DoRounds}
+use Rattle.replay_rounds.specs.Rounds.{AllAsked}
+use Rattle.replay_rounds.specs.RoundsPlayed.{IsPlayed}
+use Rattle.replay_rounds.proofs.AfterRound.{in_crew}
 use Rattle.uma_replay.specs.Playing.{AllBack, AllStay, AreFirst, HaveEnded, HavePlayed, Stays, gave_ups_of, name_works_of}
 use Rattle.uma_replay.proofs.ComingBack.{back_stay}
 use Rattle.uma_replay.proofs.Staying.{all_chain, found_before}

@@ -3,8 +3,8 @@ use Rattle.std.proofs.Common.{◌≡◌, ℕ, zero, suc, ◌+◌, ◌<◌, List,
 use Rattle.std.proofs.lemmas.List.Sums.{sum_by-cons}
 use Rattle.std.proofs.lemmas.Option.{none-some, same_Some, slice_get_within, some_pair_parts}
 use Rattle.std.specs.Prelude.{is_none, is_some, slice_get, count_by}
-use Rattle.trace_text.specs.declared.head.ZoneHead.{ZoneHead}
-use Rattle.trace_play.specs.Kegs.{primaries}
+use Rattle.trace_text.specs.declared.trace.ZoneHead.{ZoneHead}
+use Rattle.replay_rounds.specs.Kegs.{primaries}
 use Rattle.uma_replay.specs.Reporting.{is_primary, keg_number}
 
 abbrev by_parent : Option ℕ → ℕ → ZoneHead → List ZoneHead → List (ℕ × ZoneHead)

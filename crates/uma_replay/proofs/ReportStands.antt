@@ -9,15 +9,15 @@ use Rattle.std.specs.Option.{option_map_or}
 use Rattle.smr_clock.specs.declared.clock.Clock.{Clock}
 use Rattle.smr_clock.specs.declared.host.Host.{Ghosts}
 use Rattle.smr_clock.specs.Belongs.{setup_of}
-use Rattle.trace_text.specs.declared.head.ClockHead.{ClockHead}
-use Rattle.trace_text.specs.declared.head.Head.{Head}
-use Rattle.trace_text.specs.declared.head.ZoneHead.{ZoneHead}
+use Rattle.trace_text.specs.declared.trace.ClockHead.{ClockHead}
+use Rattle.trace_text.specs.declared.trace.Head.{Head}
+use Rattle.trace_text.specs.declared.trace.ZoneHead.{ZoneHead}
 use Rattle.trace_text.specs.declared.trace.Trace.{Trace}
 use Rattle.trace_text.specs.Lines.{Line, lines_of}
 use Rattle.trace_text.specs.Valid.{IsValid, HeadFits, KegFits, ZoneFits, sharer_count}
 use Rattle.uma_keg.specs.declared.census.Census.{Census}
 use Rattle.uma_keg.specs.Census.{census_counts, census_out, census_outs}
-use Rattle.uma_life.specs.declared.tally_sum.TallySum.{TallySum}
+use Rattle.uma_life.specs.declared.tally.TallySum.{TallySum}
 use Rattle.uma_life.specs.Hook.{Ctor as CtorOf, Dtor as DtorOf}
 use Rattle.uma_life.specs.Sum.{sum_of}
 use Rattle.uma_life.specs.Trail.{ShowsSame}
@@ -30,19 +30,19 @@ use Rattle.zone_stats.specs.declared.report.ClockLine.{ClockLine}
 use Rattle.zone_stats.specs.declared.report.Report.{Report}
 use Rattle.zone_stats.specs.Ledger.{is_ctor}
 use Rattle.zone_stats.specs.Line.{zone_line, total_allocs, total_frees}
-use Rattle.trace_worker.specs.declared.held.Held.{Held}
-use Rattle.trace_worker.specs.declared.worker.Worker.{Worker}
-use Rattle.trace_worker.specs.Items.{CountedSeat, CountedZone}
-use Rattle.trace_worker.specs.LedgerStands.{LedgerStands}
-use Rattle.trace_worker.specs.Live.{is_of, live_count}
-use Rattle.trace_worker.specs.Slots.{slot_at}
-use Rattle.trace_worker.specs.Stands.{NamesZone, Stands}
-use Rattle.trace_worker.specs.Worker.{phase_of}
-use Rattle.trace_worker.specs.Together.{AllStand, AddsUp, ledger_at, all_live, all_frees, all_allocs}
-use Rattle.trace_play.specs.Kegs.{keg_place, index_of, per_slab, primaries}
-use Rattle.trace_play.specs.Zones.{AreZones, IsZoneOf}
-use Rattle.trace_play.specs.Clock.{ReadsHands}
-use Rattle.trace_play.specs.Closes.{AllClose, KegCloses}
+use Rattle.replay_worker.specs.declared.worker.Held.{Held}
+use Rattle.replay_worker.specs.declared.worker.Worker.{Worker}
+use Rattle.replay_worker.specs.Items.{CountedSeat, CountedZone}
+use Rattle.replay_worker.specs.LedgerStands.{LedgerStands}
+use Rattle.replay_worker.specs.Live.{is_of, live_count}
+use Rattle.replay_worker.specs.Slots.{slot_at}
+use Rattle.replay_worker.specs.Stands.{NamesZone, Stands}
+use Rattle.replay_worker.specs.Worker.{phase_of}
+use Rattle.replay_worker.specs.Together.{AllStand, AddsUp, ledger_at, all_live, all_frees, all_allocs}
+use Rattle.replay_rounds.specs.Kegs.{keg_place, index_of, per_slab, primaries}
+use Rattle.replay_rounds.specs.Zones.{AreZones, IsZoneOf}
+use Rattle.replay_rounds.specs.Clock.{ReadsHands}
+use Rattle.replay_rounds.specs.Closes.{AllClose, KegCloses}
 use Rattle.uma_replay.specs.Limits.{KeepsOneOf, last_limit, limits_had}
 use Rattle.uma_replay.specs.Report.{RefusalFits, ClockLineFits}
 use Rattle.uma_replay.specs.Reporting.{IsReportOf, AreLedgersOf, keg_number, hook_line, keg_line, clock_line, shown_free}

@@ -6,32 +6,32 @@ use Rattle.std.proofs.lemmas.List.Elements.{All-nil, All-cons, All-append}
 use Rattle.std.proofs.lemmas.Option.{none-some, same_Some}
 use Rattle.std.specs.Prelude.{All, slice_get, slice_set}
 use Rattle.smr_clock.specs.declared.host.Host.{Ghosts}
-use Rattle.trace_text.specs.declared.op.Op.{Op}
-use Rattle.trace_text.specs.declared.op.Op.TheVariants.{Alloc, Free, Enter, Exit, Bind, Unbind, Look, Trim, Drain, DrainSeat, Prealloc, Away, Back}
+use Rattle.trace_text.specs.declared.trace.Op.{Op}
+use Rattle.trace_text.specs.declared.trace.Op.TheVariants.{Alloc, Free, Enter, Exit, Bind, Unbind, Look, Trim, Drain, DrainSeat, Prealloc, Away, Back}
 use Rattle.uma_bucket.specs.Bucket.{items_of}
-use Rattle.uma_life.specs.declared.ticket.Ticket.{Ticket}
+use Rattle.uma_life.specs.declared.states.Ticket.{Ticket}
 use Rattle.uma_life.specs.Cached.{cached_ticket}
 use Rattle.uma_life.specs.Live.{live_ticket}
 use Rattle.uma_seat.specs.Row.{stacks_of}
 use Rattle.uma_seat.specs.Seat.{usable_of, KeepsTop, KeepsPlain}
 use Rattle.uma_seat.specs.Stack.{stack_at}
-use Rattle.uma_zone.specs.declared.alloc_ask.AllocAsk.{AllocAsk}
-use Rattle.uma_zone.specs.declared.alloc_ask.AllocRefused.TheVariants.{Refused}
+use Rattle.uma_zone.specs.declared.zone.alloc.AllocAsk.{AllocAsk}
+use Rattle.uma_zone.specs.declared.zone.alloc.AllocRefused.TheVariants.{Refused}
 use Rattle.uma_zone.specs.Alloc.{TakesUsable, AllocIsRefused}
 use Rattle.uma_zone.specs.SafeReuse.{usable_tickets}
 use Rattle.uma_zone.specs.Zone.{zone_smr}
 use Rattle.zone_stats.specs.declared.refusal.Refusal.{Refusal}
 use Rattle.zone_stats.specs.declared.refusal.Refusal.TheVariants.{AtLimit, Reserved, Full, Init, Ctor}
-use Rattle.trace_worker.specs.declared.name_calls.NameCalls.{Ghosts as NameGhosts}
-use Rattle.trace_worker.specs.declared.held.Held.{Held}
-use Rattle.trace_worker.specs.declared.worker.Worker.{Worker}
-use Rattle.trace_worker.specs.Items.{CachedItem, CountedSeat, CountedZone, LiveItem}
-use Rattle.trace_worker.specs.NameLines.{Changes, LineState}
-use Rattle.trace_worker.specs.Performs.{ask_of}
-use Rattle.trace_worker.specs.Reclaims.{IsDrained, IsFlushed}
-use Rattle.trace_worker.specs.Requests.{GivesBack, Requests}
-use Rattle.trace_worker.specs.Slots.{slot_at}
-use Rattle.trace_worker.proofs.SlotLemmas.{emptied_none}
+use Rattle.replay_worker.specs.declared.name_calls.NameCalls.{Ghosts as NameGhosts}
+use Rattle.replay_worker.specs.declared.worker.Held.{Held}
+use Rattle.replay_worker.specs.declared.worker.Worker.{Worker}
+use Rattle.replay_worker.specs.Items.{CachedItem, CountedSeat, CountedZone, LiveItem}
+use Rattle.replay_worker.specs.NameLines.{Changes, LineState}
+use Rattle.replay_worker.specs.Performs.{ask_of}
+use Rattle.replay_worker.specs.Reclaims.{IsDrained, IsFlushed}
+use Rattle.replay_worker.specs.Requests.{GivesBack, Requests}
+use Rattle.replay_worker.specs.Slots.{slot_at}
+use Rattle.replay_worker.proofs.SlotLemmas.{emptied_none}
 use Rattle.uma_replay.specs.Headline.{ComeRipe, ComeFromKeg, gone_by}
 use Rattle.uma_replay.specs.SeatLines.{SeatCall, Request, Return, Flush, Empty, Nothing, SeatLine, IsCall, IsLine, IsReturn, OnlyOfZone, HasDone}
 use Rattle.uma_replay.specs.Steps.{Step}

@@ -8,25 +8,25 @@ use Rattle.std.specs.Option.{option_map_or}
 use Rattle.smr_clock.specs.declared.clock.Clock.{Clock}
 use Rattle.smr_clock.specs.declared.host.Host.{Ghosts}
 use Rattle.smr_clock.specs.Belongs.{IsPassOf}
-use Rattle.smr_core.specs.declared.phase.Phase.{Phase}
-use Rattle.smr_core.specs.declared.phase.Phase.TheVariants.{Inside, Outside}
+use Rattle.smr_core.specs.declared.holder.Phase.{Phase}
+use Rattle.smr_core.specs.declared.holder.Phase.TheVariants.{Inside, Outside}
 use Rattle.trace_text.specs.Lines.{Line}
 use Rattle.uma_keg.specs.Lent.{Seen, seen_of as seen_item}
 use Rattle.uma_zone.specs.Zone.{zone_home}
 use Rattle.zone_stats.specs.declared.ledger.SeatLedger.{SeatLedger}
-use Rattle.trace_worker.specs.declared.held.Held.{Held}
-use Rattle.trace_worker.specs.declared.worker.Worker.{Worker}
-use Rattle.trace_worker.specs.declared.counted.Counted.{Counted}
-use Rattle.trace_worker.specs.Counting.{looks, sections}
-use Rattle.trace_worker.specs.EntriesStand.{EntriesStand}
-use Rattle.trace_worker.specs.Items.{CountedZone}
-use Rattle.trace_worker.specs.Live.{is_of, live_count}
-use Rattle.trace_worker.specs.Slots.{slot_at}
-use Rattle.trace_worker.specs.Stands.{Stands}
-use Rattle.trace_worker.specs.Together.{AllStand, AddsUp, ledger_at, all_live, all_allocs, all_frees}
-use Rattle.trace_worker.specs.Worker.{FitsZones, HasSeats, IsHeld, phase_of, seen_of}
-use Rattle.trace_play.specs.Lending.{seen_slot, KeepsWorker, KeepsWorkers}
-use Rattle.trace_play.specs.Clock.{AllLearn, Learns, ReadsHands, floor_of}
+use Rattle.replay_worker.specs.declared.worker.Held.{Held}
+use Rattle.replay_worker.specs.declared.worker.Worker.{Worker}
+use Rattle.replay_worker.specs.declared.count_hooks.Counted.{Counted}
+use Rattle.replay_worker.specs.Counting.{looks, sections}
+use Rattle.replay_worker.specs.EntriesStand.{EntriesStand}
+use Rattle.replay_worker.specs.Items.{CountedZone}
+use Rattle.replay_worker.specs.Live.{is_of, live_count}
+use Rattle.replay_worker.specs.Slots.{slot_at}
+use Rattle.replay_worker.specs.Stands.{Stands}
+use Rattle.replay_worker.specs.Together.{AllStand, AddsUp, ledger_at, all_live, all_allocs, all_frees}
+use Rattle.replay_worker.specs.Worker.{FitsZones, HasSeats, IsHeld, phase_of, seen_of}
+use Rattle.replay_rounds.specs.Lending.{seen_slot, KeepsWorker, KeepsWorkers}
+use Rattle.replay_rounds.specs.Clock.{AllLearn, Learns, ReadsHands, floor_of}
 use Rattle.uma_replay.specs.Playing.{AllStay, Stays}
 use Rattle.uma_replay.proofs.PlainStands.{some_at}
 
@@ -231,7 +231,7 @@ module _ {H Part : Type 0} {h : Ghosts H Part} where
   pub kept_stay : (zones : List (CountedZone H Part h)) (clock : Clock H Part) (lines : List Line) (old new : List (Worker H Part h)) → AllStand zones clock lines old → KeepsWorkers old new → AllStay clock old new
   kept_stay zones clock lines old new a k = record { count = k.count; each = λ n v w at at'. stays_kept clock v w (a.fits n v at).pass (k.each n v w at at') }
 
-  -- the hands are read by the passes alone
+  -- the sequences are read by the passes alone
   pub hands_stay : (clock : Clock H Part) (old new : List (Worker H Part h)) (read write : ℕ) → KeepsWorkers old new → ReadsHands clock old read write → ReadsHands clock new read write
   hands_stay clock old new read write k r = record {
     first = λ w at. let was = found_before old new 0 w k.count at in

@@ -4,22 +4,22 @@ use Rattle.std.proofs.lemmas.List.{length-map}
 use Rattle.std.proofs.lemmas.Option.{none-some, same_Some}
 use Rattle.std.specs.Prelude.{slice_get}
 use Rattle.smr_clock.specs.declared.host.Host.{Ghosts}
-use Rattle.trace_text.specs.declared.between.Between.{Between}
-use Rattle.trace_text.specs.declared.between.Between.TheVariants.{Give, SetMax}
-use Rattle.trace_text.specs.declared.op.Op.{Op}
-use Rattle.trace_text.specs.declared.round.Round.{Round}
-use Rattle.trace_worker.specs.declared.name_calls.NameCalls.{Ghosts as NameGhosts}
-use Rattle.trace_worker.specs.declared.name_work.NameWork.{NameWork}
-use Rattle.trace_worker.specs.declared.worker_run.WorkerRun.{WorkerRun}
-use Rattle.trace_worker.specs.declared.worker.Worker.{Worker}
-use Rattle.trace_worker.specs.Giving.{KeepsRest, with_slots}
-use Rattle.trace_worker.specs.Items.{CountedZone}
-use Rattle.trace_worker.specs.NameLines.{LineState, DoesAll, line_state}
-use Rattle.trace_worker.proofs.Attending.{same_bare}
-use Rattle.trace_worker.proofs.GiveSums.{rest_gives}
-use Rattle.trace_play.specs.Betweens.{DoBetweens, DoRounds}
-use Rattle.trace_play.specs.Parts.{ops_in}
-use Rattle.trace_play.proofs.RoundLists.{at_other, before}
+use Rattle.trace_text.specs.declared.trace.Between.{Between}
+use Rattle.trace_text.specs.declared.trace.Between.TheVariants.{Give, SetMax}
+use Rattle.trace_text.specs.declared.trace.Op.{Op}
+use Rattle.trace_text.specs.declared.trace.Round.{Round}
+use Rattle.replay_worker.specs.declared.name_calls.NameCalls.{Ghosts as NameGhosts}
+use Rattle.replay_worker.specs.declared.name_work.NameWork.{NameWork}
+use Rattle.replay_worker.specs.declared.worker_run.WorkerRun.{WorkerRun}
+use Rattle.replay_worker.specs.declared.worker.Worker.{Worker}
+use Rattle.replay_worker.specs.Giving.{KeepsRest, with_slots}
+use Rattle.replay_worker.specs.Items.{CountedZone}
+use Rattle.replay_worker.specs.NameLines.{LineState, DoesAll, line_state}
+use Rattle.replay_worker.proofs.Attending.{same_bare}
+use Rattle.replay_worker.proofs.GiveSums.{rest_gives}
+use Rattle.replay_rounds.specs.Betweens.{DoBetweens, DoRounds}
+use Rattle.replay_rounds.specs.Parts.{ops_in}
+use Rattle.replay_rounds.proofs.RoundLists.{at_other, before}
 use Rattle.uma_replay.specs.Steps.{AreRounds, AreSteps, Step, steps_of}
 use Rattle.uma_replay.proofs.NameStory as name_story
 use Rattle.uma_replay.proofs.SeatLines.{Stories, step_by, stories-append, stories-cons, stories-none}

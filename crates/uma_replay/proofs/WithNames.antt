@@ -4,8 +4,8 @@ use Rattle.std.proofs.lemmas.List.{map-append}
 use Rattle.std.proofs.lemmas.Option.{slice_get_within, get_or_from_slice_get}
 use Rattle.std.specs.Prelude.{◌==◌, IfSome, slice_get}
 use Rattle.std.specs.Option.{option_map_or}
-use Rattle.trace_text.specs.declared.head.NamesHead.{NamesHead}
-use Rattle.trace_text.specs.declared.head.ZoneHead.{ZoneHead}
+use Rattle.trace_text.specs.declared.trace.NamesHead.{NamesHead}
+use Rattle.trace_text.specs.declared.trace.ZoneHead.{ZoneHead}
 use Rattle.trace_text.specs.declared.trace.Trace.{Trace}
 use Rattle.trace_text.specs.Lines.{lines_of}
 use Rattle.zone_stats.specs.declared.ledger.SeatLedger.{SeatLedger}
@@ -16,8 +16,8 @@ use Rattle.zone_stats.specs.declared.report.NamesLine.{NamesLine}
 use Rattle.zone_stats.specs.declared.report.Report.{Report}
 use Rattle.zone_stats.specs.declared.report.ZoneLine.{ZoneLine}
 use Rattle.zone_stats.specs.Line.{total_allocs, total_fails}
-use Rattle.trace_play.specs.Kegs.{keg_place, primaries}
-use Rattle.uma_replay.specs.declared.names_part.NamesPart.{NamesPart}
+use Rattle.replay_rounds.specs.Kegs.{keg_place, primaries}
+use Rattle.uma_replay.specs.declared.names.NamesPart.{NamesPart}
 use Rattle.uma_replay.specs.Counting.{entry_zone, is_bind, is_look, is_unbind, kind_count, report_zones}
 use Rattle.uma_replay.specs.Limits.{last_limit}
 use Rattle.uma_replay.specs.Names.{with_names}

@@ -7,17 +7,17 @@ use Rattle.std.specs.Prelude.{IfSome, IsTrue, slice_get}
 use Rattle.smr_clock.specs.declared.host.Host.{Ghosts}
 use Rattle.zone_stats.specs.declared.ledger.SeatLedger.{SeatLedger}
 use Rattle.zone_stats.specs.LedgerSteps.{IsNew}
-use Rattle.trace_worker.specs.declared.name_calls.NameCalls.{Ghosts as NameGhosts}
-use Rattle.trace_worker.specs.declared.name_work.NameCounts.{NameCounts}
-use Rattle.trace_worker.specs.declared.name_work.NameWork.{NameWork}
-use Rattle.trace_worker.specs.declared.worker_run.WorkerRun.{WorkerRun}
-use Rattle.trace_worker.specs.declared.worker.Worker.{Worker}
-use Rattle.trace_worker.specs.Attendance.{is_out, worker_in}
-use Rattle.trace_worker.specs.Counting.{binds, looks, unbinds}
-use Rattle.trace_worker.specs.NameWork.{no_counts}
-use Rattle.trace_worker.specs.NamesStand.{NameCountsStand, NameLedgerStands, NamesStand}
-use Rattle.trace_worker.specs.Together.{crew}
-use Rattle.trace_worker.proofs.LineCounts.{binds-none, looks-none}
+use Rattle.replay_worker.specs.declared.name_calls.NameCalls.{Ghosts as NameGhosts}
+use Rattle.replay_worker.specs.declared.name_work.NameCounts.{NameCounts}
+use Rattle.replay_worker.specs.declared.name_work.NameWork.{NameWork}
+use Rattle.replay_worker.specs.declared.worker_run.WorkerRun.{WorkerRun}
+use Rattle.replay_worker.specs.declared.worker.Worker.{Worker}
+use Rattle.replay_worker.specs.Attendance.{is_out, worker_in}
+use Rattle.replay_worker.specs.Counting.{binds, looks, unbinds}
+use Rattle.replay_worker.specs.NameWork.{no_counts}
+use Rattle.replay_worker.specs.NamesStand.{NameCountsStand, NameLedgerStands, NamesStand}
+use Rattle.replay_worker.specs.Together.{crew}
+use Rattle.replay_worker.proofs.LineCounts.{binds-none, looks-none}
 use Rattle.uma_replay.specs.Names.{first_counts}
 use Rattle.uma_replay.specs.Playing.{AreFirst, IsFirst, name_works_of}
 use Rattle.uma_replay.proofs.Pushed.{at_end}

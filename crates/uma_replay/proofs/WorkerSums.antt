@@ -4,16 +4,16 @@ use Rattle.std.proofs.lemmas.Bool.{ne_eqb, and_left}
 use Rattle.std.proofs.lemmas.List.{reverse-append, append_assoc}
 use Rattle.std.proofs.lemmas.List.Elements.{All-head, All-tail}
 use Rattle.std.specs.Prelude.{All, not, ◌==◌}
-use Rattle.trace_text.specs.declared.head.Head.{Head}
-use Rattle.trace_text.specs.declared.op.Op.{Op}
-use Rattle.trace_text.specs.declared.op.Op.TheVariants.{Alloc, Free, Enter, Exit, Bind, Unbind, Look, Trim, Drain, DrainSeat, Prealloc, Away, Back}
-use Rattle.trace_text.specs.declared.between.Between.TheVariants.{Give, SetMax}
+use Rattle.trace_text.specs.declared.trace.Head.{Head}
+use Rattle.trace_text.specs.declared.trace.Op.{Op}
+use Rattle.trace_text.specs.declared.trace.Op.TheVariants.{Alloc, Free, Enter, Exit, Bind, Unbind, Look, Trim, Drain, DrainSeat, Prealloc, Away, Back}
+use Rattle.trace_text.specs.declared.trace.Between.TheVariants.{Give, SetMax}
 use Rattle.trace_text.specs.Lines.{Line, Does, Moves}
 use Rattle.trace_text.specs.Limits.{last_slot}
 use Rattle.trace_text.specs.Valid.{OpFits, BetweenFits, LineFits, LinesFit}
 use Rattle.trace_text.specs.Reading.{in_section}
-use Rattle.trace_worker.specs.Counting.{is_ask, is_section, is_free_of, asked, sections, freed}
-use Rattle.trace_worker.proofs.LineCounts.{asked-more, sections-more, freed-more, asked-none, sections-none, freed-none}
+use Rattle.replay_worker.specs.Counting.{is_ask, is_section, is_free_of, asked, sections, freed}
+use Rattle.replay_worker.proofs.LineCounts.{asked-more, sections-more, freed-more, asked-none, sections-none, freed-none}
 use Rattle.uma_replay.specs.Counting.{free_count, frees_of, enter_count, is_entry}
 use Rattle.uma_replay.proofs.Filled.{ask_count, asks_of, NamesBelow, AddsUp, adds-more, AddsUp-none, ask-more, ask-none}
 use Rattle.uma_replay.proofs.Upto.{upto, upto-point, upto-same, upto-zero}

@@ -10,7 +10,7 @@ use Rattle.trace_text.specs.Reading.{held}
 use Rattle.trace_text.specs.Valid.{IsValid}
 use Rattle.zone_stats.specs.declared.ledger.SeatLedger.{SeatLedger}
 use Rattle.zone_stats.specs.Line.{total_allocs, total_fails, total_frees}
-use Rattle.trace_worker.specs.Counting.{asked, freed}
+use Rattle.replay_worker.specs.Counting.{asked, freed}
 use Rattle.uma_replay.specs.Counting.{free_count}
 use Rattle.uma_replay.specs.Report.{FreesFit}
 use Rattle.uma_replay.proofs.Filled.{ask_count, emptied-is, filled_at, filled_slots, unit_of}

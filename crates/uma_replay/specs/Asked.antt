@@ -1,8 +1,8 @@
 -- What the workers of a replay asked of their gate, by the gate's own meaning of its visits (own).
 use Rattle.std.specs.Prelude.{◌≡◌, ℕ, List, Some, slice_get}
-use Rattle.trace_text.specs.declared.round.Round.{Round}
-use Rattle.trace_worker.specs.declared.gate.Gate.{Ghosts as GateGhosts}
-use Rattle.trace_play.specs.Asks.{AsksRounds, not_asked}
+use Rattle.trace_text.specs.declared.trace.Round.{Round}
+use Rattle.replay_worker.specs.declared.gate.Gate.{Ghosts as GateGhosts}
+use Rattle.replay_rounds.specs.Asks.{AsksRounds, not_asked}
 
 module _ {G V : Type 0} (gates : GateGhosts G V) (gate : G) where
   -- These are the givings-up of the workers, in order: in each round each asked for its own list, operation by operation, in a visit of its own to the gate, and told each as done. It gave up where it was held 100,000,000 times in a row at one operation, so often in all, and nowhere else.

@@ -5,25 +5,25 @@ use Rattle.smr_clock.specs.declared.host.Host.{Ghosts}
 use Rattle.trace_text.specs.declared.trace.Trace.{Trace}
 use Rattle.trace_text.specs.Lines.{lines_of}
 use Rattle.trace_text.specs.Valid.{IsValid}
-use Rattle.trace_worker.specs.declared.name_calls.NameCalls.{Ghosts as NameGhosts}
-use Rattle.trace_worker.specs.declared.worker.Worker.{Worker}
-use Rattle.trace_worker.specs.Items.{CountedZone}
-use Rattle.trace_play.specs.Clock.{ReadsHands}
-use Rattle.trace_play.specs.Closes.{AllClose}
+use Rattle.replay_worker.specs.declared.name_calls.NameCalls.{Ghosts as NameGhosts}
+use Rattle.replay_worker.specs.declared.worker.Worker.{Worker}
+use Rattle.replay_worker.specs.Items.{CountedZone}
+use Rattle.replay_rounds.specs.Clock.{ReadsHands}
+use Rattle.replay_rounds.specs.Closes.{AllClose}
 use Rattle.uma_replay.specs.declared.hall.Hall.{Hall}
 use Rattle.uma_replay.specs.declared.hall.Played.{Played}
-use Rattle.uma_replay.specs.declared.stock.Stock.{Stock}
+use Rattle.uma_replay.specs.declared.report.Stock.{Stock}
 use Rattle.uma_replay.specs.Hall.{AreDone, HallStands, NamesDone}
 use Rattle.uma_replay.specs.Playing.{AllStay, HaveEnded}
 
 module _ {H P : Type 0} {h : Ghosts H P} where
-  -- the hands were read, by which the workers stay done
+  -- the sequences were read, by which the workers stay done
   pub record HasLooked (t : Trace) (zones : List (CountedZone H P h)) (clock : Clock H P) (old new : List (Worker H P h)) (read write : ℕ) : Type 0 where
     pub done : AreDone t zones clock new
     pub stay : AllStay clock old new
     pub hands : ReadsHands clock new read write
 
-  -- the hands were read and the kegs counted, by which the workers stay done
+  -- the sequences were read and the kegs counted, by which the workers stay done
   pub record TakesStock (t : Trace) (zones : List (CountedZone H P h)) (clock : Clock H P) (old new : List (Worker H P h)) (end : Stock) : Type 0 where
     pub done : AreDone t zones clock new
     pub stay : AllStay clock old new

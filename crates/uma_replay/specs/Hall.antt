@@ -4,19 +4,19 @@ use Rattle.smr_clock.specs.declared.clock.Clock.{Clock}
 use Rattle.smr_clock.specs.declared.host.Host.{Ghosts}
 use Rattle.trace_text.specs.declared.trace.Trace.{Trace}
 use Rattle.trace_text.specs.Lines.{lines_of}
-use Rattle.uma_life.specs.declared.tally_sum.TallySum.{TallySum}
+use Rattle.uma_life.specs.declared.tally.TallySum.{TallySum}
 use Rattle.zone_stats.specs.declared.report.Report.{Report}
-use Rattle.trace_worker.specs.declared.name_calls.NameCalls.{Ghosts as NameGhosts}
-use Rattle.trace_worker.specs.declared.name_work.NameWork.{NameWork}
-use Rattle.trace_worker.specs.declared.worker.Worker.{Worker}
-use Rattle.trace_worker.specs.Clocks.{IsClockOf}
-use Rattle.trace_worker.specs.Items.{CountedZone}
-use Rattle.trace_worker.specs.NameSizes.{sizes_for}
-use Rattle.trace_worker.specs.NamesStand.{NamesOfClock, NamesStand}
-use Rattle.trace_worker.specs.Together.{AddsUp, AllStand}
-use Rattle.trace_play.specs.Zones.{AreZones}
-use Rattle.trace_play.specs.Clock.{ReadsHands}
-use Rattle.trace_play.specs.Closes.{AllClose}
+use Rattle.replay_worker.specs.declared.name_calls.NameCalls.{Ghosts as NameGhosts}
+use Rattle.replay_worker.specs.declared.name_work.NameWork.{NameWork}
+use Rattle.replay_worker.specs.declared.worker.Worker.{Worker}
+use Rattle.replay_worker.specs.Clocks.{IsClockOf}
+use Rattle.replay_worker.specs.Items.{CountedZone}
+use Rattle.replay_worker.specs.NameSizes.{sizes_for}
+use Rattle.replay_worker.specs.NamesStand.{NamesOfClock, NamesStand}
+use Rattle.replay_worker.specs.Together.{AddsUp, AllStand}
+use Rattle.replay_rounds.specs.Zones.{AreZones}
+use Rattle.replay_rounds.specs.Clock.{ReadsHands}
+use Rattle.replay_rounds.specs.Closes.{AllClose}
 use Rattle.uma_replay.specs.declared.hall.Hall.{Hall}
 use Rattle.uma_replay.specs.Names.{IsWhole}
 use Rattle.uma_replay.specs.Playing.{HaveEnded, HavePlayed}

@@ -4,19 +4,19 @@
 --
 -- `Headline`, at the end, has a field for each clause. They speak of steps: a step is one line that a worker did, whatever the threads of the others did meanwhile (`AreRounds`). At the worker's seat of a zone a step is a `SeatLine`: the call that it made of the seat, with the seat before and after it.
 --
--- What else is cited by name: `AreZones`, `IsBeginner` and `DoBetweens`, how the zones and the workers began, and the `give` and `setmax` lines (trace_play); `DoesLine`, all that a line does, sections and looks too, of which `Requests`, `GivesBack`, `IsFlushed` and `IsDrained` are what it does to a seat, and `NameCalls`, the words of who keeps the names, in the program `CacheNames` (trace_worker); `AreReused`, `IsOneFetch` and `AllocIsRefused` of the zones (uma_zone); `after` and `IsAt`, the hooks of an item (uma_life). For want of memory a replay ends without a report, so nothing is said here of that.
+-- What else is cited by name: `AreZones`, `IsBeginner` and `DoBetweens`, how the zones and the workers began, and the `give` and `setmax` lines (replay_rounds); `DoesLine`, all that a line does, sections and looks too, of which `Requests`, `GivesBack`, `IsFlushed` and `IsDrained` are what it does to a seat, and `NameCalls`, the words of who keeps the names, in the program `CacheNames` (replay_worker); `AreReused`, `IsOneFetch` and `AllocIsRefused` of the zones (uma_zone); `after` and `IsAt`, the hooks of an item (uma_life). For want of memory a replay ends without a report, so nothing is said here of that.
 use Rattle.std.specs.Prelude.{◌≡◌, ◌⊎◌, ◌<◌, ℕ, All, Bool, true, false, List, [], ◌∷◌, ◌++◌, Some, None, count_by, is_some, length, map, slice_get}
 use Rattle.smr_clock.specs.declared.host.Host.{Ghosts}
 use Rattle.trace_text.specs.declared.trace.Trace.{Trace}
-use Rattle.uma_life.specs.declared.ticket.Ticket.{Ticket}
+use Rattle.uma_life.specs.declared.states.Ticket.{Ticket}
 use Rattle.uma_life.specs.Cached.{cached_body, cached_ticket, cached_zone}
 use Rattle.uma_life.specs.Hook.{Ctor, Dtor, after, base_phase}
-use Rattle.uma_life.specs.declared.body_phase.BodyPhase.TheVariants.{Built}
+use Rattle.uma_life.specs.declared.tally.BodyPhase.TheVariants.{Built}
 use Rattle.uma_life.specs.Live.{live_body, live_ticket, live_zone}
 use Rattle.uma_life.specs.Trail.{IsAt}
 use Rattle.uma_seat.specs.Seat.{usable_of, ledger_of}
-use Rattle.uma_zone.specs.declared.alloc_ask.AllocAsk.{AllocAsk}
-use Rattle.uma_zone.specs.declared.alloc_ask.AllocRefused.TheVariants.{Refused}
+use Rattle.uma_zone.specs.declared.zone.alloc.AllocAsk.{AllocAsk}
+use Rattle.uma_zone.specs.declared.zone.alloc.AllocRefused.TheVariants.{Refused}
 use Rattle.uma_zone.specs.Alloc.{AreReused, IsOneFetch, AllocIsRefused}
 use Rattle.uma_zone.specs.SafeReuse.{usable_tickets}
 use Rattle.uma_zone.specs.Zone.{zone_index, zone_smr}
@@ -25,13 +25,13 @@ use Rattle.zone_stats.specs.declared.refusal.Refusal.{Refusal}
 use Rattle.zone_stats.specs.declared.report.Report.{Report}
 use Rattle.zone_stats.specs.declared.report.ZoneLine.{ZoneLine}
 use Rattle.zone_stats.specs.Line.{total_allocs, total_cross, total_fails, used_items}
-use Rattle.trace_worker.specs.declared.held.Held.{Held}
-use Rattle.trace_worker.specs.declared.name_calls.NameCalls.{Ghosts as NameGhosts}
-use Rattle.trace_worker.specs.declared.name_work.NameWork.{NameWork}
-use Rattle.trace_worker.specs.declared.worker.Worker.{Worker}
-use Rattle.trace_worker.specs.Items.{CachedItem, CountedSeat, CountedZone, counted_life}
-use Rattle.trace_worker.specs.Slots.{slot_at}
-use Rattle.trace_play.specs.Zones.{AreZones}
+use Rattle.replay_worker.specs.declared.worker.Held.{Held}
+use Rattle.replay_worker.specs.declared.name_calls.NameCalls.{Ghosts as NameGhosts}
+use Rattle.replay_worker.specs.declared.name_work.NameWork.{NameWork}
+use Rattle.replay_worker.specs.declared.worker.Worker.{Worker}
+use Rattle.replay_worker.specs.Items.{CachedItem, CountedSeat, CountedZone, counted_life}
+use Rattle.replay_worker.specs.Slots.{slot_at}
+use Rattle.replay_rounds.specs.Zones.{AreZones}
 use Rattle.uma_replay.specs.declared.hall.Hall.{Hall}
 use Rattle.uma_replay.specs.Names.{AreNameLedgers}
 use Rattle.uma_replay.specs.Playing.{HavePlayed}

@@ -1,11 +1,11 @@
 -- The steps of a worker as its lines of names (own). The words of names, `told`, `knows`, `usable`, `Came` and `IsFound`, are those of who keeps them (`NameCalls`): in the program `CacheNames`.
 use Rattle.std.specs.Prelude.{◌≡◌, ◌⊎◌, ◌≤◌, ◌%◌, ℕ, All, List, [], ◌∷◌, ◌++◌, Option, Some, IfSome, count_by, is_some, map}
 use Rattle.smr_clock.specs.declared.host.Host.{Ghosts}
-use Rattle.trace_text.specs.declared.op.Op.TheVariants.{Bind, Look}
-use Rattle.uma_life.specs.declared.ticket.Ticket.{Ticket}
+use Rattle.trace_text.specs.declared.trace.Op.TheVariants.{Bind, Look}
+use Rattle.uma_life.specs.declared.states.Ticket.{Ticket}
 use Rattle.zone_stats.specs.declared.refusal.Refusal.{Refusal}
-use Rattle.trace_worker.specs.declared.name_calls.NameCalls.{Ghosts as NameGhosts}
-use Rattle.trace_worker.specs.declared.name_work.NameWork.{NameWork}
+use Rattle.replay_worker.specs.declared.name_calls.NameCalls.{Ghosts as NameGhosts}
+use Rattle.replay_worker.specs.declared.name_work.NameWork.{NameWork}
 use Rattle.uma_replay.specs.Steps.{AreAmong, Step, seen}
 
 -- a step as the lines of names go: the value that a look found, and what refused a bind its entry; then the entries that it brought to its seat of the names and handed out

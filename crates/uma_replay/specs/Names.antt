@@ -3,26 +3,26 @@ use Rattle.std.specs.Prelude.{◌≡◌, ◌≤◌, ◌<◌, ◌+◌, ◌*◌, �
 use Rattle.std.specs.List.{sum_by}
 use Rattle.std.specs.Option.{option_map_or}
 use Rattle.smr_clock.specs.declared.host.Host.{Ghosts}
-use Rattle.trace_text.specs.declared.head.NamesHead.{NamesHead}
-use Rattle.uma_bucket.specs.declared.sums.Sums.{Sums}
+use Rattle.trace_text.specs.declared.trace.NamesHead.{NamesHead}
+use Rattle.uma_bucket.specs.declared.shelved.Sums.{Sums}
 use Rattle.uma_bucket.specs.Sums.{AreOfAtMost, Balance}
 use Rattle.uma_keg.specs.declared.census.Census.{Census}
 use Rattle.uma_keg.specs.Census.{census_counts, census_tally}
-use Rattle.uma_life.specs.declared.tally_sum.TallySum.{TallySum}
+use Rattle.uma_life.specs.declared.tally.TallySum.{TallySum}
 use Rattle.uma_life.specs.Hook.{Hook, Ctor, Dtor}
 use Rattle.uma_life.specs.Sum.{sum_of}
 use Rattle.uma_life.specs.Trail.{ShowsSame}
 use Rattle.zone_stats.specs.declared.ledger.SeatLedger.{SeatLedger}
 use Rattle.zone_stats.specs.declared.report.NamesLine.{NamesLine}
 use Rattle.zone_stats.specs.declared.report.Report.{Report}
-use Rattle.trace_worker.specs.declared.name_calls.NameCalls.{Ghosts as NameGhosts}
-use Rattle.trace_worker.specs.declared.name_work.NameCounts.{NameCounts}
-use Rattle.trace_worker.specs.declared.name_work.NameWork.{NameWork}
-use Rattle.trace_worker.specs.declared.worker.Worker.{Worker}
-use Rattle.trace_worker.specs.NameSums.{HasLinked}
-use Rattle.uma_replay.specs.declared.name_sums.NameCount.{NameCount}
-use Rattle.uma_replay.specs.declared.name_sums.NameCount.TheVariants.{Hits, Misses, Late, Binds, Unbound, Refused}
-use Rattle.uma_replay.specs.declared.names_part.NamesPart.{NamesPart}
+use Rattle.replay_worker.specs.declared.name_calls.NameCalls.{Ghosts as NameGhosts}
+use Rattle.replay_worker.specs.declared.name_work.NameCounts.{NameCounts}
+use Rattle.replay_worker.specs.declared.name_work.NameWork.{NameWork}
+use Rattle.replay_worker.specs.declared.worker.Worker.{Worker}
+use Rattle.replay_worker.specs.NameSums.{HasLinked}
+use Rattle.uma_replay.specs.declared.names.NameCount.{NameCount}
+use Rattle.uma_replay.specs.declared.names.NameCount.TheVariants.{Hits, Misses, Late, Binds, Unbound, Refused}
+use Rattle.uma_replay.specs.declared.names.NamesPart.{NamesPart}
 use Rattle.uma_replay.specs.Counting.{entry_zone}
 use Rattle.uma_replay.specs.Limits.{KeepSomeOf}
 use Rattle.uma_replay.specs.Reporting.{AreLedgers, hook_line, keg_line, line_by}

@@ -6,21 +6,21 @@ use Rattle.smr_clock.specs.Belongs.{IsPassOf}
 use Rattle.trace_text.specs.declared.trace.Trace.{Trace}
 use Rattle.trace_text.specs.Lines.{lines_of}
 use Rattle.zone_stats.specs.LedgerSteps.{IsNew}
-use Rattle.trace_worker.specs.declared.name_calls.NameCalls.{Ghosts as NameGhosts}
-use Rattle.trace_worker.specs.declared.name_work.NameWork.{NameWork}
-use Rattle.trace_worker.specs.declared.worker_run.WorkerRun.{WorkerRun}
-use Rattle.trace_worker.specs.declared.worker.Worker.{Worker}
-use Rattle.trace_worker.specs.Attendance.{is_out, worker_in}
-use Rattle.trace_worker.specs.Items.{CountedZone}
-use Rattle.trace_worker.specs.NameWork.{no_counts}
-use Rattle.trace_worker.specs.Performs.{KeepsAll}
-use Rattle.trace_worker.specs.Together.{crew}
-use Rattle.trace_worker.specs.Worker.{phase_of, seen_of}
-use Rattle.trace_play.specs.Beginners.{IsBeginner}
-use Rattle.trace_play.specs.Betweens.{DoRounds}
-use Rattle.trace_play.specs.Rounds.{AllAsked}
-use Rattle.trace_play.specs.Clock.{floor_of}
-use Rattle.trace_play.specs.Lending.{seen_slot}
+use Rattle.replay_worker.specs.declared.name_calls.NameCalls.{Ghosts as NameGhosts}
+use Rattle.replay_worker.specs.declared.name_work.NameWork.{NameWork}
+use Rattle.replay_worker.specs.declared.worker_run.WorkerRun.{WorkerRun}
+use Rattle.replay_worker.specs.declared.worker.Worker.{Worker}
+use Rattle.replay_worker.specs.Attendance.{is_out, worker_in}
+use Rattle.replay_worker.specs.Items.{CountedZone}
+use Rattle.replay_worker.specs.NameWork.{no_counts}
+use Rattle.replay_worker.specs.Performs.{KeepsAll}
+use Rattle.replay_worker.specs.Together.{crew}
+use Rattle.replay_worker.specs.Worker.{phase_of, seen_of}
+use Rattle.replay_rounds.specs.Beginners.{IsBeginner}
+use Rattle.replay_rounds.specs.Betweens.{DoRounds}
+use Rattle.replay_rounds.specs.Rounds.{AllAsked}
+use Rattle.replay_rounds.specs.Clock.{floor_of}
+use Rattle.replay_rounds.specs.Lending.{seen_slot}
 
 module _ {N H C S P : Type 0} {h : Ghosts H P} where
   -- what these workers have of the names

@@ -3,8 +3,8 @@ use Rattle.std.specs.Prelude.{◌≡◌}
 use Rattle.smr_clock.specs.Belongs.{setup_of}
 use Rattle.smr_clock.specs.declared.host.Host.{Ghosts}
 use Rattle.trace_text.specs.declared.trace.Trace.{Trace}
-use Rattle.trace_worker.specs.declared.gate.Gate.{Ghosts as GateGhosts}
-use Rattle.trace_worker.specs.declared.name_calls.NameCalls.{Ghosts as NameGhosts}
+use Rattle.replay_worker.specs.declared.gate.Gate.{Ghosts as GateGhosts}
+use Rattle.replay_worker.specs.declared.name_calls.NameCalls.{Ghosts as NameGhosts}
 use Rattle.uma_replay.specs.declared.hall.Played.{Played}
 use Rattle.uma_replay.specs.Asked.{AreGivenUp}
 use Rattle.uma_replay.specs.Hall.{HallStands}

@@ -12,13 +12,13 @@ use Rattle.zone_stats.specs.declared.report.Report.{Report}
 use Rattle.zone_stats.specs.declared.report.ZoneLine.{ZoneLine}
 use Rattle.zone_stats.specs.Ledger.{LedgerLaw}
 use Rattle.zone_stats.specs.Line.{zone_line, total_allocs, total_fails, total_frees}
-use Rattle.trace_text.specs.declared.head.ClockHead.{ClockHead}
-use Rattle.trace_text.specs.declared.head.NamesHead.{NamesHead}
-use Rattle.trace_text.specs.declared.head.ZoneHead.{ZoneHead}
+use Rattle.trace_text.specs.declared.trace.ClockHead.{ClockHead}
+use Rattle.trace_text.specs.declared.trace.NamesHead.{NamesHead}
+use Rattle.trace_text.specs.declared.trace.ZoneHead.{ZoneHead}
 use Rattle.trace_text.specs.declared.trace.Trace.{Trace}
 use Rattle.trace_text.specs.Lines.{lines_of}
 use Rattle.uma_life.specs.Trail.{ShowsSame}
-use Rattle.trace_play.specs.Kegs.{per_slab, primaries, keg_place}
+use Rattle.replay_rounds.specs.Kegs.{per_slab, primaries, keg_place}
 use Rattle.uma_replay.specs.Limits.{last_limit, limits_had}
 use Rattle.uma_replay.specs.Counting.{report_zones, worker_ops, is_alloc_with, is_bind, is_unbind, is_look, kind_count, request_count, arg_count, free_count, enter_count}
 
@@ -76,9 +76,9 @@ KegAddsUp t report (place, head) line = items_of_keg place 0 t.head.zones report
 abbrev pub UsesAreBuilt : ZoneLine → HookLine → Type 0
 UsesAreBuilt line hooks = ShowsSame hooks.ctors (hooks.dtors + line.used + hooks.deferred)
 
--- The clock's line: its hands, and how the entries into sections ended.
+-- The clock's line: its sequences, and how the entries into sections ended.
 pub record ClockStands (t : Trace) (c : ClockHead) (line : ClockLine) : Type 0 where
-  -- the hands are odd, as the trace's START is, from START on, and at most WINDOW apart
+  -- the sequences are odd, as the trace's START is, from START on, and at most WINDOW apart
   pub read_odd : line.read % 2 ≡ 1
   pub write_odd : line.write % 2 ≡ 1
   pub start : c.start ≤ line.read
@@ -87,7 +87,7 @@ pub record ClockStands (t : Trace) (c : ClockHead) (line : ClockLine) : Type 0 w
   -- each line that wants a section got one or came too late; where none was too late, the sections are the trace's alone
   pub entries : enter_count (reverse (lines_of t.rounds)) ≤ line.entered + line.late
   pub in_time : line.late ≡ 0 → line.entered ≡ enter_count (reverse (lines_of t.rounds))
-  -- none is too late before the write hand is WINDOW above START
+  -- none is too late before the write sequence is WINDOW above START
   pub never_late : line.write < c.start + c.window → line.late ≡ 0
 
 -- a trace with a clock has its line in the report, and one without has none

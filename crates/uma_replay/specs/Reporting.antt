@@ -3,13 +3,13 @@ use Rattle.std.specs.Option.{option_map_or}
 use Rattle.std.specs.Prelude.{ℕ, ◌≡◌, ◌<◌, ◌^◌, Bool, List, Some, None, cond, count_by, is_none, is_some, length, map, option_map, slice_get, take}
 use Rattle.std.specs.List.{sum_by}
 use Rattle.smr_clock.specs.declared.host.Host.{Ghosts}
-use Rattle.trace_text.specs.declared.head.ClockHead.{ClockHead}
-use Rattle.trace_text.specs.declared.head.ZoneHead.{ZoneHead}
+use Rattle.trace_text.specs.declared.trace.ClockHead.{ClockHead}
+use Rattle.trace_text.specs.declared.trace.ZoneHead.{ZoneHead}
 use Rattle.trace_text.specs.declared.trace.Trace.{Trace}
 use Rattle.trace_text.specs.Lines.{lines_of}
 use Rattle.uma_keg.specs.declared.census.Census.{Census}
 use Rattle.uma_keg.specs.Census.{census_counts, census_out, census_outs}
-use Rattle.uma_life.specs.declared.tally_sum.TallySum.{TallySum}
+use Rattle.uma_life.specs.declared.tally.TallySum.{TallySum}
 use Rattle.uma_life.specs.Hook.{KegInit, ZoneInit, Ctor, Dtor, ZoneFini, KegFini}
 use Rattle.uma_life.specs.Sum.{sum_of}
 use Rattle.zone_stats.specs.declared.ledger.SeatLedger.{SeatLedger}
@@ -20,9 +20,9 @@ use Rattle.zone_stats.specs.declared.report.KegLine.{KegLine}
 use Rattle.zone_stats.specs.declared.report.Report.{Report}
 use Rattle.zone_stats.specs.declared.report.ZoneLine.{ZoneLine}
 use Rattle.zone_stats.specs.Line.{zone_line}
-use Rattle.trace_play.specs.Kegs.{keg_place, index_of, primaries}
-use Rattle.trace_worker.specs.declared.worker.Worker.{Worker}
-use Rattle.trace_worker.specs.Together.{ledger_at}
+use Rattle.replay_rounds.specs.Kegs.{keg_place, index_of, primaries}
+use Rattle.replay_worker.specs.declared.worker.Worker.{Worker}
+use Rattle.replay_worker.specs.Together.{ledger_at}
 use Rattle.uma_replay.specs.Limits.{KeepLimits, last_limit}
 
 -- it has a keg of its own
@@ -81,7 +81,7 @@ keg_line name census sums = record {
 }
 
 module _ {H P : Type 0} {h : Ghosts H P} where
-  -- the clock's line, by its hands and what the workers counted
+  -- the clock's line, by its sequences and what the workers counted
   abbrev pub clock_line : ℕ → ℕ → List (Worker H P h) → ClockLine
   clock_line read write workers = record { read = read; write = write; entered = sum_by (λ w. w.entered) workers; late = sum_by (λ w. w.late) workers }
 

@@ -1,17 +1,17 @@
 -- The steps of a worker as calls of its seat of a zone (own).
 use Rattle.std.specs.Prelude.{◌≡◌, ◌≢◌, ◌⊎◌, ℕ, All, Bool, true, false, List, Option, Some, None, map, option_map, slice_get}
 use Rattle.smr_clock.specs.declared.host.Host.{Ghosts}
-use Rattle.trace_text.specs.declared.op.Op.{Op}
-use Rattle.trace_text.specs.declared.op.Op.TheVariants.{Alloc, Free, Trim, Drain, DrainSeat}
-use Rattle.uma_life.specs.declared.ticket.Ticket.{Ticket}
-use Rattle.uma_zone.specs.declared.alloc_ask.AllocAsk.{AllocAsk}
-use Rattle.trace_worker.specs.declared.held.Held.{Held}
-use Rattle.trace_worker.specs.Items.{CountedSeat, CountedZone, LiveItem}
-use Rattle.trace_worker.specs.Live.{holding}
-use Rattle.trace_worker.specs.Performs.{ask_of}
-use Rattle.trace_worker.specs.Reclaims.{IsDrained, IsFlushed}
-use Rattle.trace_worker.specs.Requests.{GivesBack, Requests}
-use Rattle.trace_worker.specs.Slots.{slot_at, filled, emptied}
+use Rattle.trace_text.specs.declared.trace.Op.{Op}
+use Rattle.trace_text.specs.declared.trace.Op.TheVariants.{Alloc, Free, Trim, Drain, DrainSeat}
+use Rattle.uma_life.specs.declared.states.Ticket.{Ticket}
+use Rattle.uma_zone.specs.declared.zone.alloc.AllocAsk.{AllocAsk}
+use Rattle.replay_worker.specs.declared.worker.Held.{Held}
+use Rattle.replay_worker.specs.Items.{CountedSeat, CountedZone, LiveItem}
+use Rattle.replay_worker.specs.Live.{holding}
+use Rattle.replay_worker.specs.Performs.{ask_of}
+use Rattle.replay_worker.specs.Reclaims.{IsDrained, IsFlushed}
+use Rattle.replay_worker.specs.Requests.{GivesBack, Requests}
+use Rattle.replay_worker.specs.Slots.{slot_at, filled, emptied}
 use Rattle.uma_replay.specs.Steps.{Step}
 
 -- A request, which got this item or none; the free of this item; what a `trim` or `drain` line does to the seat, or a `drainseat` line; or nothing.

@@ -4,15 +4,15 @@ use Rattle.std.specs.List.{flat_map}
 use Rattle.smr_clock.specs.declared.host.Host.{Ghosts}
 use Rattle.smr_clock.specs.declared.view.View.{View}
 use Rattle.smr_clock.specs.Belongs.{view}
-use Rattle.trace_text.specs.declared.op.Op.{Op}
-use Rattle.trace_text.specs.declared.round.Round.{Round}
-use Rattle.uma_life.specs.declared.ticket.Ticket.{Ticket}
-use Rattle.trace_worker.specs.declared.name_calls.NameCalls.{Ghosts as NameGhosts}
-use Rattle.trace_worker.specs.declared.worker_run.WorkerRun.{WorkerRun}
-use Rattle.trace_worker.specs.Items.{CountedZone}
-use Rattle.trace_worker.specs.NameLines.{LineState, DoesLine, line_state}
-use Rattle.trace_play.specs.Betweens.{DoBetweens}
-use Rattle.trace_play.specs.Parts.{ops_in}
+use Rattle.trace_text.specs.declared.trace.Op.{Op}
+use Rattle.trace_text.specs.declared.trace.Round.{Round}
+use Rattle.uma_life.specs.declared.states.Ticket.{Ticket}
+use Rattle.replay_worker.specs.declared.name_calls.NameCalls.{Ghosts as NameGhosts}
+use Rattle.replay_worker.specs.declared.worker_run.WorkerRun.{WorkerRun}
+use Rattle.replay_worker.specs.Items.{CountedZone}
+use Rattle.replay_worker.specs.NameLines.{LineState, DoesLine, line_state}
+use Rattle.replay_rounds.specs.Betweens.{DoBetweens}
+use Rattle.replay_rounds.specs.Parts.{ops_in}
 
 -- One line that a worker did: the operation, and its worker, with what it has of the names, before and after it.
 pub record Step (N H C S P : Type 0) (h : Ghosts H P) : Type 0 where

@@ -1,9 +1,13 @@
-//! The limits that a trace gives its zones, and those that kept refusals name.
-ghost use Rattle.std.specs.Prelude.{◌≡◌, ◌<◌, ◌-◌, ◌++◌, [], ◌∷◌, ◌↔◌, ℕ, Contains, IfOk, IsTrue, OnOk, Some, length, map, slice_get, slice_index};
+//! The limits that a trace gives its zones and those that kept refusals name, and the numbers of zones and kegs by the zone lines.
+ghost use Rattle.std.specs.Prelude.{◌≡◌, ◌<◌, ◌-◌, ◌++◌, [], ◌∷◌, ◌↔◌, ℕ, Contains, IfOk, IsTrue, OnOk, Some, length, map, slice_get, slice_index, ◌≤◌, ◌==◌, false, take};
 ghost use Rattle.std.specs.List.{cons_option, filter_map};
 ghost use Rattle.trace_text.specs.Lines.{Moves, lines_of};
-ghost use Rattle.trace_text.specs.declared.head.ZoneHead.{ZoneHead};
+ghost use Rattle.trace_text.specs.declared.trace.ZoneHead.{ZoneHead};
 ghost use Rattle.uma_replay.specs.Limits.{KeepLimits, KeepSomeOf, KeepsOneOf, last_limit, limit_in, named_limit};
+ghost use Rattle.std.specs.Option.{option_map_or};
+ghost use Rattle.trace_text.specs.Valid.{sharer_count};
+ghost use Rattle.replay_rounds.specs.Kegs.{keg_place, index_of};
+ghost use Rattle.uma_replay.specs.Reporting.{keg_number};
 
 use crate::Memory;
 use std::alloc::Global;
@@ -130,4 +134,65 @@ fn is_among(limits: &[u64], limit: u64) -> bool
     ensures { IsTrue result ↔ Contains limits.now limit }
 {
     limits.contains(&limit)
+}
+
+/// The number of a zone's keg among the kegs.
+pub(crate) fn keg_of(heads: &[ZoneHead], place: usize, head: &ZoneHead) -> usize
+    requires { keg_place place head.now < length heads.now }
+    ensures { result ≡ keg_number heads.now (keg_place place head.now) }
+{
+    match head.parent {
+        Some(parent) => kegs_before(heads, parent as usize),
+        None => kegs_before(heads, place),
+    }
+}
+
+/// How many of the zones before a place have a keg of their own.
+fn kegs_before(heads: &[ZoneHead], place: usize) -> usize
+    requires { place < length heads.now }
+    ensures { result ≡ keg_number heads.now place }
+{
+    let mut count = 0;
+    for i in 0..place {
+        if heads[i].parent.is_none() {
+            count += 1;
+        }
+    }
+    count
+}
+
+/// A zone's number in its keg: 0 for the primary zone.
+pub(crate) fn number_in_keg(heads: &[ZoneHead], place: usize, head: &ZoneHead) -> usize
+    requires { place < length heads.now }
+    ensures { result ≡ index_of heads.now place head.now }
+{
+    match head.parent {
+        Some(parent) => sharers_before(heads, place, parent) + 1,
+        None => 0,
+    }
+}
+
+/// How many of the zones before a place share the keg of the zone at `parent`.
+fn sharers_before(heads: &[ZoneHead], place: usize, parent: u32) -> usize
+    requires { place < length heads.now }
+    ensures count { result ≡ sharer_count (take place heads.now) parent }
+    ensures few { result ≤ place }
+{
+    let mut count = 0;
+    for i in 0..place {
+        if shares(&heads[i], parent) {
+            count += 1;
+        }
+    }
+    count
+}
+
+/// Whether a zone shares the keg of the zone at `parent`.
+fn shares(head: &ZoneHead, parent: u32) -> bool
+    ensures { result ≡ option_map_or (λ own. own == parent) head.now.parent false }
+{
+    match head.parent {
+        Some(own) => own == parent,
+        None => false,
+    }
 }

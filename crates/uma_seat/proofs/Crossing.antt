@@ -2,7 +2,7 @@
 use Rattle.std.proofs.Common.{◌<◌, ℕ, Option, Some, None, IfSome, sym, subst}
 use Rattle.std.proofs.lemmas.List.{length-map}
 use Rattle.std.specs.Prelude.{◌≢◌}
-use Rattle.uma_life.specs.declared.cached.Cached.{Cached}
+use Rattle.uma_life.specs.declared.states.Cached.{Cached}
 use Rattle.uma_seat.specs.declared.seat.SeatCache.{SeatCache}
 use Rattle.uma_seat.specs.Row.{row_len, TakesAt}
 use Rattle.uma_seat.specs.Seat.{plain_of, seat_domain, TakesCross}

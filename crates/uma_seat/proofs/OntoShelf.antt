@@ -2,11 +2,11 @@
 use Rattle.std.proofs.Common.{◌≡◌, ℕ, List, [], ◌∷◌, ◌++◌, Option, Some, None, IfSome, IfNone, slice_set, sym, ap, ◌∙◌, subst}
 use Rattle.std.specs.List.{All}
 use Rattle.std.proofs.lemmas.List.Elements.{All-push, All-nil, All-head, All-tail}
-use Rattle.uma_life.specs.declared.cached.Cached.{Cached}
+use Rattle.uma_life.specs.declared.states.Cached.{Cached}
 use Rattle.smr_clock.specs.declared.view.View.{View}
-use Rattle.uma_life.specs.declared.live.Live.{Live}
+use Rattle.uma_life.specs.declared.states.Live.{Live}
 use Rattle.uma_bucket.specs.declared.bucket.Bucket.{Bucket}
-use Rattle.uma_bucket.specs.declared.loose.Loose.{Loose}
+use Rattle.uma_bucket.specs.declared.freed.Loose.{Loose}
 use Rattle.uma_bucket.specs.declared.shelved.Shelved.{Shelved}
 use Rattle.uma_bucket.specs.declared.shelved.Shelved.TheVariants.{Plain}
 use Rattle.uma_seat.specs.declared.seat.SeatCache.{SeatCache}

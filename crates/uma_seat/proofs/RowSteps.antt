@@ -5,8 +5,8 @@ use Rattle.std.proofs.lemmas.Bool.{cases_lt}
 use Rattle.std.specs.List.{All}
 use Rattle.std.proofs.lemmas.List.{get_or-map, length-map, map-set}
 use Rattle.std.proofs.lemmas.List.Elements.{All-pop, All-nil}
-use Rattle.uma_life.specs.declared.ticket.Ticket.{Ticket}
-use Rattle.uma_bucket.specs.declared.loose.Loose.{Loose}
+use Rattle.uma_life.specs.declared.states.Ticket.{Ticket}
+use Rattle.uma_bucket.specs.declared.freed.Loose.{Loose}
 use Rattle.uma_bucket.specs.Freed.{freed_item, freed_ticket}
 use Rattle.uma_bucket.specs.Home.{Home, IsHome, AreHome}
 use Rattle.uma_bucket.specs.Loose.{loose_items, loose_tickets}

@@ -1,7 +1,7 @@
 -- Own: what adding the sums of items to others needs, and what it comes to.
 use Rattle.std.specs.Prelude.{ℕ, ◌+◌, ◌^◌, ◌≤◌}
 use Rattle.uma_life.specs.Hook.{Hook}
-use Rattle.uma_bucket.specs.declared.sums.Sums.{Sums}
+use Rattle.uma_bucket.specs.declared.shelved.Sums.{Sums}
 use Rattle.uma_bucket.specs.Home.{Home}
 use Rattle.uma_bucket.specs.Sums.{Adds, AreOfAtMost, Balance}
 

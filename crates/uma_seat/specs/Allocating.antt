@@ -1,6 +1,6 @@
 -- Own: what calls that take items from a seat, or put them back, do to it.
 use Rattle.std.specs.Prelude.{◌≡◌, ◌<◌, [], ◌∷◌, ◌++◌, length, Option, IfSome, IfNone}
-use Rattle.uma_life.specs.declared.cached.Cached.{Cached}
+use Rattle.uma_life.specs.declared.states.Cached.{Cached}
 use Rattle.uma_life.specs.Cached.{cached_ticket}
 use Rattle.uma_bucket.specs.Home.{IsHome, AreHome}
 use Rattle.uma_seat.specs.declared.seat.SeatCache.{SeatCache}

@@ -1,14 +1,14 @@
 -- Own: what a call that counts needs, and what it makes of the counts of a seat.
 use Rattle.std.specs.Prelude.{◌≡◌, [], ◌∷◌, ◌++◌, true, false}
 use Rattle.deed_book.specs.declared.fail_book.FailBook.{FailBook}
-use Rattle.deed_book.specs.declared.fail_share.FailShare.{FailShare}
+use Rattle.deed_book.specs.declared.fail_book.FailShare.{FailShare}
 use Rattle.deed_book.specs.FailBook.{fail_book_table, causes_of}
 use Rattle.deed_book.specs.FailShare.{share_table}
 use Rattle.zone_stats.specs.declared.refusal.Refusal.{Refusal}
 use Rattle.zone_stats.specs.Ledger.{is_ctor}
 use Rattle.zone_stats.specs.LedgerSteps.{HasRoom, IsNew}
 use Rattle.uma_seat.specs.declared.counts.Counts.{Counts}
-use Rattle.uma_seat.specs.declared.fetch_end.FetchEnd.{FetchEnd}
+use Rattle.uma_seat.specs.declared.counts.FetchEnd.{FetchEnd}
 use Rattle.uma_seat.specs.declared.seat.SeatCache.{SeatCache}
 use Rattle.uma_seat.specs.Counts.{ledger_in, fetches_in, fails_in}
 use Rattle.uma_seat.specs.Fetches.{end_cause, is_of_keg, CountsEnd}

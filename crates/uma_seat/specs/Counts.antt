@@ -1,6 +1,6 @@
 -- Own: what contracts see of the counts of a seat.
 use Rattle.std.specs.Prelude.{List}
-use Rattle.deed_book.specs.declared.cause.Cause.{Cause}
+use Rattle.deed_book.specs.declared.deed.Cause.{Cause}
 use Rattle.deed_book.specs.Deed.{TableId}
 use Rattle.deed_book.specs.FailShare.{share_table, causes_in}
 use Rattle.zone_stats.specs.declared.ledger.SeatLedger.{SeatLedger}

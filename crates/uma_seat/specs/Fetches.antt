@@ -1,15 +1,15 @@
 -- Own: how a fetch is listed in the fail book of its zone and in the share of its seat. Every fetch is, whatever its end.
 use Rattle.std.specs.Prelude.{◌≡◌, ℕ, Bool, true, not, nat_lt, List}
 use Rattle.std.specs.List.{count_by}
-use Rattle.deed_book.specs.declared.cause.Cause.{Cause}
+use Rattle.deed_book.specs.declared.deed.Cause.{Cause}
 use Rattle.deed_book.specs.FailViews.{cause}
 use Rattle.zone_stats.specs.declared.refusal.Refusal.{Refusal}
 use Rattle.zone_stats.specs.declared.ledger.SeatLedger.{SeatLedger}
 use Rattle.zone_stats.specs.Cause.{cause_of}
 use Rattle.zone_stats.specs.Ledger.{is_ctor}
 use Rattle.zone_stats.specs.LedgerSteps.{CountsTurned}
-use Rattle.uma_seat.specs.declared.fetch_end.FetchEnd.{FetchEnd}
-use Rattle.uma_seat.specs.declared.fetch_end.FetchEnd.TheVariants.{Gave, Memory, Refused}
+use Rattle.uma_seat.specs.declared.counts.FetchEnd.{FetchEnd}
+use Rattle.uma_seat.specs.declared.counts.FetchEnd.TheVariants.{Gave, Memory, Refused}
 
 -- the kind of a refusal and its numbers
 abbrev pub refusal_cause : Refusal → Cause

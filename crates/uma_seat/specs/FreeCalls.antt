@@ -4,12 +4,12 @@ use Rattle.smr_clock.specs.declared.clock.Clock.{Clock}
 use Rattle.smr_clock.specs.declared.pass.Pass.{Pass}
 use Rattle.smr_clock.specs.Belongs.{IsPassOf, clock_id, view}
 use Rattle.zone_stats.specs.LedgerSteps.{HasRoom, CountsFree}
-use Rattle.uma_life.specs.declared.cached.Cached.{Cached}
-use Rattle.uma_life.specs.declared.live.Live.{Live}
+use Rattle.uma_life.specs.declared.states.Cached.{Cached}
+use Rattle.uma_life.specs.declared.states.Live.{Live}
 use Rattle.uma_life.specs.Cached.{cached_ticket, cached_domain}
 use Rattle.uma_life.specs.Live.{live_ticket, live_domain}
 use Rattle.uma_bucket.specs.declared.freed.Freed.{Freed}
-use Rattle.uma_bucket.specs.declared.loose.Loose.{Loose}
+use Rattle.uma_bucket.specs.declared.freed.Loose.{Loose}
 use Rattle.uma_bucket.specs.declared.shelved.Shelved.{Shelved}
 use Rattle.uma_bucket.specs.Freed.{freed_item, freed_ticket}
 use Rattle.uma_bucket.specs.Home.{IsHome}

@@ -2,11 +2,11 @@
 use Rattle.std.specs.Prelude.{◌≡◌, ℕ, [], ◌∷◌, ◌++◌, slice_set}
 use Rattle.smr_clock.specs.declared.view.View.{View}
 use Rattle.smr_clock.specs.Advances.{AdvanceIsRefused as RefusesAdvance}
-use Rattle.smr_clock.specs.declared.refused.AdvanceRefused.{AdvanceRefused}
-use Rattle.uma_life.specs.declared.cached.Cached.{Cached}
+use Rattle.smr_clock.specs.declared.polls.AdvanceRefused.{AdvanceRefused}
+use Rattle.uma_life.specs.declared.states.Cached.{Cached}
 use Rattle.uma_bucket.specs.declared.bucket.Bucket.{Bucket}
-use Rattle.uma_life.specs.declared.live.Live.{Live}
-use Rattle.uma_bucket.specs.declared.loose.Loose.{Loose}
+use Rattle.uma_life.specs.declared.states.Live.{Live}
+use Rattle.uma_bucket.specs.declared.freed.Loose.{Loose}
 use Rattle.uma_bucket.specs.declared.shelved.Shelved.{Shelved}
 use Rattle.uma_bucket.specs.declared.shelved.Shelved.TheVariants.{Plain, Loose as Loose', Sealed as Sealed'}
 use Rattle.uma_bucket.specs.Sealed.{Seals}

@@ -3,14 +3,14 @@ use Rattle.std.specs.Prelude.{ℕ}
 use Rattle.std.specs.Borrow.{Lends, Fml, RattleType, MutBor}
 use Rattle.std.specs.Vec.{with_item}
 use Rattle.std.proofs.Common.{◌∙◌, length-set}
-use Rattle.inbox.specs.declared.port.Port.{Port}
-use Rattle.inbox.specs.contracts.port.Port as port
-use Rattle.deed_book.specs.declared.fail_share.FailShare.{FailShare}
-use Rattle.deed_book.specs.contracts.fail_share.FailShare as share
+use Rattle.inbox.specs.declared.inbox.Port.{Port}
+use Rattle.inbox.specs.contracts.inbox.Port as port
+use Rattle.deed_book.specs.declared.fail_book.FailShare.{FailShare}
+use Rattle.deed_book.specs.contracts.fail_book.FailShare as share
 use Rattle.uma_bucket.specs.declared.bucket.Bucket.{Bucket}
 use Rattle.uma_bucket.specs.contracts.bucket.Bucket as bucket
-use Rattle.uma_bucket.specs.declared.inbox_key.InboxKey.{InboxKey}
-use Rattle.uma_bucket.specs.contracts.inbox_key.InboxKey as key
+use Rattle.uma_bucket.specs.declared.shelved.InboxKey.{InboxKey}
+use Rattle.uma_bucket.specs.contracts.shelved.InboxKey as key
 use Rattle.uma_bucket.specs.declared.shelved.Shelved.{Shelved}
 use Rattle.uma_bucket.specs.contracts.shelved.Shelved as shelved
 use Rattle.uma_seat.specs.declared.seat.SeatCache.{SeatCache}

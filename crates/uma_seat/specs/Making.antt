@@ -1,11 +1,11 @@
 -- Own: what the making of a seat needs, and what comes of it.
 use Rattle.std.specs.Prelude.{◌≡◌, ℕ, ◌≤◌, List, [], length, Result, Err, IfOk, IfErr}
-use Rattle.deed_book.specs.declared.fail_share.FailShare.{FailShare}
+use Rattle.deed_book.specs.declared.fail_book.FailShare.{FailShare}
 use Rattle.deed_book.specs.FailShare.{share_table, causes_in}
-use Rattle.inbox.specs.declared.port.Port.{Port}
-use Rattle.uma_bucket.specs.declared.inbox_key.InboxKey.{InboxKey}
-use Rattle.uma_bucket.specs.declared.refused.BucketRefused.{BucketRefused}
-use Rattle.uma_bucket.specs.declared.refused.BucketRefused.TheVariants.{Size}
+use Rattle.inbox.specs.declared.inbox.Port.{Port}
+use Rattle.uma_bucket.specs.declared.shelved.InboxKey.{InboxKey}
+use Rattle.uma_bucket.specs.declared.bucket.BucketRefused.{BucketRefused}
+use Rattle.uma_bucket.specs.declared.bucket.BucketRefused.TheVariants.{Size}
 use Rattle.uma_bucket.specs.declared.shelved.Shelved.{Shelved}
 use Rattle.uma_bucket.specs.Bucket.{IsOutOfRange, BucketIsRefused}
 use Rattle.uma_seat.specs.declared.seat.SeatCache.{SeatCache}

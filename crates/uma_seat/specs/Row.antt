@@ -1,18 +1,18 @@
 -- Own: what contracts see of a row of buckets, one for each domain.
 use Rattle.std.specs.Prelude.{◌≡◌, ◌≢◌, ◌<◌, ℕ, List, [], ◌∷◌, ◌++◌, length, map, slice_set, Option, IfSome, IsSome}
 use Rattle.std.specs.List.{All}
-use Rattle.uma_life.specs.declared.cached.Cached.{Cached}
-use Rattle.uma_life.specs.declared.live.Live.{Live}
+use Rattle.uma_life.specs.declared.states.Cached.{Cached}
+use Rattle.uma_life.specs.declared.states.Live.{Live}
 use Rattle.uma_life.specs.Cached.{cached_ticket}
 use Rattle.uma_bucket.specs.declared.bucket.Bucket.{Bucket}
 use Rattle.uma_bucket.specs.declared.freed.Freed.{Freed}
-use Rattle.uma_bucket.specs.declared.loose.Loose.{Loose}
+use Rattle.uma_bucket.specs.declared.freed.Loose.{Loose}
 use Rattle.uma_bucket.specs.Bucket.{tickets_of, size_of}
 use Rattle.uma_bucket.specs.Freed.{freed_item, freed_ticket}
 use Rattle.uma_bucket.specs.Home.{Home, IsHome, AreHome}
 use Rattle.uma_bucket.specs.Loose.{loose_items, loose_tickets, loose_size}
-use Rattle.uma_seat.specs.declared.plain_row.PlainRow.{PlainRow}
-use Rattle.uma_seat.specs.declared.freed_row.FreedRow.{FreedRow}
+use Rattle.uma_seat.specs.declared.rows.PlainRow.{PlainRow}
+use Rattle.uma_seat.specs.declared.rows.FreedRow.{FreedRow}
 use Rattle.uma_seat.specs.Stack.{Stack, stack_of, loose_stack, stack_at, with_item, empty_stack}
 
 module _ {T : Type 0} {g : _} where

@@ -1,21 +1,21 @@
 -- Own: what contracts see of a seat.
 use Rattle.std.specs.Prelude.{◌≡◌, ◌≢◌, ◌<◌, ℕ, ◌==◌, ◌&&◌, ◌+◌, Bool, not, cond, List, [], ◌∷◌, ◌++◌, length, slice_set, Option, MatchOption}
 use Rattle.std.specs.List.{All}
-use Rattle.smr_clock.specs.declared.setup.Setup.{Setup}
+use Rattle.smr_clock.specs.declared.clock.Setup.{Setup}
 use Rattle.smr_clock.specs.Belongs.{TableId}
-use Rattle.deed_book.specs.declared.cause.Cause.{Cause}
-use Rattle.deed_book.specs.declared.fail_share.FailShare.{FailShare}
+use Rattle.deed_book.specs.declared.deed.Cause.{Cause}
+use Rattle.deed_book.specs.declared.fail_book.FailShare.{FailShare}
 use Rattle.zone_stats.specs.declared.ledger.SeatLedger.{SeatLedger}
 use Rattle.zone_stats.specs.LedgerSteps.{IsNew}
-use Rattle.uma_life.specs.declared.cached.Cached.{Cached}
-use Rattle.uma_life.specs.declared.ticket.Ticket.{Ticket}
+use Rattle.uma_life.specs.declared.states.Cached.{Cached}
+use Rattle.uma_life.specs.declared.states.Ticket.{Ticket}
 use Rattle.uma_bucket.specs.declared.bucket.Bucket.{Bucket}
-use Rattle.uma_life.specs.declared.live.Live.{Live}
+use Rattle.uma_life.specs.declared.states.Live.{Live}
 use Rattle.uma_bucket.specs.declared.shelved.Shelved.{Shelved}
 use Rattle.uma_bucket.specs.Bucket.{tickets_of}
 use Rattle.uma_bucket.specs.Home.{Home}
-use Rattle.uma_bucket.specs.declared.inbox_key.InboxKey.{InboxKey}
-use Rattle.inbox.specs.declared.port.Port.{Port}
+use Rattle.uma_bucket.specs.declared.shelved.InboxKey.{InboxKey}
+use Rattle.inbox.specs.declared.inbox.Port.{Port}
 use Rattle.uma_seat.specs.declared.seating.Seating.{Seating}
 use Rattle.uma_seat.specs.declared.counts.Counts.{Counts}
 use Rattle.uma_seat.specs.declared.seat.SeatCache.{SeatCache}

@@ -1,5 +1,5 @@
 -- Own: what a seat is made for, as contracts speak of it.
-use Rattle.smr_clock.specs.declared.setup.Setup.{Setup}
+use Rattle.smr_clock.specs.declared.clock.Setup.{Setup}
 use Rattle.smr_clock.specs.Belongs.{TableId, clock_id}
 use Rattle.deed_book.specs.Book.{book_table}
 use Rattle.uma_bucket.specs.Home.{Home}

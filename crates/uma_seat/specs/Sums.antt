@@ -4,13 +4,13 @@ use Rattle.std.specs.List.{sum_by}
 use Rattle.uma_life.specs.Hook.{Hook}
 use Rattle.uma_bucket.specs.Bucket.{items_of}
 use Rattle.uma_bucket.specs.Loose.{loose_items}
-use Rattle.uma_bucket.specs.declared.sums.Sums.{Sums}
+use Rattle.uma_bucket.specs.declared.shelved.Sums.{Sums}
 use Rattle.uma_bucket.specs.Home.{AreHome}
 use Rattle.uma_bucket.specs.Sums.{nothing_held, times_cached, times_freed, Adds, AreOfAtMost, Balance}
 use Rattle.uma_seat.specs.Seat.{seat_home, top_tickets}
 use Rattle.uma_seat.specs.ShelfSums.{times_shelved, deferred_shelved}
-use Rattle.uma_seat.specs.declared.plain_row.PlainRow.{PlainRow}
-use Rattle.uma_seat.specs.declared.freed_row.FreedRow.{FreedRow}
+use Rattle.uma_seat.specs.declared.rows.PlainRow.{PlainRow}
+use Rattle.uma_seat.specs.declared.rows.FreedRow.{FreedRow}
 use Rattle.uma_seat.specs.declared.rack.Rack.{Rack}
 use Rattle.uma_seat.specs.declared.seat.SeatCache.{SeatCache}
 

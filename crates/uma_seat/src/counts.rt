@@ -3,9 +3,19 @@ ghost use Rattle.deed_book.specs.FailShare.{causes_in};
 ghost use Rattle.zone_stats.specs.LedgerSteps.{HasRoom, CountsAlloc, CountsCtor, CountsFree};
 ghost use Rattle.uma_seat.specs.Fetches.{turned_in};
 
-use crate::fetch_end::FetchEnd;
 use deed_book::{FailBook, FailShare};
 use zone_stats::{Refusal, SeatLedger};
+
+/// How a fetch of items from a keg ended.
+#[derive(Clone, Copy, Debug, PartialEq, Eq)]
+pub enum FetchEnd {
+    /// It gave so many items, one at least.
+    Gave { count: u32 },
+    /// There was no memory.
+    Memory,
+    /// It was refused.
+    Refused { refusal: Refusal },
+}
 
 /// The kind of a fetch that gave items, and of one that met no memory, as a fail book lists them. Refusals have 1 to 5.
 const GAVE: u64 = 6;

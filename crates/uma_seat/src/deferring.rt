@@ -17,9 +17,9 @@ impl<T: Body, H: Host> SeatCache<T, H> {
     ghost use Rattle.uma_seat.specs.Stack.{stack_at, with_item};
     ghost use Rattle.uma_seat.specs.Seat.{freed_of};
 
-    /// Takes in an item of a zone whose readers hold no lock. It stays built, and is deferred: nothing of the seat becomes
-    /// usable. It is put into the bucket of its domain. One that is full then is tried once to be sealed, and is the newest
-    /// on the shelf; a spare stands in its place.
+    /// Takes in an item of a zone whose readers hold no lock. The item stays built and is deferred, and no item of the
+    /// seat becomes usable. It is put into the bucket of its domain. If that bucket is full then, it tries once to be
+    /// sealed and becomes the newest on the shelf, and a spare takes its place.
     #[inline]
     pub fn free_smr(&mut self, clock: &Clock<H>, pass: &mut Pass<H>, item: Live<T>)
         requires { CanFreeSmr clock.now pass.old self.old item }
@@ -57,7 +57,11 @@ impl<T: Body, H: Host> SeatCache<T, H> {
     }
 }
 
-/// Tries once to seal a bucket on its way to the lists of this domain.
+/// Tries once to seal a loose bucket of a domain. It stays loose if the advance is refused.
+///
+/// # Arguments
+///
+/// - `domain`: the number of the memory domain to whose lists the bucket goes.
 pub fn try_to_seal<T: Body, H: Host>(
     clock: &Clock<H>,
     pass: &mut Pass<H>,

@@ -1,37 +1,34 @@
-//! The cache of one seat in one zone: the way that every allocation and free takes, with no lock, no memory and no wait.
+//! The cache of one worker in one zone, the per-CPU cache of FreeBSD's uma(9): most allocations and frees end here, without a lock.
 //!
-//! - A seat is made for a [`Seating`]: snapshots of the clock and of the book of its keg's numbers, zone, domain, count of
-//!   domains and kind. The type says so of what its rows and its shelf hold, and that a shelved bucket names a domain that
-//!   there is. Of the allocation bucket clauses say it, since that is lent to a fetch (`lend_empty`), and a part that may
-//!   be lent can't stand in a fact of the type.
-//! - A bucket shows contracts its items and its room (`Stack`); those of one seat needn't have one size.
-//! - `free_smr` takes the live item, since a freed one shows no domain.
-//! - The share of the zone's fail book lists every fetch (`count_end`): one that gave with the kind 6 and the count, one
-//!   that met no memory with the kind 7, a refused one with its own cause. `turned` of the ledger counts the refused.
-//! - `refill` and `add_spare` stand where items can't be dropped: an empty bucket without a place is ended by
-//!   `Bucket::end`.
-//! - A dropped seat gives no items back: it is drained first.
-//! - What takes an item by value is `#[inline]`, its rare part `#[inline(never)]`: else an item is read back in other
-//!   widths than it was written, which costs some cycles each time.
+//! A [`SeatCache`] has an *allocation bucket*, a *free bucket* for frees of its own memory domain, a *cross bucket* for each other domain,
+//! empty *spares*, and a *shelf* of full buckets on their way to their domains. Spares and shelf have two buckets at most, together. A
+//! [`Seating`] says to contracts where the seat belongs: clock, book, zone, domain and kind. The seat's ledger counts what its worker did.
+//!
+//! ```
+//! let item = seat.try_alloc();            // the usable item that was put last; None: look at the domain's lists
+//! seat.free(item);                        // needs a spare: `seat.spare() > 0`
+//! seat.free_smr(&clock, &mut pass, live); // in a zone with readers: deferred; a full bucket is sealed
+//! let full = seat.take_shelf();           // the oldest full bucket, for its domain
+//! ```
+//!
+//! # What is promised
+//!
+//! - `try_alloc` takes the item that was put last, and a free puts it into the bucket of its domain (`SeatCache::try_alloc`: `TakesUsable`;
+//!   `SeatCache::free`: `Frees`).
+//! - A freed item of a zone with readers is put into a loose bucket, and becomes usable here in no way (`SeatCache::free_smr`: `FreesSmr`).
+//! - Each fetch is listed in the seat's share of the zone's fail book with its end (`SeatCache::count_end`).
+//!
+//! A free neither allocates nor blocks. A dropped seat gives no items back, so drain it first.
 #![tactic(auto)]
 
-mod allocating;
-mod counting;
 mod counts;
 mod deferring;
-mod fetch_end;
-mod freed_row;
-mod freeing;
-mod lending;
-mod making;
-mod plain_row;
 mod rack;
+mod rows;
 mod seat;
 mod seating;
-mod shelving;
-mod summing;
 
+pub use counts::FetchEnd;
 pub use deferring::try_to_seal;
-pub use fetch_end::FetchEnd;
 pub use seat::SeatCache;
 pub use seating::Seating;

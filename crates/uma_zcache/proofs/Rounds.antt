@@ -2,8 +2,8 @@
 use Rattle.std.proofs.Common.{◌≡◌, ◌≢◌, ℕ, List, [], ◌∷◌, ◌++◌, Option, Some, None, All, inl, inr, refl, sym, ap, ◌∙◌, subst, arith, append_assoc}
 use Rattle.std.specs.Prelude.{Result, Ok, Err, OnOk, IfErr, slice_get, slice_set}
 use Rattle.std.proofs.lemmas.List.Elements.{All-push, All-weaker}
-use Rattle.uma_zcache.specs.declared.held.Held.{Held}
-use Rattle.uma_zcache.specs.declared.key.ZKey.{ZKey}
+use Rattle.uma_zcache.specs.declared.cache.Held.{Held}
+use Rattle.uma_zcache.specs.declared.cache.ZKey.{ZKey}
 use Rattle.uma_zcache.specs.declared.locked.LockedCache.{LockedCache}
 use Rattle.uma_zcache.specs.declared.refused.ZAllocRefused.{ZAllocRefused}
 use Rattle.uma_zcache.specs.Entries.{IsOutWith}

@@ -5,9 +5,9 @@ use denote.Param.Send.{IsSend, IsSync, recorded_send, recorded_sync, struct_send
 use denote.Struct.Declared.{shape}
 use Rattle.deed_book.proofs.book.Book.TheSendSync as book
 use Rattle.deed_book.proofs.fail_book.FailBook.TheSendSync as fails
-use Rattle.listed.specs.contracts.log.Log as Log
+use Rattle.listed.specs.contracts.list.Log as Log
 use Rattle.keyed_lock.proofs.lock.KeyedLock.TheSendSync as lock
-use Rattle.uma_zcache.proofs.entries.Entries.TheSendSync as entries
+use Rattle.uma_zcache.proofs.locked.Entries.TheSendSync as entries
 use Rattle.uma_zcache.proofs.refused.ZAllocRefused.TheSendSync as refused
 use Rattle.uma_zcache.specs.contracts.cache.ZCache as ZCache
 use Rattle.uma_zcache.specs.contracts.locked.LockedCache as LockedCache

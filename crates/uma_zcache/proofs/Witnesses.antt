@@ -4,7 +4,7 @@ use Rattle.std.specs.Prelude.{Result, Ok, Err, OnOk, IfErr}
 use Rattle.uma_zcache.specs.declared.cache.ZCache.{ZCache}
 use Rattle.uma_zcache.specs.declared.locked.LockedCache.{LockedCache}
 use Rattle.uma_zcache.specs.declared.refused.ZAllocRefused.{ZAllocRefused}
-use Rattle.uma_zcache.specs.declared.seat.ZSeat.{ZSeat}
+use Rattle.uma_zcache.specs.declared.cache.ZSeat.{ZSeat}
 use Rattle.uma_zcache.specs.Cache.{cache_key, GivesRound, RefusesAlloc}
 use Rattle.uma_zcache.specs.Rounds.{FillsSeat, TurnsSeatAway, KeepsSeat}
 use Rattle.uma_zcache.specs.Rule.{Keeps}

@@ -3,7 +3,7 @@ use Rattle.std.specs.Prelude.{◌≡◌, ◌<◌, ◌⊎◌, ◌^◌, ℕ, List,
 use Rattle.std.specs.Int.{next_multiple_of}
 use Rattle.vmem_arena.specs.Tags.{Tags, greatest_free}
 use Rattle.vmem_arena.specs.TakenBases.{taken_bases}
-use Rattle.uma_zcache.specs.declared.arena_import.ArenaImport.{ArenaImport}
+use Rattle.uma_zcache.specs.declared.import.ArenaImport.{ArenaImport}
 
 -- its arena, and the size of the ranges that it takes
 abbrev pub import_tags : ArenaImport → Tags

@@ -4,11 +4,11 @@ use Rattle.deed_book.specs.Deed.{BookId}
 use Rattle.deed_book.specs.BookId.{numbers_of}
 use Rattle.keyed_lock.specs.KeyedLock.{lock_key}
 use Rattle.uma_zcache.specs.declared.cache.ZCache.{ZCache}
-use Rattle.uma_zcache.specs.declared.held.Held.{Held}
-use Rattle.uma_zcache.specs.declared.key.ZKey.{ZKey}
+use Rattle.uma_zcache.specs.declared.cache.Held.{Held}
+use Rattle.uma_zcache.specs.declared.cache.ZKey.{ZKey}
 use Rattle.uma_zcache.specs.declared.locked.LockedCache.{LockedCache}
 use Rattle.uma_zcache.specs.declared.refused.ZAllocRefused.{ZAllocRefused}
-use Rattle.uma_zcache.specs.declared.seat.ZSeat.{ZSeat}
+use Rattle.uma_zcache.specs.declared.cache.ZSeat.{ZSeat}
 use Rattle.uma_zcache.specs.Entries.{out_of}
 use Rattle.uma_zcache.specs.Held.{held_book}
 use Rattle.uma_zcache.specs.Imports.{HasEntry, Fills, TurnsAway}

@@ -2,7 +2,7 @@
 use Rattle.std.specs.Prelude.{◌≡◌, ◌<◌, ℕ}
 use Rattle.deed_book.specs.BookId.{numbers_of}
 use Rattle.deed_book.specs.Deed.{BookId, deed_table, no_of}
-use Rattle.uma_zcache.specs.declared.held.Held.{Held}
+use Rattle.uma_zcache.specs.declared.cache.Held.{Held}
 
 abbrev pub held_base : Held → ℕ
 held_base held = held.base

@@ -2,7 +2,7 @@
 use Rattle.std.specs.Prelude.{◌≡◌, ◌+◌, ◌≤◌, ℕ, List, Option, Some, None, length, slice_get, vec_capacity}
 use Rattle.uma_zcache.specs.Bases.{times}
 use Rattle.uma_zcache.specs.Entries.{out_of}
-use Rattle.uma_zcache.specs.declared.entries.Entries.TheInside.{Inside}
+use Rattle.uma_zcache.specs.declared.locked.Entries.TheInside.{Inside}
 
 -- 1 for a number at home, else 0
 abbrev pub home_once : Option (Option ℕ) → ℕ

@@ -1,6 +1,6 @@
 -- Own: what an import and an import round do to what lies behind the lock.
 use Rattle.std.specs.Prelude.{◌≡◌, ◌<◌, ◌⊎◌, ◌++◌, ℕ, List, [], ◌∷◌, Some, length, slice_set}
-use Rattle.uma_zcache.specs.declared.held.Held.{Held}
+use Rattle.uma_zcache.specs.declared.cache.Held.{Held}
 use Rattle.uma_zcache.specs.declared.locked.LockedCache.{LockedCache}
 use Rattle.uma_zcache.specs.declared.refused.ZAllocRefused.{ZAllocRefused}
 use Rattle.uma_zcache.specs.declared.refused.ZAllocRefused.TheVariants.{Out, NoFit, Memory}

@@ -1,6 +1,6 @@
 -- Own: what contracts see of what lies behind a cache zone's lock, and what it always keeps.
 use Rattle.std.specs.Prelude.{◌≡◌, ◌≤◌, ℕ, List, [], ◌∷◌, Option, Some, None, map, replicate}
-use Rattle.deed_book.specs.declared.cause.Cause.{Cause}
+use Rattle.deed_book.specs.declared.deed.Cause.{Cause}
 use Rattle.deed_book.specs.Book.{book_table, zones_of}
 use Rattle.deed_book.specs.BookId.{numbers_of}
 use Rattle.deed_book.specs.Deed.{BookId, TableId}

@@ -1,9 +1,9 @@
 -- Own: when each call of a cache zone is refused, and how a refusal is counted.
 use Rattle.std.specs.Prelude.{◌≡◌, ◌<◌, ◌≤◌, ◌⊎◌, ℕ}
-use Rattle.deed_book.specs.declared.cause.Cause.{Cause}
+use Rattle.deed_book.specs.declared.deed.Cause.{Cause}
 use Rattle.deed_book.specs.FailViews.{cause}
-use Rattle.deed_book.specs.declared.refused.BookRefused.{BookRefused}
-use Rattle.deed_book.specs.declared.refused.BookRefused.TheVariants.{Numbers as BookNumbers, Memory as BookMemory}
+use Rattle.deed_book.specs.declared.deed.BookRefused.{BookRefused}
+use Rattle.deed_book.specs.declared.deed.BookRefused.TheVariants.{Numbers as BookNumbers, Memory as BookMemory}
 use Rattle.uma_zcache.specs.declared.refused.ImportRefused.{ImportRefused}
 use Rattle.uma_zcache.specs.declared.refused.ImportRefused.TheVariants.{NoFit as ImportNoFit, Memory as ImportMemory}
 use Rattle.uma_zcache.specs.declared.refused.ZRefused.{ZRefused}

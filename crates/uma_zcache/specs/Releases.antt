@@ -1,9 +1,9 @@
 -- Own: what a release does to what lies behind the lock.
 use Rattle.std.specs.Prelude.{◌≡◌, ℕ, List, [], ◌∷◌, None, All, length, slice_set}
-use Rattle.uma_zcache.specs.declared.held.Held.{Held}
-use Rattle.uma_zcache.specs.declared.key.ZKey.{ZKey}
+use Rattle.uma_zcache.specs.declared.cache.Held.{Held}
+use Rattle.uma_zcache.specs.declared.cache.ZKey.{ZKey}
 use Rattle.uma_zcache.specs.declared.locked.LockedCache.{LockedCache}
-use Rattle.uma_zcache.specs.declared.stack.Stack.{Stack}
+use Rattle.uma_zcache.specs.declared.locked.Stack.{Stack}
 use Rattle.uma_zcache.specs.Bases.{Loses}
 use Rattle.uma_zcache.specs.Entries.{IsOutWith}
 use Rattle.uma_zcache.specs.Held.{held_no, held_book}

@@ -1,11 +1,11 @@
 -- Own: what an import round makes of a seat and of what lies behind the lock, and what it leaves.
 use Rattle.std.specs.Prelude.{◌≡◌, ◌≤◌, ◌<◌, ◌++◌, ℕ, List, [], All, length, map}
-use Rattle.uma_zcache.specs.declared.held.Held.{Held}
-use Rattle.uma_zcache.specs.declared.key.ZKey.{ZKey}
+use Rattle.uma_zcache.specs.declared.cache.Held.{Held}
+use Rattle.uma_zcache.specs.declared.cache.ZKey.{ZKey}
 use Rattle.uma_zcache.specs.declared.locked.LockedCache.{LockedCache}
 use Rattle.uma_zcache.specs.declared.refused.ZAllocRefused.{ZAllocRefused}
-use Rattle.uma_zcache.specs.declared.seat.ZSeat.{ZSeat}
-use Rattle.uma_zcache.specs.declared.stack.Stack.{Stack}
+use Rattle.uma_zcache.specs.declared.cache.ZSeat.{ZSeat}
+use Rattle.uma_zcache.specs.declared.locked.Stack.{Stack}
 use Rattle.uma_zcache.specs.Held.{held_book}
 use Rattle.uma_zcache.specs.Imports.{HasEntry, ImportsAll, StopsImporting, Fills, TurnsAway}
 use Rattle.uma_zcache.specs.Locked.{book_in, fails_in, turned_in, counted, IsSound, IsSameCache, CountsNothing, MovesNothing}

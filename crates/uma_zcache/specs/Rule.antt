@@ -4,8 +4,8 @@ use Rattle.deed_book.specs.Book.{book_table}
 use Rattle.deed_book.specs.Deed.{BookId, TableId}
 use Rattle.deed_book.specs.FailBook.{fail_book_table}
 use Rattle.deed_book.specs.FailShare.{share_table, causes_in}
-use Rattle.deed_book.specs.declared.fail_share.FailShare.{FailShare}
-use Rattle.uma_zcache.specs.declared.key.ZKey.{ZKey}
+use Rattle.deed_book.specs.declared.fail_book.FailShare.{FailShare}
+use Rattle.uma_zcache.specs.declared.cache.ZKey.{ZKey}
 use Rattle.uma_zcache.specs.declared.locked.LockedCache.{LockedCache}
 use Rattle.uma_zcache.specs.Locked.{book_in, fails_in, IsSound}
 

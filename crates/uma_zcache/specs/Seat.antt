@@ -1,10 +1,10 @@
 -- Own: what contracts see of a seat and of its stack.
 use Rattle.std.specs.Prelude.{◌≡◌, ℕ, List}
-use Rattle.deed_book.specs.declared.cause.Cause.{Cause}
+use Rattle.deed_book.specs.declared.deed.Cause.{Cause}
 use Rattle.deed_book.specs.Deed.{TableId}
 use Rattle.deed_book.specs.FailShare.{share_table, causes_in}
-use Rattle.uma_zcache.specs.declared.held.Held.{Held}
-use Rattle.uma_zcache.specs.declared.seat.ZSeat.{ZSeat}
+use Rattle.uma_zcache.specs.declared.cache.Held.{Held}
+use Rattle.uma_zcache.specs.declared.cache.ZSeat.{ZSeat}
 use Rattle.uma_zcache.specs.Stack.{stack_items, stack_size}
 
 -- the items on its stack, the last put at the end

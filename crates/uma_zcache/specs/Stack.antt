@@ -1,7 +1,7 @@
 -- Own: what contracts see of the stack of a seat.
 use Rattle.std.specs.Prelude.{◌≡◌, ◌≤◌, ℕ, List, [], ◌∷◌, ◌++◌}
-use Rattle.uma_zcache.specs.declared.held.Held.{Held}
-use Rattle.uma_zcache.specs.declared.stack.Stack.{Stack}
+use Rattle.uma_zcache.specs.declared.cache.Held.{Held}
+use Rattle.uma_zcache.specs.declared.locked.Stack.{Stack}
 
 -- its items, the last put at the end
 abbrev pub stack_items : Stack → List Held

@@ -1,35 +1,31 @@
-//! Cache zones: a zone without a keg, over any import, as FreeBSD's `uma_zcache_create` makes.
+//! Zones without a keg, over any import, as FreeBSD's `uma_zcache_create` makes them: caches of ports, identifiers, ranges of an arena.
 //!
-//! The items of a cache zone are bases that an [`Import`] gives and takes back: ranges of an arena, ports, identifiers.
-//! [`ZCache`] has the importer under its lock, with a book of numbers. Each base that is out has a number, and whoever holds
-//! the item has the number's one deed ([`Held`]). A base goes back to the importer only where that deed is accepted, so none
-//! is handed out again before. A thread takes and frees by a seat of its own, a [`ZSeat`], which caches what was freed.
+//! An [`Import`] gives *bases*, numbers of its own, and takes them back; [`ArenaImport`] does so from an arena. A [`ZCache`] has the
+//! importer under its lock, with a book of numbers. Each base that is out has a number, and the holder of the item ([`Held`]) has the
+//! number's one deed. Each thread uses its own [`ZSeat`], which caches what was freed.
 //!
-//! An `alloc` of an empty seat imports up to a bucket's worth. Where that gives nothing for want of a number or of a base,
-//! the cache's fail book counts the refusal, and the seat's share of it has its cause: so no refusal is made up.
+//! ```
+//! let cache = ZCache::new(alloc, import, 1024)?;          // at most 1,024 items are out
+//! let mut seat = cache.seat(rt, alloc, 16)?;              // a stack of 16
+//! let held = cache.alloc(rt, alloc, &mut seat)?;          // held.base() is what the importer gave
+//! cache.free(rt, &mut seat, held);
+//! ```
 //!
-//! Every change is a method of the locked state, with its whole contract; a call takes the lock, makes that call and lets go.
-//! What happened under the lock is told as it is of a zone's keg: there was a state that the lock may keep, and one after it,
-//! and the method led from the one to the other.
+//! # What is promised
+//!
+//! - A base goes back to the importer only when its deed is accepted, so none is handed out twice (the law at [`ZCache`]; `ZRule`).
+//! - `alloc` is refused only if an import round gave nothing, and says why (`ZCache::alloc`: `refused`). The cache's fail book then counts
+//!   the refusal, and the seat's share has its cause. Want of memory isn't counted.
+//! - `free` and `drain` don't allocate. They release items to the importer only when the stack is full, or on request.
+//!
+//! A call blocks on the lock only if the stack is empty in `alloc` or full in `free`, and in `seat`, `drain` and `out`.
 #![tactic(auto)]
 
-mod arena_import;
 mod cache;
-mod entries;
-mod held;
 mod import;
-mod importing;
-mod key;
 mod locked;
 mod refused;
-mod releasing;
-mod rule;
-mod seat;
-mod stack;
 
-pub use arena_import::ArenaImport;
-pub use cache::ZCache;
-pub use held::Held;
-pub use import::Import;
+pub use cache::{Held, ZCache, ZSeat};
+pub use import::{ArenaImport, Import};
 pub use refused::{ImportRefused, SizeRefused, ZAllocRefused, ZRefused, ZSeatRefused};
-pub use seat::ZSeat;

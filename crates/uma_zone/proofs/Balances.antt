@@ -1,8 +1,8 @@
 -- What a request hands out and leaves usable is what was usable and what it brought.
 use Rattle.std.proofs.Common.{◌≡◌, ℕ, Bool, true, cond, List, [], ◌∷◌, ◌++◌, map, inl, inr, refl, sym, ap, ◌∙◌}
 use Rattle.std.proofs.lemmas.List.{append-nil, map-append}
-use Rattle.uma_life.specs.declared.cached.Cached.{Cached}
-use Rattle.uma_life.specs.declared.ticket.Ticket.{Ticket}
+use Rattle.uma_life.specs.declared.states.Cached.{Cached}
+use Rattle.uma_life.specs.declared.states.Ticket.{Ticket}
 use Rattle.uma_life.specs.Cached.{cached_ticket}
 use Rattle.uma_life.specs.Live.{live_ticket}
 use Rattle.zone_stats.specs.declared.refusal.Refusal.TheVariants.{AtLimit, Reserved, Full, Init, Ctor}
@@ -16,7 +16,7 @@ use Rattle.uma_seat.specs.declared.seat.SeatCache.{SeatCache}
 use Rattle.uma_seat.specs.Row.{stacks_of}
 use Rattle.uma_seat.specs.Seat.{usable_of}
 use Rattle.uma_seat.specs.Stack.{stack_at}
-use Rattle.uma_zone.specs.declared.alloc_ask.AllocRefused.TheVariants.{Refused, Memory}
+use Rattle.uma_zone.specs.declared.zone.alloc.AllocRefused.TheVariants.{Refused, Memory}
 use Rattle.uma_zone.specs.declared.zone.Zone.{Zone}
 use Rattle.uma_zone.specs.Zone.{zone_smr}
 use Rattle.uma_zone.specs.Alloc.{TakesUsable}

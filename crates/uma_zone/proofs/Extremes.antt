@@ -5,8 +5,8 @@ use Rattle.std.proofs.lemmas.Bool.{cases_lt}
 use Rattle.std.proofs.lemmas.List.{append-nil, append_assoc}
 use Rattle.std.proofs.lemmas.List.Elements.{All-weaker, All-push, All-nil, Contains-append_left, Contains-push, All-contains}
 use Rattle.smr_clock.specs.declared.host.Host.{Ghosts as HostGhosts}
-use Rattle.uma_life.specs.declared.body.Body.{Ghosts}
-use Rattle.uma_domain.specs.declared.working.Working.{Working}
+use Rattle.uma_life.specs.declared.hooks.Body.{Ghosts}
+use Rattle.uma_domain.specs.declared.lists.Working.{Working}
 use Rattle.uma_domain.specs.Working.{after, begun}
 use Rattle.uma_zone.specs.WorkingLaw.{Move, counts_after, counted, since_trim, IsLeast, IsGreatest, TellsExtremes, IsFarthest, CountsMoves}
 

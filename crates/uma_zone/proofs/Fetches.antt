@@ -3,11 +3,11 @@ use Rattle.std.proofs.Common.{◌≡◌, ◌≤◌, ℕ, inl, inr, List, [], ◌
 use Rattle.deed_book.specs.FailViews.{cause}
 use Rattle.zone_stats.specs.declared.refusal.Refusal.{Refusal}
 use Rattle.zone_stats.specs.declared.refusal.Refusal.TheVariants.{AtLimit, Reserved, Full, Init, Ctor}
-use Rattle.uma_life.specs.declared.cached.Cached.{Cached}
+use Rattle.uma_life.specs.declared.states.Cached.{Cached}
 use Rattle.uma_keg.specs.declared.keg.Keg.{Keg}
-use Rattle.uma_keg.specs.declared.fetch_ask.FetchAsk.{FetchAsk}
-use Rattle.uma_keg.specs.declared.fetch_refused.FetchRefused.{FetchRefused}
-use Rattle.uma_keg.specs.declared.fetch_refused.FetchRefused.TheVariants.{Refused}
+use Rattle.uma_keg.specs.declared.fetch.FetchAsk.{FetchAsk}
+use Rattle.uma_keg.specs.declared.fetch.FetchRefused.{FetchRefused}
+use Rattle.uma_keg.specs.declared.fetch.FetchRefused.TheVariants.{Refused}
 use Rattle.uma_keg.specs.Keg.{places_in, table_in, reserve_in, hooks_in}
 use Rattle.uma_keg.specs.Fetched.{Fetches, FetchesInto, RefusesFetch, NamesWhatItFound}
 use Rattle.uma_seat.specs.declared.seat.SeatCache.{SeatCache}

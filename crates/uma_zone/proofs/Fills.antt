@@ -1,15 +1,15 @@
 -- How a seat without a usable item gets some, or none.
 use Rattle.std.proofs.Common.{◌≡◌, ◌<◌, ℕ, Bool, true, false, cond, List, [], ◌∷◌, ◌++◌, length, Result, Ok, Err, IfErr, OnOk, inl, inr, refl, sym, ap, ◌∙◌, subst, arith}
-use Rattle.deed_book.specs.declared.fail_share.FailShare.{FailShare}
+use Rattle.deed_book.specs.declared.fail_book.FailShare.{FailShare}
 use Rattle.deed_book.specs.FailViews.{cause}
 use Rattle.zone_stats.specs.LedgerSteps.{CountsTurned}
 use Rattle.smr_clock.specs.declared.view.View.{View}
-use Rattle.uma_life.specs.declared.cached.Cached.{Cached}
+use Rattle.uma_life.specs.declared.states.Cached.{Cached}
 use Rattle.uma_bucket.specs.declared.bucket.Bucket.{Bucket}
 use Rattle.uma_bucket.specs.Ripe.{ripe_knows}
 use Rattle.uma_domain.specs.Lists.{IsRaised}
 use Rattle.uma_seat.specs.declared.counts.Counts.{Counts}
-use Rattle.uma_seat.specs.declared.plain_row.PlainRow.{PlainRow}
+use Rattle.uma_seat.specs.declared.rows.PlainRow.{PlainRow}
 use Rattle.uma_seat.specs.declared.seat.SeatCache.{SeatCache}
 use Rattle.uma_seat.specs.declared.seating.Seating.{Seating}
 use Rattle.uma_seat.specs.Counts.{ledger_in, fetches_in}
@@ -22,8 +22,8 @@ use Rattle.uma_zone.specs.Looked.{IsOfRipe}
 use Rattle.uma_zone.specs.OwnDomain.{AreFoundIn, FindsNothing}
 use Rattle.uma_zone.specs.Told.{TakesInNote}
 use Rattle.uma_zone.proofs.Looks.{none_behind}
-use Rattle.uma_zone.specs.declared.alloc_ask.AllocRefused.{AllocRefused}
-use Rattle.uma_zone.specs.declared.alloc_ask.AllocRefused.TheVariants.{Refused, Memory}
+use Rattle.uma_zone.specs.declared.zone.alloc.AllocRefused.{AllocRefused}
+use Rattle.uma_zone.specs.declared.zone.alloc.AllocRefused.TheVariants.{Refused, Memory}
 use Rattle.uma_zone.specs.declared.domains.ZoneDomains.{ZoneDomains}
 use Rattle.uma_zone.specs.declared.zone.Zone.{Zone}
 use Rattle.uma_zone.specs.Zone.{zone_smr, zone_hooks}

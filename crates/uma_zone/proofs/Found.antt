@@ -1,7 +1,7 @@
 -- What a look at the lists of a seat's own domain found there.
 use Rattle.std.proofs.Common.{◌≡◌, ℕ, Bool, true, false, Option, Some, None, IfSome, IfNone, subst}
 use Rattle.uma_bucket.specs.declared.bucket.Bucket.{Bucket}
-use Rattle.uma_bucket.specs.declared.ripe.Ripe.{Ripe}
+use Rattle.uma_bucket.specs.declared.freed.Ripe.{Ripe}
 use Rattle.uma_domain.specs.declared.domain.Domain.{Domain}
 use Rattle.uma_domain.specs.UnderLock.{TakesPlain, FindsNoPlain, TakesOldestRipe, FindsNoneRipe}
 use Rattle.uma_zone.specs.declared.domains.ZoneDomains.{ZoneDomains}

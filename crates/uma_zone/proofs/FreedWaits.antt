@@ -4,8 +4,8 @@ use Rattle.std.proofs.lemmas.Bool.{cases_eq}
 use Rattle.std.proofs.lemmas.List.Elements.{Contains-append_left, Contains-append_right, Contains-append_cases}
 use Rattle.std.specs.List.{Contains}
 use Rattle.smr_clock.specs.declared.host.Host.{Ghosts as HostGhosts}
-use Rattle.uma_life.specs.declared.body.Body.{Ghosts}
-use Rattle.uma_life.specs.declared.ticket.Ticket.{Ticket}
+use Rattle.uma_life.specs.declared.hooks.Body.{Ghosts}
+use Rattle.uma_life.specs.declared.states.Ticket.{Ticket}
 use Rattle.uma_zone.specs.SafeReuse.{ripe_tickets, keg_tickets, Call, Happens, Happen, IsUsable, HandsOut, FindsRipe, GetsFromKeg, FreedWait}
 
 module _ {T H P : Type 0} {g : Ghosts T} {h : HostGhosts H P} where

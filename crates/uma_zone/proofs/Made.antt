@@ -3,10 +3,10 @@ use Rattle.std.proofs.Common.{◌≡◌, ℕ, Option, Some, None, sym, ap, ◌�
 use Rattle.deed_book.specs.Deed.{BookId}
 use Rattle.deed_book.specs.Book.{book_table}
 use Rattle.uma_domain.specs.Identity.{home_of}
-use Rattle.uma_places.specs.Places.{KegPlaces, domain_at, IsNew}
+use Rattle.uma_slabs.specs.Places.{KegPlaces, domain_at, IsNew}
 use Rattle.uma_keg.specs.declared.keg.Keg.{Keg}
 use Rattle.uma_keg.specs.Keg.{places_in, table_in, rights_in, size_in, reserve_in, IsSameKeg}
-use Rattle.locked_keg.specs.declared.key.KegKey.{KegKey}
+use Rattle.locked_keg.specs.declared.locked_keg.KegKey.{KegKey}
 use Rattle.locked_keg.specs.Key.{key_numbers, key_rights, IsKeyOf}
 use Rattle.locked_keg.specs.Rule.{HasDomainsBelow}
 

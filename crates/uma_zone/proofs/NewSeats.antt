@@ -3,10 +3,10 @@ use Rattle.std.proofs.Common.{◌≡◌, ℕ, zero, suc, Bool, true, false, cond
 use Rattle.std.specs.List.{All}
 use Rattle.std.proofs.lemmas.List.Elements.{All-head, All-tail}
 use Rattle.deed_book.specs.Deed.{TableId}
-use Rattle.deed_book.specs.declared.fail_share.FailShare.{FailShare}
+use Rattle.deed_book.specs.declared.fail_book.FailShare.{FailShare}
 use Rattle.deed_book.specs.FailShare.{causes_in}
-use Rattle.inbox.specs.declared.port.Port.{Port}
-use Rattle.uma_bucket.specs.declared.inbox_key.InboxKey.{InboxKey}
+use Rattle.inbox.specs.declared.inbox.Port.{Port}
+use Rattle.uma_bucket.specs.declared.shelved.InboxKey.{InboxKey}
 use Rattle.uma_bucket.specs.declared.shelved.Shelved.{Shelved}
 use Rattle.uma_seat.specs.declared.seat.SeatCache.{SeatCache}
 use Rattle.uma_seat.specs.declared.seating.Seating.{Seating}

@@ -1,10 +1,10 @@
 -- What a request has of its one fetch, while its seat goes on.
 use Rattle.std.proofs.Common.{◌≡◌, ◌≤◌, ◌==◌, ◌&&◌, ℕ, Bool, true, false, not, cond, List, [], ◌∷◌, ◌++◌, length, inl, inr, refl, sym, ap, ◌∙◌, subst, arith}
 use Rattle.std.proofs.Math.Dec.{eqb-suc-zero}
-use Rattle.deed_book.specs.declared.fail_share.FailShare.{FailShare}
+use Rattle.deed_book.specs.declared.fail_book.FailShare.{FailShare}
 use Rattle.deed_book.specs.FailViews.{cause}
-use Rattle.uma_life.specs.declared.cached.Cached.{Cached}
-use Rattle.uma_keg.specs.declared.fetch_ask.FetchAsk.{FetchAsk}
+use Rattle.uma_life.specs.declared.states.Cached.{Cached}
+use Rattle.uma_keg.specs.declared.fetch.FetchAsk.{FetchAsk}
 use Rattle.uma_keg.specs.Fetched.{Fetches}
 use Rattle.uma_domain.specs.Lists.{IsRaised}
 use Rattle.uma_seat.specs.declared.seat.SeatCache.{SeatCache}

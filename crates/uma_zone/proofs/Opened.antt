@@ -6,9 +6,9 @@ use Rattle.std.proofs.lemmas.List.{map-append, length-map, take_all}
 use Rattle.std.proofs.Math.Seq.{take-suc}
 use Rattle.std.proofs.lemmas.List.Elements.{All-nil, All-push}
 use Rattle.std.proofs.lemmas.Option.{get_or_from_slice_get, slice_get_within, slice_get-map}
-use Rattle.inbox.specs.declared.port.Port.{Port}
+use Rattle.inbox.specs.declared.inbox.Port.{Port}
 use Rattle.inbox.specs.Inbox.{sent_by}
-use Rattle.uma_bucket.specs.declared.inbox_key.InboxKey.{InboxKey}
+use Rattle.uma_bucket.specs.declared.shelved.InboxKey.{InboxKey}
 use Rattle.uma_bucket.specs.declared.shelved.Shelved.{Shelved}
 use Rattle.uma_bucket.specs.Inboxes.{port_origin}
 use Rattle.uma_domain.specs.declared.domain.Domain.{Domain}

@@ -1,7 +1,7 @@
 -- What a prealloc comes to: the slabs that a zone's keg brought in, or why it brought no further one in.
 use Rattle.std.proofs.Common.{◌≡◌, ◌/◌, ℕ, Result, Ok, Err, IfOk, IfErr, OnOk, min, sym, subst}
 use Rattle.uma_keg.specs.declared.keg.Keg.{Keg}
-use Rattle.uma_keg.specs.declared.fetch_refused.FetchRefused.{FetchRefused}
+use Rattle.uma_keg.specs.declared.fetch.FetchRefused.{FetchRefused}
 use Rattle.uma_keg.specs.BringSlabs.{BringsSlabs}
 use Rattle.uma_keg.specs.Keg.{places_in, table_in}
 use Rattle.locked_keg.specs.Slabs.{StopsBringing}

@@ -5,17 +5,17 @@ use Rattle.std.proofs.Math.Bool.{Bool-set}
 use Rattle.std.proofs.lemmas.Bool.{cases_eq, cases_lt}
 use Rattle.std.proofs.lemmas.List.{append-nil, append_assoc, map_push, set_past, get_or-set_same, get_or-set_other}
 use Rattle.std.proofs.lemmas.List.Elements.{Contains-append_left, Contains-append_right, Contains-append_cases, Contains-push, Contains-push_cases}
-use Rattle.smr_clock.specs.declared.goal.Goal.{Goal}
+use Rattle.smr_clock.specs.declared.pass.Goal.{Goal}
 use Rattle.smr_clock.specs.declared.host.Host.{Ghosts as HostGhosts}
 use Rattle.smr_clock.specs.declared.view.View.{View}
-use Rattle.uma_life.specs.declared.body.Body.{Ghosts}
-use Rattle.uma_life.specs.declared.live.Live.{Live}
-use Rattle.uma_life.specs.declared.ticket.Ticket.{Ticket}
+use Rattle.uma_life.specs.declared.hooks.Body.{Ghosts}
+use Rattle.uma_life.specs.declared.states.Live.{Live}
+use Rattle.uma_life.specs.declared.states.Ticket.{Ticket}
 use Rattle.uma_life.specs.Cached.{cached_ticket}
 use Rattle.uma_life.specs.Live.{live_domain, live_ticket}
 use Rattle.uma_bucket.specs.declared.freed.Freed.{Freed}
-use Rattle.uma_bucket.specs.declared.loose.Loose.{Loose}
-use Rattle.uma_bucket.specs.declared.sealed.Sealed.{Sealed}
+use Rattle.uma_bucket.specs.declared.freed.Loose.{Loose}
+use Rattle.uma_bucket.specs.declared.freed.Sealed.{Sealed}
 use Rattle.uma_bucket.specs.declared.shelved.Shelved.{Shelved}
 use Rattle.uma_bucket.specs.declared.shelved.Shelved.TheVariants.{Plain, Loose as Loose', Sealed as Sealed'}
 use Rattle.uma_bucket.specs.Freed.{freed_item, freed_ticket}

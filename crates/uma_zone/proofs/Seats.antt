@@ -3,11 +3,11 @@ use Rattle.std.proofs.Common.{◌≡◌, ◌<◌, ℕ, sym, ap, ◌∙◌, subst
 use Rattle.uma_bucket.specs.declared.bucket.Bucket.{Bucket}
 use Rattle.uma_bucket.specs.Home.{Home, AreHome}
 use Rattle.uma_keg.specs.declared.keg.Keg.{Keg}
-use Rattle.uma_keg.specs.declared.fetch_ask.FetchAsk.{FetchAsk}
+use Rattle.uma_keg.specs.declared.fetch.FetchAsk.{FetchAsk}
 use Rattle.uma_keg.specs.Keg.{places_in, table_in}
 use Rattle.uma_seat.specs.declared.seat.SeatCache.{SeatCache}
 use Rattle.uma_seat.specs.Seat.{seat_domain, seat_fails, top_tickets, IsSameSeat, KeepsTop, KeepsMisses, KeepsPorts}
-use Rattle.locked_keg.specs.declared.key.KegKey.{KegKey}
+use Rattle.locked_keg.specs.declared.locked_keg.KegKey.{KegKey}
 use Rattle.locked_keg.specs.Rule.{HasDomainsBelow}
 use Rattle.locked_keg.specs.Seating.{FetchesHome}
 use Rattle.uma_zone.specs.Domains.{domain_count}

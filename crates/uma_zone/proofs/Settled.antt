@@ -3,8 +3,8 @@ use Rattle.std.proofs.Common.{◌≡◌, ◌<◌, ◌+◌, ℕ, suc, length, Res
 use Rattle.smr_clock.specs.declared.view.View.{View}
 use Rattle.uma_zone.specs.declared.domains.ZoneDomains.{ZoneDomains}
 use Rattle.zone_stats.specs.declared.refusal.Refusal.TheVariants.{Ctor}
-use Rattle.uma_zone.specs.declared.alloc_ask.AllocRefused.{AllocRefused}
-use Rattle.uma_zone.specs.declared.alloc_ask.AllocRefused.TheVariants.{Refused, Memory}
+use Rattle.uma_zone.specs.declared.zone.alloc.AllocRefused.{AllocRefused}
+use Rattle.uma_zone.specs.declared.zone.alloc.AllocRefused.TheVariants.{Refused, Memory}
 use Rattle.uma_seat.specs.declared.seat.SeatCache.{SeatCache}
 use Rattle.uma_seat.specs.Seat.{seat_domain, shelf_of}
 use Rattle.uma_zone.specs.OwnDomain.{Settles, IsSettled, SettlesFirst}

@@ -5,41 +5,41 @@ use denote.RattleType.{RattleType}
 use denote.Param.Send.{IsSend, IsSync, array_send, recorded_send, recorded_sync, struct_send, struct_sync, sendable}
 use denote.Struct.Declared.{shape}
 use Rattle.deed_book.proofs.book.Book.TheSendSync as book
-use Rattle.deed_book.proofs.fail_share.FailShare.TheSendSync as share
+use Rattle.deed_book.proofs.fail_book.FailShare.TheSendSync as share
 use Rattle.keyed_lock.proofs.lock.KeyedLock.TheSendSync as lock
 use Rattle.smr_clock.proofs.clock.Clock.TheSendSync as clock
-use Rattle.uma_places.proofs.places.Places.TheSendSync as places
-use Rattle.uma_life.proofs.tally_sum.TallySum.TheSendSync as sum
+use Rattle.uma_slabs.proofs.places.Places.TheSendSync as places
+use Rattle.uma_life.proofs.tally.TallySum.TheSendSync as sum
 use Rattle.uma_bucket.proofs.bucket.Bucket.TheSendSync as bucket
-use Rattle.uma_keg.proofs.outside.Outside.TheSendSync as outside
+use Rattle.uma_keg.proofs.home_items.Outside.TheSendSync as outside
 use Rattle.uma_keg.proofs.home_items.HomeItems.TheSendSync as home
 use Rattle.uma_keg.specs.contracts.keg.Keg as Keg
 use Rattle.uma_seat.proofs.counts.Counts.TheSendSync as counts
-use Rattle.uma_seat.proofs.plain_row.PlainRow.TheSendSync as plain
-use Rattle.uma_seat.proofs.freed_row.FreedRow.TheSendSync as freed
+use Rattle.uma_seat.proofs.rows.PlainRow.TheSendSync as plain
+use Rattle.uma_seat.proofs.rows.FreedRow.TheSendSync as freed
 use Rattle.uma_seat.proofs.rack.Rack.TheSendSync as rack
 use Rattle.uma_seat.specs.contracts.seat.SeatCache as SeatCache
-use Rattle.locked_keg.proofs.fail_books.FailBooks.TheSendSync as fails
+use Rattle.locked_keg.proofs.locked_keg.FailBooks.TheSendSync as fails
 use Rattle.locked_keg.specs.contracts.locked_keg.LockedKeg as LockedKeg
-use Rattle.locked_keg.proofs.rule.KegRule.TheSendSync as keg_rule
-use Rattle.locked_keg.specs.contracts.key.KegKey as KegKey
-use Rattle.locked_keg.specs.contracts.rule.KegRule as KegRule
-use Rattle.locked_keg.specs.contracts.rule.KegRuleLockRuleLockedKegKegKey.TheImpl as rule
+use Rattle.locked_keg.proofs.locked_keg.KegRule.TheSendSync as keg_rule
+use Rattle.locked_keg.specs.contracts.locked_keg.KegKey as KegKey
+use Rattle.locked_keg.specs.contracts.locked_keg.KegRule as KegRule
+use Rattle.locked_keg.specs.contracts.locked_keg.KegRuleLockRuleLockedKegKegKey.TheImpl as rule
 use Rattle.keyed_lock.specs.contracts.lock.KeyedLock as KeyedLock
-use Rattle.uma_keg.proofs.fetch_refused.FetchRefused.TheSendSync as refused
-use Rattle.uma_keg.specs.contracts.fetch_refused.FetchRefused as FetchRefused
+use Rattle.uma_keg.proofs.fetch.FetchRefused.TheSendSync as refused
+use Rattle.uma_keg.specs.contracts.fetch.FetchRefused as FetchRefused
 use Rattle.std.specs.contracts.result.Result as Result
-use Rattle.listed.specs.contracts.log.Log as Log
+use Rattle.listed.specs.contracts.list.Log as Log
 use denote.Builtin.{u32}
 use Rattle.inbox.proofs.Shared.{port_send}
-use Rattle.uma_bucket.specs.contracts.inbox_key.InboxKey as InboxKey
+use Rattle.uma_bucket.specs.contracts.shelved.InboxKey as InboxKey
 use Rattle.uma_bucket.specs.contracts.shelved.Shelved as Shelved
 use Rattle.uma_domain.proofs.Shared.{shelved_send, domains_sync}
 use Rattle.uma_zone.specs.contracts.domains.ZoneDomains as ZoneDomains
 use Rattle.uma_zone.proofs.right.KeptRight.TheSendSync as right
 use Rattle.uma_zone.specs.contracts.zone.Zone as Zone
 use Rattle.smr_clock.specs.declared.host.Host as host
-use Rattle.uma_life.specs.declared.body.Body as body
+use Rattle.uma_life.specs.declared.hooks.Body as body
 use Rattle.uma_life.specs.declared.hooks.Hooks as hooks
 
 end_send : IsSend (Result.the_row u32 FetchRefused.the_row)

@@ -3,13 +3,13 @@ use Rattle.std.proofs.Common.{◌≡◌, ◌≤◌, ◌<◌, ◌+◌, ◌-◌, �
 use Rattle.std.proofs.lemmas.List.{length-append, length-map}
 use Rattle.std.proofs.lemmas.List.Sums.{sum_by-append, sum_by-cons}
 use Rattle.smr_clock.specs.declared.host.Host.{Ghosts as HostGhosts}
-use Rattle.uma_life.specs.declared.body.Body.{Ghosts}
+use Rattle.uma_life.specs.declared.hooks.Body.{Ghosts}
 use Rattle.uma_bucket.specs.declared.bucket.Bucket.{Bucket}
-use Rattle.uma_bucket.specs.declared.loose.Loose.{Loose}
-use Rattle.uma_bucket.specs.declared.ripe.Ripe.{Ripe}
-use Rattle.uma_bucket.specs.declared.sealed.Sealed.{Sealed}
-use Rattle.uma_domain.specs.declared.taken.TakenBucket.{TakenBucket}
-use Rattle.uma_domain.specs.declared.taken.TakenBucket.TheVariants.{Plain as Plain', Ripe as Ripe'}
+use Rattle.uma_bucket.specs.declared.freed.Loose.{Loose}
+use Rattle.uma_bucket.specs.declared.freed.Ripe.{Ripe}
+use Rattle.uma_bucket.specs.declared.freed.Sealed.{Sealed}
+use Rattle.uma_domain.specs.declared.trims.TakenBucket.{TakenBucket}
+use Rattle.uma_domain.specs.declared.trims.TakenBucket.TheVariants.{Plain as Plain', Ripe as Ripe'}
 use Rattle.uma_domain.specs.Listed.{plain_len, loose_len, ripe_len, sealed_len, listed}
 use Rattle.uma_domain.specs.Lists.{plain_in, loose_in, sealed_in, working_in}
 use Rattle.uma_domain.specs.Scans.{TakesAllRipe, TrimsSealed}

@@ -1,8 +1,8 @@
 -- Own: how a request ends, as contracts see it.
 use Rattle.std.specs.Prelude.{◌≡◌, ◌≤◌, ◌<◌, ◌⊎◌, ℕ, Bool, true, false, Some, None, List, [], ◌∷◌, ◌++◌, length}
 use Rattle.deed_book.specs.FailViews.{cause}
-use Rattle.uma_life.specs.declared.cached.Cached.{Cached}
-use Rattle.uma_life.specs.declared.live.Live.{Live}
+use Rattle.uma_life.specs.declared.states.Cached.{Cached}
+use Rattle.uma_life.specs.declared.states.Live.{Live}
 use Rattle.uma_life.specs.Cached.{cached_body, cached_ticket}
 use Rattle.uma_life.specs.Live.{live_body, live_ticket}
 use Rattle.uma_life.specs.Hook.{Ctor, after, IsCode}
@@ -10,21 +10,21 @@ use Rattle.zone_stats.specs.declared.refusal.Refusal.{Refusal}
 use Rattle.zone_stats.specs.declared.refusal.Refusal.TheVariants.{AtLimit, Reserved, Full, Init, Ctor as Ctor'}
 use Rattle.zone_stats.specs.LedgerSteps.{CountsAlloc, CountsTurned, CountsCtor}
 use Rattle.smr_clock.specs.Goals.{number_of}
-use Rattle.uma_bucket.specs.declared.ripe.Ripe.{Ripe}
+use Rattle.uma_bucket.specs.declared.freed.Ripe.{Ripe}
 use Rattle.uma_bucket.specs.Finished.{AreFinished}
 use Rattle.uma_bucket.specs.Loose.{loose_items}
 use Rattle.uma_bucket.specs.Ripe.{ripe_bucket, ripe_goal, ripe_knows, IsRipeAt, IsOverFrom}
 use Rattle.uma_domain.specs.Lists.{IsRaised}
 use Rattle.uma_keg.specs.declared.keg.Keg.{Keg}
-use Rattle.uma_keg.specs.declared.fetch_refused.FetchRefused.TheVariants.{Refused as RefusedFetch}
+use Rattle.uma_keg.specs.declared.fetch.FetchRefused.TheVariants.{Refused as RefusedFetch}
 use Rattle.uma_keg.specs.Fetched.{Fetches, RefusesFetch}
 use Rattle.uma_keg.specs.Keg.{table_in, reserve_in}
 use Rattle.uma_seat.specs.declared.seat.SeatCache.{SeatCache}
 use Rattle.uma_seat.specs.Fetches.{refusal_cause}
 use Rattle.uma_seat.specs.Seat.{seat_domain, usable_of, top_of, ledger_of, fetches_of, misses_of}
-use Rattle.uma_zone.specs.declared.alloc_ask.AllocAsk.{AllocAsk}
-use Rattle.uma_zone.specs.declared.alloc_ask.AllocRefused.{AllocRefused}
-use Rattle.uma_zone.specs.declared.alloc_ask.AllocRefused.TheVariants.{Refused, Memory}
+use Rattle.uma_zone.specs.declared.zone.alloc.AllocAsk.{AllocAsk}
+use Rattle.uma_zone.specs.declared.zone.alloc.AllocRefused.{AllocRefused}
+use Rattle.uma_zone.specs.declared.zone.alloc.AllocRefused.TheVariants.{Refused, Memory}
 use Rattle.uma_zone.specs.declared.zone.Zone.{Zone}
 use Rattle.uma_zone.specs.OwnDomain.{AreFoundIn, FindsNothing}
 use Rattle.uma_zone.specs.Zone.{zone_home, zone_hooks, zone_index, zone_cap, zone_reserve, zone_smr, zone_clock}

@@ -4,8 +4,8 @@ use Rattle.smr_clock.specs.declared.clock.Clock.{Clock}
 use Rattle.smr_clock.specs.declared.pass.Pass.{Pass}
 use Rattle.smr_clock.specs.Belongs.{IsPassOf, clock_id}
 use Rattle.zone_stats.specs.LedgerSteps.{HasRoom}
-use Rattle.uma_life.specs.declared.cached.Cached.{Cached}
-use Rattle.uma_life.specs.declared.live.Live.{Live}
+use Rattle.uma_life.specs.declared.states.Cached.{Cached}
+use Rattle.uma_life.specs.declared.states.Live.{Live}
 use Rattle.uma_life.specs.Cached.{cached_ticket}
 use Rattle.uma_life.specs.Live.{live_ticket}
 use Rattle.uma_bucket.specs.Home.{IsHome}

@@ -1,6 +1,6 @@
 -- Own: what a call by a pass, or by a pass and a seat, asks of both.
 use Rattle.std.specs.Prelude.{◌≡◌, ◌<◌, ℕ, [], true, false}
-use Rattle.smr_clock.specs.declared.setup.Setup.{Setup}
+use Rattle.smr_clock.specs.declared.clock.Setup.{Setup}
 use Rattle.smr_clock.specs.declared.clock.Clock.{Clock}
 use Rattle.smr_clock.specs.declared.pass.Pass.{Pass}
 use Rattle.smr_clock.specs.Belongs.{TableId, IsPassOf, clock_id}

@@ -1,7 +1,7 @@
 -- Own: what contracts see of the memory domains of a zone, and of the seats that are made for it.
 use Rattle.std.specs.Prelude.{◌≡◌, ◌<◌, ℕ, Bool, Option, Some, length, map}
 use Rattle.std.specs.List.{slice_get}
-use Rattle.smr_clock.specs.declared.setup.Setup.{Setup}
+use Rattle.smr_clock.specs.declared.clock.Setup.{Setup}
 use Rattle.smr_clock.specs.Belongs.{TableId, clock_id}
 use Rattle.deed_book.specs.Book.{book_table}
 use Rattle.deed_book.specs.FailShare.{share_table}

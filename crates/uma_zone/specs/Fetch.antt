@@ -6,8 +6,8 @@ use Rattle.zone_stats.specs.LedgerSteps.{CountsTurned}
 use Rattle.uma_seat.specs.declared.seat.SeatCache.{SeatCache}
 use Rattle.uma_seat.specs.Fetches.{refusal_cause}
 use Rattle.uma_seat.specs.Seat.{top_of, ledger_of, fetches_of}
-use Rattle.uma_zone.specs.declared.alloc_ask.AllocRefused.{AllocRefused}
-use Rattle.uma_zone.specs.declared.alloc_ask.AllocRefused.TheVariants.{Refused, Memory}
+use Rattle.uma_zone.specs.declared.zone.alloc.AllocRefused.{AllocRefused}
+use Rattle.uma_zone.specs.declared.zone.alloc.AllocRefused.TheVariants.{Refused, Memory}
 use Rattle.uma_zone.specs.declared.zone.Zone.{Zone}
 use Rattle.uma_zone.specs.Alloc.{Names, IsOneFetch, IsOneRefusal}
 

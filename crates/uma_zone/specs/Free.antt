@@ -2,8 +2,8 @@
 use Rattle.std.specs.Prelude.{◌≡◌, ◌==◌, true, false, not, slice_set}
 use Rattle.smr_clock.specs.declared.view.View.{View}
 use Rattle.zone_stats.specs.LedgerSteps.{CountsFree}
-use Rattle.uma_life.specs.declared.cached.Cached.{Cached}
-use Rattle.uma_life.specs.declared.live.Live.{Live}
+use Rattle.uma_life.specs.declared.states.Cached.{Cached}
+use Rattle.uma_life.specs.declared.states.Live.{Live}
 use Rattle.uma_life.specs.Cached.{cached_body, cached_ticket, cached_domain}
 use Rattle.uma_life.specs.Live.{live_body, live_ticket, live_zone, live_domain}
 use Rattle.uma_life.specs.Hook.{Dtor, after}

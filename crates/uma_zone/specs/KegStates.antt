@@ -1,10 +1,10 @@
 -- Own: what a call of a zone did to its keg, as that stood under its lock, or found there.
 use Rattle.std.specs.Prelude.{◌≡◌, ◌≤◌, ◌<◌, ◌/◌, ℕ, List, All, Result, IfOk, IfErr, length, min}
-use Rattle.uma_life.specs.declared.cached.Cached.{Cached}
-use Rattle.uma_life.specs.declared.live.Live.{Live}
+use Rattle.uma_life.specs.declared.states.Cached.{Cached}
+use Rattle.uma_life.specs.declared.states.Live.{Live}
 use Rattle.uma_keg.specs.declared.census.Census.{Census}
 use Rattle.uma_keg.specs.declared.keg.Keg.{Keg}
-use Rattle.uma_places.specs.declared.counts.KegCounts.{KegCounts}
+use Rattle.uma_slabs.specs.declared.places.KegCounts.{KegCounts}
 use Rattle.uma_keg.specs.Census.{census_counts, census_out, census_table, counts_in}
 use Rattle.uma_keg.specs.Lent.{all_seen, lent_of}
 use Rattle.uma_keg.specs.FreeSlabs.{FreesSlabs, GivesNoMore, slabs_to_free}

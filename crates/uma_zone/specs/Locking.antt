@@ -2,7 +2,7 @@
 use Rattle.std.specs.Prelude.{◌≡◌, ◌/◌, Some, min}
 use Rattle.deed_book.specs.Book.{book_table}
 use Rattle.uma_keg.specs.Keg.{places_in, table_in, rights_in, reserve_in}
-use Rattle.locked_keg.specs.declared.key.KegKey.{KegKey}
+use Rattle.locked_keg.specs.declared.locked_keg.KegKey.{KegKey}
 use Rattle.locked_keg.specs.declared.locked_keg.LockedKeg.{LockedKeg}
 use Rattle.locked_keg.specs.FailBooks.{table_at}
 use Rattle.locked_keg.specs.Key.{key_rights}

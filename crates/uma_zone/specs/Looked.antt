@@ -4,7 +4,7 @@ use Rattle.smr_clock.specs.declared.view.View.{View}
 use Rattle.smr_clock.specs.Goals.{number_of}
 use Rattle.smr_clock.specs.Steps.{joined_view}
 use Rattle.uma_bucket.specs.declared.bucket.Bucket.{Bucket}
-use Rattle.uma_bucket.specs.declared.ripe.Ripe.{Ripe}
+use Rattle.uma_bucket.specs.declared.freed.Ripe.{Ripe}
 use Rattle.uma_bucket.specs.Bucket.{items_of}
 use Rattle.uma_bucket.specs.Finished.{AreFinished}
 use Rattle.uma_bucket.specs.Loose.{loose_items}

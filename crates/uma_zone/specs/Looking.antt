@@ -4,7 +4,7 @@ use Rattle.smr_clock.specs.declared.clock.Clock.{Clock}
 use Rattle.smr_clock.specs.declared.pass.Pass.{Pass}
 use Rattle.smr_clock.specs.Belongs.{view}
 use Rattle.uma_bucket.specs.declared.bucket.Bucket.{Bucket}
-use Rattle.uma_bucket.specs.declared.ripe.Ripe.{Ripe}
+use Rattle.uma_bucket.specs.declared.freed.Ripe.{Ripe}
 use Rattle.uma_bucket.specs.Ripe.{ripe_bucket, IsRipeAt}
 use Rattle.uma_domain.specs.Listed.{IsPlainOf, IsLooseOf}
 use Rattle.uma_domain.specs.Lists.{IsRaised}

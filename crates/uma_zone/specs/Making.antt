@@ -1,6 +1,6 @@
 -- Own: which zone a making gives, and why it gives none.
 use Rattle.std.specs.Prelude.{◌≡◌, ◌≢◌, ◌<◌, ◌≤◌, ◌/◌, ◌⊎◌, ℕ, Bool, List, [], ◌∷◌, ◌++◌, All, Result, IfOk, map, min}
-use Rattle.smr_clock.specs.declared.setup.Setup.{Setup}
+use Rattle.smr_clock.specs.declared.clock.Setup.{Setup}
 use Rattle.smr_clock.specs.Belongs.{TableId}
 use Rattle.deed_book.specs.declared.deed.Deed.{Deed}
 use Rattle.deed_book.specs.Book.{book_table}
@@ -9,17 +9,17 @@ use Rattle.uma_bucket.specs.Bucket.{IsOutOfRange}
 use Rattle.uma_domain.specs.Identity.{home_of}
 use Rattle.uma_keg.specs.declared.keg.Keg.{Keg}
 use Rattle.uma_keg.specs.Keg.{places_in, rights_in, table_in, size_in, reserve_in, fetches_in}
-use Rattle.uma_places.specs.Places.{IsNew}
-use Rattle.uma_places.specs.Refused.{IsItemSize, IsSlabCount}
-use Rattle.uma_places.specs.declared.refused.KegRefused.{KegRefused}
-use Rattle.uma_places.specs.declared.refused.KegRefused.TheVariants.{Size as KegSize, Slabs as KegSlabs, Memory as KegMemory}
+use Rattle.uma_slabs.specs.Places.{IsNew}
+use Rattle.uma_slabs.specs.Refused.{IsItemSize, IsSlabCount}
+use Rattle.uma_slabs.specs.declared.places.KegRefused.{KegRefused}
+use Rattle.uma_slabs.specs.declared.places.KegRefused.TheVariants.{Size as KegSize, Slabs as KegSlabs, Memory as KegMemory}
 use Rattle.uma_zone.specs.declared.domains.ZoneDomains.{ZoneDomains}
 use Rattle.uma_zone.specs.declared.right.KeptRight.{KeptRight}
 use Rattle.uma_zone.specs.declared.zone.Zone.{Zone}
-use Rattle.uma_zone.specs.declared.zone_set.ZoneSet.{ZoneSet}
-use Rattle.uma_zone.specs.declared.zone_set.SecondSet.{SecondSet}
-use Rattle.uma_zone.specs.declared.zone_refused.ZoneRefused.{ZoneRefused}
-use Rattle.uma_zone.specs.declared.zone_refused.ZoneRefused.TheVariants.{Size, Slabs, Bucket, Domains, Zones, Memory}
+use Rattle.uma_zone.specs.declared.zone.make.ZoneSet.{ZoneSet}
+use Rattle.uma_zone.specs.declared.zone.make.SecondSet.{SecondSet}
+use Rattle.uma_zone.specs.declared.zone.make.ZoneRefused.{ZoneRefused}
+use Rattle.uma_zone.specs.declared.zone.make.ZoneRefused.TheVariants.{Size, Slabs, Bucket, Domains, Zones, Memory}
 use Rattle.uma_zone.specs.Domains.{domains_home, domains_clock, domains_smr, domain_count}
 use Rattle.uma_zone.specs.Right.{right_table, right_no}
 use Rattle.uma_zone.specs.Zone.{zone_key, zone_index, zone_home, zone_clock, zone_smr, zone_domains, zone_hooks, zone_bucket, zone_limit, zone_size, zone_cap, zone_reserve, zone_rights}

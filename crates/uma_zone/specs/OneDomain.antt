@@ -1,6 +1,6 @@
 -- Own: what contracts see of one domain of a zone.
 use Rattle.std.specs.Prelude.{◌≡◌, Bool}
-use Rattle.smr_clock.specs.declared.setup.Setup.{Setup}
+use Rattle.smr_clock.specs.declared.clock.Setup.{Setup}
 use Rattle.smr_clock.specs.Belongs.{TableId}
 use Rattle.uma_bucket.specs.Home.{Home}
 use Rattle.uma_bucket.specs.Inboxes.{InboxOrigin}

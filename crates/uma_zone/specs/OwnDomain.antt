@@ -2,12 +2,12 @@
 use Rattle.std.specs.Prelude.{◌≡◌, ℕ, zero, suc, true, false, Some, List, [], ◌∷◌, ◌++◌, slice_set}
 use Rattle.std.specs.List.{slice_get}
 use Rattle.smr_clock.specs.declared.view.View.{View}
-use Rattle.inbox.specs.declared.port.Port.{Port}
+use Rattle.inbox.specs.declared.inbox.Port.{Port}
 use Rattle.inbox.specs.Inbox.{sent_by}
-use Rattle.uma_life.specs.declared.cached.Cached.{Cached}
+use Rattle.uma_life.specs.declared.states.Cached.{Cached}
 use Rattle.uma_bucket.specs.declared.bucket.Bucket.{Bucket}
-use Rattle.uma_bucket.specs.declared.inbox_key.InboxKey.{InboxKey}
-use Rattle.uma_bucket.specs.declared.ripe.Ripe.{Ripe}
+use Rattle.uma_bucket.specs.declared.shelved.InboxKey.{InboxKey}
+use Rattle.uma_bucket.specs.declared.freed.Ripe.{Ripe}
 use Rattle.uma_bucket.specs.declared.shelved.Shelved.{Shelved}
 use Rattle.uma_bucket.specs.Bucket.{items_of}
 use Rattle.uma_bucket.specs.Finished.{AreFinished}

@@ -1,8 +1,8 @@
 -- Own: the ports of a seat, beside the domains of its zone.
 use Rattle.std.specs.Prelude.{◌≡◌, List, map}
-use Rattle.inbox.specs.declared.port.Port.{Port}
+use Rattle.inbox.specs.declared.inbox.Port.{Port}
 use Rattle.inbox.specs.Inbox.{sent_by}
-use Rattle.uma_bucket.specs.declared.inbox_key.InboxKey.{InboxKey}
+use Rattle.uma_bucket.specs.declared.shelved.InboxKey.{InboxKey}
 use Rattle.uma_bucket.specs.declared.shelved.Shelved.{Shelved}
 use Rattle.uma_bucket.specs.Inboxes.{InboxOrigin, port_origin}
 use Rattle.uma_seat.specs.declared.seat.SeatCache.{SeatCache}

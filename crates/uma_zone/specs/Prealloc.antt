@@ -1,7 +1,7 @@
 -- Own: how many slabs so many items fill, that they came in, and why no further slab does.
 use Rattle.std.specs.Prelude.{◌≡◌, ◌/◌, ℕ, min, Result, IfOk, IfErr}
 use Rattle.std.specs.Int.{div_ceil}
-use Rattle.uma_keg.specs.declared.fetch_refused.FetchRefused.{FetchRefused}
+use Rattle.uma_keg.specs.declared.fetch.FetchRefused.{FetchRefused}
 use Rattle.uma_keg.specs.declared.keg.Keg.{Keg}
 use Rattle.uma_keg.specs.BringSlabs.{BringsSlabs}
 use Rattle.uma_keg.specs.Keg.{places_in, table_in}

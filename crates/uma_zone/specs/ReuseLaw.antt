@@ -1,17 +1,17 @@
 -- Safe reuse over the calls of a zone whose readers hold no lock, with the goals: an item that was freed comes back only out of a bucket whose goal was made in its own free or after it, and is expired. It joins the laws of the calls (`SafeReuse`), of the frees (`SealLaw`) and of the tries (`TriesLaw`). Own, after FreeBSD's smr(9).
 use Rattle.std.specs.Prelude.{◌≡◌, ◌≢◌, ◌⊎◌, ℕ, true, false, List, [], ◌∷◌, ◌++◌, map}
 use Rattle.std.specs.List.{Contains}
-use Rattle.smr_clock.specs.declared.goal.Goal.{Goal}
+use Rattle.smr_clock.specs.declared.pass.Goal.{Goal}
 use Rattle.smr_clock.specs.declared.host.Host.{Ghosts as HostGhosts}
-use Rattle.smr_clock.specs.declared.setup.Setup.{Setup}
+use Rattle.smr_clock.specs.declared.clock.Setup.{Setup}
 use Rattle.smr_clock.specs.declared.view.View.{View}
 use Rattle.smr_clock.specs.Belongs.{TableId}
-use Rattle.uma_life.specs.declared.body.Body.{Ghosts}
-use Rattle.uma_life.specs.declared.live.Live.{Live}
-use Rattle.uma_life.specs.declared.ticket.Ticket.{Ticket}
+use Rattle.uma_life.specs.declared.hooks.Body.{Ghosts}
+use Rattle.uma_life.specs.declared.states.Live.{Live}
+use Rattle.uma_life.specs.declared.states.Ticket.{Ticket}
 use Rattle.uma_life.specs.Live.{live_ticket}
-use Rattle.uma_bucket.specs.declared.loose.Loose.{Loose}
-use Rattle.uma_bucket.specs.declared.sealed.Sealed.{Sealed}
+use Rattle.uma_bucket.specs.declared.freed.Loose.{Loose}
+use Rattle.uma_bucket.specs.declared.freed.Sealed.{Sealed}
 use Rattle.uma_bucket.specs.declared.shelved.Shelved.{Shelved}
 use Rattle.uma_bucket.specs.declared.shelved.Shelved.TheVariants.{Plain, Loose as Loose', Sealed as Sealed'}
 use Rattle.uma_bucket.specs.Loose.{loose_tickets}
@@ -129,7 +129,7 @@ module _ {T H P : Type 0} {g h : _} where
 
   -- ---- what follows
 
-  -- The call sealed this bucket: its pass made an advance in this call, whose number the goal has, with all these items in the bucket. That is two above a write hand that was loaded in the call (`Advances`), and no hand is ever lowered, so each section that was entered before is before the goal.
+  -- The call sealed this bucket: its pass made an advance in this call, whose number the goal has, with all these items in the bucket. That is two above a write sequence that was loaded in the call (`Advances`), and no hand is ever lowered, so each section that was entered before is before the goal.
   abbrev pub MakesGoal : {copied : P → P} → Step T H P g h copied → Loose T g → Goal → Type 0
   MakesGoal {copied = copied} (Frees seat free) loose goal = (sealed : Sealed T H P g h) × (sealed_goal sealed ≡ goal) × Seals copied free.v loose sealed free.v'
   MakesGoal {copied = copied} (Tries seal) loose goal = (sealed : Sealed T H P g h) × (sealed_goal sealed ≡ goal) × Seals copied seal.v loose sealed seal.v'

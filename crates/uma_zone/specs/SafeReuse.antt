@@ -3,19 +3,19 @@ use Rattle.std.specs.Prelude.{◌≡◌, ◌≢◌, ◌≤◌, ◌⊎◌, ℕ, t
 use Rattle.std.specs.List.{Contains}
 use Rattle.smr_clock.specs.declared.host.Host.{Ghosts as HostGhosts}
 use Rattle.smr_clock.specs.Goals.{number_of}
-use Rattle.uma_life.specs.declared.body.Body.{Ghosts}
+use Rattle.uma_life.specs.declared.hooks.Body.{Ghosts}
 use Rattle.uma_life.specs.declared.hooks.Hooks.{Ghosts as HooksGhosts}
-use Rattle.uma_life.specs.declared.live.Live.{Live}
-use Rattle.uma_life.specs.declared.ticket.Ticket.{Ticket}
+use Rattle.uma_life.specs.declared.states.Live.{Live}
+use Rattle.uma_life.specs.declared.states.Ticket.{Ticket}
 use Rattle.uma_life.specs.Cached.{cached_ticket}
 use Rattle.uma_life.specs.Live.{live_ticket}
-use Rattle.uma_bucket.specs.declared.ripe.Ripe.{Ripe}
+use Rattle.uma_bucket.specs.declared.freed.Ripe.{Ripe}
 use Rattle.uma_bucket.specs.Loose.{loose_tickets}
 use Rattle.uma_bucket.specs.Ripe.{ripe_bucket, ripe_goal, ripe_knows, IsOverFrom}
 use Rattle.uma_seat.specs.declared.seat.SeatCache.{SeatCache}
 use Rattle.uma_seat.specs.Seat.{usable_of, IsSameSeat, KeepsTop, KeepsPlain}
-use Rattle.uma_zone.specs.declared.alloc_ask.AllocAsk.{AllocAsk}
-use Rattle.uma_zone.specs.declared.alloc_ask.AllocRefused.{AllocRefused}
+use Rattle.uma_zone.specs.declared.zone.alloc.AllocAsk.{AllocAsk}
+use Rattle.uma_zone.specs.declared.zone.alloc.AllocRefused.{AllocRefused}
 use Rattle.uma_zone.specs.declared.zone.Zone.{Zone}
 use Rattle.uma_zone.specs.Zone.{zone_smr}
 use Rattle.uma_zone.specs.Alloc.{Serves, AllocIsRefused}

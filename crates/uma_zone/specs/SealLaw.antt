@@ -3,10 +3,10 @@ use Rattle.std.specs.Prelude.{◌≡◌, ℕ, Bool, true, false, List, [], ◌�
 use Rattle.std.specs.List.{All, Contains}
 use Rattle.smr_clock.specs.declared.host.Host.{Ghosts as HostGhosts}
 use Rattle.smr_clock.specs.declared.view.View.{View}
-use Rattle.uma_life.specs.declared.body.Body.{Ghosts}
-use Rattle.uma_life.specs.declared.live.Live.{Live}
+use Rattle.uma_life.specs.declared.hooks.Body.{Ghosts}
+use Rattle.uma_life.specs.declared.states.Live.{Live}
 use Rattle.uma_life.specs.Live.{live_domain}
-use Rattle.uma_bucket.specs.declared.sealed.Sealed.{Sealed}
+use Rattle.uma_bucket.specs.declared.freed.Sealed.{Sealed}
 use Rattle.uma_bucket.specs.declared.shelved.Shelved.TheVariants.{Sealed as Sealed'}
 use Rattle.uma_bucket.specs.Freed.{freed_item}
 use Rattle.uma_bucket.specs.Loose.{loose_items}

@@ -2,7 +2,7 @@
 use Rattle.std.specs.Prelude.{◌≡◌, ℕ, [], ◌∷◌, Result, IfOk}
 use Rattle.std.specs.List.{All}
 use Rattle.zone_stats.specs.LedgerSteps.{IsNew}
-use Rattle.deed_book.specs.declared.fail_share.FailShare.{FailShare}
+use Rattle.deed_book.specs.declared.fail_book.FailShare.{FailShare}
 use Rattle.deed_book.specs.FailShare.{share_table, causes_in}
 use Rattle.uma_seat.specs.declared.seat.SeatCache.{SeatCache}
 use Rattle.uma_seat.specs.declared.seating.Seating.{Seating}

@@ -1,14 +1,14 @@
 -- Own: laws of what a trim and a drain of a domain take, and of what they leave listed.
 use Rattle.std.specs.Prelude.{◌≡◌, ◌≤◌, ◌<◌, ◌+◌, ℕ, List, [], ◌∷◌, ◌++◌, length, sum_by}
 use Rattle.smr_clock.specs.declared.host.Host.{Ghosts as HostGhosts}
-use Rattle.uma_life.specs.declared.body.Body.{Ghosts}
+use Rattle.uma_life.specs.declared.hooks.Body.{Ghosts}
 use Rattle.uma_bucket.specs.declared.bucket.Bucket.{Bucket}
-use Rattle.uma_bucket.specs.declared.ripe.Ripe.{Ripe}
-use Rattle.uma_bucket.specs.declared.sealed.Sealed.{Sealed}
+use Rattle.uma_bucket.specs.declared.freed.Ripe.{Ripe}
+use Rattle.uma_bucket.specs.declared.freed.Sealed.{Sealed}
 use Rattle.uma_domain.specs.declared.domain.Domain.{Domain}
-use Rattle.uma_domain.specs.declared.taken.Taken.{Taken}
-use Rattle.uma_domain.specs.declared.taken.TakenBucket.{TakenBucket}
-use Rattle.uma_domain.specs.declared.taken.TakenBucket.TheVariants.{Plain as Plain', Ripe as Ripe'}
+use Rattle.uma_domain.specs.declared.trims.Taken.{Taken}
+use Rattle.uma_domain.specs.declared.trims.TakenBucket.{TakenBucket}
+use Rattle.uma_domain.specs.declared.trims.TakenBucket.TheVariants.{Plain as Plain', Ripe as Ripe'}
 use Rattle.uma_domain.specs.Listed.{plain_len, ripe_len, sealed_len}
 use Rattle.uma_domain.specs.Lists.{plain_in, sealed_in, working_in}
 use Rattle.uma_domain.specs.Scans.{TakesAllRipe}

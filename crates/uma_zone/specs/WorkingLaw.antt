@@ -2,13 +2,13 @@
 use Rattle.std.specs.Prelude.{◌≡◌, ◌≤◌, ◌+◌, ◌-◌, ℕ, List, [], ◌∷◌, fold}
 use Rattle.std.specs.List.{All, Contains}
 use Rattle.smr_clock.specs.declared.host.Host.{Ghosts as HostGhosts}
-use Rattle.uma_life.specs.declared.body.Body.{Ghosts}
+use Rattle.uma_life.specs.declared.hooks.Body.{Ghosts}
 use Rattle.uma_bucket.specs.declared.bucket.Bucket.{Bucket}
-use Rattle.uma_bucket.specs.declared.loose.Loose.{Loose}
-use Rattle.uma_bucket.specs.declared.ripe.Ripe.{Ripe}
-use Rattle.uma_bucket.specs.declared.sealed.Sealed.{Sealed}
+use Rattle.uma_bucket.specs.declared.freed.Loose.{Loose}
+use Rattle.uma_bucket.specs.declared.freed.Ripe.{Ripe}
+use Rattle.uma_bucket.specs.declared.freed.Sealed.{Sealed}
 use Rattle.uma_domain.specs.declared.domain.Domain.{Domain}
-use Rattle.uma_domain.specs.declared.working.Working.{Working}
+use Rattle.uma_domain.specs.declared.lists.Working.{Working}
 use Rattle.uma_domain.specs.Listed.{plain_len, loose_len, sealed_len, ripe_len}
 use Rattle.uma_domain.specs.Lists.{working_in}
 use Rattle.uma_domain.specs.UnderLock.{PutsPlain, PutsLoose, PutsSealed, TakesPlain, TakesOldestRipe}

@@ -4,12 +4,12 @@ use Rattle.std.specs.Arc.{arc_value}
 use Rattle.deed_book.specs.Deed.{TableId}
 use Rattle.deed_book.specs.FailShare.{share_table}
 use Rattle.keyed_lock.specs.KeyedLock.{lock_key}
-use Rattle.smr_clock.specs.declared.setup.Setup.{Setup}
+use Rattle.smr_clock.specs.declared.clock.Setup.{Setup}
 use Rattle.uma_bucket.specs.Home.{Home}
 use Rattle.uma_domain.specs.declared.domain.Domain.{Domain}
 use Rattle.uma_seat.specs.declared.seat.SeatCache.{SeatCache}
 use Rattle.uma_seat.specs.Seat.{seat_fails}
-use Rattle.locked_keg.specs.declared.key.KegKey.{KegKey}
+use Rattle.locked_keg.specs.declared.locked_keg.KegKey.{KegKey}
 use Rattle.uma_zone.specs.Domains.{domains_home, domains_clock, domains_smr, domain_count, domain_at, IsDomainOf, IsSeatOf as IsSeatOfDomains}
 use Rattle.uma_zone.specs.declared.domains.ZoneDomains.{ZoneDomains}
 use Rattle.uma_zone.specs.declared.zone.Zone.{Zone}

@@ -40,7 +40,11 @@ pub struct KeptRight {
 impl KeptRight {
     ghost use Rattle.uma_zone.specs.Right.{right_table, right_no, IsRightOf, KeepsRight};
 
-    /// Keeps a right of the keg with these rights.
+    /// Keeps a right to a zone of the keg whose rights `rights` names.
+    ///
+    /// # Errors
+    ///
+    /// `Memory`: out of memory.
     pub fn new(alloc: Global, rights: Snapshot<Book>, right: Deed) -> Result<KeptRight, Memory>
         requires { IsRightOf rights.value right }
         ensures { IfOk result (KeepsRight right) }
@@ -53,7 +57,7 @@ impl KeptRight {
         }
     }
 
-    /// The number of the zone that it is a right to.
+    /// Returns the number of the right's zone, 0 to 7.
     pub fn no(&self) -> u8
         ensures no { result ≡ right_no self.now }
         ensures below { result < 8 }
@@ -61,7 +65,7 @@ impl KeptRight {
         self.no
     }
 
-    /// The right itself. It waits for nobody, since nobody else has taken it.
+    /// Returns the right itself. The lock is free, because the caller is its only owner.
     pub fn use_up<R: Wait>(self, rt: &R) -> Deed
         ensures table { deed_table result ≡ right_table self }
         ensures no { no_of result ≡ right_no self }

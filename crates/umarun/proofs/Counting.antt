@@ -10,18 +10,18 @@ use Rattle.uma_seat.specs.Seat.{ledger_of}
 use Rattle.uma_zone.specs.Alloc.{IsOneRefusal, Names}
 use Rattle.uma_zone.specs.Zone.{zone_cap, zone_reserve}
 use Rattle.smr_clock.specs.declared.view.View.{View}
-use Rattle.name_rows.specs.declared.part.Part.{Part}
-use Rattle.name_rows.specs.declared.records.Bound.{Bound}
+use Rattle.name_rows.specs.declared.names.Part.{Part}
+use Rattle.name_rows.specs.declared.names.Bound.{Bound}
 use Rattle.name_rows.specs.declared.words.Words.{Words}
 use Rattle.name_cache.specs.Raised.{refusal_of}
-use Rattle.name_cache.specs.declared.bind_refused.BindRefused.{BindRefused}
-use Rattle.name_cache.specs.declared.bind_refused.BindRefused.TheVariants.{Zone, Worn, Unripe, Memory}
-use Rattle.name_cache.specs.declared.receipt.Receipt.{Receipt}
+use Rattle.name_cache.specs.declared.binding.BindRefused.{BindRefused}
+use Rattle.name_cache.specs.declared.binding.BindRefused.TheVariants.{Zone, Worn, Unripe, Memory}
+use Rattle.name_cache.specs.declared.binding.Receipt.{Receipt}
 use Rattle.name_cache.specs.Bind.{Binds, FindsUnripe, FindsWorn, RefusesToBind, HandsBack, HasRoomToBind as HasRoomInCache}
 use Rattle.name_cache.specs.Deferred.{FreesBound}
 use Rattle.name_cache.specs.Unbind.{Unbinds, FindsUnbound}
 use Rattle.name_cache.specs.Types.{ZoneOfEntries, EntrySeat, LiveEntry}
-use Rattle.trace_worker.specs.NameLedger.{HasRoomToBind, NamesRefuse, MayCountFree, CountsOneFree, CountsBind, CountsGivenBack, BindCounts, UnbindCounts}
+use Rattle.replay_worker.specs.NameLedger.{HasRoomToBind, NamesRefuse, MayCountFree, CountsOneFree, CountsBind, CountsGivenBack, BindCounts, UnbindCounts}
 
 pub room_in_cache : (ledger : SeatLedger) → HasRoomToBind ledger → HasRoomInCache ledger
 room_in_cache ledger room = record { now = room.now; later = room.later }

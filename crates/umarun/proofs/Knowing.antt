@@ -3,22 +3,22 @@ use Rattle.std.proofs.Common.{◌≡◌, ◌∷◌, List, ℕ, ◌<◌, ◌≤�
 use Rattle.std.specs.Prelude.{◌%◌, Bool, IfErr, IfNone, IfOk, IfSome, is_some}
 use Rattle.smr_core.specs.declared.holder.Holder.{Holder}
 use Rattle.smr_clock.specs.declared.view.View.{View}
-use Rattle.smr_clock.specs.declared.refused.Overtaken.{Overtaken}
+use Rattle.smr_clock.specs.declared.polls.Overtaken.{Overtaken}
 use Rattle.smr_clock.specs.Sections.{Misses}
-use Rattle.name_rows.specs.declared.part.Part.{Part}
-use Rattle.name_rows.specs.declared.records.Bound.{Bound}
-use Rattle.name_rows.specs.declared.records.Record.{Record}
+use Rattle.name_rows.specs.declared.names.Part.{Part}
+use Rattle.name_rows.specs.declared.names.Bound.{Bound}
+use Rattle.name_rows.specs.declared.names.Record.{Record}
 use Rattle.name_rows.specs.Records.{In, pair_of}
 use Rattle.name_rows.specs.Reading as reading
-use Rattle.name_cache.specs.declared.receipt.Receipt.{Receipt}
+use Rattle.name_cache.specs.declared.binding.Receipt.{Receipt}
 use Rattle.name_cache.specs.Bind as cache_bind
 use Rattle.name_cache.specs.Known as cache
 use Rattle.name_cache.specs.Known.{known_in}
 use Rattle.name_cache.specs.Look.{Looks}
 use Rattle.name_cache.specs.Types.{ZoneOfEntries, EntrySeat}
 use Rattle.name_cache.specs.Unbind as cache_unbind
-use Rattle.trace_worker.specs.NameCalls.{Unbound}
-use Rattle.trace_worker.specs.Knowing.{StillKnows, IsAbove, IsNewest, Binds, Unbinds, FindsUnbound, Finds, Loads, Told, bound_to}
+use Rattle.replay_worker.specs.NameCalls.{Unbound}
+use Rattle.replay_worker.specs.Knowing.{StillKnows, IsAbove, IsNewest, Binds, Unbinds, FindsUnbound, Finds, Loads, Told, bound_to}
 use Rattle.umarun.specs.Known.{KnowsRecord, told_by, told_in}
 
 pub still_known : (v v' : View Part) → cache.StillKnows v v' → StillKnows KnowsRecord v v'

@@ -4,13 +4,13 @@ use Rattle.std.specs.List.{slice_split}
 use Rattle.std.proofs.lemmas.List.{length-append}
 use Rattle.trace_gen.specs.Generator.{State, begun, drawn_lines, entries_of, step}
 use Rattle.trace_gen.specs.Header.{made_trace}
-use Rattle.trace_gen.specs.declared.drawn.Drawn.{Drawn}
-use Rattle.trace_gen.specs.declared.drawn.Drawn.TheVariants as drawn
+use Rattle.trace_gen.specs.declared.generator.Drawn.{Drawn}
+use Rattle.trace_gen.specs.declared.generator.Drawn.TheVariants as drawn
 use Rattle.trace_text.specs.Grammar.{is_round, rounds_in}
 use Rattle.trace_text.specs.Limits.{IsWithin}
 use Rattle.trace_text.specs.Lines.{lines_of}
 use Rattle.trace_text.specs.declared.trace.Trace.{Trace}
-use Rattle.trace_text.specs.declared.trace_reading.entry.Entry.{Entry}
+use Rattle.trace_text.specs.declared.trace_reading.fields.Entry.{Entry}
 use Rattle.trace_text.proofs.TextLength.{lines_of_entries}
 use Rattle.umarun.specs.Replaying.{most_bytes}
 

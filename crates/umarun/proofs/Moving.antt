@@ -3,7 +3,7 @@ use Rattle.std.proofs.Common.{◌≡◌, ◌≢◌, ◌⊎◌, ℕ, List, [], �
 use Rattle.std.proofs.lemmas.List.{append-nil, map-append}
 use Rattle.std.specs.Prelude.{Bool, false, IfNone, IfSome, OnOk}
 use Rattle.smr_clock.specs.declared.view.View.{View}
-use Rattle.uma_life.specs.declared.ticket.Ticket.{Ticket}
+use Rattle.uma_life.specs.declared.states.Ticket.{Ticket}
 use Rattle.uma_life.specs.Cached.{cached_ticket}
 use Rattle.uma_life.specs.Live.{live_ticket}
 use Rattle.uma_seat.specs.Row.{stacks_of}
@@ -11,19 +11,19 @@ use Rattle.uma_seat.specs.Seat.{usable_of, IsSameSeat, KeepsTop, KeepsPlain}
 use Rattle.uma_seat.specs.Stack.{stack_of, stack_at}
 use Rattle.uma_zone.specs.Alloc.{TakesUsable}
 use Rattle.uma_zone.specs.SafeReuse.{usable_tickets}
-use Rattle.name_rows.specs.declared.part.Part.{Part}
-use Rattle.name_rows.specs.declared.records.Bound.{Bound}
-use Rattle.name_cache.specs.declared.bind_refused.BindRefused.{BindRefused}
-use Rattle.name_cache.specs.declared.bind_refused.BindRefused.TheVariants.{Zone, Worn, Unripe, Memory}
-use Rattle.name_cache.specs.declared.receipt.Receipt.{Receipt}
+use Rattle.name_rows.specs.declared.names.Part.{Part}
+use Rattle.name_rows.specs.declared.names.Bound.{Bound}
+use Rattle.name_cache.specs.declared.binding.BindRefused.{BindRefused}
+use Rattle.name_cache.specs.declared.binding.BindRefused.TheVariants.{Zone, Worn, Unripe, Memory}
+use Rattle.name_cache.specs.declared.binding.Receipt.{Receipt}
 use Rattle.name_cache.specs.Bind.{Binds, HandsBack, RefusesToBind}
 use Rattle.name_cache.specs.Cache.{cache_zone}
 use Rattle.name_cache.specs.Deferred.{FreesBound, Frees}
 use Rattle.name_cache.specs.Room.{Allocates, MakesRoom}
 use Rattle.name_cache.specs.Types.{EntrySeat, LiveEntry}
 use Rattle.name_cache.specs.Unbind.{Unbinds, FindsUnbound}
-use Rattle.trace_worker.specs.NameCalls.{MovesEntries}
-use Rattle.umarun.specs.declared.trace_cache.TraceCache.{TraceCache}
+use Rattle.replay_worker.specs.NameCalls.{MovesEntries}
+use Rattle.umarun.specs.declared.cache_names.TraceCache.{TraceCache}
 use Rattle.umarun.specs.Caches.{CachedEntry, CameIn}
 
 -- what is usable depends on these alone

@@ -1,18 +1,18 @@
 -- What is done with the bytes leaves no room for another ending.
 use Rattle.std.proofs.Common.{◌≡◌, ◌⊎◌, ℕ, ◌≤◌, List, length, Option, Some, None, Result, Err, refl, ap, subst, arith, inl, inr}
 use Rattle.std.specs.Prelude.{IfNone, IfSome, IsSomeAnd}
-use Rattle.smr_core.specs.declared.step_refused.StepRefused.{StepRefused}
-use Rattle.text_lines.specs.TextLines.{TextLine, Test, IsRightText, IsRefusedAt}
-use Rattle.text_lines.specs.declared.refused.TraceKind.{TraceKind}
-use Rattle.text_lines.specs.declared.refused.ParseRefused.{ParseRefused}
-use Rattle.text_lines.specs.declared.refused.ParseRefused.TheVariants as parsing
-use Rattle.text_lines.specs.declared.refused.TraceRefused.{TraceRefused}
-use Rattle.schedule_text.specs.declared.schedule.Schedule.{Schedule}
-use Rattle.schedule_text.specs.declared.refused.ScheduleRefused.{ScheduleRefused}
-use Rattle.schedule_text.specs.declared.refused.ScheduleRefused.TheVariants as refusals
-use Rattle.schedule_text.specs.ScheduleGrammar.{schedule_test, IsScheduleText}
-use Rattle.schedule_text.specs.ScheduleLaws.{RefusedPrintsNothing}
-use Rattle.schedule_text.specs.ScheduleText.{IsOutput, RefusesSchedule}
+use Rattle.smr_core.specs.declared.turns.StepRefused.{StepRefused}
+use Rattle.trace_lines.specs.TextLines.{TextLine, Test, IsRightText, IsRefusedAt}
+use Rattle.trace_lines.specs.declared.refused.TraceKind.{TraceKind}
+use Rattle.trace_lines.specs.declared.refused.ParseRefused.{ParseRefused}
+use Rattle.trace_lines.specs.declared.refused.ParseRefused.TheVariants as parsing
+use Rattle.trace_lines.specs.declared.refused.TraceRefused.{TraceRefused}
+use Rattle.trace_schedule.specs.declared.schedule.Schedule.{Schedule}
+use Rattle.trace_schedule.specs.declared.schedule.ScheduleRefused.{ScheduleRefused}
+use Rattle.trace_schedule.specs.declared.schedule.ScheduleRefused.TheVariants as refusals
+use Rattle.trace_schedule.specs.ScheduleGrammar.{schedule_test, IsScheduleText}
+use Rattle.trace_schedule.specs.ScheduleLaws.{RefusedPrintsNothing}
+use Rattle.trace_schedule.specs.ScheduleText.{IsOutput, RefusesSchedule}
 use Rattle.trace_text.specs.declared.trace.Trace.{Trace}
 use Rattle.trace_text.specs.Grammar.{IsTraceText, trace_test}
 use Rattle.trace_text.specs.Valid.{IsValid}
@@ -22,7 +22,7 @@ use Rattle.umarun.specs.Answers.{AnswersReplay, AnswersSteps}
 use Rattle.umarun.specs.Causes.{parse_fault, schedule_fault}
 use Rattle.umarun.specs.declared.fault.Fault.{Fault}
 use Rattle.umarun.specs.declared.fault.Fault.TheVariants as faults
-use Rattle.umarun.specs.declared.any_hall.AnyHall.{AnyHall}
+use Rattle.umarun.specs.declared.replaying.AnyHall.{AnyHall}
 use Rattle.umarun.specs.Input.{OfInput}
 use Rattle.umarun.specs.Replaying.{HasHeadline, KeepsHeadline, LeavesHall, Replays, AreInput, AreRefused, RefusesTrace, most_bytes}
 use Rattle.umarun.specs.Stepping.{Plays, ArePlayed, WritesOutput, WritesPart, RefusesText, RefusesStep}

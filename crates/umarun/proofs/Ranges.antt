@@ -1,30 +1,30 @@
 -- The numbers of a trace with a names line are those with which a cache can be made, so that nothing but want of memory refuses it.
 use Rattle.std.proofs.Common.{◌≡◌, ◌⊎◌, ◌<◌, ◌≤◌, ◌*◌, ◌^◌, ℕ, refl, ap, arith, inl, inr}
 use Rattle.std.specs.Prelude.{◌%◌}
-use Rattle.smr_core.specs.declared.clock_config.ClockConfig.{ClockConfig}
-use Rattle.smr_core.specs.declared.core_refused.CoreRefused.{CoreRefused}
-use Rattle.smr_core.specs.declared.core_refused.CoreRefused.TheVariants as core
+use Rattle.smr_core.specs.declared.clock_core.ClockConfig.{ClockConfig}
+use Rattle.smr_core.specs.declared.clock_core.CoreRefused.{CoreRefused}
+use Rattle.smr_core.specs.declared.clock_core.CoreRefused.TheVariants as core
 use Rattle.smr_core.specs.ClockState.{IsInRange}
 use Rattle.smr_core.specs.Making.{RefusesNumbers}
-use Rattle.name_rows.specs.declared.names_refused.NamesRefused.{NamesRefused}
-use Rattle.name_rows.specs.declared.names_refused.NamesRefused.TheVariants as names
+use Rattle.name_rows.specs.declared.making.NamesRefused.{NamesRefused}
+use Rattle.name_rows.specs.declared.making.NamesRefused.TheVariants as names
 use Rattle.name_rows.specs.NamesLaw.{IsPlan}
 use Rattle.name_rows.specs.Opening.{RefusesNames}
-use Rattle.uma_zone.specs.declared.zone_refused.ZoneRefused.{ZoneRefused}
-use Rattle.uma_zone.specs.declared.zone_refused.ZoneRefused.TheVariants as zones
-use Rattle.uma_zone.specs.declared.zone_set.ZoneSet.{ZoneSet}
+use Rattle.uma_zone.specs.declared.zone.make.ZoneRefused.{ZoneRefused}
+use Rattle.uma_zone.specs.declared.zone.make.ZoneRefused.TheVariants as zones
+use Rattle.uma_zone.specs.declared.zone.make.ZoneSet.{ZoneSet}
 use Rattle.name_cache.specs.Making.{RefusesCache}
-use Rattle.smr_clock.specs.declared.setup.Setup.{Setup}
+use Rattle.smr_clock.specs.declared.clock.Setup.{Setup}
 use Rattle.smr_clock.specs.Making.{setup}
 use Rattle.uma_zone.specs.Zone.{zone_bucket, zone_cap}
 use Rattle.name_cache.specs.declared.cache.NameCache.{NameCache}
 use Rattle.name_cache.specs.Cache.{cache_zone, cache_domains, row_count}
-use Rattle.trace_text.specs.declared.head.ClockHead.{ClockHead}
-use Rattle.trace_text.specs.declared.head.Head.{Head}
-use Rattle.trace_text.specs.declared.head.NamesHead.{NamesHead}
+use Rattle.trace_text.specs.declared.trace.ClockHead.{ClockHead}
+use Rattle.trace_text.specs.declared.trace.Head.{Head}
+use Rattle.trace_text.specs.declared.trace.NamesHead.{NamesHead}
 use Rattle.trace_text.specs.Limits.{IsWithin}
 use Rattle.trace_text.specs.Valid.{ClockFits, NamesFits}
-use Rattle.trace_worker.specs.NameSizes.{sizes_for}
+use Rattle.replay_worker.specs.NameSizes.{sizes_for}
 use Rattle.umarun.specs.Caches.{sizes_by}
 use Rattle.umarun.specs.Wanting.{LacksMemory, lacking}
 

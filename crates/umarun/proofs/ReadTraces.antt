@@ -1,10 +1,10 @@
 -- A trace that was read has no more lines than its text has bytes.
 use Rattle.std.proofs.Common.{ℕ, List, Result, Ok, Err}
 use Rattle.std.specs.Prelude.{IfOk, IsErrOf}
-use Rattle.text_lines.specs.TextLines.{IsRefusedAt}
-use Rattle.text_lines.specs.declared.refused.ParseRefused.{ParseRefused}
-use Rattle.text_lines.specs.declared.refused.ParseRefused.TheVariants as parsing
-use Rattle.text_lines.specs.declared.refused.TraceRefused.{TraceRefused}
+use Rattle.trace_lines.specs.TextLines.{IsRefusedAt}
+use Rattle.trace_lines.specs.declared.refused.ParseRefused.{ParseRefused}
+use Rattle.trace_lines.specs.declared.refused.ParseRefused.TheVariants as parsing
+use Rattle.trace_lines.specs.declared.refused.TraceRefused.{TraceRefused}
 use Rattle.trace_text.specs.Grammar.{IsTraceText, trace_test}
 use Rattle.trace_text.specs.TraceLaws.{TracesAreNoLonger}
 use Rattle.trace_text.specs.Valid.{IsValid}

@@ -4,7 +4,7 @@ use Rattle.std.specs.Prelude.{IfNone, IfSome}
 use Rattle.command_line.specs.declared.command.Command.{Command}
 use Rattle.command_line.specs.declared.command.Command.TheVariants.{Bulk}
 use Rattle.umarun.specs.Summary.{summary_text}
-use Rattle.umarun.specs.declared.any_hall.AnyHall.{AnyHall}
+use Rattle.umarun.specs.declared.replaying.AnyHall.{AnyHall}
 use Rattle.umarun.specs.declared.fault.Fault.{Fault}
 use Rattle.zone_stats.specs.declared.report.Report.{Report}
 

@@ -1,11 +1,11 @@
 -- What the calls answer of which `run` is made (own).
 use Rattle.std.specs.Prelude.{◌≡◌, ◌≤◌, ℕ, List, Option, Result, Vec, length, IfOk, OnOk, IsErrOf}
 use Rattle.std.specs.declared.alloc.Global.{Global}
-use Rattle.smr_core.specs.declared.step_refused.StepRefused.{StepRefused}
-use Rattle.text_lines.specs.TextLines.{IsRefusedAt}
-use Rattle.text_lines.specs.declared.refused.ParseRefused.{ParseRefused}
-use Rattle.text_lines.specs.declared.refused.ParseRefused.TheVariants as parsing
-use Rattle.text_lines.specs.declared.refused.TraceRefused.{TraceRefused}
+use Rattle.smr_core.specs.declared.turns.StepRefused.{StepRefused}
+use Rattle.trace_lines.specs.TextLines.{IsRefusedAt}
+use Rattle.trace_lines.specs.declared.refused.ParseRefused.{ParseRefused}
+use Rattle.trace_lines.specs.declared.refused.ParseRefused.TheVariants as parsing
+use Rattle.trace_lines.specs.declared.refused.TraceRefused.{TraceRefused}
 use Rattle.trace_gen.specs.Header.{made_trace}
 use Rattle.trace_text.specs.Grammar.{IsTraceText, trace_test}
 use Rattle.trace_text.specs.Lines.{lines_of}
@@ -18,7 +18,7 @@ use Rattle.umarun.specs.Input.{OfInput}
 use Rattle.umarun.specs.Replaying.{HasHeadline, LeavesHall, Replays, RefusesTrace, most_bytes}
 use Rattle.umarun.specs.Stepping.{Plays, RefusesText, RefusesStep}
 use Rattle.umarun.specs.Summary.{summary_text}
-use Rattle.umarun.specs.declared.any_hall.AnyHall.{AnyHall}
+use Rattle.umarun.specs.declared.replaying.AnyHall.{AnyHall}
 use Rattle.umarun.specs.declared.fault.Fault.{Fault}
 use Rattle.umarun.specs.declared.fault.Fault.TheVariants as faults
 use Rattle.umarun.specs.declared.replaying.Replayed.{Replayed}

@@ -1,28 +1,28 @@
 -- What contracts see of the cache of a trace (own).
 use Rattle.std.specs.Prelude.{◌≡◌, ◌*◌, ◌⊎◌, ℕ, false, List, map}
 use Rattle.std.specs.Option.{option_map_or}
-use Rattle.smr_clock.specs.declared.setup.Setup.{Setup}
+use Rattle.smr_clock.specs.declared.clock.Setup.{Setup}
 use Rattle.smr_clock.specs.declared.view.View.{View}
 use Rattle.smr_clock.specs.Belongs.{TableId}
 use Rattle.uma_keg.specs.declared.census.Census.{Census}
 use Rattle.uma_keg.specs.Census.{census_table}
-use Rattle.uma_life.specs.declared.cached.Cached.{Cached}
-use Rattle.uma_life.specs.declared.ticket.Ticket.{Ticket}
+use Rattle.uma_life.specs.declared.states.Cached.{Cached}
+use Rattle.uma_life.specs.declared.states.Ticket.{Ticket}
 use Rattle.uma_life.specs.Cached.{cached_ticket}
 use Rattle.uma_zone.specs.Alloc.{AreReused, IsOneFetch, IsOneRefusal}
 use Rattle.uma_zone.specs.Zone.{zone_bucket, zone_cap}
-use Rattle.name_rows.specs.declared.part.Part.{Part}
+use Rattle.name_rows.specs.declared.names.Part.{Part}
 use Rattle.name_cache.specs.Bind.{FindsUnripe, FindsWorn}
 use Rattle.name_cache.specs.Cache.{cache_zone, cache_clock, cache_domains, cache_home, row_count, IsCacheSeat}
-use Rattle.name_cache.specs.contracts.raised_entry.RaisedEntryBody.TheImpl.{ghosts as raised_body}
+use Rattle.name_cache.specs.contracts.entry_hooks.RaisedEntryBody.TheImpl.{ghosts as raised_body}
 use Rattle.name_cache.specs.declared.cache.NameCache.{NameCache}
-use Rattle.name_cache.specs.declared.raised_entry.RaisedEntry.{RaisedEntry}
+use Rattle.name_cache.specs.declared.entry_hooks.RaisedEntry.{RaisedEntry}
 use Rattle.name_cache.specs.Types.{EntrySeat}
 use Rattle.zone_stats.specs.declared.refusal.Refusal.{Refusal}
-use Rattle.trace_text.specs.declared.head.Head.{Head}
-use Rattle.trace_text.specs.declared.head.NamesHead.{NamesHead}
-use Rattle.trace_worker.specs.NameSizes.{NameSizes}
-use Rattle.umarun.specs.declared.trace_cache.TraceCache.{TraceCache}
+use Rattle.trace_text.specs.declared.trace.Head.{Head}
+use Rattle.trace_text.specs.declared.trace.NamesHead.{NamesHead}
+use Rattle.replay_worker.specs.NameSizes.{NameSizes}
+use Rattle.umarun.specs.declared.cache_names.TraceCache.{TraceCache}
 
 -- the clock by which its readers go
 abbrev pub clock_in : TraceCache → TableId × Setup

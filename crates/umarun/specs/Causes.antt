@@ -1,10 +1,10 @@
 -- The fault that a refusal of a layer below becomes.
 use Rattle.uma_io.specs.declared.reading.ReadRefused.{ReadRefused}
 use Rattle.uma_io.specs.declared.reading.ReadRefused.TheVariants as reading
-use Rattle.text_lines.specs.declared.refused.ParseRefused.{ParseRefused}
-use Rattle.text_lines.specs.declared.refused.ParseRefused.TheVariants as parsing
-use Rattle.schedule_text.specs.declared.refused.ScheduleRefused.{ScheduleRefused}
-use Rattle.schedule_text.specs.declared.refused.ScheduleRefused.TheVariants as stepping
+use Rattle.trace_lines.specs.declared.refused.ParseRefused.{ParseRefused}
+use Rattle.trace_lines.specs.declared.refused.ParseRefused.TheVariants as parsing
+use Rattle.trace_schedule.specs.declared.schedule.ScheduleRefused.{ScheduleRefused}
+use Rattle.trace_schedule.specs.declared.schedule.ScheduleRefused.TheVariants as stepping
 use Rattle.umarun.specs.declared.fault.Fault.{Fault}
 use Rattle.umarun.specs.declared.fault.Fault.TheVariants as faults
 

@@ -4,8 +4,8 @@ use Rattle.command_line.specs.declared.command.Command.{Command}
 use Rattle.command_line.specs.declared.command.Command.TheVariants as commands
 use Rattle.umarun.specs.declared.fault.Fault.{Fault}
 use Rattle.umarun.specs.declared.fault.Fault.TheVariants as faults
-use Rattle.umarun.specs.declared.finish.Status.{Status}
-use Rattle.umarun.specs.declared.finish.Status.TheVariants as statuses
+use Rattle.umarun.specs.declared.replaying.Status.{Status}
+use Rattle.umarun.specs.declared.replaying.Status.TheVariants as statuses
 
 -- the commands that read their input
 abbrev pub reads_input : Option Command → Bool

@@ -2,8 +2,8 @@
 use Rattle.std.specs.Prelude.{◌≡◌, ◌≢◌, ◌↔◌, ◌⊎◌, ℕ, true, false, List, Option, Some, None, IsSome, IsNone, IfSome, IfNone, IsSomeAnd}
 use Rattle.command_line.specs.declared.command.Command.{Command}
 use Rattle.command_line.specs.declared.command.Command.TheVariants as commands
-use Rattle.smr_core.specs.declared.step_refused.StepRefused.{StepRefused}
-use Rattle.text_lines.specs.declared.refused.TraceRefused.{TraceRefused}
+use Rattle.smr_core.specs.declared.turns.StepRefused.{StepRefused}
+use Rattle.trace_lines.specs.declared.refused.TraceRefused.{TraceRefused}
 use Rattle.uma_io.specs.Sink.{Adds, AddsPart}
 use Rattle.uma_io.specs.Source.{Exhausts, HasMoreThan}
 use Rattle.umarun.specs.Bulk.{ReplaysMade}
@@ -15,7 +15,7 @@ use Rattle.umarun.specs.Stepping.{ArePlayed, WritesOutput, WritesPart, RefusesTe
 use Rattle.umarun.specs.Summary.{summary_text}
 use Rattle.umarun.specs.declared.fault.Fault.{Fault}
 use Rattle.umarun.specs.declared.fault.Fault.TheVariants as faults
-use Rattle.umarun.specs.declared.finish.Finish.{Finish}
+use Rattle.umarun.specs.declared.replaying.Finish.{Finish}
 use Rattle.zone_stats.specs.ReportText.{report_text}
 
 -- The status is that of the fault, and a run without a fault is good. A report and its hall are there once a replay is done. Usage only where the words are no command; where they are none it is Usage, or memory was wanting. A step is refused by `steps` alone.

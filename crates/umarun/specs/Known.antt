@@ -1,11 +1,11 @@
 -- Which record of a row of names a pass knows (own).
 use Rattle.std.specs.Prelude.{◌≡◌, ℕ, List, Option, map}
 use Rattle.smr_clock.specs.declared.view.View.{View}
-use Rattle.name_rows.specs.declared.part.Part.{Part}
-use Rattle.name_rows.specs.declared.records.Record.{Record}
+use Rattle.name_rows.specs.declared.names.Part.{Part}
+use Rattle.name_rows.specs.declared.names.Record.{Record}
 use Rattle.name_rows.specs.Records.{In, pair_of}
 use Rattle.name_cache.specs.Known.{known_in}
-use Rattle.trace_worker.specs.Knowing.{Told}
+use Rattle.replay_worker.specs.Knowing.{Told}
 
 -- It knows a record of this row, with this version, which binds this.
 pub record KnowsRecord (v : View Part) (row version : ℕ) (bound : Option (ℕ × ℕ)) : Type 0 where

@@ -2,17 +2,17 @@
 use Rattle.std.specs.Prelude.{◌≡◌, List, IfSome}
 use Rattle.smr_clock.specs.declared.clock.Clock.{Clock}
 use Rattle.smr_clock.specs.Belongs.{clock_id, setup_of}
-use Rattle.trace_text.specs.declared.head.Head.{Head}
-use Rattle.trace_text.specs.declared.head.NamesHead.{NamesHead}
+use Rattle.trace_text.specs.declared.trace.Head.{Head}
+use Rattle.trace_text.specs.declared.trace.NamesHead.{NamesHead}
 use Rattle.trace_text.specs.Limits.{IsWithin}
 use Rattle.trace_text.specs.Valid.{ClockFits, NamesFits}
-use Rattle.trace_worker.specs.Clocks.{ArePasses, setup_for}
-use Rattle.trace_worker.specs.NameSizes.{sizes_for}
+use Rattle.replay_worker.specs.Clocks.{ArePasses, setup_for}
+use Rattle.replay_worker.specs.NameSizes.{sizes_for}
 use Rattle.name_cache.specs.Making.{IsOpened}
-use Rattle.name_rows.specs.declared.opened.Opened.{Opened}
+use Rattle.name_rows.specs.declared.making.Opened.{Opened}
 use Rattle.name_rows.specs.Opening.{AreOpenRows}
 use Rattle.umarun.specs.Caches.{clock_in, plan_by, sizes_in}
-use Rattle.umarun.specs.declared.trace_cache.TraceCache.{TraceCache}
+use Rattle.umarun.specs.declared.cache_names.TraceCache.{TraceCache}
 
 -- the header of a valid trace with this names line
 pub record MayOpen (head : Head) (line : NamesHead) : Type 0 where

@@ -1,19 +1,19 @@
 -- What the command `replay` does with the bytes that it reads (own).
 use Rattle.std.specs.Prelude.{◌≡◌, ◌<◌, ◌≤◌, ◌⊎◌, ℕ, List, Option, IfSome, length}
-use Rattle.text_lines.specs.TextLines.{IsRefusedAt}
-use Rattle.text_lines.specs.declared.refused.TraceRefused.{TraceRefused}
+use Rattle.trace_lines.specs.TextLines.{IsRefusedAt}
+use Rattle.trace_lines.specs.declared.refused.TraceRefused.{TraceRefused}
 use Rattle.trace_text.specs.declared.trace.Trace.{Trace}
 use Rattle.trace_text.specs.Grammar.{IsTraceText, trace_test}
 use Rattle.trace_text.specs.Valid.{IsValid}
 use Rattle.smr_clock.specs.Belongs.{setup_of}
 use Rattle.umarun.specs.Caches.{plan_for}
-use Rattle.trace_play.specs.contracts.plain_names.PlainNamesNameCalls.TheImpl.{ghosts as plain_names}
+use Rattle.replay_rounds.specs.contracts.playing.PlainNamesNameCalls.TheImpl.{ghosts as plain_names}
 use Rattle.umarun.specs.contracts.cache_names.CacheNamesNameCalls.TheImpl.{ghosts as cache_names}
 use Rattle.uma_replay.specs.Hall.{HallStands}
 use Rattle.uma_replay.specs.Headline.{Headline}
 use Rattle.uma_replay.specs.Report.{StandsFor}
-use Rattle.umarun.specs.declared.any_hall.AnyHall.{AnyHall}
-use Rattle.umarun.specs.declared.any_hall.AnyHall.TheVariants.{Plain, Named}
+use Rattle.umarun.specs.declared.replaying.AnyHall.{AnyHall}
+use Rattle.umarun.specs.declared.replaying.AnyHall.TheVariants.{Plain, Named}
 use Rattle.zone_stats.specs.declared.report.Report.{Report}
 
 -- the most bytes of an input

@@ -1,12 +1,12 @@
 -- What the command `steps` does with the bytes that it reads (own).
 use Rattle.std.specs.Prelude.{ℕ, ◌≤◌, Option, List, length}
-use Rattle.smr_core.specs.declared.step_refused.StepRefused.{StepRefused}
-use Rattle.text_lines.specs.TextLines.{IsRefusedAt}
-use Rattle.text_lines.specs.declared.refused.TraceRefused.{TraceRefused}
-use Rattle.schedule_text.specs.declared.schedule.Schedule.{Schedule}
-use Rattle.schedule_text.specs.declared.refused.ScheduleRefused.TheVariants as refusals
-use Rattle.schedule_text.specs.ScheduleGrammar.{schedule_test, IsScheduleText}
-use Rattle.schedule_text.specs.ScheduleText.{IsOutput, RefusesSchedule}
+use Rattle.smr_core.specs.declared.turns.StepRefused.{StepRefused}
+use Rattle.trace_lines.specs.TextLines.{IsRefusedAt}
+use Rattle.trace_lines.specs.declared.refused.TraceRefused.{TraceRefused}
+use Rattle.trace_schedule.specs.declared.schedule.Schedule.{Schedule}
+use Rattle.trace_schedule.specs.declared.schedule.ScheduleRefused.TheVariants as refusals
+use Rattle.trace_schedule.specs.ScheduleGrammar.{schedule_test, IsScheduleText}
+use Rattle.trace_schedule.specs.ScheduleText.{IsOutput, RefusesSchedule}
 use Rattle.uma_io.specs.Sink.{Adds, AddsPart}
 use Rattle.umarun.specs.Replaying.{most_bytes}
 

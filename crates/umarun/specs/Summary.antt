@@ -1,6 +1,6 @@
 -- What the command `bulk` writes (own).
 use Rattle.std.specs.Prelude.{ℕ, ◌+◌, List, [], ◌∷◌, ◌++◌, map, flat_map, take, Option, None, Some, codes, decimal}
-use Rattle.text_lines.specs.CanonicalLine.{line as words_line}
+use Rattle.trace_lines.specs.CanonicalLine.{line as words_line}
 use Rattle.zone_stats.specs.declared.report.NamesLine.{NamesLine}
 use Rattle.zone_stats.specs.declared.report.Report.{Report}
 use Rattle.zone_stats.specs.declared.report.ZoneLine.{ZoneLine}

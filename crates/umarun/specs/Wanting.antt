@@ -1,10 +1,10 @@
 -- The one thing for which a cache of a valid trace isn't made (own).
 use Rattle.std.specs.Prelude.{◌≡◌}
-use Rattle.smr_core.specs.declared.core_refused.CoreRefused.TheVariants as core
-use Rattle.name_rows.specs.declared.names_refused.NamesRefused.{NamesRefused}
-use Rattle.name_rows.specs.declared.names_refused.NamesRefused.TheVariants.{Clock, Memory}
-use Rattle.uma_zone.specs.declared.zone_refused.ZoneRefused.{ZoneRefused}
-use Rattle.uma_zone.specs.declared.zone_refused.ZoneRefused.TheVariants as zones
+use Rattle.smr_core.specs.declared.clock_core.CoreRefused.TheVariants as core
+use Rattle.name_rows.specs.declared.making.NamesRefused.{NamesRefused}
+use Rattle.name_rows.specs.declared.making.NamesRefused.TheVariants.{Clock, Memory}
+use Rattle.uma_zone.specs.declared.zone.make.ZoneRefused.{ZoneRefused}
+use Rattle.uma_zone.specs.declared.zone.make.ZoneRefused.TheVariants as zones
 
 -- memory was wanting, for the clock or for the rest
 abbrev pub LacksMemory : NamesRefused → Type 0

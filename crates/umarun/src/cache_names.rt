@@ -1,18 +1,29 @@
 ghost use Rattle.std.specs.Prelude.{◌≡◌, ◌≢◌, IfOk, OnOk, false};
+ghost use Rattle.uma_zone.specs.Zone.{zone_limit, zone_reserve, zone_size};
+ghost use Rattle.name_cache.specs.Cache.{cache_zone};
 
-use crate::opening::{cache_over, open};
-use crate::trace_cache::TraceCache;
-use name_cache::{BindRefused, RaisedEntry};
+use crate::replaying::{cache_over, open};
+use name_cache::{BindRefused, NameCache, RaisedEntry};
 use name_rows::{Names, find};
+use replay_worker::{Memory, NameCalls};
 use smr_clock::{Clock, Overtaken, Pass};
 use std::alloc::Global;
 use std::sync::Wait;
 use trace_text::Trace;
-use trace_worker::{Memory, NameCalls};
 use uma_bucket::Sums;
 use uma_keg::Census;
 use uma_seat::SeatCache;
 use zone_stats::SeatLedger;
+
+/// A cache of names as a `names` line makes it: its zone of entries has neither a limit nor a reserve, and its entries
+/// have 64 bytes.
+#[derive(Drop)]
+pub struct TraceCache {
+    pub cache: NameCache,
+    ghost sized: { zone_size (cache_zone cache) ≡ 64 },
+    ghost unlimited: { zone_limit (cache_zone cache) ≡ 0 },
+    ghost unreserved: { zone_reserve (cache_zone cache) ≡ 0 },
+}
 
 // Whether a bind that was refused leaves the replay to go on.
 fn turned(refused: BindRefused) -> Result<bool, Memory>

@@ -1,6 +1,6 @@
 ghost use Rattle.std.specs.Prelude.{◌≡◌};
 
-use crate::finish::Status;
+use crate::replaying::Status;
 use smr_core::StepRefused;
 use std::alloc::AllocError;
 use std::fmt;

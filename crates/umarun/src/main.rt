@@ -1,35 +1,36 @@
-//! Replays a trace of allocations and frees, and prints a table in the manner of `vmstat -z`; plays a schedule of the
-//! reclamation clock, and prints what each step sees; makes a trace from a number; or replays such a trace, and prints what
-//! no schedule changes.
+//! The replay program. `replay` replays a trace of allocations, frees and names, and prints a table in the manner of `vmstat -z`. `steps`
+//! plays a schedule of the reclamation clock, and prints what each step sees. `gen` makes a trace from a number. `bulk` replays such a
+//! trace, and prints what no schedule changes.
 //!
-//! - That `bulk` writes the same under each schedule no clause says in one word. Its report stands for the trace, so REQ
-//!   and FAIL of a zone are its requests together, and looks and binds are the counts of their lines; where nothing is
-//!   refused, REQ and USED are the trace's alone. That nothing is, tests show.
-//! - Nothing but want of memory refuses the cache of a valid trace: each other refusal is shown to be none by the ranges of
-//!   the header.
-//! - The words are read by `command_line`, over `clap`, whose calls take memory: so `run` may answer `Memory` for any words.
+//! ```
+//! ./umarun replay < examples/box.trace
+//! ./umarun gen 7 4 1000 > made.trace
+//! ```
+//!
+//! # What is promised
+//!
+//! - A run prints exactly the text of its command (`run`: `replay`, `steps`, `made`, `bulk`), and ends with the status of its fault
+//!   (`ends`).
+//! - Every replay obeys the rule of safe reuse: an item that is freed in a zone with readers comes back only after the sections that were
+//!   open at its free have ended (`run`: `headline`).
+//!
+//! `run` may return `Memory` for any words, because `clap`'s calls allocate.
 #![tactic(auto)]
 
 ghost use Rattle.std.specs.Prelude.{◌≡◌, ◌≢◌};
 ghost use Rattle.std.specs.Process.{exit_status};
 ghost use Rattle.umarun.specs.Ending.{exit_code};
 
-mod any_hall;
 mod bulk;
 mod cache_names;
 mod fault;
-mod finish;
-mod making;
-mod opening;
 mod reclaim;
 mod replaying;
 mod run;
-mod stepping;
 mod summary;
-mod trace_cache;
 
 use fault::Fault;
-use finish::{Ending, Finish};
+use replaying::{Ending, Finish};
 use run::run;
 use std::io::ErrorKind;
 use std::process::ExitCode;

@@ -1,22 +1,31 @@
-ghost use Rattle.std.specs.Prelude.{◌≡◌, ℕ, map, string_bytes, Some, None, IfSome};
+//! What `main` calls: the command's words, and what the commands `gen` and `steps` do.
+ghost use Rattle.std.specs.Prelude.{◌≡◌, ℕ, map, string_bytes, Some, None, IfSome, IfOk, List};
 ghost use Rattle.command_line.specs.Commands.{command_of};
-ghost use Rattle.trace_gen.specs.Header.{made_trace as trace_of};
+ghost use Rattle.trace_gen.specs.Header.{made_trace as trace_of, made_trace};
 ghost use Rattle.uma_io.specs.Faults.{Rose};
 ghost use Rattle.umarun.specs.Ends.{Ends, ReadsInput, WritesAtEnd, DoesReplay, DoesSteps, DoesGen, DoesBulk, WritesAll};
 ghost use Rattle.umarun.specs.Replaying.{HasHeadline, KeepsHeadline};
+ghost use Rattle.trace_text.specs.Grammar.{IsTraceText};
+ghost use Rattle.umarun.specs.Making.{MayMake, made_text};
+ghost use Rattle.trace_lines.specs.declared.refused.TraceRefused.{TraceRefused as Refused};
+ghost use Rattle.smr_core.specs.declared.turns.StepRefused.{StepRefused as Turned};
+ghost use Rattle.umarun.specs.Answers.{AnswersSteps};
+ghost use Rattle.umarun.specs.Stepping.{ArePlayed, RefusesText, RefusesStep};
 
 use crate::bulk::replay_made;
 use crate::fault::Fault;
-use crate::finish::Finish;
-use crate::making::made_text;
-use crate::replaying::{Replayed, replay, replayed_or_refused};
-use crate::stepping::{played_or_refused, steps};
+use crate::replaying::{Finish, Replayed, replay, replayed_or_refused};
 use command_line::{Command, WordsRefused, command_in};
 use std::alloc::Global;
 use std::sync::Wait;
 use std::thread::Threads;
-use uma_io::{Sink, Source, write_all};
+use trace_gen::make_trace;
+use trace_lines::one_verdict;
+use trace_print::print;
+use trace_text::{one_schedule_reading, parse_schedule, schedule_text, schedules_print_one_thing};
+use uma_io::{Sink, Source, read_all, write_all};
 use uma_replay::Gate;
+use zone_stats::Memory;
 
 /// The most bytes of an input.
 pub const MOST_BYTES: u64 = 16_777_216;
@@ -112,4 +121,36 @@ fn written<K: Sink>(sink: &mut K, text: &[u8]) -> Finish
         Ok(()) => Finish::good(),
         Err(_) => Finish::refused(Fault::Write),
     }
+}
+
+/// The canonical text of the trace that a seed gives, of `ops` steps of `workers` workers. It is a text of that trace.
+pub fn made_text(alloc: Global, seed: u64, workers: u32, ops: u32) -> Result<Vec<u8>, Memory>
+    requires { MayMake workers ops }
+    ensures text { IfOk result (λ text. text.items ≡ made_text seed workers ops) }
+    ensures reads_back { IfOk result (λ text. IsTraceText text.items (made_trace seed workers ops)) }
+{
+    let trace = make_trace(alloc, seed, workers, ops)?;
+    print(alloc, &trace)
+}
+
+/// Reads a schedule, plays it, and answers what it prints.
+pub fn steps<S: Source>(alloc: Global, source: &mut S) -> Result<Vec<u8>, Fault>
+    ensures { AnswersSteps result (S.bytes_left source.old) (S.bytes_left source.new) (Rose (S.fault_count source.old) (S.fault_count source.new)) }
+{
+    let bytes = read_all(alloc, source, MOST_BYTES)?;
+    let schedule = parse_schedule(alloc, &bytes)?;
+    let printed = schedule_text(alloc, &schedule)?;
+    Ok(printed)
+}
+
+/// Bytes that are the text of a schedule none of whose steps is refused are refused for no reason. The call does nothing:
+/// its contract is the law.
+pub fn played_or_refused()
+    ensures text { (refused : Refused) (bytes : List ℕ) → RefusesText refused bytes → ArePlayed bytes → ⊥ }
+    ensures step { (line : ℕ) (refused : Turned) (bytes : List ℕ)
+        → RefusesStep line refused bytes → ArePlayed bytes → ⊥ }
+{
+    one_verdict();
+    one_schedule_reading();
+    schedules_print_one_thing();
 }

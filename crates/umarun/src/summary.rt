@@ -3,7 +3,7 @@ ghost use Rattle.std.specs.Prelude.{◌≡◌, ◌++◌, IfOk, OnOk, flat_map};
 ghost use Rattle.umarun.specs.Summary.{names_summary, summary_text, zone_summary};
 
 use std::alloc::{AllocError, Global};
-use text_lines::push_line;
+use trace_lines::push_line;
 use zone_stats::{Memory, NamesLine, Report, ZoneLine};
 
 /// How many zones a made trace has beside that of its names, which is the last one.

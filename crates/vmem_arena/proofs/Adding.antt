@@ -3,9 +3,9 @@ use Rattle.std.proofs.Common.{◌≡◌, ℕ, ◌+◌, ◌<◌, ◌≤◌, ◌�
 use Rattle.std.specs.List.{AllByRecursion}
 use Rattle.std.proofs.lemmas.Bool.{ltb-true, ltb-false}
 use Rattle.std.proofs.lemmas.List.Elements.{All-from_recursion, recursion_from_All, Contains-append_right}
-use Rattle.vmem_arena.specs.declared.range.Range.{Range}
-use Rattle.vmem_arena.specs.declared.range.Span.{Span}
-use Rattle.vmem_arena.specs.declared.fit.Fit.{Fit}
+use Rattle.vmem_arena.specs.declared.free.Range.{Range}
+use Rattle.vmem_arena.specs.declared.free.Span.{Span}
+use Rattle.vmem_arena.specs.declared.free.Fit.{Fit}
 use Rattle.vmem_arena.specs.Fits.{HasOneMore}
 use Rattle.vmem_arena.specs.Kept.{fit_of, taken_count}
 use Rattle.vmem_arena.specs.Add.{IsSpanShape, Meet, MeetsNone, IsFirstMet}

@@ -1,7 +1,7 @@
 -- What is known of a tree of fits once there is a node at its top.
 use Rattle.std.proofs.Common.{◌≡◌, List, ◌∷◌, ◌++◌, length, ◌<◌, Box, sym, ap, ◌∙◌, subst}
 use Rattle.std.specs.declared.alloc.Global.{Global}
-use Rattle.vmem_arena.specs.declared.fit.Fit.{Fit}
+use Rattle.vmem_arena.specs.declared.free.Fit.{Fit}
 use Rattle.vmem_arena.specs.Fits.{Ascend}
 use Rattle.vmem_arena.specs.BySize.{fits, node_fits}
 use Rattle.vmem_arena.specs.declared.by_size.Link.{Link}

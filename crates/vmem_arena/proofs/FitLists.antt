@@ -3,7 +3,7 @@ use Rattle.std.proofs.Common.{◌≡◌, ℕ, ◌+◌, ◌<◌, ◌≤◌, max, 
 use Rattle.std.specs.Option.{option_or}
 use Rattle.std.proofs.lemmas.List.Folds.{find-append}
 use Rattle.std.proofs.lemmas.Bool.Decides.{nat_tests}
-use Rattle.vmem_arena.specs.declared.fit.Fit.{Fit}
+use Rattle.vmem_arena.specs.declared.free.Fit.{Fit}
 use Rattle.vmem_arena.specs.Fits.{is_before, passing, Ascend, HasOneMore, HasNone, Removal, largest_size}
 use Rattle.vmem_arena.proofs.FitOrder.{not_behind, before_further, before_later, before_earlier, size_le, is_fit, same_not_before, same_not_behind, same_size, same_base}
 

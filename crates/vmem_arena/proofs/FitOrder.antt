@@ -1,7 +1,7 @@
 -- The order of fits: by size, and by base among those of one size.
 use Rattle.std.proofs.Common.{◌≡◌, ◌≤◌, Bool, true, false, ◌==◌, ◌&&◌, arith}
 use Rattle.std.proofs.lemmas.Bool.Decides.{nat_tests}
-use Rattle.vmem_arena.specs.declared.fit.Fit.{Fit}
+use Rattle.vmem_arena.specs.declared.free.Fit.{Fit}
 use Rattle.vmem_arena.specs.Fits.{is_before}
 
 -- what is before another isn't behind it

@@ -3,8 +3,8 @@ use Rattle.std.proofs.Common.{◌≡◌, ℕ, ◌+◌, ◌<◌, ◌≤◌, Bool,
 use Rattle.std.specs.List.{AllByRecursion}
 use Rattle.std.proofs.lemmas.Bool.Decides.{nat_tests}
 use Rattle.std.proofs.lemmas.List.Elements.{All-from_recursion}
-use Rattle.vmem_arena.specs.declared.range.Range.{Range}
-use Rattle.vmem_arena.specs.declared.fit.Fit.{Fit}
+use Rattle.vmem_arena.specs.declared.free.Range.{Range}
+use Rattle.vmem_arena.specs.declared.free.Fit.{Fit}
 use Rattle.vmem_arena.specs.Fits.{is_before, passing, Ascend, largest_size}
 use Rattle.vmem_arena.specs.Kept.{fit_of, free_passing}
 use Rattle.vmem_arena.specs.Tags.{range_end, free_size, free_total, greatest_free}

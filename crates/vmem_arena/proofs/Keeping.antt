@@ -2,9 +2,9 @@
 use Rattle.std.proofs.Common.{◌≡◌, ◌≢◌, ℕ, ◌+◌, ◌-◌, ◌^◌, ◌<◌, ◌≤◌, Bool, true, false, List, [], ◌∷◌, ◌++◌, Contains, vec_len, if◌then◌else◌, refl, ap, sym, subst, ◌∙◌, append_assoc, arith}
 use Rattle.std.specs.List.{AllByRecursion}
 use Rattle.std.proofs.lemmas.List.Elements.{All-from_recursion, recursion_from_All, All-contains, Contains-append_right}
-use Rattle.vmem_arena.specs.declared.range.Range.{Range}
-use Rattle.vmem_arena.specs.declared.range.Span.{Span}
-use Rattle.vmem_arena.specs.declared.fit.Fit.{Fit}
+use Rattle.vmem_arena.specs.declared.free.Range.{Range}
+use Rattle.vmem_arena.specs.declared.free.Span.{Span}
+use Rattle.vmem_arena.specs.declared.free.Fit.{Fit}
 use Rattle.vmem_arena.specs.declared.arena.Arena.TheInside.{Inside}
 use Rattle.vmem_arena.specs.Fits.{HasOneMore, HasOneLess, Exchanges}
 use Rattle.vmem_arena.specs.Kept.{IsKept, tags_of, fit_of, taken_count}

@@ -3,7 +3,7 @@ use Rattle.std.proofs.Common.{◌≡◌, ℕ, ◌+◌, ◌^◌, ◌<◌, ◌≤�
 use Rattle.std.specs.List.{AllByRecursion}
 use Rattle.std.proofs.lemmas.Bool.{lt-ltb, le-ltb, eq-eqb, ne_eqb}
 use Rattle.std.proofs.lemmas.List.Elements.{recursion_from_All}
-use Rattle.vmem_arena.specs.declared.range.Range.{Range}
+use Rattle.vmem_arena.specs.declared.free.Range.{Range}
 use Rattle.vmem_arena.specs.Tags.{range_end}
 use Rattle.vmem_arena.specs.Steps.{BeginFrom, BeginBelow, Spaced, EndLow}
 use Rattle.vmem_arena.specs.ByBase.{put_in, written, without}

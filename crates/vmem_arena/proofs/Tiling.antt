@@ -1,8 +1,8 @@
 -- Ranges that tile their spans, parted in the middle.
 use Rattle.std.proofs.Common.{◌≡◌, ℕ, ◌≤◌, ◌⊎◌, inl, inr, Bool, true, false, ◌||◌, List, [], ◌∷◌, ◌++◌, Option, Some, None, refl, ap, sym, subst, ◌∙◌, arith}
 use Rattle.std.specs.List.{AllByRecursion}
-use Rattle.vmem_arena.specs.declared.range.Range.{Range}
-use Rattle.vmem_arena.specs.declared.range.Span.{Span}
+use Rattle.vmem_arena.specs.declared.free.Range.{Range}
+use Rattle.vmem_arena.specs.declared.free.Span.{Span}
 use Rattle.vmem_arena.specs.Tags.{range_end, span_end}
 use Rattle.vmem_arena.specs.TagsLaw.{IsMeasured, GoesOn, BeginsAnew, TileOn, Tile}
 use Rattle.vmem_arena.specs.Steps.{BeginFrom, Spaced}

@@ -1,7 +1,7 @@
 -- How a span is added, as one free range.
 use Rattle.std.specs.Prelude.{◌≡◌, ℕ, ◌%◌, ◌^◌, ◌<◌, ◌≤◌, List, ◌∷◌, ◌++◌, All, Contains}
-use Rattle.vmem_arena.specs.declared.range.Range.{Range}
-use Rattle.vmem_arena.specs.declared.range.Span.{Span}
+use Rattle.vmem_arena.specs.declared.free.Range.{Range}
+use Rattle.vmem_arena.specs.declared.free.Span.{Span}
 use Rattle.vmem_arena.specs.Tags.{Tags, range_end, span_end, free_range}
 
 -- a span that an arena takes: it isn't empty, its base and size are multiples of the quantum, and it ends at 2^63 at the latest

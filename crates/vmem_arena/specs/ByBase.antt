@@ -1,6 +1,6 @@
 -- Ranges in order of base: where one stands, and how one comes, changes or goes.
 use Rattle.std.specs.Prelude.{◌≡◌, ◌≢◌, ℕ, ◌<◌, ◌≤◌, ◌==◌, nat_lt, List, [], ◌∷◌, ◌++◌, All, cond}
-use Rattle.vmem_arena.specs.declared.range.Range.{Range}
+use Rattle.vmem_arena.specs.declared.free.Range.{Range}
 
 -- r begins at this base, and none of the others before it does
 pub record IsAt (ranges : List Range) (base : ℕ) (r : Range) : Type 0 where

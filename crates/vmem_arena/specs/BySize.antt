@@ -1,6 +1,6 @@
 -- The tree of the free ranges as the list of them.
 use Rattle.std.specs.Prelude.{List, [], ◌∷◌, ◌++◌}
-use Rattle.vmem_arena.specs.declared.fit.Fit.{Fit}
+use Rattle.vmem_arena.specs.declared.free.Fit.{Fit}
 use Rattle.vmem_arena.specs.declared.by_size.Link.{Link}
 use Rattle.vmem_arena.specs.declared.by_size.Link.TheVariants.{Empty, Full}
 use Rattle.vmem_arena.specs.declared.by_size.Node.{Node}

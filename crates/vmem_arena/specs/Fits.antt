@@ -1,6 +1,6 @@
 -- The free ranges in order of size, and those of one size in order of base.
 use Rattle.std.specs.Prelude.{◌≡◌, ℕ, ◌+◌, max, Bool, true, false, ◌&&◌, ◌||◌, ◌==◌, nat_lt, List, [], ◌∷◌, cond, ⊤}
-use Rattle.vmem_arena.specs.declared.fit.Fit.{Fit}
+use Rattle.vmem_arena.specs.declared.free.Fit.{Fit}
 
 -- a is smaller than b, or as large and lower
 abbrev pub is_before : Fit → Fit → Bool

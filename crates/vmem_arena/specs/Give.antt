@@ -1,6 +1,6 @@
 -- How a range is given back: it is one with its free neighbours (vmem(9)).
 use Rattle.std.specs.Prelude.{◌≡◌, ℕ, ◌+◌, Bool, false, true, not, ◌&&◌, ◌==◌, List, [], ◌∷◌, ◌++◌, if◌then◌else◌}
-use Rattle.vmem_arena.specs.declared.range.Range.{Range}
+use Rattle.vmem_arena.specs.declared.free.Range.{Range}
 use Rattle.vmem_arena.specs.Tags.{Tags, range_end}
 
 -- both are free and of one span, and the second begins where the first ends

@@ -2,8 +2,8 @@
 -- taken one.
 use Rattle.std.specs.Prelude.{◌≡◌, ℕ, ◌≤◌, Bool, not, ◌&&◌, List, vec_len}
 use Rattle.vmem_arena.specs.declared.arena.Arena.TheInside.{Inside}
-use Rattle.vmem_arena.specs.declared.fit.Fit.{Fit}
-use Rattle.vmem_arena.specs.declared.range.Range.{Range}
+use Rattle.vmem_arena.specs.declared.free.Fit.{Fit}
+use Rattle.vmem_arena.specs.declared.free.Range.{Range}
 use Rattle.vmem_arena.specs.Fits.{passing}
 use Rattle.vmem_arena.specs.Tags.{Tags, free_total}
 use Rattle.vmem_arena.specs.TagsLaw.{TagsLaw}

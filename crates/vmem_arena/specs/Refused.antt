@@ -1,13 +1,13 @@
 -- Why an arena's calls are refused. A test that stands first is answered first; memory is wanting only where all tests pass.
 use Rattle.std.specs.Prelude.{◌≡◌, ℕ, ◌^◌, ◌<◌, ◌≤◌}
 use Rattle.std.specs.Int.{next_multiple_of}
-use Rattle.vmem_arena.specs.declared.range.Span.{Span}
-use Rattle.vmem_arena.specs.declared.refused.AddRefused.{AddRefused}
-use Rattle.vmem_arena.specs.declared.refused.AddRefused.TheVariants as add
-use Rattle.vmem_arena.specs.declared.refused.ArenaRefused.{ArenaRefused}
-use Rattle.vmem_arena.specs.declared.refused.ArenaRefused.TheVariants as arena
-use Rattle.vmem_arena.specs.declared.refused.TakeRefused.{TakeRefused}
-use Rattle.vmem_arena.specs.declared.refused.TakeRefused.TheVariants as take
+use Rattle.vmem_arena.specs.declared.free.Span.{Span}
+use Rattle.vmem_arena.specs.declared.arena.AddRefused.{AddRefused}
+use Rattle.vmem_arena.specs.declared.arena.AddRefused.TheVariants as add
+use Rattle.vmem_arena.specs.declared.arena.ArenaRefused.{ArenaRefused}
+use Rattle.vmem_arena.specs.declared.arena.ArenaRefused.TheVariants as arena
+use Rattle.vmem_arena.specs.declared.arena.TakeRefused.{TakeRefused}
+use Rattle.vmem_arena.specs.declared.arena.TakeRefused.TheVariants as take
 use Rattle.vmem_arena.specs.Tags.{Tags, greatest_free}
 use Rattle.vmem_arena.specs.TagsLaw.{IsQuantum}
 use Rattle.vmem_arena.specs.Add.{IsSpanShape, IsFirstMet, MeetsNone}

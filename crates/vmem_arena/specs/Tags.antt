@@ -1,8 +1,8 @@
 -- The tags of an arena, in the manner of vmem(9): ranges of numbers in order of base, each free or taken, into which the
 -- added spans are cut.
 use Rattle.std.specs.Prelude.{ℕ, ◌+◌, false, max, List, [], ◌∷◌, if◌then◌else◌}
-use Rattle.vmem_arena.specs.declared.range.Range.{Range}
-use Rattle.vmem_arena.specs.declared.range.Span.{Span}
+use Rattle.vmem_arena.specs.declared.free.Range.{Range}
+use Rattle.vmem_arena.specs.declared.free.Span.{Span}
 
 -- what an arena has: its quantum, and its ranges in order of base
 pub record Tags : Type 0 where

@@ -2,7 +2,7 @@
 -- bounds are own).
 use Rattle.std.specs.Prelude.{◌≡◌, ℕ, ◌%◌, ◌^◌, ◌<◌, ◌≤◌, ◌⊎◌, ◌||◌, true, List, [], ◌∷◌, All, IsTrue, ⊤}
 use Rattle.std.specs.Int.{is_power_of_two}
-use Rattle.vmem_arena.specs.declared.range.Range.{Range}
+use Rattle.vmem_arena.specs.declared.free.Range.{Range}
 use Rattle.vmem_arena.specs.Tags.{Tags, range_end, span_end}
 
 -- a power of two from 1 to 2^20

@@ -1,6 +1,6 @@
 -- How a range is taken: exact best fit (own).
 use Rattle.std.specs.Prelude.{◌≡◌, ℕ, ◌+◌, ◌-◌, ◌≤◌, false, true, List, [], ◌∷◌, ◌++◌, All, if◌then◌else◌, ◌==◌}
-use Rattle.vmem_arena.specs.declared.range.Range.{Range}
+use Rattle.vmem_arena.specs.declared.free.Range.{Range}
 use Rattle.vmem_arena.specs.Tags.{Tags, free_range}
 
 -- a range that is free and holds n

@@ -1,6 +1,6 @@
 -- The bases of an arena's taken ranges.
 use Rattle.std.specs.Prelude.{◌≡◌, ◌≢◌, ℕ, List, [], ◌∷◌, ◌++◌, All, if◌then◌else◌}
-use Rattle.vmem_arena.specs.declared.range.Range.{Range}
+use Rattle.vmem_arena.specs.declared.free.Range.{Range}
 
 -- in order
 abbrev pub taken_bases : List Range → List ℕ

@@ -9,14 +9,121 @@ ghost use Rattle.vmem_arena.specs.Give.{Gives};
 ghost use Rattle.vmem_arena.specs.TakenBases.{taken_bases, HasOneMore};
 ghost use Rattle.vmem_arena.specs.Refused.{IsArenaRefusedFor, IsAddable, IsAddRefusedFor, IsTakeSize, IsTakeRefusedFor};
 
-use crate::by_base::ByBase;
-use crate::fit::Fit;
-use crate::free::Free;
-use crate::joining::{with_last, with_next};
-use crate::range::{Range, Span};
-use crate::refused::{AddRefused, ArenaRefused, NotTaken, TakeRefused};
+use crate::free::{ByBase, Fit, Free, Range, Span, with_last, with_next};
 use std::alloc::{AllocError, Global};
+use std::error::Error;
+use std::fmt;
 use std::marker::Model;
+
+/// Why no arena was made.
+#[derive(Clone, Copy, Debug, PartialEq, Eq)]
+pub enum ArenaRefused {
+    /// The quantum is no power of two from 1 to 2^20.
+    Quantum { quantum: u64 },
+    /// Memory is wanting.
+    Memory,
+}
+
+impl fmt::Display for ArenaRefused {
+    fn fmt<W: fmt::Write>(&self, f: &mut fmt::Formatter<W>) -> fmt::Result {
+        match self {
+            ArenaRefused::Quantum { quantum } => {
+                write!(f, "a quantum of {quantum}: it is a power of two up to 2^20")
+            }
+            ArenaRefused::Memory => write!(f, "out of memory"),
+        }
+    }
+}
+
+impl Error for ArenaRefused {}
+
+/// Why no span was added.
+#[derive(Clone, Copy, Debug, PartialEq, Eq)]
+pub enum AddRefused {
+    /// The size is 0, one of the two is no multiple of the quantum, or the end is above 2^63.
+    Shape { base: u64, size: u64 },
+    /// The span meets this one, which is the first that it meets.
+    Overlap { base: u64, size: u64 },
+    /// Memory is wanting.
+    Memory,
+}
+
+impl fmt::Display for AddRefused {
+    fn fmt<W: fmt::Write>(&self, f: &mut fmt::Formatter<W>) -> fmt::Result {
+        match self {
+            AddRefused::Shape { base, size } => write!(f, "no span of {size} at {base}"),
+            AddRefused::Overlap { base, size } => {
+                write!(f, "it meets the span of {size} at {base}")
+            }
+            AddRefused::Memory => write!(f, "out of memory"),
+        }
+    }
+}
+
+impl Error for AddRefused {}
+
+impl From<AllocError> for AddRefused {
+    ghost use Rattle.std.specs.Prelude.{◌≡◌};
+    ghost use Rattle.vmem_arena.specs.declared.arena.AddRefused.TheVariants.{Memory};
+
+    ghost from_gives = { λ _ refused. refused ≡ Memory };
+
+    fn from(_: AllocError) -> Self {
+        AddRefused::Memory
+    }
+}
+
+/// Why no range was taken.
+#[derive(Clone, Copy, Debug, PartialEq, Eq)]
+pub enum TakeRefused {
+    /// The size is 0 or above 2^62.
+    Size { size: u64 },
+    /// No free range is as large as this size, which is rounded up to the quantum; the largest has `greatest`, 0 where
+    /// none is free.
+    NoFit { size: u64, greatest: u64 },
+    /// Memory is wanting.
+    Memory,
+}
+
+impl fmt::Display for TakeRefused {
+    fn fmt<W: fmt::Write>(&self, f: &mut fmt::Formatter<W>) -> fmt::Result {
+        match self {
+            TakeRefused::Size { size } => write!(f, "no range of {size}: it has 1 to 2^62"),
+            TakeRefused::NoFit { size, greatest } => {
+                write!(f, "no free range of {size}: the largest has {greatest}")
+            }
+            TakeRefused::Memory => write!(f, "out of memory"),
+        }
+    }
+}
+
+impl Error for TakeRefused {}
+
+impl From<AllocError> for TakeRefused {
+    ghost use Rattle.std.specs.Prelude.{◌≡◌};
+    ghost use Rattle.vmem_arena.specs.declared.arena.TakeRefused.TheVariants.{Memory};
+
+    ghost from_gives = { λ _ refused. refused ≡ Memory };
+
+    fn from(_: AllocError) -> Self {
+        TakeRefused::Memory
+    }
+}
+
+/// No taken range begins at this base.
+#[derive(Clone, Copy, Debug, PartialEq, Eq)]
+pub struct NotTaken {
+    pub base: u64,
+}
+
+impl fmt::Display for NotTaken {
+    fn fmt<W: fmt::Write>(&self, f: &mut fmt::Formatter<W>) -> fmt::Result {
+        let base = self.base;
+        write!(f, "no taken range begins at {base}")
+    }
+}
+
+impl Error for NotTaken {}
 
 /// The greatest quantum (own).
 const MOST_QUANTUM: u64 = 1 << 20;
@@ -52,11 +159,16 @@ impl Model for Arena {
 }
 
 impl Arena {
-    /// An arena with no span. Sizes are rounded up to `quantum`.
+    /// Makes an arena with no span.
+    ///
+    /// # Arguments
+    ///
+    /// - `quantum`: the unit to which sizes are rounded up, a power of two from 1 to 2^20.
     ///
     /// # Errors
     ///
-    /// `Quantum` exactly where it is no power of two from 1 to 2^20.
+    /// - `Quantum`: the quantum isn't such a number.
+    /// - `Memory`: out of memory.
     pub fn new(alloc: Global, quantum: u64) -> Result<Arena, ArenaRefused>
         ensures new { IfOk result (λ arena. arena ≡ record { quantum = quantum; ranges = [] }) }
         ensures law { IfOk result TagsLaw }
@@ -73,19 +185,28 @@ impl Arena {
         })
     }
 
-    /// The law of the tags, which every call keeps.
+    /// States the law of the arena, which every call keeps. The ranges, free or taken, tile the spans that were added,
+    /// and no two free ranges of a span touch. The call does nothing.
     pub fn law(&self)
         ensures { TagsLaw self.now }
     {
         let _quantum = &self.quantum;
     }
 
-    /// Adds a span, as one free range. Spans that touch stay apart.
+    /// Adds a span as one free range. Spans that touch stay apart.
+    ///
+    /// # Arguments
+    ///
+    /// - `base`: the first number of the span, a multiple of the quantum.
+    /// - `size`: the count of numbers, a positive multiple of the quantum. The end, `base` + `size`, is at most 2^63.
     ///
     /// # Errors
     ///
-    /// `Shape` exactly where the size is 0, one of the two is no multiple of the quantum, or the end is above 2^63; else
-    /// `Overlap` with the first span that it meets. After a refusal all is unchanged.
+    /// A refused call changes nothing.
+    ///
+    /// - `Shape`: base or size isn't such a number.
+    /// - `Overlap`: the span meets this one, the first that it meets.
+    /// - `Memory`: out of memory.
     pub fn add(&mut self, alloc: Global, base: u64, size: u64) -> Result<(), AddRefused>
         ensures ok { OnOk result (Adds self.old (record { base = base; size = size }) self.new) }
         ensures accepted { OnOk result (IsAddable self.old (record { base = base; size = size })) }
@@ -177,13 +298,20 @@ impl Arena {
         Ok(())
     }
 
-    /// Takes the front of the smallest free range that holds `size`, rounded up to the quantum, the lowest of equal ones, and
-    /// answers its base.
+    /// Takes the front of the smallest free range that holds `size`, rounded up to the quantum, and returns its base.
+    /// The lowest of equal ranges is taken.
+    ///
+    /// # Arguments
+    ///
+    /// - `size`: the count of numbers, 1 to 2^62.
     ///
     /// # Errors
     ///
-    /// `Size` exactly where the size is 0 or above 2^62; else `NoFit` exactly where no free range is as large. After a refusal
-    /// all is unchanged.
+    /// A refused call changes nothing.
+    ///
+    /// - `Size`: the size is out of its range.
+    /// - `NoFit`: no free range is that large. The refusal has the greatest free size.
+    /// - `Memory`: out of memory.
     pub fn take(&mut self, alloc: Global, size: u64) -> Result<u64, TakeRefused>
         ensures ok { IfOk result (λ base. TakesRange self.old (next_multiple_of size self.old.quantum) base self.new) }
         ensures accepted { OnOk result (IsTakeSize size) }
@@ -250,12 +378,16 @@ impl Arena {
         Ok(())
     }
 
-    /// Gives back the taken range that begins at `base`, and answers its size. It is free then, and one with its free
-    /// neighbours of the same span. It takes no memory.
+    /// Gives back a taken range, and returns its size. It becomes free, and merges with its free neighbours in the same
+    /// span.
+    ///
+    /// # Arguments
+    ///
+    /// - `base`: the first number of the range.
     ///
     /// # Errors
     ///
-    /// `NotTaken` exactly where no taken range begins there. All is unchanged then.
+    /// `NotTaken`: no taken range begins there. Nothing changes.
     pub fn give(&mut self, base: u64) -> Result<u64, NotTaken>
         ensures ok { IfOk result (λ size. Gives self.old base size self.new) }
         ensures bases { OnOk result (HasOneMore (taken_bases self.new.ranges) base (taken_bases self.old.ranges)) }
@@ -276,14 +408,18 @@ impl Arena {
         Ok(range.size)
     }
 
-    /// The sizes of the free ranges together.
+    /// Returns the sum of the sizes of the free ranges.
     pub fn free_total(&self) -> u128
         ensures { result ≡ free_total self.now.ranges }
     {
         self.free_total
     }
 
-    /// Whether a taken range begins at `base`.
+    /// Returns whether a taken range begins at this base.
+    ///
+    /// # Arguments
+    ///
+    /// - `base`: the first number of the range.
     pub fn is_taken(&self, base: u64) -> bool
         ensures { IsTrue result ↔ Contains (taken_bases self.now.ranges) base }
     {

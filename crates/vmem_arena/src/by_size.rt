@@ -1,13 +1,11 @@
-//! A balanced search tree of the free ranges in order of size. Its balance is no part of a contract: it bounds the depth, which
-//! bench/arena times. A height stands beside the way to its tree, so that no node is read for its height alone, and a node whose
-//! side is as high as before is put back as it is.
+//! A balanced search tree of the free ranges, in order of size and then of base.
 ghost use Rattle.std.specs.Prelude.{◌≡◌, [], ◌∷◌, ◌++◌, find, nat_le, None, is_some, IfSome, IfNone};
 ghost use Rattle.std.specs.Option.{option_or};
-ghost use Rattle.vmem_arena.specs.declared.fit.Fit.{Fit};
+ghost use Rattle.vmem_arena.specs.declared.free.Fit.{Fit};
 ghost use Rattle.vmem_arena.specs.Fits.{Ascend, HasOneMore, Removal, largest_size};
 ghost use Rattle.vmem_arena.specs.BySize.{node_fits};
 
-use crate::fit::Fit;
+use crate::free::Fit;
 use std::marker::Model;
 use std::mem;
 
@@ -38,7 +36,7 @@ pub(crate) struct Node {
 
 impl Model for BySize {
     ghost use Rattle.std.specs.Prelude.{List};
-    ghost use Rattle.vmem_arena.specs.declared.fit.Fit.{Fit};
+    ghost use Rattle.vmem_arena.specs.declared.free.Fit.{Fit};
 
     ghost Value = { List Fit };
 

@@ -1,8 +1,8 @@
 -- The line of a zone, from what its seats counted (own).
 use Rattle.std.specs.Prelude.{ℕ, ◌+◌, ◌-◌, List, sum_by}
 use Rattle.zone_stats.specs.declared.ledger.SeatLedger.{SeatLedger}
-use Rattle.zone_stats.specs.declared.line.Count.{Count}
-use Rattle.zone_stats.specs.declared.line.Count.TheVariants.{Allocs, Fails, Frees, Cross}
+use Rattle.zone_stats.specs.declared.report.Count.{Count}
+use Rattle.zone_stats.specs.declared.report.Count.TheVariants.{Allocs, Fails, Frees, Cross}
 use Rattle.zone_stats.specs.declared.name.ZoneName.{ZoneName}
 use Rattle.zone_stats.specs.declared.report.ZoneLine.{ZoneLine}
 

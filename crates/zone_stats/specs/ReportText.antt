@@ -1,6 +1,6 @@
 -- The text of a report (own; its columns are those of FreeBSD's `vmstat -z`).
 use Rattle.std.specs.Prelude.{ℕ, ◌-◌, if◌then◌else◌, List, [], ◌∷◌, ◌++◌, length, map, flat_map, replicate, Option, None, Some, codes, decimal}
-use Rattle.text_lines.specs.CanonicalLine.{line as words_line}
+use Rattle.trace_lines.specs.CanonicalLine.{line as words_line}
 use Rattle.zone_stats.specs.declared.report.ClockLine.{ClockLine}
 use Rattle.zone_stats.specs.declared.report.HookLine.{HookLine}
 use Rattle.zone_stats.specs.declared.report.KegLine.{KegLine}

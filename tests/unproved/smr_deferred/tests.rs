@@ -1,5 +1,5 @@
 ghost use Rattle.std.specs.Prelude.{◌≡◌, [], Ok};
-ghost use Rattle.smr_core.specs.declared.phase.Phase.{Phase};
+ghost use Rattle.smr_core.specs.declared.holder.Phase.{Phase};
 ghost use Rattle.smr_clock.specs.Belongs.{IsPassOf, clock_id, holder};
 ghost use Rattle.smr_deferred.specs.RetireList.{IsUsedWith};
 

@@ -3,6 +3,8 @@ use std::alloc::Global;
 use std::sync::Wait;
 use std::test::Fail;
 
+mod snippets;
+
 type Numbers = DataPool<u64, Filled<u64>>;
 
 /// A pool of items that begin as 7.

@@ -1,9 +1,9 @@
 ghost use Rattle.std.specs.Prelude.{◌≡◌, ◌<◌, ◌≤◌, ◌%◌, IfOk, IsTrue, None, length};
-ghost use Rattle.trace_play.specs.Beginners.{AreBeginners, IsBeginner};
-ghost use Rattle.trace_play.specs.Setting.{IsSetUp};
+ghost use Rattle.replay_rounds.specs.Beginners.{AreBeginners, IsBeginner};
+ghost use Rattle.replay_rounds.specs.Setting.{IsSetUp};
 ghost use Rattle.trace_text.specs.Valid.{IsValid};
-ghost use Rattle.trace_worker.specs.OwnLines.{own_ops};
-ghost use Rattle.trace_worker.specs.Worker.{AreOfClock};
+ghost use Rattle.replay_worker.specs.OwnLines.{own_ops};
+ghost use Rattle.replay_worker.specs.Worker.{AreOfClock};
 
 use crate::{Call, Calls, Gate, Go, Memory, ReclaimCalls};
 use smr_clock::{Bare, Clock, Host, Pass};
@@ -11,9 +11,9 @@ use std::alloc::Global;
 use std::sync::Wait;
 use std::sync::atomic::{AtomicBool, Ordering};
 use std::test::Fail;
-use trace_play::{NoSeat, PlainNames, Setting, set_up};
+use replay_rounds::{NoSeat, PlainNames, Setting, set_up};
 use trace_text::{Trace, parse};
-use trace_worker::{CountHooks, Counted, CountedZone, Shared, Worker, WorkerRun};
+use replay_worker::{CountHooks, Counted, CountedZone, Shared, Worker, WorkerRun};
 use uma_seat::SeatCache;
 use uma_zone::Zone;
 

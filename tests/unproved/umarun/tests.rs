@@ -9,14 +9,13 @@ mod halls;
 mod refusals;
 mod texts;
 
-use crate::any_hall::AnyHall;
-use crate::finish::Finish;
+use crate::replaying::{AnyHall, Finish};
 use crate::run::run;
 use std::alloc::Global;
 use std::sync::Wait;
 use std::test::Fail;
 use std::thread::Threads;
-use trace_play::PlainNames;
+use replay_rounds::PlainNames;
 use uma_io::{MemSink, MemSource};
 use uma_replay::{FreeGate, Gate, Hall};
 

@@ -4,9 +4,9 @@ use borrow.Author.Tests.{ltb-false, leb-false}
 use mathlib.Core.Option.{some}
 use lib.ListN.{get_elem?}
 use Rattle.smr_seq.specs.Reading.{reading}
-use Rattle.smr_core.specs.declared.clock_config.ClockConfig.{ClockConfig}
+use Rattle.smr_core.specs.declared.clock_core.ClockConfig.{ClockConfig}
 use Rattle.smr_core.specs.declared.holder.Holder.{Holder}
-use Rattle.smr_core.specs.declared.task.Task.TheVariants as task
+use Rattle.smr_core.specs.declared.holder.Task.TheVariants as task
 use Rattle.smr_core.specs.ClockState.{write_hand, read_hand, write_place, read_place}
 use Rattle.smr_core.specs.ClockStep as step
 use Rattle.smr_core.specs.ClockLaw.{HolderFits, ClockLaw}
@@ -33,7 +33,7 @@ advance_read-keeps a id h worker filled =
       scans = same_scans a ws hs id h (step.advance_read h (read_hand ws)) law at refl (record { scanning = λ e. cc; covers = λ e s m c. absurd (cc) }) (record { inside = λ e. e; mark = λ _. refl });
     })
 
--- an operation of a worker or a note that a load of the write hand ends
+-- an operation of a worker or a note that a load of the write sequence ends
 pub ended-loads : (a : ClockConfig) (ws : List ℕ) (hs : List Holder) (id : ℕ) (h : Holder) → ClockLaw a ws hs → get_elem? hs id ≡ some h
     → Loads a ws hs id h (step.advance_ended a h (write_hand ws))
 ended-loads a ws hs id h law at =

@@ -1,12 +1,12 @@
--- The entry, the third step of an enter, keeps the law. The mark is the write hand itself, so it is at least every least mark of a poll that has scanned the seat, and at least the read hand.
+-- The entry, the third step of an enter, keeps the law. The mark is the write sequence itself, so it is at least every least mark of a poll that has scanned the seat, and at least the read sequence.
 use Rattle.std.proofs.Common.{◌≡◌, ℕ, ◌-◌, ◌<◌, ◌≤◌, ◌∙◌, List, refl, arith, le_trans, Bool, true, false, cond, leb, IsSome}
 use borrow.Author.Tests.{leb-true, leb-false}
 use mathlib.Core.Option.{some}
 use lib.ListN.{get_elem?}
-use Rattle.smr_core.specs.declared.clock_config.ClockConfig.{ClockConfig}
+use Rattle.smr_core.specs.declared.clock_core.ClockConfig.{ClockConfig}
 use Rattle.smr_core.specs.declared.holder.Holder.{Holder}
-use Rattle.smr_core.specs.declared.phase.Phase.TheVariants as phase
-use Rattle.smr_core.specs.declared.task.Task.TheVariants as task
+use Rattle.smr_core.specs.declared.holder.Phase.TheVariants as phase
+use Rattle.smr_core.specs.declared.holder.Task.TheVariants as task
 use Rattle.smr_core.specs.ClockState.{write_hand, read_hand, write_place}
 use Rattle.smr_core.specs.ClockStep as step
 use Rattle.smr_core.specs.ClockLaw.{PhaseFits, SeatFits, HolderFits, ScanCovers, ClockLaw, presence_bit}

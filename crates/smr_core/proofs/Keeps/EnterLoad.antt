@@ -1,6 +1,6 @@
--- The first step of an enter keeps the law: the write hand that it loads is one that was.
+-- The first step of an enter keeps the law: the write sequence that it loads is one that was.
 use Rattle.std.proofs.Common.{refl, arith}
-use Rattle.smr_core.specs.declared.phase.Phase.TheVariants as phase
+use Rattle.smr_core.specs.declared.holder.Phase.TheVariants as phase
 use Rattle.smr_core.specs.ClockState.{write_hand, write_place}
 use Rattle.smr_core.specs.ClockStep as step
 use Rattle.smr_core.specs.ClockLaw.{HolderFits}

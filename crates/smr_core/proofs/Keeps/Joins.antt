@@ -2,9 +2,9 @@
 use Rattle.std.proofs.Common.{◌≡◌, ℕ, ◌≤◌, List, set, sym, refl, ◌∙◌, arith}
 use mathlib.Core.Option.{some}
 use lib.ListN.{get_elem?}
-use Rattle.smr_core.specs.declared.clock_config.ClockConfig.{ClockConfig}
+use Rattle.smr_core.specs.declared.clock_core.ClockConfig.{ClockConfig}
 use Rattle.smr_core.specs.declared.holder.Holder.{Holder}
-use Rattle.smr_core.specs.declared.phase.Phase.TheVariants as phase
+use Rattle.smr_core.specs.declared.holder.Phase.TheVariants as phase
 use Rattle.smr_core.specs.ClockState.{write_hand, read_hand, spent}
 use Rattle.smr_core.specs.ClockStep as step
 use Rattle.smr_core.specs.ClockLaw.{HolderFits, ClockLaw}

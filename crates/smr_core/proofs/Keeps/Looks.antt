@@ -1,6 +1,6 @@
--- Each hand may be loaded alone, by any holder: what it knows of the hands rises, and nothing else changes. The other loads of a hand start from these.
+-- Each hand may be loaded alone, by any holder: what it knows of the sequences rises, and nothing else changes. The other loads of a hand start from these.
 use Rattle.std.proofs.Common.{ℕ, ◌-◌, ◌≤◌, List, refl, arith, max}
-use Rattle.smr_core.specs.declared.clock_config.ClockConfig.{ClockConfig}
+use Rattle.smr_core.specs.declared.clock_core.ClockConfig.{ClockConfig}
 use Rattle.smr_core.specs.declared.holder.Holder.{Holder}
 use Rattle.smr_core.specs.ClockState.{write_hand, read_hand, write_place, read_place}
 use Rattle.smr_core.specs.ClockStep as step
@@ -9,7 +9,7 @@ use Rattle.smr_core.specs.ClockMoves.{WriteLookKeeps, ReadLookKeeps}
 use Rattle.smr_core.proofs.KindLemmas.{phase_kept, task_kept, same_scans, keeps_load}
 
 module _ (a : ClockConfig) (ws : List ℕ) (hs : List Holder) (h : Holder) where
-  -- what a load of the write hand teaches is so
+  -- what a load of the write sequence teaches is so
   pub write_known : ClockLaw a ws hs → HolderFits a ws h → (max h.seen (write_hand ws) ≤ write_hand ws) × (max h.floor (write_hand ws - a.window) ≤ read_hand ws)
   write_known law f =
       let s : h.seen ≤ write_hand ws = f.seen in let l : h.floor ≤ read_hand ws = f.floor in

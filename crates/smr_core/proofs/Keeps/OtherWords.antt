@@ -3,9 +3,9 @@ use Rattle.std.proofs.Common.{◌≡◌, ℕ, ◌-◌, ◌^◌, ◌<◌, ◌≤�
 use Rattle.std.specs.Int.{bit_at}
 use lib.ListN.{get_elem?}
 use mathlib.Core.Option.{some}
-use Rattle.smr_core.specs.declared.clock_config.ClockConfig.{ClockConfig}
+use Rattle.smr_core.specs.declared.clock_core.ClockConfig.{ClockConfig}
 use Rattle.smr_core.specs.declared.holder.Holder.{Holder}
-use Rattle.smr_core.specs.declared.phase.Phase.TheVariants as phase
+use Rattle.smr_core.specs.declared.holder.Phase.TheVariants as phase
 use Rattle.smr_core.specs.ClockState.{IsOdd, IsSeatWord, place_after_seats, presence_place, presence_word, write_place, read_place, seat_place, write_hand, read_hand, seat_word, word_of}
 use Rattle.smr_core.specs.ClockLaw.{HandsFit, ClockLaw}
 use Rattle.smr_core.specs.ClockMoves.{OtherWordKeeps}

@@ -4,8 +4,8 @@ use mathlib.Core.Option.{some}
 use lib.ListN.{get_elem?}
 use Rattle.smr_seq.specs.Reading.{reading}
 use Rattle.smr_core.specs.declared.holder.Holder.{Holder}
-use Rattle.smr_core.specs.declared.phase.Phase.TheVariants as phase
-use Rattle.smr_core.specs.declared.task.Task.TheVariants as task
+use Rattle.smr_core.specs.declared.holder.Phase.TheVariants as phase
+use Rattle.smr_core.specs.declared.holder.Task.TheVariants as task
 use Rattle.smr_core.specs.ClockState.{write_hand, read_hand, write_place, read_place, presence_place, presence_word, IsPresent, IsAbsent}
 use Rattle.smr_core.specs.ClockStep as step
 use Rattle.smr_core.specs.ClockLaw.{HolderFits, ScanCovers}
@@ -57,7 +57,7 @@ poll_load-keeps a id h reading =
           (record { scanning = λ e. cc; covers = λ e s m c. absurd (cc) }) (record { inside = λ e. e; mark = λ _. refl });
     })
 
--- Nothing is scanned yet, and the least mark is the write hand itself. A seat with a section has a worker, so it is in the set.
+-- Nothing is scanned yet, and the least mark is the write sequence itself. A seat with a section has a worker, so it is in the set.
 pub poll_present-keeps : PollPresentKeeps
 poll_present-keeps a id h loaded =
     keeps_load a id h (presence_place a) (step.poll_present a h)

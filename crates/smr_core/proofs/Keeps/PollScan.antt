@@ -5,11 +5,11 @@ use borrow.Author.Tests.{eqb-true, eqb-false}
 use mathlib.Core.Option.{some}
 use lib.ListN.{get_elem?}
 use Rattle.smr_seq.specs.Reading.{low, reading}
-use Rattle.smr_core.specs.declared.clock_config.ClockConfig.{ClockConfig}
+use Rattle.smr_core.specs.declared.clock_core.ClockConfig.{ClockConfig}
 use Rattle.smr_core.specs.declared.holder.Holder.{Holder}
-use Rattle.smr_core.specs.declared.phase.Phase.TheVariants as phase
-use Rattle.smr_core.specs.declared.task.Task.{Task}
-use Rattle.smr_core.specs.declared.task.Task.TheVariants as task
+use Rattle.smr_core.specs.declared.holder.Phase.TheVariants as phase
+use Rattle.smr_core.specs.declared.holder.Task.{Task}
+use Rattle.smr_core.specs.declared.holder.Task.TheVariants as task
 use Rattle.smr_core.specs.ClockState.{IsOdd, IsAbsent, write_hand, read_hand, seat_word, seat_place, word_of}
 use Rattle.smr_core.specs.ClockStep as step
 use Rattle.smr_core.specs.ClockLaw.{TaskFits, HolderFits, ScanCovers, ClockLaw}
@@ -24,7 +24,7 @@ least_with-between : (f m : ℕ) (o : Option ℕ) → f ≤ m → (f ≤ step.le
 least_with-between f m None le = (le, omega arith)
 least_with-between f m (Some y) le = (omega arith, omega arith)
 
--- the least mark is at least the poll's read hand, and no greater than it was
+-- the least mark is at least the poll's read sequence, and no greater than it was
 pub least_after-between : (f l m c : ℕ) → f ≤ m → (f ≤ step.least_after f l m c) × (step.least_after f l m c ≤ m)
 least_after-between f l m c le =
     by_test (eqb c 0) (λ b. (f ≤ cond b m (step.least_with f m (reading c l))) × (cond b m (step.least_with f m (reading c l)) ≤ m))
@@ -47,7 +47,7 @@ least_after-odd f l m c p q r =
 low-at_least : (e : ℕ) → IsOdd e → 1 ≤ low e
 low-at_least e p = omega arith
 
--- The word of a section that loaded e, where e is at or below the poll's write hand and near it: it is read exactly, and the least mark is then at most the greater of e and the poll's read hand.
+-- The word of a section that loaded e, where e is at or below the poll's write sequence and near it: it is read exactly, and the least mark is then at most the greater of e and the poll's read sequence.
 least_after-section : (f l m e : ℕ) → IsOdd e → reading (low e) l ≡ Some e → step.least_after f l m (low e) ≤ max e f
 least_after-section f l m e p read =
     by_test (eqb (low e) 0) (λ b. cond b m (step.least_with f m (reading (low e) l)) ≤ max e f)
@@ -55,7 +55,7 @@ least_after-section f l m e p read =
     (λ _. subst (λ (o : Option ℕ). step.least_with f m o ≤ max e f) (sym read) (omega arith))
 
 -- Whatever is read: the least mark after the word of a section that loaded e and was entered at w is at most w.
--- The poll's read hand is at most w, and its write hand is less than 2^31 above e where it is not below e.
+-- The poll's read sequence is at most w, and its write sequence is less than 2^31 above e where it is not below e.
 pub least-le-mark : (f l m e w : ℕ) → IsOdd e → e ≤ w → f ≤ w → f ≤ m → m ≤ l → l < e + 2 ^ 31 → step.least_after f l m (low e) ≤ w
 least-le-mark f l m e w p ew fw fm ml near =
     ⊎_elim

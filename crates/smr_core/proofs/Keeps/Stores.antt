@@ -7,11 +7,11 @@ use Rattle.std.specs.Int.{bit_at}
 use mathlib.Core.Option.{some}
 use lib.ListN.{get_elem?}
 use Rattle.smr_seq.specs.Reading.{low}
-use Rattle.smr_core.specs.declared.clock_config.ClockConfig.{ClockConfig}
+use Rattle.smr_core.specs.declared.clock_core.ClockConfig.{ClockConfig}
 use Rattle.smr_core.specs.declared.holder.Holder.{Holder}
-use Rattle.smr_core.specs.declared.phase.Phase.TheVariants as phase
-use Rattle.smr_core.specs.declared.task.Task.{Task}
-use Rattle.smr_core.specs.declared.task.Task.TheVariants as task
+use Rattle.smr_core.specs.declared.holder.Phase.TheVariants as phase
+use Rattle.smr_core.specs.declared.holder.Task.{Task}
+use Rattle.smr_core.specs.declared.holder.Task.TheVariants as task
 use Rattle.smr_core.specs.ClockState.{IsOdd, place_after_seats, presence_place, presence_word, write_hand, read_hand, seat_word, seat_place, write_place, read_place, word_of}
 use Rattle.smr_core.specs.ClockStep as step
 use Rattle.smr_core.specs.ClockStep.{stored}
@@ -66,7 +66,7 @@ pub record Stores (a : ClockConfig) (ws : List ℕ) (h h' : Holder) (s v : ℕ) 
   pub scan : SameScan h h'
   pub section : SameSection h h'
 
--- a task stays as it is where both hands do
+-- a task stays as it is where both sequences do
 task_moves : (a : ClockConfig) (ws ws' : List ℕ) (q : Holder) (t : Task) → write_hand ws' ≡ write_hand ws → read_hand ws' ≡ read_hand ws → TaskFits a ws q t → TaskFits a ws' q t
 task_moves a ws ws' q task.Idle w r f = tt
 task_moves a ws ws' q task.AdvRead w r f = (f.0, omega arith)

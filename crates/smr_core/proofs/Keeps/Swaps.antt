@@ -5,11 +5,11 @@ use Rattle.std.proofs.lemmas.List.{set-get_or}
 use Rattle.std.specs.Int.{bit_at}
 use mathlib.Core.Option.{some}
 use lib.ListN.{get_elem?}
-use Rattle.smr_core.specs.declared.clock_config.ClockConfig.{ClockConfig}
+use Rattle.smr_core.specs.declared.clock_core.ClockConfig.{ClockConfig}
 use Rattle.smr_core.specs.declared.holder.Holder.{Holder}
-use Rattle.smr_core.specs.declared.phase.Phase.{Phase}
-use Rattle.smr_core.specs.declared.phase.Phase.TheVariants as phase
-use Rattle.smr_core.specs.declared.task.Task.TheVariants as task
+use Rattle.smr_core.specs.declared.holder.Phase.{Phase}
+use Rattle.smr_core.specs.declared.holder.Phase.TheVariants as phase
+use Rattle.smr_core.specs.declared.holder.Task.TheVariants as task
 use Rattle.smr_core.specs.ClockState.{IsOdd, place_after_seats, presence_place, presence_word, write_hand, read_hand, seat_word, seat_place, write_place, read_place, word_of}
 use Rattle.smr_core.specs.ClockStep as step
 use Rattle.smr_core.specs.ClockStep.{exchanged}
@@ -36,7 +36,7 @@ module _ (ws : List ℕ) (i v : ℕ) (hand : i < 16) where
   word_of_after None = refl
   word_of_after (Some s) = seat_word_after s
 
--- ---- the write hand
+-- ---- the write sequence
 
 abbrev IsWorkersPhase : Phase → Type 0
 IsWorkersPhase phase.Note = ⊥
@@ -159,7 +159,7 @@ advance_swap-keeps a id h loaded ws hs law at =
     (λ e. subst (λ (l : List ℕ). Later a ws l (set hs id (looked a ws hs id h))) (sym (set-get_or ws write_place 0))
     (loads a ws hs id h (looked a ws hs id h) law at (advance_looks a ws hs id h law at loaded)))
 
--- Whether or not it hits, the goal is at most the write hand that it leaves.
+-- Whether or not it hits, the goal is at most the write sequence that it leaves.
 pub goal-le-left : (a : ClockConfig) (ws : List ℕ) (h : Holder) → HandsFit a ws → TaskFits a ws h task.AdvLoaded
     → step.goal_of h ≤ exchanged h.write (step.goal_of h) (write_hand ws)
 goal-le-left a ws h hands t =
@@ -171,9 +171,9 @@ goal-le-left a ws h hands t =
     let odd : IsOdd (write_hand ws) = hands.odd_write in
     let odd' : IsOdd h.write = t.5 in omega arith)
 
--- ---- the read hand
+-- ---- the read sequence
 
--- It finds what the poll had loaded. Every seat of its set was scanned, and a section of another is at or above its write hand, so the least mark is at most every section's.
+-- It finds what the poll had loaded. Every seat of its set was scanned, and a section of another is at or above its write sequence, so the least mark is at most every section's.
 module _ (a : ClockConfig) (ws : List ℕ) (hs : List Holder) (id : ℕ) (h : Holder) where
   raised : Holder
   raised = record h { task = task.Idle; floor = max h.floor h.least }

@@ -1,7 +1,7 @@
 use Rattle.std.proofs.Common.{◌≡◌, List, ap₂, sym, subst, ◌∙◌}
-use Rattle.trace_text.specs.declared.version.Version.TheVariants as versions
-use Rattle.trace_text.specs.declared.head.Head.{Head}
-use Rattle.trace_text.specs.declared.round.Round.{Round}
+use Rattle.trace_text.specs.declared.trace.Version.TheVariants as versions
+use Rattle.trace_text.specs.declared.trace.Head.{Head}
+use Rattle.trace_text.specs.declared.trace.Round.{Round}
 use Rattle.trace_text.specs.Valid.{IsValid}
 use Rattle.trace_gen.specs.Header.{made_trace}
 use Rattle.trace_gen.proofs.Makes.{makes_none, makes_next, makes_all}

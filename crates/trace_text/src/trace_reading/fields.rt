@@ -1,17 +1,138 @@
-//! The fields of a trace's lines.
-ghost use Rattle.std.specs.Prelude.{◌≡◌, ◌<◌, ◌≤◌, Some, IfOk};
+//! The fields of a trace's lines: numbers, names, and what a line starts with.
+ghost use Rattle.std.specs.Prelude.{◌≡◌, ◌≤◌, IfOk, length, take, ◌&&◌, nat_le, ◌<◌, Some};
+ghost use Rattle.std.specs.Str.Parse.{AllDigits, digits_value};
+ghost use Rattle.trace_lines.specs.Fields.{number_in, number_within, Reads};
+ghost use Rattle.std.specs.List.{list_all};
+ghost use Rattle.trace_text.specs.TraceLine.{is_name, name_in, kind_in, worker_in, slot_in, arg_in, seven_fields, reserve_option, arg_option, options, alloc_fields, only_worker, worker_and_key, worker_and_zone, is_known, word_named};
+ghost use Rattle.zone_stats.specs.Name.{is_name_character};
 ghost use Rattle.std.specs.Option.{option_map};
-ghost use Rattle.text_lines.specs.Fields.{Reads};
-ghost use Rattle.text_lines.specs.TextLines.{fields_of};
+ghost use Rattle.trace_lines.specs.TextLines.{fields_of};
 ghost use Rattle.trace_text.specs.Limits.{last_slot};
-ghost use Rattle.trace_text.specs.TraceLine.{name_in, kind_in, worker_in, slot_in, arg_in, seven_fields, reserve_option, arg_option, options, alloc_fields, only_worker, worker_and_key, worker_and_zone};
 
-use crate::limits::SLOTS;
-use crate::trace_reading::name_field::NameField;
-use crate::trace_reading::number::{number_in, number_within};
-use crate::{TraceKind, ZoneKind};
-use text_lines::{five_fields, next_field, no_field, one_field, ranged, two_fields};
+use crate::trace::SLOTS;
+use crate::{Between, Op, TraceKind, Version, ZoneKind};
+use std::marker::Model;
+use trace_lines::{five_fields, next_field, no_field, one_field, ranged, two_fields};
+use trace_schedule::named_in;
 use zone_stats::ZoneName;
+
+/// A number up to this one has room for one digit more in 64 bits.
+const ROOMY: u64 = 1_000_000_000_000_000_000;
+
+/// The number that the digits spell with which a field begins, and how many they are. It stops where the next digit may have no room.
+#[inline(always)]
+fn digits_in(field: &[u8]) -> (u64, usize)
+    ensures within { result.1 ≤ length field.now }
+    ensures digits { AllDigits 10 (take result.1 field.now) }
+    ensures value { result.0 ≡ digits_value 10 (take result.1 field.now) }
+{
+    let mut number = 0u64;
+    let mut count = 0;
+    for byte in field {
+        let Some(digit) = char::from(*byte).to_digit(10) else {
+            break;
+        };
+        if number > ROOMY {
+            break;
+        }
+        number = number * 10 + digit as u64;
+        count += 1;
+    }
+    (number, count)
+}
+
+/// The number that a field spells, by the rule of `parse_number`. It goes once over the field, but for one that is no number or is beyond
+/// 10^19.
+#[inline(always)]
+pub fn number_in(field: &[u8]) -> Result<u64, TraceKind>
+    ensures { result ≡ number_in field.now }
+{
+    let (number, count) = digits_in(field);
+    if count < field.len() || count == 0 {
+        return trace_lines::number_in(field);
+    }
+    if field[0] == b'0' && count > 1 {
+        return trace_lines::number_in(field);
+    }
+    Ok(number)
+}
+
+/// A number from `low` to `high`.
+#[inline(always)]
+pub fn number_within(field: &[u8], low: u64, high: u64) -> Result<u64, TraceKind>
+    ensures value { result ≡ number_within low high field.now }
+    ensures within { IfOk result (λ n. (low ≤ n) × (n ≤ high)) }
+{
+    let number = number_in(field)?;
+    ranged(low <= number && number <= high, number)
+}
+
+/// The most bytes that a name has.
+const NAME_MAX: usize = 16;
+
+/// A field that is a name, borrowed from its line. Contracts see the list of its bytes.
+#[derive(Drop)]
+pub struct NameField<'a> {
+    bytes: &'a [u8],
+}
+
+impl<'a> Model for NameField<'a> {
+    ghost use Rattle.std.specs.Prelude.{ℕ, List};
+
+    ghost Value = { List ℕ };
+
+    ghost view = { λ name. name.bytes.now };
+}
+
+impl<'a> NameField<'a> {
+    /// The name that a field is.
+    #[inline(always)]
+    pub fn of(field: &'a [u8]) -> Result<NameField<'a>, TraceKind>
+        ensures { result ≡ name_in field.now }
+    {
+        if is_name(field) {
+            Ok(NameField { bytes: field })
+        } else {
+            Err(TraceKind::Name)
+        }
+    }
+
+    /// Its bytes.
+    #[inline(always)]
+    pub fn as_bytes(&self) -> &[u8]
+        ensures { result.now ≡ self.now }
+    {
+        self.bytes
+    }
+}
+
+/// Whether a field is a name.
+fn is_name(field: &[u8]) -> bool
+    ensures { result ≡ is_name field.now }
+{
+    has_length(field.len()) && has_characters(field)
+}
+
+/// Whether a name may have so many characters.
+fn has_length(count: usize) -> bool
+    ensures { result ≡ (nat_le 1 count && nat_le count 16) }
+{
+    1 <= count && count <= NAME_MAX
+}
+
+/// Whether a name may have each of these bytes.
+fn has_characters(field: &[u8]) -> bool
+    ensures { result ≡ list_all is_name_character field.now }
+{
+    field.iter().all(|&byte| is_name_character(byte))
+}
+
+/// Whether a name may have this byte.
+fn is_name_character(byte: u8) -> bool
+    ensures { result ≡ is_name_character byte }
+{
+    byte.is_ascii_alphanumeric() || byte == b'_' || byte == b'-'
+}
 
 /// The greatest number of a slot.
 const LAST_SLOT: u64 = SLOTS as u64 - 1;
@@ -193,5 +314,111 @@ impl<'a> AllocFields<'a> {
             arg,
             reserve,
         })
+    }
+}
+
+/// A line below the header, of a text that is being read. A zone is named by its place.
+#[derive(Clone, Copy)]
+pub enum Entry {
+    Does { worker: u32, op: Op },
+    Moves { between: Between },
+    Round,
+}
+
+/// The word with which a line of a trace begins.
+#[derive(Clone, Copy)]
+pub enum Word {
+    /// A word of a header line.
+    Head(HeadWord),
+    /// A word of what a worker does by itself.
+    Work(WorkWord),
+    /// A word of what a worker does in a zone.
+    Zone(ZoneWord),
+    Round,
+    Give,
+    SetMax,
+    End,
+}
+
+#[derive(Clone, Copy)]
+pub enum HeadWord {
+    Uma,
+    Workers,
+    Domains,
+    Clock,
+    Detail,
+    Zone,
+    Second,
+    Names,
+}
+
+#[derive(Clone, Copy)]
+pub enum WorkWord {
+    Free,
+    Enter,
+    Exit,
+    Bind,
+    Unbind,
+    Look,
+    Away,
+    Back,
+}
+
+#[derive(Clone, Copy)]
+pub enum ZoneWord {
+    Alloc,
+    Trim,
+    Drain,
+    DrainSeat,
+    Prealloc,
+}
+
+/// The words of lines.
+const WORDS: [(&[u8], Word); 25] = [
+    (b"alloc", Word::Zone(ZoneWord::Alloc)),
+    (b"free", Word::Work(WorkWord::Free)),
+    (b"enter", Word::Work(WorkWord::Enter)),
+    (b"exit", Word::Work(WorkWord::Exit)),
+    (b"bind", Word::Work(WorkWord::Bind)),
+    (b"unbind", Word::Work(WorkWord::Unbind)),
+    (b"look", Word::Work(WorkWord::Look)),
+    (b"away", Word::Work(WorkWord::Away)),
+    (b"back", Word::Work(WorkWord::Back)),
+    (b"trim", Word::Zone(ZoneWord::Trim)),
+    (b"drain", Word::Zone(ZoneWord::Drain)),
+    (b"drainseat", Word::Zone(ZoneWord::DrainSeat)),
+    (b"prealloc", Word::Zone(ZoneWord::Prealloc)),
+    (b"round", Word::Round),
+    (b"give", Word::Give),
+    (b"setmax", Word::SetMax),
+    (b"end", Word::End),
+    (b"uma", Word::Head(HeadWord::Uma)),
+    (b"workers", Word::Head(HeadWord::Workers)),
+    (b"domains", Word::Head(HeadWord::Domains)),
+    (b"clock", Word::Head(HeadWord::Clock)),
+    (b"detail", Word::Head(HeadWord::Detail)),
+    (b"zone", Word::Head(HeadWord::Zone)),
+    (b"second", Word::Head(HeadWord::Second)),
+    (b"names", Word::Head(HeadWord::Names)),
+];
+
+impl Word {
+    /// The word that a field is.
+    pub fn named(field: &[u8]) -> Option<Word>
+        ensures { result ≡ word_named field.now }
+    {
+        named_in(&WORDS, field)
+    }
+
+    /// Whether the version has this word: version 1 has none that changes a limit, and only version 3 has those of
+    /// workers that leave and come back.
+    pub fn is_known(self, version: Version) -> bool
+        ensures { result ≡ is_known version self }
+    {
+        match self {
+            Word::SetMax => version.changes_limits(),
+            Word::Work(WorkWord::Away | WorkWord::Back) => version.lets_leave(),
+            _ => true,
+        }
     }
 }

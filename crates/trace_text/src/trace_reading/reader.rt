@@ -1,25 +1,100 @@
-ghost use Rattle.std.specs.Prelude.{◌≡◌, ◌<◌, [], false, OnOk, IfOk, IfErr};
-ghost use Rattle.text_lines.specs.TextLines.{fields_of};
+ghost use Rattle.std.specs.Prelude.{◌≡◌, ◌==◌, ◌&&◌, nat_le, ◌<◌, [], false, OnOk, IfOk, IfErr};
+ghost use Rattle.trace_text.specs.TraceKnown.{is_start, is_last, Keeps, Knows, trace_by};
+ghost use Rattle.trace_text.specs.TraceLine.{rank, may_follow};
+ghost use Rattle.trace_lines.specs.TextLines.{fields_of};
 ghost use Rattle.trace_text.specs.Grammar.{entry_of, passes_most, stage_of, takes_name, trace_test, work_op};
 ghost use Rattle.trace_text.specs.TraceApplied.{Adds, AddsAll, Applies, conflict_found};
 ghost use Rattle.trace_text.specs.declared.trace_reading.parsed_line.ParsedLine.TheVariants.{InZone, SetMax};
 ghost use Rattle.trace_text.specs.TraceTables.{AreWhole, EntryFits, most_workers};
 ghost use Rattle.trace_text.specs.TraceShown.{NamesFit, WorkSlotFits};
-ghost use Rattle.trace_text.specs.TraceKnown.{Keeps, Knows, trace_by};
 ghost use Rattle.trace_text.specs.TraceTaken.{TakesParsed, TakesWord};
 
-use crate::trace_reading::entry::Entry;
-use crate::trace_reading::name_field::NameField;
-use crate::trace_reading::parsed_line::{ParsedLine, ZoneWork, word_in};
-use crate::trace_reading::rounds_so_far::RoundsSoFar;
-use crate::trace_reading::stage::Stage;
+use crate::trace_reading::fields::{Entry, HeadWord, NameField, Word, WorkWord, ZoneWord};
+use crate::trace_reading::head::Zones;
+use crate::trace_reading::parsed_line::{ParsedLine, ZoneWork, parse_alloc, parse_free, word_in};
+use crate::trace_reading::rounds::RoundsSoFar;
 use crate::trace_reading::tables::Tables;
-use crate::trace_reading::word::{Word, WorkWord, ZoneWord};
-use crate::trace_reading::work::{parse_alloc, parse_free};
-use crate::trace_reading::zones::Zones;
 use crate::{Between, ClockHead, Head, NamesHead, Op, Trace, TraceKind, Version};
 use std::alloc::{AllocError, Global};
-use text_lines::{Grammar, LineRefused};
+use trace_lines::{Grammar, LineRefused};
+
+/// How far a text has come: what its last line was.
+#[derive(Clone, Copy)]
+pub enum Stage {
+    /// Before the first line.
+    Start,
+    Uma,
+    Workers,
+    Domains,
+    Clock,
+    Detail,
+    Zones,
+    Names,
+    /// What a worker does.
+    Works,
+    /// A `round` line, or one that stands between two rounds.
+    Between,
+    End,
+}
+
+impl Stage {
+    /// Whether no line was there yet.
+    pub fn is_start(self) -> bool
+        ensures { result ≡ is_start self }
+    {
+        matches!(self, Stage::Start)
+    }
+
+    /// Whether the last line was `end`.
+    pub fn is_last(self) -> bool
+        ensures { result ≡ is_last self }
+    {
+        matches!(self, Stage::End)
+    }
+
+    /// Its place in the order of a text.
+    fn rank(self) -> u8
+        ensures { result ≡ rank self }
+    {
+        match self {
+            Stage::Start => 0,
+            Stage::Uma => 1,
+            Stage::Workers => 2,
+            Stage::Domains => 3,
+            Stage::Clock => 4,
+            Stage::Detail => 5,
+            Stage::Zones => 6,
+            Stage::Names => 7,
+            Stage::Works => 8,
+            Stage::Between => 9,
+            Stage::End => 10,
+        }
+    }
+
+    /// Whether its place is one of these.
+    fn is_within(self, low: u8, high: u8) -> bool
+        ensures { result ≡ (nat_le low (rank self) && nat_le (rank self) high) }
+    {
+        let rank = self.rank();
+        low <= rank && rank <= high
+    }
+
+    /// Whether a line with this word may stand next.
+    pub fn may_follow(self, word: Word) -> bool
+        ensures { result ≡ may_follow self word }
+    {
+        match word {
+            Word::Head(HeadWord::Uma) => false,
+            Word::Head(HeadWord::Workers) => self.is_within(1, 1),
+            Word::Head(HeadWord::Domains) => self.is_within(2, 2),
+            Word::Head(HeadWord::Clock) => self.is_within(3, 3),
+            Word::Head(HeadWord::Detail) => self.is_within(3, 4),
+            Word::Head(_) => self.is_within(3, 6),
+            Word::Give | Word::SetMax => self.is_within(9, 9),
+            _ => self.is_within(3, 9),
+        }
+    }
+}
 
 /// The running state of a reading: what the lines so far have said.
 #[derive(Drop)]
@@ -134,7 +209,9 @@ impl TraceReader {
         let Ok(()) = self.entries.push(entry) else {
             return Err(LineRefused::Memory);
         };
-        self.tables.mark(entry);
+        let Ok(()) = self.tables.mark(entry) else {
+            return Err(LineRefused::Memory);
+        };
         Ok(())
     }
 

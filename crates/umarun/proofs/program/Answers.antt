@@ -1,5 +1,5 @@
 use denote.Param.Send.{sendable}
-use Rattle.trace_worker.proofs.Visits.{calls_send}
+use Rattle.replay_worker.proofs.Visits.{calls_send}
 use Rattle.umarun.proofs.program.Goals as goal
 
 -- each worker's thread has a visit of its own to the gate

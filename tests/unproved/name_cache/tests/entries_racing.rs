@@ -1,11 +1,11 @@
 ghost use Rattle.std.specs.Prelude.{◌≡◌, ◌<◌, ◌+◌, ◌%◌, ◌^◌, Some, IsSome, IfOk, IfSome};
-ghost use Rattle.smr_core.specs.declared.phase.Phase.{Phase};
+ghost use Rattle.smr_core.specs.declared.holder.Phase.{Phase};
 ghost use Rattle.smr_clock.specs.Belongs.{IsPassOf, holder, setup_of};
 ghost use Rattle.name_rows.specs.Belongs.{IsNamesClock};
 ghost use Rattle.name_rows.specs.Entries.{IsEntryOf, entry_state};
 ghost use Rattle.name_rows.specs.Roots.{IsRootOf};
 ghost use Rattle.name_rows.specs.Rows.{IsRowOf};
-ghost use Rattle.name_rows.specs.declared.entry_state.EntryState.{EntryState};
+ghost use Rattle.name_rows.specs.declared.entry.EntryState.{EntryState};
 
 use super::*;
 use name_rows::{Entry, Names, Opened, Root, Row, find, link, make, raise, ripe, stamp, write};

@@ -1,5 +1,5 @@
 ghost use Rattle.std.specs.Prelude.{◌≡◌, IfOk};
-ghost use Rattle.smr_core.specs.declared.phase.Phase.{Phase};
+ghost use Rattle.smr_core.specs.declared.holder.Phase.{Phase};
 ghost use Rattle.smr_clock.specs.Belongs.{IsPassOf, holder};
 
 use smr_clock::{Bare, Clock, ClockRefused, Pass};

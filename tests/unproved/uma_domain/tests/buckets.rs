@@ -1,7 +1,7 @@
 ghost use Rattle.std.specs.Prelude.{◌≡◌, [], IfOk};
 ghost use Rattle.deed_book.specs.Book.{book_table};
 ghost use Rattle.smr_clock.specs.Belongs.{IsPassOf, clock_id, holder};
-ghost use Rattle.smr_core.specs.declared.phase.Phase.{Phase};
+ghost use Rattle.smr_core.specs.declared.holder.Phase.{Phase};
 ghost use Rattle.uma_bucket.specs.Home.{IsHome};
 ghost use Rattle.uma_bucket.specs.Sealed.{IsSealedAt, sealed_bucket};
 ghost use Rattle.uma_life.specs.Cached.{cached_ticket};

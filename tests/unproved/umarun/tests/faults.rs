@@ -1,7 +1,7 @@
 //! Streams that fail.
 use super::*;
 use crate::fault::Fault;
-use crate::finish::Status;
+use crate::replaying::Status;
 
 /// A text that is replayed, without operations.
 const EMPTY_BOX: &str = "uma 1\nworkers 1\ndomains 1\nzone box 256 4 4 0 0 plain\nend\n";

@@ -1,6 +1,6 @@
 //! Operations that wait: for those of another worker, or to the last.
 use super::*;
-use crate::finish::Status;
+use crate::replaying::Status;
 use std::sync::atomic::{AtomicBool, Ordering};
 use uma_replay::{Call, Calls, Go};
 

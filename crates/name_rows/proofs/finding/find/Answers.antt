@@ -1,6 +1,6 @@
 use Rattle.std.proofs.Common.{◌%◌, ◌∙◌, ap, sym}
 use Rattle.smr_clock.specs.Belongs.{TableId}
-use Rattle.smr_clock.specs.declared.setup.Setup.{Setup}
+use Rattle.smr_clock.specs.declared.clock.Setup.{Setup}
 use Rattle.name_rows.proofs.FindLemmas.{entry_below, finds_other, finds_it}
 use Rattle.name_rows.proofs.finding.find.Goals as goal
 

@@ -1,7 +1,7 @@
 use Rattle.std.proofs.Common.{◌∙◌, ap, sym, subst}
 use Rattle.smr_clock.specs.Belongs.{TableId}
-use Rattle.smr_clock.specs.declared.setup.Setup.{Setup}
-use Rattle.smr_clock.specs.declared.host_act.HostAct.TheVariants.{Load}
+use Rattle.smr_clock.specs.declared.clock.Setup.{Setup}
+use Rattle.smr_clock.specs.declared.host.HostAct.TheVariants.{Load}
 use Rattle.name_rows.specs.Records.{row_place}
 use Rattle.name_rows.specs.NamesLaw.{IsPlan}
 use Rattle.name_rows.proofs.Loads.{reads_row-keeps}

@@ -1,7 +1,7 @@
 use Rattle.std.proofs.Common.{rules, arith, ◌∙◌, ap, sym}
 use Rattle.smr_clock.specs.Belongs.{TableId}
-use Rattle.smr_clock.specs.declared.setup.Setup.{Setup}
-use Rattle.smr_clock.specs.declared.host_act.HostAct.TheVariants.{Load}
+use Rattle.smr_clock.specs.declared.clock.Setup.{Setup}
+use Rattle.smr_clock.specs.declared.host.HostAct.TheVariants.{Load}
 use Rattle.name_rows.specs.Records.{value_place}
 use Rattle.name_rows.proofs.Loads.{reads_entry-keeps}
 use Rattle.name_rows.proofs.FindLemmas.{entry_read, value_read}

@@ -1,5 +1,5 @@
 use Rattle.std.proofs.Common.{◌≡◌, sym, ◌∙◌}
-use Rattle.name_rows.specs.declared.entry_state.EntryState.TheVariants.{Clean, Written}
+use Rattle.name_rows.specs.declared.entry.EntryState.TheVariants.{Clean, Written}
 use Rattle.name_rows.specs.Moving.{taken}
 use Rattle.name_rows.proofs.SeatMoves.{join_keeps, takes_in}
 use Rattle.name_rows.proofs.row_steps.take_in.Goals as goal

@@ -1,5 +1,5 @@
 use Rattle.std.proofs.Common.{rules, ◌+◌, ◌≤◌, subst, sym, ◌∙◌, arith}
-use Rattle.smr_clock.specs.declared.setup.Setup.{Setup}
+use Rattle.smr_clock.specs.declared.clock.Setup.{Setup}
 use Rattle.smr_objects.specs.CellViews.{cell_view}
 use Rattle.smr_hold.proofs.PutLemmas.{former_open, puts_after}
 use Rattle.smr_hold.proofs.publishing.put.Goals as goal

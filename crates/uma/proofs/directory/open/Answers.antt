@@ -1,10 +1,10 @@
 use Rattle.std.proofs.Common.{◌≡◌, ◌≤◌, ◌*◌, ap, sym, subst, arith}
-use Rattle.smr_clock.specs.declared.setup.Setup.{Setup}
+use Rattle.smr_clock.specs.declared.clock.Setup.{Setup}
 use Rattle.smr_clock.specs.Belongs.{setup_of}
 use Rattle.name_cache.specs.Making.{FitsOpened}
-use Rattle.name_rows.specs.declared.opened.Opened.{Opened}
-use Rattle.uma_zone.specs.declared.zone_set.ZoneSet.{ZoneSet}
-use Rattle.uma.specs.declared.name_plan.NamePlan.{NamePlan}
+use Rattle.name_rows.specs.declared.making.Opened.{Opened}
+use Rattle.uma_zone.specs.declared.zone.make.ZoneSet.{ZoneSet}
+use Rattle.uma.specs.declared.plan.NamePlan.{NamePlan}
 use Rattle.uma.specs.NamePlan.{name_set_of}
 use Rattle.smr_clock.specs.Making.{setup}
 use Rattle.name_rows.specs.Records.{told}

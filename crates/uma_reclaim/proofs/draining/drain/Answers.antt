@@ -1,7 +1,7 @@
 use Rattle.std.proofs.Common.{fold, flat_map, ap, ◌∙◌, inl, inr}
 use Rattle.smr_clock.specs.Belongs.{view}
 use Rattle.uma_seat.specs.Seat.{shelf_of}
-use Rattle.uma_reclaim.specs.declared.extent.Extent.TheVariants.{All as All'}
+use Rattle.uma_reclaim.specs.declared.reclaim.Extent.TheVariants.{All as All'}
 use Rattle.uma_reclaim.specs.Reclaimed.{takes_of, DrainStops}
 use Rattle.uma_reclaim.specs.Told.{notes_in}
 use Rattle.uma_reclaim.proofs.Passes.{none_in, then_in}

@@ -5,7 +5,7 @@ use Rattle.uma_seat.specs.Rack.{spares_in, shelf_in}
 use Rattle.uma_seat.specs.Seat.{seat_domain, shelf_of}
 use Rattle.uma_zone.specs.Ports.{pushed_by, sent_of}
 use Rattle.uma_zone.proofs.Listings.{still_flushed}
-use Rattle.uma_reclaim.specs.declared.extent.Extent.TheVariants.{All as All'}
+use Rattle.uma_reclaim.specs.declared.reclaim.Extent.TheVariants.{All as All'}
 use Rattle.uma_reclaim.specs.Cached.{cached_in}
 use Rattle.uma_reclaim.specs.Given.{GivesEach, items_in, counted}
 use Rattle.uma_reclaim.specs.Reclaimed.{takes_of, SeatDrainStops}

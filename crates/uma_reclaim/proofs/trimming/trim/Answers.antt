@@ -2,8 +2,8 @@ use Rattle.std.proofs.Common.{inl, inr, subst}
 use Rattle.std.proofs.lemmas.Result.{IfOk-weaker}
 use Rattle.smr_clock.specs.Belongs.{view}
 use Rattle.uma_seat.specs.Seat.{shelf_of}
-use Rattle.uma_reclaim.specs.declared.extent.Extent.TheVariants.{Unused}
-use Rattle.uma_reclaim.specs.declared.reclaimed.Reclaimed.{Reclaimed}
+use Rattle.uma_reclaim.specs.declared.reclaim.Extent.TheVariants.{Unused}
+use Rattle.uma_reclaim.specs.declared.reclaim.Reclaimed.{Reclaimed}
 use Rattle.uma_reclaim.specs.Reclaimed.{GivesItemsOnly, StopsTaking, Trims, TrimStops}
 use Rattle.uma_reclaim.proofs.Passes.{none_in, then_in}
 use Rattle.uma_reclaim.proofs.Shelves.{none_stays, at_err, then_err}

@@ -1,7 +1,7 @@
 use Rattle.std.proofs.Common.{◌≡◌, ℕ, Bool, true, false, eqb, Some, None, refl, sym, ap, ◌∙◌}
 use Rattle.std.specs.Bool.{then_some}
 use Rattle.std.specs.Prelude.{if◌then◌else◌}
-use Rattle.trace_text.specs.declared.between.Between.{Between}
+use Rattle.trace_text.specs.declared.trace.Between.{Between}
 use Rattle.trace_text.specs.Lines.{Moves}
 use Rattle.uma_replay.specs.Limits.{limit_in}
 use Rattle.uma_replay.proofs.limits.limit_of.Goals as goal

@@ -1,7 +1,7 @@
 use Rattle.std.proofs.Common.{arith, List, ◌++◌, ◌∙◌, ap, sym, map}
 use Rattle.std.specs.List.{filter_map}
-use Rattle.trace_text.specs.declared.between.Between.{Between}
-use Rattle.trace_text.specs.declared.round.Round.{Round}
+use Rattle.trace_text.specs.declared.trace.Between.{Between}
+use Rattle.trace_text.specs.declared.trace.Round.{Round}
 use Rattle.trace_text.specs.Lines.{Moves}
 use Rattle.uma_replay.specs.Limits.{limit_in}
 use Rattle.uma_replay.proofs.LimitLines.{limits_more}

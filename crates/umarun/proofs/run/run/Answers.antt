@@ -4,13 +4,13 @@ use Rattle.std.specs.Prelude.{IsSome}
 use Rattle.uma_io.specs.Faults.{Rose}
 use Rattle.uma_io.specs.Sink.{Adds, AddsPart}
 use Rattle.umarun.specs.declared.fault.Fault.{Fault}
-use Rattle.umarun.specs.declared.finish.Finish.{Finish}
+use Rattle.umarun.specs.declared.replaying.Finish.{Finish}
 use Rattle.umarun.specs.Summary.{summary_text}
 use Rattle.umarun.proofs.Outcomes.{keeps_headline, none_named, none_refused, refused_by, replay_ends, replay_names, step_refused_by, steps_ends, text_refused_by, writes_output, writes_part}
 use Rattle.umarun.proofs.Shown.{not_some, same_summary, shown, shown_both, shown_if}
 use Rattle.umarun.specs.Input.{OfInput}
 use Rattle.umarun.specs.Replaying.{KeepsHeadline, Replays}
-use Rattle.umarun.specs.declared.any_hall.AnyHall.{AnyHall}
+use Rattle.umarun.specs.declared.replaying.AnyHall.{AnyHall}
 use Rattle.zone_stats.specs.ReportText.{report_text}
 use Rattle.zone_stats.specs.declared.report.Report.{Report}
 use Rattle.umarun.proofs.run.run.Goals as goal

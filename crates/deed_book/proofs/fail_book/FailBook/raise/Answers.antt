@@ -1,6 +1,6 @@
 use Rattle.std.proofs.Common.{arith, ap, ◌∙◌}
 use Rattle.atomic_table.specs.Table.{Me}
-use Rattle.deed_book.specs.declared.fail_rule.FailView.{FailView}
+use Rattle.deed_book.specs.declared.fail_book.FailView.{FailView}
 use Rattle.deed_book.proofs.FailSteps.{storing_first_allowed, storing_second_allowed, raising_allowed, splitting_allowed}
 use Rattle.deed_book.proofs.fail_book.FailBook.raise.Goals as goal
 

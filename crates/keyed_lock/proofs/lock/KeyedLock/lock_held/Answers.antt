@@ -1,5 +1,5 @@
 use Rattle.std.proofs.Common.{arith}
-use Rattle.keyed_lock.specs.declared.protocol.TheConstants.{CONTENDED}
+use Rattle.keyed_lock.specs.declared.lock.TheConstants.{CONTENDED}
 use Rattle.keyed_lock.proofs.ProtocolSteps.{may_arrive}
 use Rattle.keyed_lock.proofs.lock.KeyedLock.lock_held.Goals as goal
 

@@ -1,6 +1,6 @@
 use Rattle.std.proofs.Common.{sym, subst, ◌∷◌, []}
 use Rattle.atomic_table.specs.Table.{opening}
-use Rattle.keyed_lock.specs.declared.protocol.TheConstants.{UNLOCKED}
+use Rattle.keyed_lock.specs.declared.lock.TheConstants.{UNLOCKED}
 use Rattle.keyed_lock.specs.Protocol.{ObeysLaw}
 use Rattle.keyed_lock.proofs.ProtocolSteps.{opens}
 use Rattle.keyed_lock.proofs.lock.KeyedLock.new.Goals as goal

@@ -1,7 +1,7 @@
 use Rattle.std.proofs.Common.{arith}
 use Rattle.std.specs.Prelude.{◌==◌}
 use prog.Atomic.{either}
-use Rattle.keyed_lock.specs.declared.protocol.TheConstants.{UNLOCKED, LOCKED}
+use Rattle.keyed_lock.specs.declared.lock.TheConstants.{UNLOCKED, LOCKED}
 use Rattle.keyed_lock.proofs.ProtocolSteps.{may_take, exchanged_held}
 use Rattle.keyed_lock.proofs.lock.KeyedLock.try_lock.Goals as goal
 

@@ -10,8 +10,8 @@ use Rattle.uma_zone.specs.Ports.{sent_of}
 use Rattle.uma_zone.specs.Zone.{lists_of}
 use Rattle.uma_zone.proofs.Listings.{still_flushed}
 use Rattle.name_rows.specs.Records.{told}
-use Rattle.name_cache.specs.declared.rebound.Rebound.{Rebound}
-use Rattle.name_cache.specs.declared.rebound.Rebound.TheVariants.{Refused}
+use Rattle.name_cache.specs.declared.binding.Rebound.{Rebound}
+use Rattle.name_cache.specs.declared.binding.Rebound.TheVariants.{Refused}
 use Rattle.name_cache.specs.Cache.{cache_zone, cache_clock, cache_home, row_count, first_version}
 use Rattle.name_cache.specs.LockedRow.{HasItemOf}
 use Rattle.name_cache.specs.Rebound.{HasRebound, IsBoundAbove}

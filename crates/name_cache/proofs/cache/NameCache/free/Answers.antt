@@ -1,5 +1,5 @@
 use Rattle.std.proofs.Common.{sym, subst, ◌∙◌}
-use Rattle.uma_life.specs.declared.ticket.Ticket.{Ticket}
+use Rattle.uma_life.specs.declared.states.Ticket.{Ticket}
 use Rattle.uma_bucket.specs.Home.{IsHome}
 use Rattle.name_cache.specs.Cache.{cache_home}
 use Rattle.name_cache.proofs.Taking.{within_freed}

@@ -1,5 +1,5 @@
 use Rattle.std.proofs.Common.{List, length, sym, ap, subst, ◌∙◌}
-use Rattle.smr_clock.specs.declared.setup.Setup.{Setup}
+use Rattle.smr_clock.specs.declared.clock.Setup.{Setup}
 use Rattle.smr_clock.specs.Belongs.{TableId}
 use Rattle.uma_zone.specs.Zone.{zone_home}
 use Rattle.name_rows.specs.declared.row.Row.{Row}

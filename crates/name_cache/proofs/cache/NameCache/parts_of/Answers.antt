@@ -1,5 +1,5 @@
 use Rattle.std.proofs.Common.{sym, ap, subst, ◌∙◌}
-use Rattle.uma_life.specs.declared.ticket.Ticket.{Ticket}
+use Rattle.uma_life.specs.declared.states.Ticket.{Ticket}
 use Rattle.uma_bucket.specs.Home.{IsHome}
 use Rattle.deed_book.specs.Deed.{BookId}
 use Rattle.name_rows.specs.declared.entry.Entry.{Entry}

@@ -1,6 +1,6 @@
 use Rattle.std.proofs.Common.{◌<◌, ◌+◌, ◌^◌, ◌∙◌, arith}
 use Rattle.smr_clock.specs.Belongs.{view}
-use Rattle.name_cache.specs.declared.receipt.Receipt.{Receipt}
+use Rattle.name_cache.specs.declared.binding.Receipt.{Receipt}
 use Rattle.name_cache.proofs.Outs.{written_guest}
 use Rattle.name_cache.proofs.Passes.{goes_on_then}
 use Rattle.name_cache.proofs.Rebinding.{binds_in_row}

@@ -1,6 +1,6 @@
 use Rattle.std.proofs.Common.{◌≤◌, ◌<◌, ◌+◌, ◌^◌, ◌++◌, ◌∷◌, [], ℕ, List, map, is_some, refl, sym, ap, subst, ◌∙◌}
 use Rattle.smr_clock.specs.Belongs.{view}
-use Rattle.name_rows.specs.declared.records.Record.{Record}
+use Rattle.name_rows.specs.declared.names.Record.{Record}
 use Rattle.name_cache.proofs.Clocks.{row_too}
 use Rattle.name_cache.proofs.RowFacts.{has_met}
 use Rattle.name_cache.proofs.locked_row.LockedRow.meet.Goals as goal

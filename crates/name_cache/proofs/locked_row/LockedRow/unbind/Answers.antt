@@ -1,7 +1,7 @@
 use Rattle.std.proofs.Common.{◌≡◌, Some, sym, subst, rules, ◌∙◌}
 use Rattle.smr_clock.specs.Belongs.{view}
 use Rattle.name_rows.specs.Rows.{key_in}
-use Rattle.name_cache.specs.declared.receipt.Receipt.{Receipt}
+use Rattle.name_cache.specs.declared.binding.Receipt.{Receipt}
 use Rattle.name_cache.specs.LockedRow.{row_identity, IsItemOf}
 use Rattle.name_cache.specs.RowKey.{Identity}
 use Rattle.name_cache.proofs.Linked.{out_of, item_still}

@@ -4,7 +4,7 @@ use Rattle.smr_clock.specs.Belongs.{clock_id}
 use Rattle.uma_life.specs.Life.{Life}
 use Rattle.uma_life.specs.Ticket.{ticket_zone}
 use Rattle.uma_life.specs.Trail.{IsAt}
-use Rattle.uma_life.specs.declared.body_phase.BodyPhase.TheVariants.{Built}
+use Rattle.uma_life.specs.declared.tally.BodyPhase.TheVariants.{Built}
 use Rattle.name_rows.specs.Entries.{entry_life}
 use Rattle.name_cache.specs.Homes.{home_clock, home_origin}
 use Rattle.name_cache.specs.Raised.{raised_home}

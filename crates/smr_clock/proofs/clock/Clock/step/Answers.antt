@@ -1,5 +1,5 @@
 use Rattle.std.proofs.Common.{rules}
-use Rattle.smr_clock.specs.declared.host_act.HostAct.TheVariants.{Load, Store, Exchange, Add, Subtract}
+use Rattle.smr_clock.specs.declared.host.HostAct.TheVariants.{Load, Store, Exchange, Add, Subtract}
 use Rattle.smr_clock.proofs.HostAllowed.{host_allowed}
 use Rattle.smr_clock.proofs.clock.Clock.step.Goals as goal
 

@@ -1,6 +1,6 @@
 -- Each step but the first is sure, and together they are the turn.
 use Rattle.std.proofs.Common.{rules, ◌≡◌, true, false, ap, ◌∙◌, ◌++◌, ◌∷◌, [], List}
-use Rattle.smr_core.specs.declared.seen.Seen.{Seen}
+use Rattle.smr_core.specs.declared.turns.Seen.{Seen}
 use Rattle.smr_core.specs.Turns.{is_late}
 use Rattle.smr_core.proofs.TurnLemmas.{store-sure, check-sure, clear-sure, enter-inside, enter-late}
 use Rattle.smr_core.proofs.clock_core.Core.enter.Goals as goal

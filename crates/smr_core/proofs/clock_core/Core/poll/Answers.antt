@@ -1,9 +1,9 @@
 -- Each step but the first is sure, and together they are the turn.
 use Rattle.std.proofs.Common.{rules, ◌≡◌, true, arith, ap, ◌∙◌, ◌++◌, ◌∷◌, [], List, sym, subst, subst₂, ◌+◌, ◌<◌, ℕ, suc}
-use Rattle.smr_core.specs.declared.clock_config.ClockConfig.{ClockConfig}
-use Rattle.smr_core.specs.declared.seen.Seen.{Seen}
-use Rattle.smr_core.specs.declared.step.Step.TheVariants.{PollRead, PollLoad, PollPresent}
-use Rattle.smr_core.specs.declared.turn.Turn.TheVariants.{Poll}
+use Rattle.smr_core.specs.declared.clock_core.ClockConfig.{ClockConfig}
+use Rattle.smr_core.specs.declared.turns.Seen.{Seen}
+use Rattle.smr_core.specs.declared.turns.Step.TheVariants.{PollRead, PollLoad, PollPresent}
+use Rattle.smr_core.specs.declared.turns.Turn.TheVariants.{Poll}
 use Rattle.smr_core.specs.ClockState.{next_present, seats_below}
 use Rattle.smr_core.specs.CoreState.{State}
 use Rattle.smr_core.specs.CoreStep.{Run}

@@ -1,5 +1,5 @@
 use Rattle.std.proofs.Common.{◌≤◌}
-use Rattle.smr_deferred.specs.declared.retired.Retired.{Retired}
+use Rattle.smr_deferred.specs.declared.retire_list.Retired.{Retired}
 use Rattle.smr_deferred.proofs.Oldest.{all_behind}
 use Rattle.smr_deferred.proofs.retire_list.RetireList.reap.Goals as goal
 

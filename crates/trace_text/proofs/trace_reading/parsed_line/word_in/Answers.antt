@@ -1,6 +1,6 @@
 use Rattle.std.proofs.Common.{◌≡◌, Ok, sym, ◌∙◌, rules}
 use Rattle.std.proofs.lemmas.Result.{err_from_is_err_and}
-use Rattle.text_lines.specs.TextLines.{fields_of}
+use Rattle.trace_lines.specs.TextLines.{fields_of}
 use Rattle.trace_text.specs.TraceWord.{word_from}
 use Rattle.trace_text.proofs.TraceWords.{says_misplaced, says_no_word}
 use Rattle.trace_text.proofs.trace_reading.parsed_line.word_in.Goals as goal

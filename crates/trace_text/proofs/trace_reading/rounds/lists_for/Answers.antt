@@ -1,6 +1,6 @@
 use Rattle.std.proofs.Common.{◌≡◌, map, Vec, ◌∙◌, arith, rules}
 use Rattle.std.specs.declared.alloc.Global.{Global}
-use Rattle.trace_text.specs.declared.op.Op.{Op}
+use Rattle.trace_text.specs.declared.trace.Op.{Op}
 use Rattle.trace_text.proofs.PartLists.{lists_are_for}
 use Rattle.trace_text.proofs.trace_reading.rounds.lists_for.Goals as goal
 

@@ -1,7 +1,7 @@
 use Rattle.std.proofs.Common.{◌≡◌, List, [], ◌∷◌, ◌++◌, length, sym, ap, ◌∙◌, arith}
 use Rattle.std.proofs.lemmas.List.{nil_from_length}
 use Rattle.std.specs.Vec.Iter.{into_iter_items}
-use Rattle.trace_text.specs.declared.round.Round.{Round}
+use Rattle.trace_text.specs.declared.trace.Round.{Round}
 use Rattle.trace_text.specs.Parts.{rounds_from}
 use Rattle.trace_text.proofs.TraceRounds.{last_round_more, one_round_more}
 use Rattle.trace_text.proofs.trace_reading.rounds.rounds_of_parts.Goals as goal

@@ -1,5 +1,5 @@
 use Rattle.std.proofs.Common.{rules}
-use Rattle.uma_zone.specs.declared.alloc_ask.AllocAsk.{AllocAsk}
+use Rattle.uma_zone.specs.declared.zone.alloc.AllocAsk.{AllocAsk}
 use Rattle.uma.proofs.Refusing.{fails, has_cause}
 use Rattle.uma.proofs.local.Local.ask.Goals as goal
 

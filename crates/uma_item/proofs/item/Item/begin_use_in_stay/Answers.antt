@@ -3,9 +3,9 @@ use Rattle.std.proofs.lemmas.Bool.{ne_eqb}
 use Rattle.std.proofs.lemmas.List.{length-set}
 use Rattle.uma_life.specs.Hook.{Ctor, tally_after}
 use Rattle.uma_life.specs.Life.{Life}
-use Rattle.uma_life.specs.declared.body_phase.BodyPhase.TheVariants.{Zoned, Built, Kept}
+use Rattle.uma_life.specs.declared.tally.BodyPhase.TheVariants.{Zoned, Built, Kept}
 use Rattle.uma_item.specs.declared.item.Item.{Item}
-use Rattle.uma_item.specs.declared.trailed.Trailed.{Trailed}
+use Rattle.uma_item.specs.declared.trail.Trailed.{Trailed}
 use Rattle.uma_item.specs.Counts.{tally_by, stay_at, with_ctor, kept_stays}
 use Rattle.uma_item.proofs.item.Item.begin_use_in_stay.Goals as goal
 use Rattle.uma_item.proofs.Passing.{ctor_tally-staying, staying}

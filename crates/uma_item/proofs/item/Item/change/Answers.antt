@@ -2,9 +2,9 @@ use Rattle.std.proofs.Common.{ap, rules, sym, subst, ◌∙◌}
 use Rattle.uma_life.specs.Life.{Life}
 use Rattle.uma_life.specs.Trail.{IsAt}
 use Rattle.uma_life.specs.Ticket.{ticket_zone}
-use Rattle.uma_life.specs.declared.body_phase.BodyPhase.TheVariants.{Built}
+use Rattle.uma_life.specs.declared.tally.BodyPhase.TheVariants.{Built}
 use Rattle.uma_item.specs.declared.item.Item.{Item}
-use Rattle.uma_item.specs.declared.trailed.Trailed.{Trailed}
+use Rattle.uma_item.specs.declared.trail.Trailed.{Trailed}
 use Rattle.uma_item.specs.Counts.{tally_by, kept_stays}
 use Rattle.uma_item.specs.Item.{item_data}
 use Rattle.uma_item.proofs.item.Item.change.Goals as goal

@@ -3,7 +3,7 @@ use Rattle.uma_life.specs.Hook.{Dtor, tally_after}
 use Rattle.uma_life.specs.Life.{Life}
 use Rattle.uma_life.specs.Trail.{open_stays}
 use Rattle.uma_item.specs.declared.item.Item.{Item}
-use Rattle.uma_item.specs.declared.trailed.Trailed.{Trailed}
+use Rattle.uma_item.specs.declared.trail.Trailed.{Trailed}
 use Rattle.uma_item.specs.Counts.{tally_by, kept_stays}
 use Rattle.uma_item.proofs.item.Item.end_use.Goals as goal
 use Rattle.uma_item.proofs.Passing.{dtor-tally, stays_kept}

@@ -2,8 +2,8 @@ use Rattle.std.proofs.Common.{◌<◌, ◌-◌, ℕ, ap, sym, subst, ◌∙◌, 
 use Rattle.std.proofs.lemmas.List.{length-set}
 use Rattle.uma_life.specs.Hook.{ZoneInit, tally_after}
 use Rattle.uma_life.specs.Life.{Life}
-use Rattle.uma_life.specs.declared.body_phase.BodyPhase.TheVariants.{Zoned}
-use Rattle.uma_item.specs.declared.trailed.Trailed.{Trailed}
+use Rattle.uma_life.specs.declared.tally.BodyPhase.TheVariants.{Zoned}
+use Rattle.uma_item.specs.declared.trail.Trailed.{Trailed}
 use Rattle.uma_item.specs.Counts.{tally_by, stay_at, with_init, kept_stays}
 use Rattle.uma_item.proofs.item.Item.enter.Goals as goal
 use Rattle.uma_item.proofs.Passing.{enter_tally}

@@ -1,8 +1,8 @@
 use Rattle.std.proofs.Common.{ap, sym, ◌∙◌, arith}
 use Rattle.uma_life.specs.Hook.{ZoneFini, tally_after}
 use Rattle.uma_life.specs.Life.{Life}
-use Rattle.uma_life.specs.declared.body_phase.BodyPhase.TheVariants.{Kept}
-use Rattle.uma_item.specs.declared.trailed.Trailed.{Trailed}
+use Rattle.uma_life.specs.declared.tally.BodyPhase.TheVariants.{Kept}
+use Rattle.uma_item.specs.declared.trail.Trailed.{Trailed}
 use Rattle.uma_item.specs.Counts.{tally_by, kept_stays}
 use Rattle.uma_item.proofs.item.Item.leave.Goals as goal
 use Rattle.uma_item.proofs.Passing.{leave_tally}

@@ -1,9 +1,9 @@
 use Rattle.std.proofs.Common.{◌≡◌, ◌<◌, ◌+◌, ◌*◌, ◌/◌, ◌%◌, ℕ, None, length, refl, subst, sym, arith, rules, ◌∙◌}
 use Rattle.std.proofs.Math.Nat.{mod-lt}
-use Rattle.uma_life.specs.declared.tally_sum.TallySum.{TallySum}
+use Rattle.uma_life.specs.declared.tally.TallySum.{TallySum}
 use Rattle.uma_keg.specs.SlabItems.{places_of_slab}
 use Rattle.uma_keg.specs.HomeItems.{places_each}
-use Rattle.uma_places.specs.Places.{slab_count}
+use Rattle.uma_slabs.specs.Places.{slab_count}
 use Rattle.uma_keg.specs.Tallies.{TallyLaw}
 use Rattle.uma_keg.specs.Paired.{ArePaired}
 use Rattle.uma_keg.specs.NewItems.{AreNewItems, RefusesItems}

@@ -1,7 +1,7 @@
 use Rattle.std.proofs.Common.{◌≤◌, ◌<◌, ◌^◌, refl, sym, subst, ◌∙◌}
 use Rattle.std.proofs.lemmas.Result.{err_from_is_err_and}
 use Rattle.uma_life.specs.Sum.{AreBelow}
-use Rattle.uma_places.specs.Places.{slab_count, free_count}
+use Rattle.uma_slabs.specs.Places.{slab_count, free_count}
 use Rattle.uma_keg.specs.Keg.{places_in, reserve_in}
 use Rattle.uma_keg.proofs.FreedSlabs.{same_more}
 use Rattle.uma_keg.proofs.BroughtSlabs.{bringing_none, bringing_more, stops_bringing, brings_enough}

@@ -1,6 +1,6 @@
 use Rattle.std.proofs.Common.{◌≡◌, ◌-◌, ◌^◌, ℕ}
 use Rattle.uma_life.specs.Sum.{AreBelow}
-use Rattle.uma_places.specs.Places.{slab_count}
+use Rattle.uma_slabs.specs.Places.{slab_count}
 use Rattle.uma_keg.specs.Keg.{places_in, zones_in, rights_in, limit_in, fetches_in, buried_in, IsSameKeg}
 use Rattle.uma_keg.proofs.BroughtSlabs.{Bringing}
 use Rattle.uma_keg.proofs.keg.Keg.bring_slabs.Given as goal

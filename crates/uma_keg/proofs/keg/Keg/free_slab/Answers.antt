@@ -3,7 +3,7 @@ use Rattle.std.proofs.Math.Nat.{mod-lt}
 use Rattle.uma_life.specs.Sum.{sum_of}
 use Rattle.uma_keg.specs.SlabItems.{places_of_slab}
 use Rattle.uma_keg.specs.HomeLists.{item_on}
-use Rattle.uma_places.specs.Places.{KegPlaces}
+use Rattle.uma_slabs.specs.Places.{KegPlaces}
 use Rattle.uma_keg.specs.KegLaw.{PlacesLaw}
 use Rattle.uma_keg.specs.Keg.{zones_in}
 use Rattle.uma_keg.specs.HomeItems.{item_at, places_each}

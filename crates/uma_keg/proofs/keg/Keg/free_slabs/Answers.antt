@@ -2,8 +2,8 @@ use Rattle.std.proofs.Common.{rules, ◌≡◌, ◌<◌, ◌≤◌, ◌+◌, ◌
 use Rattle.std.specs.Prelude.{IsTrue}
 use Rattle.std.proofs.lemmas.Bool.{cases_lt}
 use Rattle.uma_keg.specs.declared.keg.Keg.{Keg}
-use Rattle.uma_places.specs.Places.{free_count, IsSound}
-use Rattle.uma_places.specs.Dropping.{IsUsedUp, HasNoneWhollyFree}
+use Rattle.uma_slabs.specs.Places.{free_count, IsSound}
+use Rattle.uma_slabs.specs.Dropping.{IsUsedUp, HasNoneWhollyFree}
 use Rattle.uma_keg.specs.FreeSlabs.{FreesSlabs, GivesNoMore, wholly_free_count, slabs_to_free}
 use Rattle.uma_keg.specs.Keg.{places_in, reserve_in, IsSameKeg}
 use Rattle.uma_keg.proofs.FreedCounts.{one_fewer, freed_count}

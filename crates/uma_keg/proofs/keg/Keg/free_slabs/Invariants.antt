@@ -1,6 +1,6 @@
 use Rattle.std.proofs.Common.{◌≡◌, ◌≤◌, ◌<◌, ◌+◌, ℕ}
-use Rattle.uma_places.specs.Places.{slab_count, free_count}
-use Rattle.uma_places.specs.Dropping.{IsUsedUp}
+use Rattle.uma_slabs.specs.Places.{slab_count, free_count}
+use Rattle.uma_slabs.specs.Dropping.{IsUsedUp}
 use Rattle.uma_keg.specs.FreeSlabs.{FreesSlabs, wholly_free_count}
 use Rattle.uma_keg.specs.Keg.{places_in, zones_in, rights_in, limit_in, fetches_in, reserve_in, IsSameKeg}
 use Rattle.uma_keg.proofs.FreedSlabs.{Leaves}

@@ -5,7 +5,7 @@ use Rattle.uma_life.specs.Stored.{stored_no, stored_origin}
 use Rattle.uma_life.specs.Cached.{cached_zone}
 use Rattle.uma_keg.specs.HomeItems.{item_at}
 use Rattle.uma_keg.specs.Keg.{zones_in}
-use Rattle.uma_places.specs.Places.{IsOut}
+use Rattle.uma_slabs.specs.Places.{IsOut}
 use Rattle.uma_keg.proofs.GivenItem.{out_place, out_slab, PlacesLaw-given, ZonesLaw-given, out_given, outs_given}
 use Rattle.uma_keg.proofs.Origins.{origins_kept, one_there}
 use Rattle.uma_keg.proofs.TallyLaws.{TallyLaw-kept}

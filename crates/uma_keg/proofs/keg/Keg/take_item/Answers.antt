@@ -2,9 +2,9 @@ use Rattle.std.proofs.Common.{rules, ◌≡◌, ◌<◌, ◌*◌, ◌/◌, ℕ, 
 use Rattle.deed_book.specs.Deed.{no_of, zone_of, deed_table, BookId}
 use Rattle.deed_book.specs.Book.{zones_of}
 use Rattle.uma_life.specs.Stored.{stored_no, stored_origin}
-use Rattle.uma_places.specs.Places.{domain_at, CountsOneOut, Gives}
+use Rattle.uma_slabs.specs.Places.{domain_at, CountsOneOut, Gives}
 use Rattle.uma_keg.specs.HomeItems.{item_at}
-use Rattle.uma_places.specs.Taking.{TakesPlaces}
+use Rattle.uma_slabs.specs.Taking.{TakesPlaces}
 use Rattle.uma_keg.specs.KegLaw.{PlacesLaw}
 use Rattle.uma_keg.proofs.GivenItem.{out_slab, PlacesLaw-given, ZonesLaw-given}
 use Rattle.uma_keg.proofs.TakenItem.{free_home, PlacesLaw-taken, ZonesLaw-taken, same_again, zones_again, items_again, if_some, on_some, takes_item}

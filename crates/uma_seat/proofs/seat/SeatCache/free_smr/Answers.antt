@@ -1,6 +1,6 @@
 use Rattle.std.proofs.Common.{rules, subst}
 use Rattle.smr_clock.specs.Belongs.{view}
-use Rattle.uma_life.specs.declared.live.Live.{Live}
+use Rattle.uma_life.specs.declared.states.Live.{Live}
 use Rattle.uma_life.specs.Live.{live_domain}
 use Rattle.uma_seat.specs.Stack.{stack_at, with_item}
 use Rattle.uma_seat.specs.Seat.{freed_of}

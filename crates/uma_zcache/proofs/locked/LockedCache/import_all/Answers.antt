@@ -1,6 +1,6 @@
 use Rattle.std.proofs.Common.{◌≡◌, ◌<◌, ◌∷◌, [], length, length-append, List, ap, ◌∙◌, subst, sym, All, arith, rules}
 use Rattle.std.proofs.lemmas.Result.{err_from_is_err_and}
-use Rattle.uma_zcache.specs.declared.held.Held.{Held}
+use Rattle.uma_zcache.specs.declared.cache.Held.{Held}
 use Rattle.uma_zcache.specs.Held.{held_book}
 use Rattle.uma_zcache.specs.Imports.{HasEntry, ImportsAll}
 use Rattle.uma_zcache.specs.Locked.{book_in}

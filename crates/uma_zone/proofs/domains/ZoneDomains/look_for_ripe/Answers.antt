@@ -1,5 +1,5 @@
 use Rattle.std.proofs.Common.{rules, ◌≡◌, ◌≤◌, ◌<◌, ℕ, List, length, ap, sym, subst}
-use Rattle.smr_clock.specs.declared.note.Note.{Note}
+use Rattle.smr_clock.specs.declared.pass.Note.{Note}
 use Rattle.smr_clock.specs.Belongs.{view}
 use Rattle.smr_clock.specs.Goals.{number_of}
 use Rattle.smr_clock.specs.Notes.{note_knows}

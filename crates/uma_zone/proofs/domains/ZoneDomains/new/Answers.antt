@@ -3,7 +3,7 @@ use Rattle.std.proofs.lemmas.List.{length-append}
 use Rattle.std.proofs.lemmas.List.Elements.{All-nil, All-push}
 use Rattle.deed_book.specs.declared.book.Book.{Book}
 use Rattle.deed_book.specs.Book.{book_table}
-use Rattle.smr_clock.specs.declared.setup.Setup.{Setup}
+use Rattle.smr_clock.specs.declared.clock.Setup.{Setup}
 use Rattle.smr_clock.specs.Belongs.{TableId, clock_id}
 use Rattle.uma_bucket.specs.Home.{Home}
 use Rattle.uma_domain.specs.declared.domain.Domain.{Domain}

@@ -1,5 +1,5 @@
 use Rattle.std.proofs.Common.{Err, refl, rules, ap, ◌∙◌}
-use Rattle.uma_keg.specs.declared.fetch_ask.FetchAsk.{FetchAsk}
+use Rattle.uma_keg.specs.declared.fetch.FetchAsk.{FetchAsk}
 use Rattle.keyed_lock.specs.KeyedGuard.{guard_key}
 use Rattle.uma_bucket.specs.Bucket.{size_of}
 use Rattle.locked_keg.specs.LockedKeg.{keg_in}

@@ -3,7 +3,7 @@ use Rattle.std.proofs.lemmas.Result.{err_from_is_err_and}
 use Rattle.std.specs.declared.vec.Vec.{Vec}
 use Rattle.uma_seat.specs.Rack.{shelf_in}
 use Rattle.uma_seat.specs.Seat.{seat_domain, shelf_of, usable_of}
-use Rattle.uma_zone.specs.declared.alloc_ask.AllocRefused.{AllocRefused}
+use Rattle.uma_zone.specs.declared.zone.alloc.AllocRefused.{AllocRefused}
 use Rattle.uma_zone.specs.Ports.{pushed_by, sent_of}
 use Rattle.uma_zone.proofs.Listings.{flushed_between, not_none}
 use Rattle.uma_zone.proofs.OneFetch.{takes_of_filled}

@@ -3,7 +3,7 @@ use Rattle.smr_clock.specs.Belongs.{view}
 use Rattle.uma_seat.specs.Seat.{ledger_of}
 use Rattle.uma_zone.specs.Zone.{zone_cap}
 use Rattle.name_cache.specs.Cache.{cache_zone, row_count}
-use Rattle.trace_worker.specs.NameCalls.{Bound, CountedBind}
+use Rattle.replay_worker.specs.NameCalls.{Bound, CountedBind}
 use Rattle.umarun.specs.Caches.{IsFoundIn, TurnsBackIn}
 use Rattle.umarun.specs.Known.{KnowsRecord}
 use Rattle.umarun.proofs.Counting.{bind_counts, refusal_counts, refused_ends, room_in_cache}

@@ -1,5 +1,5 @@
 use Rattle.std.proofs.Common.{rules, ap, subst, sym, ◌∙◌}
-use Rattle.smr_clock.specs.declared.setup.Setup.{Setup}
+use Rattle.smr_clock.specs.declared.clock.Setup.{Setup}
 use Rattle.smr_clock.specs.Belongs.{TableId, view}
 use Rattle.smr_core.specs.declared.holder.Holder.{Holder}
 use Rattle.name_rows.specs.Belongs.{FitsNames}

@@ -1,10 +1,10 @@
 use Rattle.std.proofs.Common.{Option, ap, ◌∙◌, ℕ}
 use Rattle.std.proofs.lemmas.Result.{IfOk-weaker}
-use Rattle.smr_clock.specs.declared.setup.Setup.{Setup}
+use Rattle.smr_clock.specs.declared.clock.Setup.{Setup}
 use Rattle.smr_clock.specs.Belongs.{TableId, view}
 use Rattle.name_cache.specs.Cache.{row_count}
 use Rattle.name_cache.specs.Look.{Looks}
-use Rattle.trace_worker.specs.Knowing.{Finds, Loads}
+use Rattle.replay_worker.specs.Knowing.{Finds, Loads}
 use Rattle.umarun.specs.Known.{KnowsRecord, told_in}
 use Rattle.umarun.proofs.Knowing.{look_loads, looks_of, look_ends, still_known}
 use Rattle.umarun.proofs.cache_names.CacheNamesNameCalls.look.Goals as goal

@@ -1,6 +1,6 @@
 use Rattle.std.proofs.Common.{Err, sym, subst, ◌∙◌}
-use Rattle.text_lines.specs.declared.refused.LineRefused.{LineRefused}
-use Rattle.text_lines.specs.Taking.{ReadsLine}
+use Rattle.trace_lines.specs.declared.refused.LineRefused.{LineRefused}
+use Rattle.trace_lines.specs.Taking.{ReadsLine}
 use Rattle.trace_text.specs.Grammar.{trace_test}
 use Rattle.trace_text.specs.TraceKnown.{Knows}
 use Rattle.trace_text.proofs.TraceFollowing.{conflicts, takes}

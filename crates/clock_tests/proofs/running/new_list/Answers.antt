@@ -1,5 +1,0 @@
-use Rattle.smr_clock.specs.Belongs.{clock_id}
-use Rattle.clock_tests.proofs.running.new_list.Goals as goal
-
-pub returns : goal.returns
-returns g c = record { mine = c.in_ok-list.ensures.made.unused (clock_id c.args.clock.now) }

@@ -1,7 +1,0 @@
-use Rattle.std.proofs.Common.{◌≡◌}
-use Rattle.smr_core.specs.declared.phase.Phase.{Phase}
-use Rattle.smr_clock.specs.Belongs.{IsPassOf, holder}
-use Rattle.clock_tests.proofs.running.turns.turned.Given as goal
-
-abbrev pub invariant-loop : goal.invariant-loop
-invariant-loop l = record { here : IsPassOf l.clock l.pass; outside : (holder l.pass).phase ≡ Phase.Outside }

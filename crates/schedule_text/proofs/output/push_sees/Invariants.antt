@@ -1,8 +1,0 @@
-use Rattle.std.proofs.Common.{◌≡◌, ◌++◌, take}
-use Rattle.std.specs.List.{flat_map}
-use Rattle.schedule_text.specs.ScheduleText.{seen_line}
-use Rattle.schedule_text.proofs.output.push_sees.Given as goal
-
--- the lines so far were appended
-abbrev pub invariant-loop-seen : goal.invariant-loop-seen
-invariant-loop-seen l = l.text.items ≡ l.initial.text.items ++ flat_map (seen_line l.version) (take l.seen-index l.sees)

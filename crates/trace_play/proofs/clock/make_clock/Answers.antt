@@ -1,8 +1,0 @@
-use Rattle.std.proofs.Common.{ap}
-use Rattle.smr_clock.specs.declared.setup.Setup.{Setup}
-use Rattle.trace_play.proofs.Passes.{passes_of}
-use Rattle.trace_play.proofs.clock.make_clock.Goals as goal
-
-pub returns-in-Ok-clause-passes : goal.returns-in-Ok-clause-passes
-returns-in-Ok-clause-passes c =
-    passes_of c.args.head.now.workers c.in-Ok.made.0 c.in-Ok.made.1.items (ap (λ (s : Setup). s.config.seats) c.in-Ok.ensures.clock) c.in-Ok.ensures.workers

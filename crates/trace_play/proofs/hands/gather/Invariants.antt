@@ -1,6 +1,0 @@
-use Rattle.trace_play.specs.Clock.{Gathers}
-use Rattle.trace_play.proofs.hands.gather.Given as goal
-
--- the workers before this one told the first what they knew
-abbrev pub invariant-loop-number : goal.invariant-loop-number
-invariant-loop-number g l = Gathers l.clock l.number l.fn.workers l.workers

@@ -1,6 +1,0 @@
-use Rattle.trace_play.proofs.Adding.{AddedTo}
-use Rattle.trace_play.proofs.keg.with_zones.Given as goal
-
--- the zones before this place were added
-abbrev pub invariant-loop-number : goal.invariant-loop-number
-invariant-loop-number l = AddedTo l.number l.place l.lines l.sums l.fn.tally l.all

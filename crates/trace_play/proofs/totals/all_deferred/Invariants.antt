@@ -1,5 +1,0 @@
-use Rattle.std.proofs.Common.{◌≡◌, map, take}
-use Rattle.trace_play.proofs.totals.all_deferred.Given as goal
-
-abbrev pub invariant-loop-of_zone : goal.invariant-loop-of_zone
-invariant-loop-of_zone l = l.all.items ≡ map (λ s. s.deferred) (take l.of_zone-index l.sums)

@@ -1,6 +1,0 @@
-use Rattle.trace_play.proofs.Collected.{SumsSoFar}
-use Rattle.trace_play.proofs.totals.all_sums.Given as goal
-
--- the zones before this place were summed up
-abbrev pub invariant-loop-place : goal.invariant-loop-place
-invariant-loop-place g l = SumsSoFar l.zones l.workers l.place l.all.items

@@ -1,9 +1,0 @@
-use Rattle.std.proofs.Common.{sym, ap}
-use Rattle.trace_play.specs.Zones.{is_smr}
-use Rattle.trace_play.proofs.zones.is_smr.Goals as goal
-
-pub returns-in-Plain : goal.returns-in-Plain
-returns-in-Plain c = sym (ap is_smr c.in-Plain.is)
-
-pub returns-in-Smr : goal.returns-in-Smr
-returns-in-Smr c = sym (ap is_smr c.in-Smr.is)

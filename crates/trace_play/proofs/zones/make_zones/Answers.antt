@@ -1,7 +1,0 @@
-use Rattle.trace_play.proofs.Lists.{not_below}
-use Rattle.trace_play.proofs.MoreZones.{all_lines}
-use Rattle.trace_play.proofs.zones.make_zones.Goals as goal
-
-pub returns : goal.returns
-returns g c =
-    all_lines c.args.head.now c.args.clock.now c.loop-place.place c.loop-place.zones.items (not_below c.loop-place.place _ _ c.loop-place-test.false c.len-count.ensures) c.loop-place.invariant

@@ -1,5 +1,0 @@
-use Rattle.uma_bucket.proofs.Added.{is_nothing}
-use Rattle.uma_bucket.proofs.sums.Sums.none.Goals as goal
-
-pub returns : goal.returns
-returns c = is_nothing _ (λ i. record { tally = c.none.ensures i; deferred = 0 })

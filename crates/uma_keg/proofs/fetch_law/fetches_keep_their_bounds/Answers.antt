@@ -1,5 +1,0 @@
-use Rattle.uma_keg.proofs.FetchOutcomes.{fetch_law}
-use Rattle.uma_keg.proofs.fetch_law.fetches_keep_their_bounds.Goals as goal
-
-pub returns : goal.returns
-returns c = fetch_law

@@ -1,6 +1,0 @@
-use Rattle.std.proofs.Common.{None, ap}
-use Rattle.uma_places.proofs.RoomBits.{take-empty, with_free}
-use Rattle.uma_places.proofs.room.Room.new.Goals as goal
-
-pub returns : goal.returns
-returns c = ap (with_free None) (take-empty c.args.places c.empty.result c.requires c.empty.ensures)

@@ -1,6 +1,0 @@
-use Rattle.std.proofs.Common.{arith}
-use Rattle.uma_places.proofs.StandingSets.{numbers_more}
-use Rattle.uma_places.proofs.rooms.numbers_below.Goals as goal
-
-pub loop-no-preserved : goal.loop-no-preserved
-loop-no-preserved c = rw (c.set.ensures, c.loop-no.invariant) (numbers_more c.loop-no.no (omega arith))

@@ -1,8 +1,0 @@
-use Rattle.std.proofs.Common.{◌≡◌, ◌++◌, take}
-use Rattle.std.specs.List.{flat_map}
-use Rattle.zone_stats.specs.ReportText.{hook_text}
-use Rattle.zone_stats.proofs.words.push_hooks.Given as goal
-
--- the lines so far were appended
-abbrev pub invariant-loop-line : goal.invariant-loop-line
-invariant-loop-line l = l.text.items ≡ l.initial.text.items ++ flat_map hook_text (take l.line-index l.lines)
